@@ -1,0 +1,6 @@
+pub mod Division
+pub mod Rate
+pub mod Wire
+pub mod Number
+pub mod Name
+pub mod NameInside

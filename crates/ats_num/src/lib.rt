@@ -1,0 +1,19 @@
+//! Times, rates, names and numbers: the words that every other crate of the simulator speaks in.
+#![tactic(auto)]
+
+pub mod division;
+pub mod memory;
+pub mod name;
+pub mod numbers;
+pub mod rate;
+pub mod time;
+pub mod wire;
+
+pub use division::ceil_div;
+pub use memory::NoMemory;
+pub use name::Name;
+pub use numbers::number;
+pub use rate::Rate;
+pub use time::Ps;
+pub use wire::wire_bits;
+

@@ -1,0 +1,135 @@
+//! Names of nodes, streams and flows.
+
+ghost use Rattle.std.specs.Prelude.{◌≡◌, ◌↔◌, ℕ, List, IsTrue, IsSome, IfSome, length, ◌≤◌};
+ghost use Rattle.std.proofs.Common.{rules};
+ghost use Rattle.std.specs.Cmp.{partial_order_from_own_ties};
+ghost use Rattle.std.specs.Cmp.Rules.{comparing};
+ghost use Rattle.std.specs.Cmp.Lexicographic.{slice_cmp, pointwise};
+ghost use Rattle.std.specs.Ordering.{nat_cmp, as_partial_cmp};
+ghost use Rattle.std.specs.Prelude.{nat_eq};
+ghost use Rattle.ats_num.specs.Name.{name_of, is_name, is_name_byte, padded};
+
+use std::cmp::Ordering;
+use std::fmt;
+use std::marker::Model;
+
+/// The most bytes of a name.
+pub const MAX_BYTES: usize = 32;
+
+/// A name: 1 to 32 ASCII letters, digits, `_` or `-`. Contracts see it as its bytes, and it takes no memory.
+#[derive(Clone, Copy)]
+pub struct Name {
+    text: [u8; 32],
+    size: usize,
+}
+
+impl Model for Name {
+    ghost use Rattle.std.specs.Prelude.{ℕ, List, take, length};
+    ghost use Rattle.std.specs.Coded.{coded_ℕ, coded_list};
+
+    ghost Value = { List ℕ };
+
+    ghost coded = { coded_list coded_ℕ };
+
+    ghost use Rattle.ats_num.specs.Name.{IsPadded, padded};
+    ghost use Rattle.ats_num.specs.NameInside.{padded-take};
+
+    ghost view = { λ n. take n.size n.text };
+
+    ghost invariant = { λ n. IsPadded n.text n.size };
+
+    ghost inverse = { λ name. record { text = padded name; size = length name } };
+
+    ghost inverse_ok = { λ n h. padded-take n h };
+}
+
+impl Name {
+    /// The name that a text writes, or `None` exactly where it writes none.
+    pub fn new(text: &[u8]) -> Option<Self>
+        ensures { result ≡ name_of text.now }
+    {
+        if !is_name(text) {
+            return None;
+        }
+        Some(Name {
+            text: padded(text),
+            size: text.len(),
+        })
+    }
+
+    /// The name's bytes.
+    pub fn bytes(&self) -> &[u8]
+        ensures value { result.now ≡ self.now }
+        ensures valid { IsTrue (is_name self.now) }
+    {
+        &self.text[..self.size]
+    }
+}
+
+fn is_name_byte(c: u8) -> bool
+    ensures { result ≡ is_name_byte c }
+{
+    c.is_ascii_alphanumeric() || c == b'_' || c == b'-'
+}
+
+fn is_name(text: &[u8]) -> bool
+    ensures { result ≡ is_name text.now }
+{
+    !text.is_empty() && text.len() <= MAX_BYTES && text.iter().all(|c| is_name_byte(*c))
+}
+
+fn padded(text: &[u8]) -> [u8; 32]
+    requires { length text.now ≤ MAX_BYTES }
+    ensures { result ≡ padded text.now }
+{
+    let mut array = [0; 32];
+    array[..text.len()].copy_from_slice(text);
+    array
+}
+
+impl PartialEq for Name {
+    ghost eq = { pointwise nat_eq };
+
+    ghost laws = { Prim.search (comparing, rules) };
+
+    fn eq(&self, other: &Name) -> bool {
+        self.bytes() == other.bytes()
+    }
+}
+
+impl Eq for Name {
+    ghost laws = { Prim.search (comparing, rules) };
+}
+
+impl Ord for Name {
+    ghost cmp = { slice_cmp nat_cmp };
+
+    ghost total = { Prim.search (comparing, rules) };
+
+    ghost matches_partial_cmp = { Prim.search (comparing, rules) };
+
+    ghost matches_eq = { Prim.search (comparing, rules) };
+
+    fn cmp(&self, other: &Name) -> Ordering {
+        self.bytes().cmp(other.bytes())
+    }
+}
+
+impl PartialOrd for Name {
+    ghost partial_cmp = { as_partial_cmp (slice_cmp nat_cmp) };
+
+    ghost laws = { partial_order_from_own_ties (Prim.search (comparing, rules)) (Prim.search (comparing, rules)) };
+
+    fn partial_cmp(&self, other: &Name) -> Option<Ordering> {
+        Some(self.cmp(other))
+    }
+}
+
+impl fmt::Debug for Name {
+    fn fmt<W: fmt::Write>(&self, f: &mut fmt::Formatter<W>) -> fmt::Result {
+        for c in self.bytes() {
+            f.write_char(char::from(*c))?;
+        }
+        Ok(())
+    }
+}
