@@ -4,3 +4,4 @@ pub mod Wire
 pub mod Number
 pub mod Name
 pub mod NameInside
+pub mod Tie

@@ -6,6 +6,7 @@ pub mod memory;
 pub mod name;
 pub mod numbers;
 pub mod rate;
+pub mod tie;
 pub mod time;
 pub mod wire;
 
@@ -14,6 +15,7 @@ pub use memory::NoMemory;
 pub use name::Name;
 pub use numbers::number;
 pub use rate::Rate;
+pub use tie::{Early, Late, Mixed, Tie};
 pub use time::Ps;
 pub use wire::wire_bits;
 

@@ -7,6 +7,7 @@ ghost use Rattle.std.specs.Cmp.Rules.{comparing};
 ghost use Rattle.std.specs.Cmp.Lexicographic.{slice_cmp, pointwise};
 ghost use Rattle.std.specs.Ordering.{nat_cmp, as_partial_cmp};
 ghost use Rattle.std.specs.Prelude.{nat_eq};
+ghost use Rattle.std.specs.List.{list_all};
 ghost use Rattle.ats_num.specs.Name.{name_of, is_name, is_name_byte, padded};
 
 use std::cmp::Ordering;
@@ -72,10 +73,19 @@ fn is_name_byte(c: u8) -> bool
     c.is_ascii_alphanumeric() || c == b'_' || c == b'-'
 }
 
+fn are_name_bytes(text: &[u8]) -> bool
+    ensures { result ≡ list_all is_name_byte text.now }
+{
+    text.iter().all(|c| is_name_byte(*c))
+}
+
 fn is_name(text: &[u8]) -> bool
     ensures { result ≡ is_name text.now }
 {
-    !text.is_empty() && text.len() <= MAX_BYTES && text.iter().all(|c| is_name_byte(*c))
+    if text.is_empty() || text.len() > MAX_BYTES {
+        return false;
+    }
+    are_name_bytes(text)
 }
 
 fn padded(text: &[u8]) -> [u8; 32]
