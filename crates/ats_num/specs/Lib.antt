@@ -5,3 +5,4 @@ pub mod Number
 pub mod Name
 pub mod NameInside
 pub mod Tie
+pub mod ReadsBack

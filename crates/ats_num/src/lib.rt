@@ -19,3 +19,5 @@ pub use tie::{Early, Late, Mixed, Tie};
 pub use time::Ps;
 pub use wire::wire_bits;
 
+#[cfg(test)]
+mod tests;

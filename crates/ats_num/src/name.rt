@@ -89,7 +89,7 @@ fn is_name(text: &[u8]) -> bool
 }
 
 fn padded(text: &[u8]) -> [u8; 32]
-    requires { length text.now ≤ MAX_BYTES }
+    requires { length text.now ≤ 32 }
     ensures { result ≡ padded text.now }
 {
     let mut array = [0; 32];
@@ -135,11 +135,17 @@ impl PartialOrd for Name {
     }
 }
 
-impl fmt::Debug for Name {
+impl fmt::Display for Name {
     fn fmt<W: fmt::Write>(&self, f: &mut fmt::Formatter<W>) -> fmt::Result {
         for c in self.bytes() {
             f.write_char(char::from(*c))?;
         }
         Ok(())
+    }
+}
+
+impl fmt::Debug for Name {
+    fn fmt<W: fmt::Write>(&self, f: &mut fmt::Formatter<W>) -> fmt::Result {
+        write!(f, "{self}")
     }
 }
