@@ -135,17 +135,11 @@ impl PartialOrd for Name {
     }
 }
 
-impl fmt::Display for Name {
+impl fmt::Debug for Name {
     fn fmt<W: fmt::Write>(&self, f: &mut fmt::Formatter<W>) -> fmt::Result {
         for c in self.bytes() {
             f.write_char(char::from(*c))?;
         }
         Ok(())
-    }
-}
-
-impl fmt::Debug for Name {
-    fn fmt<W: fmt::Write>(&self, f: &mut fmt::Formatter<W>) -> fmt::Result {
-        write!(f, "{self}")
     }
 }
