@@ -1,0 +1,77 @@
+//! The rules that a stream or a flow can break.
+
+ghost use Rattle.std.specs.Prelude.{◌≡◌, ◌↔◌, IsNone, Some};
+ghost use Rattle.ats_model.specs.Rules.{KeepsRules};
+ghost use Rattle.ats_streams.specs.Fault.{rules_fault, text_of};
+
+use ats_model::{are_sizes, covers_longest, is_burst};
+use ats_num::Rate;
+use std::error::Error;
+use std::fmt;
+
+/// The first rule that a declared stream or flow breaks, in the order of the variants.
+#[derive(Clone, Copy, Debug, PartialEq, Eq, Hash)]
+pub enum StreamFault {
+    /// The class is not 1 to 7.
+    BadClass,
+    /// The rate is not 1 to 100,000,000,000 bits per second.
+    BadRate,
+    /// The sizes are not `64 <= min_octets <= max_octets <= 2000`.
+    BadSizes,
+    /// The burst is below the wire bits of the longest frame.
+    BurstBelowFrame,
+    /// The path has no port or more than 16, the burst is over 1,000,000,000 bits, or the deadline is not 1 to
+    /// 1,000,000,000 ns.
+    Limit,
+}
+
+impl StreamFault {
+    /// The word that names the fault in a line of text.
+    pub fn text(&self) -> &'static str
+        ensures { result.now ≡ text_of self.now }
+    {
+        match self {
+            StreamFault::BadClass => "bad-class",
+            StreamFault::BadRate => "bad-rate",
+            StreamFault::BadSizes => "bad-sizes",
+            StreamFault::BurstBelowFrame => "burst-below-frame",
+            StreamFault::Limit => "limit",
+        }
+    }
+}
+
+impl fmt::Display for StreamFault {
+    ghost output = { λ fault. Some (text_of fault) };
+
+    fn fmt<W: fmt::Write>(&self, f: &mut fmt::Formatter<W>) -> fmt::Result {
+        f.write_str(self.text())
+    }
+}
+
+impl Error for StreamFault {}
+
+/// The first rule on rate (bits per second), burst (bits) and sizes (octets) that these numbers break, or `None` exactly
+/// where they keep each. It is for files that give a stream no class, path or deadline.
+pub fn declared_fault(
+    rate_bps: u64,
+    burst_bits: u64,
+    min_octets: u64,
+    max_octets: u64,
+) -> Option<StreamFault>
+    ensures fault { result ≡ rules_fault rate_bps burst_bits min_octets max_octets }
+    ensures rules { IsNone result ↔ KeepsRules rate_bps burst_bits min_octets max_octets }
+{
+    if Rate::new(rate_bps).is_none() {
+        return Some(StreamFault::BadRate);
+    }
+    if !are_sizes(min_octets, max_octets) {
+        return Some(StreamFault::BadSizes);
+    }
+    if !covers_longest(burst_bits, max_octets) {
+        return Some(StreamFault::BurstBelowFrame);
+    }
+    if !is_burst(burst_bits) {
+        return Some(StreamFault::Limit);
+    }
+    None
+}

@@ -1,0 +1,11 @@
+//! Declared streams and flows, and the rules that they keep.
+#![tactic(auto)]
+
+pub mod fault;
+pub mod flow;
+pub mod path;
+pub mod stream;
+
+pub use fault::{StreamFault, declared_fault};
+pub use flow::Flow;
+pub use stream::{Stream, is_identity};

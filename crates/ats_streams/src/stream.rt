@@ -1,0 +1,181 @@
+//! Declared streams.
+
+ghost use Rattle.std.specs.Prelude.{◌≡◌, ◌↔◌, IsTrue, IsNone, IfOk};
+ghost use Rattle.std.specs.Result.{result_err};
+ghost use Rattle.ats_num.specs.Rate.{IsRate};
+ghost use Rattle.ats_model.specs.Rules.{KeepsRules};
+ghost use Rattle.ats_streams.specs.Path.{IsPath};
+ghost use Rattle.ats_streams.specs.Stream.{IsClass, IsDeadline, IsIdentity, MayIdentify, IsStream, declared_stream, limit_fault, stream_fault};
+
+use crate::fault::{StreamFault, declared_fault};
+use crate::path::is_path;
+use ats_num::{Name, Rate};
+use std::marker::Model;
+
+/// The highest class of a stream.
+pub const MAX_CLASS: u64 = 7;
+
+/// The greatest deadline, in nanoseconds.
+pub const MAX_DEADLINE_NS: u64 = 1_000_000_000;
+
+/// The greatest VLAN identifier (IEEE Std 802.1Q).
+pub const MAX_VLAN: u16 = 4094;
+
+/// Whether the address has 48 bits and the VLAN identifier is 1 to 4094.
+pub fn is_identity(address: u64, vlan: u16) -> bool
+    ensures { IsTrue result ↔ IsIdentity address vlan }
+{
+    address < 1 << 48 && vlan >= 1 && vlan <= MAX_VLAN
+}
+
+/// A declared stream. It keeps the rules that `Stream::new` tests, and contracts see it as the record of what it declares.
+#[derive(Debug, Drop)]
+pub struct Stream {
+    name: Name,
+    path: Vec<u32>,
+    class: u8,
+    rate: Rate,
+    burst_bits: u64,
+    min_octets: u32,
+    max_octets: u32,
+    deadline_ns: u64,
+    identity: Option<(u64, u16)>,
+}
+
+impl Model for Stream {
+    ghost use Rattle.ats_streams.specs.Stream.{DeclaredStream, IsStream, declared_stream};
+
+    ghost Value = { DeclaredStream };
+
+    ghost view = { λ s. declared_stream s.name s.path.items s.class s.rate s.burst_bits s.min_octets s.max_octets s.deadline_ns s.identity };
+
+    ghost invariant = { λ s. IsStream (declared_stream s.name s.path.items s.class s.rate s.burst_bits s.min_octets s.max_octets s.deadline_ns s.identity) };
+}
+
+impl Stream {
+    /// The stream with this name, the ports of its path, its class from 1 to 7, its rate in bits per second, its burst in
+    /// bits, its least and greatest octets with the frame check sequence, its deadline in nanoseconds, and the address and
+    /// VLAN identifier of its frames. Else the first fault, in the order of the variants. It takes no memory.
+    pub fn new(
+        name: Name,
+        path: Vec<u32>,
+        class: u64,
+        rate_bps: u64,
+        burst_bits: u64,
+        min_octets: u64,
+        max_octets: u64,
+        deadline_ns: u64,
+        identity: Option<(u64, u16)>,
+    ) -> Result<Self, StreamFault>
+        requires { MayIdentify identity }
+        ensures fault { result_err result ≡ stream_fault (declared_stream name path.items class rate_bps burst_bits min_octets max_octets deadline_ns identity) }
+        ensures value { IfOk result (λ stream. stream ≡ declared_stream name path.items class rate_bps burst_bits min_octets max_octets deadline_ns identity) }
+        ensures rules { IfOk result IsStream }
+    {
+        if class < 1 || class > MAX_CLASS {
+            return Err(StreamFault::BadClass);
+        }
+        if let Some(fault) = declared_fault(rate_bps, burst_bits, min_octets, max_octets) {
+            return Err(fault);
+        }
+        if let Some(fault) = limit_fault(&path, deadline_ns) {
+            return Err(fault);
+        }
+        Ok(Stream {
+            name,
+            path,
+            class: class as u8,
+            rate: Rate::new(rate_bps).unwrap(),
+            burst_bits,
+            min_octets: min_octets as u32,
+            max_octets: max_octets as u32,
+            deadline_ns,
+            identity,
+        })
+    }
+
+    /// The stream's name.
+    pub fn name(&self) -> Name
+        ensures { result ≡ self.now.name }
+    {
+        self.name
+    }
+
+    /// The numbers of the ports of its path, in order. This clause tells all that the stream keeps.
+    pub fn path(&self) -> &[u32]
+        ensures value { result.now ≡ self.now.path }
+        ensures rules { IsStream self.now }
+    {
+        self.path.as_slice()
+    }
+
+    /// Its class, from 1 to 7.
+    pub fn class(&self) -> u8
+        ensures value { result ≡ self.now.class }
+        ensures valid { IsClass self.now.class }
+    {
+        self.class
+    }
+
+    /// Its committed rate.
+    pub fn rate(&self) -> Rate
+        ensures value { result ≡ self.now.rate }
+        ensures rules { KeepsRules self.now.rate self.now.burst_bits self.now.min_octets self.now.max_octets }
+    {
+        self.rate
+    }
+
+    /// Its committed burst, in bits.
+    pub fn burst_bits(&self) -> u64
+        ensures value { result ≡ self.now.burst_bits }
+        ensures rules { KeepsRules self.now.rate self.now.burst_bits self.now.min_octets self.now.max_octets }
+    {
+        self.burst_bits
+    }
+
+    /// The fewest octets of its frames, counted with the frame check sequence.
+    pub fn min_octets(&self) -> u32
+        ensures value { result ≡ self.now.min_octets }
+        ensures rules { KeepsRules self.now.rate self.now.burst_bits self.now.min_octets self.now.max_octets }
+    {
+        self.min_octets
+    }
+
+    /// The most octets of its frames, counted with the frame check sequence.
+    pub fn max_octets(&self) -> u32
+        ensures value { result ≡ self.now.max_octets }
+        ensures rules { KeepsRules self.now.rate self.now.burst_bits self.now.min_octets self.now.max_octets }
+    {
+        self.max_octets
+    }
+
+    /// Its deadline from release to its listener, in nanoseconds: 1 to 1,000,000,000.
+    pub fn deadline_ns(&self) -> u64
+        ensures value { result ≡ self.now.deadline_ns }
+        ensures valid { IsDeadline self.now.deadline_ns }
+    {
+        self.deadline_ns
+    }
+
+    /// The destination address, below `2^48`, and the VLAN identifier, 1 to 4094, of its frames, where they are declared.
+    pub fn identity(&self) -> Option<(u64, u16)>
+        ensures value { result ≡ self.now.identity }
+        ensures valid { MayIdentify self.now.identity }
+    {
+        self.identity
+    }
+}
+
+fn limit_fault(path: &[u32], deadline_ns: u64) -> Option<StreamFault>
+    ensures fault { result ≡ limit_fault path.now deadline_ns }
+    ensures path { IsNone result → IsPath path.now }
+    ensures deadline { IsNone result → IsDeadline deadline_ns }
+{
+    if !is_path(path) {
+        return Some(StreamFault::Limit);
+    }
+    if deadline_ns < 1 || deadline_ns > MAX_DEADLINE_NS {
+        return Some(StreamFault::Limit);
+    }
+    None
+}
