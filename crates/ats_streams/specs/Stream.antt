@@ -24,7 +24,17 @@ pub record DeclaredStream : Type 0 where
 -- these as one declaration
 abbrev pub declared_stream : List ℕ → List ℕ → ℕ → ℕ → ℕ → ℕ → ℕ → ℕ → Option (ℕ × ℕ) → DeclaredStream
 declared_stream name path class rate burst_bits min_octets max_octets deadline_ns identity =
-    record { name = name; path = path; class = class; rate = rate; burst_bits = burst_bits; min_octets = min_octets; max_octets = max_octets; deadline_ns = deadline_ns; identity = identity }
+    record {
+      name = name;
+      path = path;
+      class = class;
+      rate = rate;
+      burst_bits = burst_bits;
+      min_octets = min_octets;
+      max_octets = max_octets;
+      deadline_ns = deadline_ns;
+      identity = identity;
+    }
 
 -- a stream's class is 1 to 7
 pub record IsClass (class : ℕ) : Type 0 where
@@ -65,4 +75,5 @@ limit_fault path deadline_ns =
 abbrev pub stream_fault : DeclaredStream → Option StreamFault
 stream_fault stream =
     if nat_lt stream.class 1 || nat_lt MAX_CLASS stream.class then Some BadClass
-    else option_or (rules_fault stream.rate stream.burst_bits stream.min_octets stream.max_octets) (limit_fault stream.path stream.deadline_ns)
+    else option_or (rules_fault stream.rate stream.burst_bits stream.min_octets stream.max_octets)
+    (limit_fault stream.path stream.deadline_ns)

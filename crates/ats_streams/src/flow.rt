@@ -30,9 +30,12 @@ impl Model for Flow {
 }
 
 impl Flow {
-    /// The flow with this name, the ports of its path and its greatest octets, counted with the frame check sequence. Else
-    /// the first fault: `BadSizes` where the octets are not 64 to 2000, then `Limit` where the path has no port or more
-    /// than 16. It takes no memory.
+    /// The flow with this name, the ports of its path and its greatest octets, counted with the frame check sequence. It
+    /// holds exactly these, and takes no memory.
+    ///
+    /// # Errors
+    ///
+    /// `BadSizes` where the octets are not 64 to 2000, and else `Limit` where the path has no port or more than 16.
     pub fn new(name: Name, path: Vec<u32>, max_octets: u64) -> Result<Self, StreamFault>
         ensures fault { result_err result ≡ flow_fault (declared_flow name path.items max_octets) }
         ensures value { IfOk result (λ flow. flow ≡ declared_flow name path.items max_octets) }

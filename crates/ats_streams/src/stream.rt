@@ -47,15 +47,26 @@ impl Model for Stream {
 
     ghost Value = { DeclaredStream };
 
-    ghost view = { λ s. declared_stream s.name s.path.items s.class s.rate s.burst_bits s.min_octets s.max_octets s.deadline_ns s.identity };
+    ghost view = { λ s. declared_stream s.name s.path.items s.class s.rate s.burst_bits
+        s.min_octets s.max_octets s.deadline_ns s.identity };
 
-    ghost invariant = { λ s. IsStream (declared_stream s.name s.path.items s.class s.rate s.burst_bits s.min_octets s.max_octets s.deadline_ns s.identity) };
+    ghost invariant = { λ s. IsStream (declared_stream s.name s.path.items s.class s.rate s.burst_bits
+        s.min_octets s.max_octets s.deadline_ns s.identity) };
 }
 
 impl Stream {
-    /// The stream with this name, the ports of its path, its class from 1 to 7, its rate in bits per second, its burst in
-    /// bits, its least and greatest octets with the frame check sequence, its deadline in nanoseconds, and the address and
-    /// VLAN identifier of its frames. Else the first fault, in the order of the variants. It takes no memory.
+    /// The stream with this name, the ports of its path, its class, its rate in bits per second, its burst in bits, its
+    /// least and greatest octets counted with the frame check sequence, its deadline in nanoseconds, and the destination
+    /// address and VLAN identifier of its frames, where they are declared. It holds exactly these, and takes no memory.
+    ///
+    /// An address that is given has 48 bits, and its VLAN identifier is 1 to 4094; `is_identity` tests it.
+    ///
+    /// # Errors
+    ///
+    /// The first of these, in this order: `BadClass` where the class is not 1 to 7; `BadRate` where the rate is not 1 to
+    /// 100,000,000,000; `BadSizes` where the sizes are not `64 <= min_octets <= max_octets <= 2000`; `BurstBelowFrame`
+    /// where the burst is below the wire bits of `max_octets`; `Limit` where the path has no port or more than 16, the
+    /// burst is over 1,000,000,000, or the deadline is not 1 to 1,000,000,000.
     pub fn new(
         name: Name,
         path: Vec<u32>,
@@ -68,8 +79,10 @@ impl Stream {
         identity: Option<(u64, u16)>,
     ) -> Result<Self, StreamFault>
         requires { MayIdentify identity }
-        ensures fault { result_err result ≡ stream_fault (declared_stream name path.items class rate_bps burst_bits min_octets max_octets deadline_ns identity) }
-        ensures value { IfOk result (λ stream. stream ≡ declared_stream name path.items class rate_bps burst_bits min_octets max_octets deadline_ns identity) }
+        ensures fault { result_err result ≡ stream_fault (declared_stream name path.items class rate_bps burst_bits
+            min_octets max_octets deadline_ns identity) }
+        ensures value { IfOk result (λ stream. stream ≡ declared_stream name path.items class rate_bps burst_bits
+            min_octets max_octets deadline_ns identity) }
         ensures rules { IfOk result IsStream }
     {
         if class < 1 || class > MAX_CLASS {
@@ -101,7 +114,7 @@ impl Stream {
         self.name
     }
 
-    /// The numbers of the ports of its path, in order. This clause tells all that the stream keeps.
+    /// The numbers of the ports of its path, in order. The clause `rules` tells all that a stream keeps.
     pub fn path(&self) -> &[u32]
         ensures value { result.now ≡ self.now.path }
         ensures rules { IsStream self.now }
