@@ -1,0 +1,102 @@
+use Rattle.std.specs.Prelude.{◌≡◌, ℕ, ◌<◌, ◌==◌, ℤ, pos, List, length, map, replicate, slice_index, slice_index_or, slice_set, All, if◌then◌else◌}
+use Rattle.ats_model.specs.Rules.{KeepsRules}
+use Rattle.ats_num.specs.declared.time.Ps.{Ps}
+use Rattle.ats_bucket.specs.Scheduler.{first_empty}
+use Rattle.ats_group.specs.declared.member.Declared.{Declared}
+use Rattle.ats_group.specs.declared.member.Member.{Member}
+use Rattle.ats_group.specs.declared.verdict.Verdict.{Verdict}
+use Rattle.ats_group.specs.declared.verdict.Verdict.TheVariants.{Eligible, Late, Size}
+use Rattle.ats_group.specs.Group.{State, Offer, verdict_on, empty_once}
+
+-- where all groups stand: the residence of each group in nanoseconds, the members, the group eligibility time of each
+-- group, and the bucket-empty time of each member, multiplied by its rate
+pub record Standing : Type 0 where
+  pub residences_ns : List ℕ
+  pub members : List Member
+  pub times : List Ps
+  pub empties : List ℤ
+
+-- stands in a list's place where there is none
+abbrev pub no_member : Member
+no_member = record { group = 0; declared = record { rate = 0; burst_bits = 0; min_octets = 0; max_octets = 0 } }
+
+abbrev pub member_at : List Member → ℕ → Member
+member_at members member = slice_index_or members member no_member
+
+-- the time at a place of a list of times
+abbrev pub time_at : List Ps → ℕ → ℕ
+time_at times group = (slice_index_or times group (record { 0 = 0 })).0
+
+abbrev pub empty_at : List ℤ → ℕ → ℤ
+empty_at empties member = slice_index_or empties member (pos 0)
+
+-- the group of a member, and what is declared of it
+abbrev pub group_of : Standing → ℕ → ℕ
+group_of standing member = (member_at standing.members member).group
+
+abbrev pub declared_of : Standing → ℕ → Declared
+declared_of standing member = (member_at standing.members member).declared
+
+-- the residence of a group, in nanoseconds
+abbrev pub residence_of : Standing → ℕ → ℕ
+residence_of standing group = slice_index standing.residences_ns group
+
+-- what one group keeps; a member of another group has a bucket as at first
+abbrev pub state_of : Standing → ℕ → State
+state_of standing group =
+    record {
+      time = time_at standing.times group;
+      empty = λ member. if group_of standing member == group then empty_at standing.empties member else first_empty (declared_of standing member).burst_bits;
+    }
+
+-- each member's bucket-empty time at first
+abbrev pub first_empties : List Member → List ℤ
+first_empties members = map (λ (m : Member). first_empty m.declared.burst_bits) members
+
+-- where the groups stand at first
+abbrev pub opened : List ℕ → List Member → Standing
+opened residences_ns members =
+    record {
+      residences_ns = residences_ns;
+      members = members;
+      times = replicate (length residences_ns) (record { 0 = 0 });
+      empties = first_empties members;
+    }
+
+-- the verdict on a frame of a member
+abbrev pub verdict_of : Standing → ℕ → ℕ → ℕ → Verdict
+verdict_of standing member arrival octets =
+    let group = group_of standing member in
+    verdict_on (declared_of standing member) (residence_of standing group) (time_at standing.times group) (empty_at standing.empties member) arrival octets
+
+-- where the groups stand after a verdict on a frame of a member
+abbrev pub standing_after : Standing → ℕ → ℕ → Verdict → Standing
+standing_after standing member octets (Eligible e) =
+    record standing {
+      times = slice_set standing.times (group_of standing member) e;
+      empties = slice_set standing.empties member (empty_once (declared_of standing member) (empty_at standing.empties member) e.0 octets);
+    }
+standing_after standing member octets (Late e) = standing
+standing_after standing member octets Size = standing
+
+-- where the groups stand after a frame of a member
+abbrev pub value_after : Standing → ℕ → ℕ → ℕ → Standing
+value_after standing member arrival octets = standing_after standing member octets (verdict_of standing member arrival octets)
+
+-- a member's group is one of so many, and what is declared of it keeps the rules of a stream
+pub record IsMember (groups : ℕ) (m : Member) : Type 0 where
+  pub group : m.group < groups
+  pub declared : KeepsRules m.declared.rate m.declared.burst_bits m.declared.min_octets m.declared.max_octets
+
+abbrev pub AreMembers : ℕ → List Member → Type 0
+AreMembers groups members = All (IsMember groups) members
+
+-- what is declared of each member keeps the rules of a stream
+abbrev pub AreRuled : List Member → Type 0
+AreRuled members = All (λ (m : Member). KeepsRules m.declared.rate m.declared.burst_bits m.declared.min_octets m.declared.max_octets) members
+
+-- each group has a time, each member a bucket-empty time, and each member's group is there
+pub record IsStanding (standing : Standing) : Type 0 where
+  pub times : length standing.times ≡ length standing.residences_ns
+  pub empties : length standing.empties ≡ length standing.members
+  pub members : AreMembers (length standing.residences_ns) standing.members

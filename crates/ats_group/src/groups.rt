@@ -1,0 +1,132 @@
+//! All groups of a network, and their members.
+
+ghost use Rattle.std.specs.Prelude.{◌≡◌, ℕ, ◌-◌, ◌<◌, ◌≤◌, length, vec_len, All, IfOk};
+ghost use Rattle.ats_num.specs.declared.time.TheConstants.{PS_PER_SECOND, END};
+ghost use Rattle.ats_group.specs.declared.member.TheConstants.{MAX_RESIDENCE_NS};
+ghost use Rattle.ats_group.specs.Group.{InTime};
+ghost use Rattle.ats_group.specs.Standing.{opened, verdict_of, value_after, time_at, first_empties, IsStanding, AreMembers, AreRuled};
+ghost use Rattle.ats_group.specs.Seat.{IsSeat, standing_of, members_of, empties_of, IsKept};
+
+use crate::member::Member;
+use crate::seat::Seat;
+use crate::verdict::Verdict;
+use ats_num::{NoMemory, Ps};
+use std::alloc::Global;
+use std::marker::Model;
+
+/// The groups of schedulers of a network. Contracts see the residences and the members as they were given, the group
+/// eligibility time of each group, and the scaled bucket-empty time of each member.
+#[derive(Drop)]
+pub struct Groups {
+    residences_ns: Vec<u32>,
+    times: Vec<Ps>,
+    seats: Vec<Seat>,
+}
+
+impl Model for Groups {
+    ghost use Rattle.ats_group.specs.Standing.{Standing};
+
+    ghost Value = { Standing };
+
+    ghost use Rattle.ats_group.specs.Seat.{standing_of, IsKept};
+
+    ghost view = { λ g. standing_of g.residences_ns.items g.times.items g.seats.items };
+
+    ghost invariant = { λ g. IsKept g.residences_ns.items g.times.items g.seats.items };
+}
+
+impl Groups {
+    /// Groups with these maximum residence times, each at most 1,000,000,000 ns, and these members. Each group's
+    /// eligibility time is 0, and each member's bucket is full at time 0. Each member's group is a place in the list of
+    /// residences, and what is declared of it keeps the rules of a stream. `NoMemory` where memory runs out.
+    pub fn open(
+        alloc: Global,
+        residences_ns: &[u32],
+        members: &[Member],
+    ) -> Result<Groups, NoMemory>
+        requires residences { All (λ (r : ℕ). r ≤ MAX_RESIDENCE_NS) residences_ns.now }
+        requires members { AreMembers (length residences_ns.now) members.now }
+        ensures value { IfOk result (λ groups. groups ≡ opened residences_ns.now members.now) }
+        ensures standing { IfOk result IsStanding }
+    {
+        let seats = seats_of(alloc, members)?;
+        Ok(Groups {
+            residences_ns: Vec::from_slice(alloc, residences_ns)?,
+            times: vec![in alloc; Ps(0); residences_ns.len()]?,
+            seats,
+        })
+    }
+
+    /// Judges a frame of so many octets of a member, and keeps what it changes. `Size` where the octets are outside the
+    /// declared sizes. Else the eligibility time is the scheduler's: `Late` where it is after the arrival and the
+    /// maximum residence time, else `Eligible`. Only `Eligible` changes anything: the group eligibility time of the
+    /// member's group, and the member's own bucket. It takes no memory.
+    pub fn process(&mut self, member: u32, arrival: Ps, octets: u32) -> Verdict
+        requires member { member < length self.old.members }
+        requires arrival { arrival.0 ≤ END - PS_PER_SECOND }
+        ensures verdict { result ≡ verdict_of self.old member arrival.0 octets }
+        ensures value { self.new ≡ value_after self.old member arrival.0 octets }
+        ensures in_time { InTime result arrival.0 }
+        ensures members { self.new.members ≡ self.old.members }
+        ensures residences { self.new.residences_ns ≡ self.old.residences_ns }
+        ensures standing { IsStanding self.new }
+    {
+        judge(
+            &self.residences_ns,
+            &mut self.times,
+            &mut self.seats,
+            member as usize,
+            arrival,
+            octets,
+        )
+    }
+
+    /// The group eligibility time of a group.
+    pub fn group_time(&self, group: u32) -> Ps
+        requires { group < length self.now.times }
+        ensures value { result.0 ≡ time_at self.now.times group }
+        ensures bounded { result.0 ≤ END }
+    {
+        self.times[group as usize]
+    }
+}
+
+fn seats_of(alloc: Global, members: &[Member]) -> Result<Vec<Seat>, NoMemory>
+    requires { AreRuled members.now }
+    ensures members { IfOk result (λ seats. members_of seats.items ≡ members.now) }
+    ensures empties { IfOk result (λ seats. empties_of seats.items ≡ first_empties members.now) }
+    ensures seats { IfOk result (λ seats. All IsSeat seats.items) }
+{
+    let mut seats = Vec::with_capacity(alloc, members.len())?;
+    for member in members {
+        seats.push(Seat::new(member))?;
+    }
+    Ok(seats)
+}
+
+/// Judges a frame over the lists that a `Groups` holds.
+fn judge(
+    residences_ns: &[u32],
+    times: &mut [Ps],
+    seats: &mut [Seat],
+    member: usize,
+    arrival: Ps,
+    octets: u32,
+) -> Verdict
+    requires kept { IsKept residences_ns.now times.old seats.old }
+    requires member { member < length seats.old }
+    requires arrival { arrival.0 ≤ END - PS_PER_SECOND }
+    ensures verdict { result ≡ verdict_of (standing_of residences_ns.now times.old seats.old) member arrival.0 octets }
+    ensures value { standing_of residences_ns.now times.new seats.new ≡ value_after (standing_of residences_ns.now times.old seats.old) member arrival.0 octets }
+    ensures in_time { InTime result arrival.0 }
+    ensures kept { IsKept residences_ns.now times.new seats.new }
+{
+    let seat = seats[member];
+    let group = seat.member.group as usize;
+    let verdict = seat.verdict(residences_ns[group], times[group], arrival, octets);
+    if let Verdict::Eligible(eligible) = verdict {
+        times[group] = eligible;
+        seats[member] = seat.after(eligible, octets);
+    }
+    verdict
+}

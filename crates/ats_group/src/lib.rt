@@ -1,0 +1,12 @@
+//! Groups of schedulers: the streams that a bridge receives through one port in one class share a group eligibility
+//! time (IEEE Std 802.1Qcr, ATS scheduler groups).
+#![tactic(auto)]
+
+pub mod groups;
+pub mod member;
+mod seat;
+pub mod verdict;
+
+pub use groups::Groups;
+pub use member::{Declared, Member};
+pub use verdict::Verdict;

@@ -1,0 +1,75 @@
+//! One member's place in its group.
+
+ghost use Rattle.std.specs.Prelude.{◌≡◌, ℕ, ◌+◌, ◌-◌, ◌*◌, ◌≤◌};
+ghost use Rattle.ats_model.specs.Rules.{KeepsRules};
+ghost use Rattle.ats_num.specs.Wire.{bits_of};
+ghost use Rattle.ats_num.specs.declared.time.TheConstants.{PS_PER_SECOND, END};
+ghost use Rattle.ats_bucket.specs.Scheduler.{first_empty, empty_after};
+ghost use Rattle.ats_group.specs.declared.member.TheConstants.{MAX_RESIDENCE_NS};
+ghost use Rattle.ats_group.specs.Group.{verdict_on, InTime};
+ghost use Rattle.ats_group.specs.Seat.{IsSeat, Accepts, MayAccept, seat_after};
+
+use crate::member::Member;
+use crate::verdict::Verdict;
+use ats_bucket::Scheduler;
+use ats_num::time::PS_PER_NS;
+use ats_num::{Ps, wire_bits};
+
+/// A member and its own scheduler.
+#[derive(Clone, Copy, Debug)]
+pub struct Seat {
+    pub member: Member,
+    pub scheduler: Scheduler,
+}
+
+impl Seat {
+    /// The seat of a member whose bucket is full at time 0.
+    pub fn new(member: &Member) -> Seat
+        requires { KeepsRules member.now.declared.rate member.now.declared.burst_bits member.now.declared.min_octets member.now.declared.max_octets }
+        ensures seat { IsSeat result }
+        ensures member { result.member ≡ member.now }
+        ensures empty { result.scheduler.empty ≡ first_empty member.now.declared.burst_bits }
+    {
+        Seat {
+            member: *member,
+            scheduler: Scheduler::new(member.declared.rate, member.declared.burst_bits),
+        }
+    }
+
+    /// The verdict on a frame that arrives in a group with this residence and this group eligibility time.
+    pub fn verdict(&self, residence_ns: u32, time: Ps, arrival: Ps, octets: u32) -> Verdict
+        requires seat { IsSeat self.now }
+        requires residence { residence_ns ≤ MAX_RESIDENCE_NS }
+        requires time { time.0 ≤ END }
+        requires arrival { arrival.0 ≤ END - PS_PER_SECOND }
+        ensures value { result ≡ verdict_on self.now.member.declared residence_ns time.0 self.now.scheduler.empty arrival.0 octets }
+        ensures acceptable { MayAccept self.now.scheduler octets result }
+        ensures in_time { InTime result arrival.0 }
+    {
+        if !self.member.declared.allows(octets) {
+            return Verdict::Size;
+        }
+        let eligible = self.scheduler.propose(arrival, time, wire_bits(octets));
+        let latest = arrival.0 + PS_PER_NS * u64::from(residence_ns);
+        if eligible.0 <= latest {
+            Verdict::Eligible(eligible)
+        } else {
+            Verdict::Late(eligible)
+        }
+    }
+
+    /// The seat once a frame of so many octets was accepted, eligible at this time.
+    pub fn after(&self, eligible: Ps, octets: u32) -> Seat
+        requires seat { IsSeat self.now }
+        requires acceptable { Accepts self.now.scheduler octets eligible.0 }
+        ensures value { result ≡ seat_after self.now eligible.0 octets }
+        ensures seat { IsSeat result }
+    {
+        let mut scheduler = self.scheduler;
+        scheduler.accept(eligible, wire_bits(octets));
+        Seat {
+            member: self.member,
+            scheduler,
+        }
+    }
+}
