@@ -1,0 +1,46 @@
+//! Lines and words of a text.
+
+ghost use Rattle.std.specs.Prelude.{◌≡◌, ◌==◌, ◌<◌, ◌≤◌, ◌∷◌, length, drop, position, IfSome, slice_get, slice_range, option_copied};
+ghost use Rattle.ats_io.specs.Text.{lines_of, words_of};
+
+/// The line that begins at place `at` of the text: the place where it ends, and the place where the next line begins. A
+/// line ends before its LF, and before a CR directly before that LF; the last line may have no LF, and keeps its CR.
+pub fn line_at(text: &[u8], at: usize) -> (usize, usize)
+    requires { at < length text.now }
+    ensures line { lines_of (drop at text.now) ≡ slice_range text.now at result.0 ∷ lines_of (drop result.1 text.now) }
+    ensures begins { at ≤ result.0 }
+    ensures ends { result.0 ≤ result.1 }
+    ensures advances { at < result.1 }
+    ensures within { result.1 ≤ length text.now }
+{
+    match feed_at(&text[at..]) {
+        None => (text.len(), text.len()),
+        Some(0) => (at, at + 1),
+        Some(count) => {
+            let end = at + count;
+            if text[end - 1] == b'\r' {
+                (end - 1, end + 1)
+            } else {
+                (end, end + 1)
+            }
+        }
+    }
+}
+
+// The place of the first LF of a text.
+fn feed_at(text: &[u8]) -> Option<usize>
+    ensures place { result ≡ position (λ b. b == 10) text.now }
+    ensures within { IfSome result (λ place. place < length text.now) }
+{
+    text.iter().position(|b| *b == b'\n')
+}
+
+/// The word of a line with this number, counted from 0, or `None` exactly where the line has no more words. Words are
+/// separated by one or more spaces; spaces at either end are passed over.
+pub fn word_at(line: &[u8], number: usize) -> Option<&[u8]>
+    ensures { option_copied result ≡ slice_get (words_of line.now) number }
+{
+    line.split(|b| *b == b' ')
+        .filter(|piece| !piece.is_empty())
+        .nth(number)
+}
