@@ -1,5 +1,5 @@
 use Rattle.std.proofs.Common.{◌≡◌, ℕ, ◌+◌, ◌<◌, ◌^◌, Bool, true, false, cond, List, [], ◌∷◌, ◌++◌, length, Option, Some, None, refl, sym, ◌∙◌, ap, arith, length-append}
-use Rattle.std.specs.Prelude.{is_some}
+use Rattle.std.specs.Prelude.{is_some, IfSome}
 use Rattle.std.specs.List.{position_from}
 use Rattle.std.specs.Str.{bytes_eq}
 use Rattle.std.specs.Ordering.{nat_cmp}
@@ -52,3 +52,25 @@ numbered_push names name old new numbered absent few updates = record {
     by q false e =
         updates.0 q ∙ ap (λ b. cond b (Some (length names)) (get (slice_cmp nat_cmp) old q)) (at_name q ∙ e) ∙ numbered.found q
         ∙ sym (position_from-push (bytes_eq q) 0 names name ∙ ap (λ b. cond (is_some (place_of q names)) (place_of q names) (cond b (Some (0 + length names)) None)) e ∙ chosen (place_of q names))
+
+none_is : (n : ℕ) → None ≡ Some n → ⊥
+none_is n h = cc
+
+some_is : (a b : ℕ) → Some a ≡ Some b → a ≡ b
+some_is a b h = cc
+
+from_lt : (t : List ℕ → Bool) (i : ℕ) (xs : List (List ℕ)) (place : ℕ) → position_from t i xs ≡ Some place → place < i + length xs
+from_lt t i [] place h = absurd (none_is place h)
+from_lt t i (x ∷ xs) place h = by (t x) (from_lt t (i + 1) xs place) h
+  where
+    by : (b : Bool) → (position_from t (i + 1) xs ≡ Some place → place < (i + 1) + length xs) → cond b (Some i) (position_from t (i + 1) xs) ≡ Some place → place < i + length (x ∷ xs)
+    by true more h = let e = some_is i place h in omega arith
+    by false more h = let e = more h in omega arith
+
+-- a place that is found is one of the list
+pub place_of-lt : (name : List ℕ) (names : List (List ℕ)) (place : ℕ) → place_of name names ≡ Some place → place < length names
+place_of-lt name names place found = omega (arith, from_lt (bytes_eq name) 0 names place found)
+
+pub found_within : (name : List ℕ) (names : List (List ℕ)) (found : Option ℕ) → found ≡ place_of name names → IfSome found (λ place. place < length names)
+found_within name names None h = tt
+found_within name names (Some place) h = place_of-lt name names place (sym h)

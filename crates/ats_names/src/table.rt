@@ -1,6 +1,6 @@
 //! A list of different names, with a look-up by name.
 
-ghost use Rattle.std.specs.Prelude.{◌≡◌, ◌+◌, ◌<◌, ◌^◌, [], ◌∷◌, ◌++◌, length, None, OnOk, OnErr};
+ghost use Rattle.std.specs.Prelude.{◌≡◌, ◌+◌, ◌<◌, ◌^◌, [], ◌∷◌, ◌++◌, length, None, IfSome, OnOk, OnErr};
 ghost use Rattle.ats_names.specs.Places.{place_of};
 
 use ats_num::{Name, NoMemory};
@@ -39,7 +39,8 @@ impl NameTable {
 
     /// The number of a name; `None` exactly where the table does not have it.
     pub fn place(&self, name: &Name) -> Option<u32>
-        ensures { result ≡ place_of name.now self.now }
+        ensures place { result ≡ place_of name.now self.now }
+        ensures within { IfSome result (λ place. place < length self.now) }
     {
         self.places.get(name).copied()
     }

@@ -1,0 +1,4 @@
+pub mod Shape
+pub mod Steps
+pub mod Reading
+pub mod Draft
