@@ -29,7 +29,7 @@ pub record FitsFrame (draft : DraftShape) (frame : ShapeFrame) : Type 0 where
   pub framed : IsFrameOf (length draft.streams) frame
   pub few : length draft.frames < 200000
 
--- what a line declares fits the lines before it
+-- what a line declares keeps the draft within the limits
 abbrev pub Fits : DraftShape → Line → Type 0
 Fits draft Skipped = Unit {0}
 Fits draft (Residence ns) = ns ≤ 1000000000

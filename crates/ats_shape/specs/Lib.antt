@@ -2,3 +2,6 @@ pub mod Shape
 pub mod Steps
 pub mod Reading
 pub mod Draft
+pub mod Verdicts
+pub mod Text
+pub mod FaultText

@@ -65,7 +65,7 @@ frame_in n words = do
 abbrev pub names_of : List ShapeStream → List (List ℕ)
 names_of streams = map (λ (s : ShapeStream). s.name) streams
 
--- the stream that the words of line n declare
+-- the stream that these words declare
 abbrev pub stream_of : StreamWords → ShapeStream
 stream_of w = record { name = w.name; declared = record { rate = w.rate_bps; burst_bits = w.burst_bits; min_octets = w.min_octets; max_octets = w.max_octets } }
 
@@ -74,9 +74,13 @@ abbrev pub stream_or_fault : ℕ → ShapeStream → Option StreamFault → Resu
 stream_or_fault n stream None = Ok stream
 stream_or_fault n stream (Some fault) = Err (faults.Stream n fault)
 
--- that stream, or the first rule on rate, burst and sizes that it breaks
+-- that stream, or the first rule on rate, sizes and burst that it breaks
 abbrev pub ruled : ℕ → StreamWords → Result ShapeStream ShapeFault
 ruled n w = stream_or_fault n (stream_of w) (rules_fault w.rate_bps w.burst_bits w.min_octets w.max_octets)
+
+-- the frame that these words declare, of the stream at this place
+abbrev pub frame_of : FrameWords → ℕ → ShapeFrame
+frame_of w stream = record { at = record { 0 = w.at }; stream = stream; octets = w.octets }
 
 -- the time of the last frame, 0 before the first
 abbrev pub last_time : List ShapeFrame → ℕ
@@ -85,19 +89,19 @@ last_time frames = (slice_index_or frames (length frames - 1) (record { at = rec
 -- a stream line stands before all frame lines; it has a new name, keeps the rules of a stream, and is at most the 4096th
 abbrev pub stream_line : DraftShape → ℕ → List (List ℕ) → Result Line ShapeFault
 stream_line draft n words = do
-  early ← ok_where (length draft.frames == 0) (BadLine n) words
-  stream ← stream_in n early
-  new ← ok_where (is_none (place_of stream.name (names_of draft.streams))) (NameTwice n) stream
-  kept ← ruled n new
-  ok_where (nat_lt (length draft.streams) 4096) (Limit n) (Stream kept)
+  in_place ← ok_where (length draft.frames == 0) (BadLine n) words
+  said ← stream_in n in_place
+  named ← ok_where (is_none (place_of said.name (names_of draft.streams))) (NameTwice n) said
+  stream ← ruled n named
+  ok_where (nat_lt (length draft.streams) 4096) (Limit n) (Stream stream)
 
 -- a frame line names a stream, arrives at the time of the frame before or later, and is at most the 200,000th
 abbrev pub frame_line : DraftShape → ℕ → List (List ℕ) → Result Line ShapeFault
 frame_line draft n words = do
-  frame ← frame_in n words
-  stream ← or_fault (UnknownName n) (place_of frame.name (names_of draft.streams))
-  later ← ok_where (nat_le (last_time draft.frames) frame.at) (TimeBack n) stream
-  ok_where (nat_lt (length draft.frames) 200000) (Limit n) (Frame (record { at = record { 0 = frame.at }; stream = later; octets = frame.octets }))
+  said ← frame_in n words
+  stream ← or_fault (UnknownName n) (place_of said.name (names_of draft.streams))
+  frame ← ok_where (nat_le (last_time draft.frames) said.at) (TimeBack n) (frame_of said stream)
+  ok_where (nat_lt (length draft.frames) 200000) (Limit n) (Frame frame)
 
 -- the first line that counts is the residence
 abbrev pub residence_line : ℕ → List (List ℕ) → Result Line ShapeFault

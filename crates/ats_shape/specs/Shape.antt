@@ -21,7 +21,7 @@ pub record IsFrameOf (streams : ℕ) (f : ShapeFrame) : Type 0 where
   pub size : IsFrameSize f.octets
   pub time : f.at.0 ≤ 100000000000000000
 
--- the limits and rules that each shape keeps
+-- the bounds that each shape keeps
 pub record IsShape (shape : DeclaredShape) : Type 0 where
   pub residence : shape.residence_ns ≤ 1000000000
   pub ruled : All IsRuled shape.streams

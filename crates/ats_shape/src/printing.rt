@@ -1,0 +1,153 @@
+//! What is printed for a shape, and for a text that is none.
+
+ghost use Rattle.std.specs.Prelude.{◌≡◌, ◌≤◌, ◌<◌, ◌++◌, length, codes, decimal, All, OnOk, IfOk};
+ghost use Rattle.ats_shape.specs.Text.{verdict_text, frame_text, frames_text, name_in, is_eligible, is_late, is_size, totals_text, report_on};
+ghost use Rattle.ats_shape.specs.FaultText.{fault_text};
+ghost use Rattle.ats_shape.specs.declared.shape.ShapeFrame.{ShapeFrame};
+
+use crate::fault::ShapeFault;
+use crate::shape::{Shape, ShapeFrame, ShapeStream};
+use ats_group::Verdict;
+use ats_num::NoMemory;
+use itoa::{Buffer, Integer};
+use std::alloc::Global;
+
+/// A line for each frame with its verdict, then a line of totals.
+pub fn report(alloc: Global, shape: &Shape, verdicts: &[Verdict]) -> Result<Vec<u8>, NoMemory>
+    requires { length verdicts.now ≡ length shape.now.frames }
+    ensures { IfOk result (λ text. text.items ≡ report_on shape.now verdicts.now) }
+{
+    let mut out = Vec::new(alloc);
+    write_frames(&mut out, shape.streams(), shape.frames(), verdicts)?;
+    write_totals(&mut out, verdicts)?;
+    Ok(out)
+}
+
+/// Appends the words for a fault and its line. `NoMemory` leaves a front of them.
+pub fn write_fault(out: &mut Vec<u8>, fault: &ShapeFault) -> Result<(), NoMemory>
+    ensures { OnOk result (out.new.items ≡ out.old.items ++ fault_text fault.now) }
+{
+    match fault {
+        ShapeFault::BadLine(n) => write_word(out, b"bad-line ", *n),
+        ShapeFault::NameTwice(n) => write_word(out, b"name-twice ", *n),
+        ShapeFault::Stream(n, fault) => {
+            out.extend_from_slice(fault.text().as_bytes())?;
+            write_word(out, b" ", *n)
+        }
+        ShapeFault::UnknownName(n) => write_word(out, b"unknown-name ", *n),
+        ShapeFault::TimeBack(n) => write_word(out, b"time-back ", *n),
+        ShapeFault::Limit(n) => write_word(out, b"limit ", *n),
+        ShapeFault::NoMemory => Ok(out.extend_from_slice(b"no-memory")?),
+    }
+}
+
+fn write_frames(
+    out: &mut Vec<u8>,
+    streams: &[ShapeStream],
+    frames: &[ShapeFrame],
+    verdicts: &[Verdict],
+) -> Result<(), NoMemory>
+    requires lines { length verdicts.now ≡ length frames.now }
+    requires few { length frames.now ≤ 200000 }
+    requires streams { All (λ (f : ShapeFrame). f.stream < length streams.now) frames.now }
+    ensures { OnOk result (out.new.items ≡ out.old.items ++ frames_text streams.now 0 frames.now verdicts.now) }
+{
+    for (n, frame) in frames.iter().enumerate() {
+        let stream = &streams[frame.stream as usize];
+        write_frame(out, n, stream.name.bytes(), frame, &verdicts[n])?;
+    }
+    Ok(())
+}
+
+fn write_frame(
+    out: &mut Vec<u8>,
+    n: usize,
+    name: &[u8],
+    frame: &ShapeFrame,
+    verdict: &Verdict,
+) -> Result<(), NoMemory>
+    ensures { OnOk result (out.new.items ≡ out.old.items ++ frame_text n name.now frame.now verdict.now) }
+{
+    write_word(out, b"frame ", n)?;
+    out.extend_from_slice(b" ")?;
+    out.extend_from_slice(name)?;
+    write_word(out, b" ", frame.octets)?;
+    write_word(out, b" ", frame.at.0)?;
+    out.extend_from_slice(b" ")?;
+    write_verdict(out, verdict)?;
+    out.extend_from_slice(b"\n")?;
+    Ok(())
+}
+
+fn write_verdict(out: &mut Vec<u8>, verdict: &Verdict) -> Result<(), NoMemory>
+    ensures { OnOk result (out.new.items ≡ out.old.items ++ verdict_text verdict.now) }
+{
+    match verdict {
+        Verdict::Eligible(at) => write_word(out, b"eligible ", at.0),
+        Verdict::Late(at) => write_word(out, b"late ", at.0),
+        Verdict::Size => Ok(out.extend_from_slice(b"size")?),
+    }
+}
+
+fn write_totals(out: &mut Vec<u8>, verdicts: &[Verdict]) -> Result<(), NoMemory>
+    ensures { OnOk result (out.new.items ≡ out.old.items ++ totals_text verdicts.now) }
+{
+    write_word(out, b"total frames ", verdicts.len())?;
+    write_word(
+        out,
+        b" eligible ",
+        verdicts.iter().filter(|v| is_eligible(v)).count(),
+    )?;
+    write_word(
+        out,
+        b" late ",
+        verdicts.iter().filter(|v| is_late(v)).count(),
+    )?;
+    write_word(
+        out,
+        b" size ",
+        verdicts.iter().filter(|v| is_size(v)).count(),
+    )?;
+    out.extend_from_slice(b"\n")?;
+    Ok(())
+}
+
+// A word, and a number behind it.
+fn write_word<I: Integer + Drop>(out: &mut Vec<u8>, word: &[u8], n: I) -> Result<(), NoMemory>
+    ensures { OnOk result (out.new.items ≡ out.old.items ++ (word.now ++ I.text n)) }
+{
+    let mut buffer = Buffer::new();
+    out.extend_from_slice(word)?;
+    out.extend_from_slice(buffer.format(n).as_bytes())?;
+    Ok(())
+}
+
+fn is_eligible(verdict: &Verdict) -> bool
+    ensures { result ≡ is_eligible verdict.now }
+{
+    match verdict {
+        Verdict::Eligible(_) => true,
+        Verdict::Late(_) => false,
+        Verdict::Size => false,
+    }
+}
+
+fn is_late(verdict: &Verdict) -> bool
+    ensures { result ≡ is_late verdict.now }
+{
+    match verdict {
+        Verdict::Eligible(_) => false,
+        Verdict::Late(_) => true,
+        Verdict::Size => false,
+    }
+}
+
+fn is_size(verdict: &Verdict) -> bool
+    ensures { result ≡ is_size verdict.now }
+{
+    match verdict {
+        Verdict::Eligible(_) => false,
+        Verdict::Late(_) => false,
+        Verdict::Size => true,
+    }
+}
