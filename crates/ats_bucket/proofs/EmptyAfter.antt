@@ -1,8 +1,8 @@
-use Rattle.std.proofs.Common.{◌≡◌, ℕ, ◌+◌, ◌*◌, ◌≤◌, max, Bool, true, false, refl, arith}
+use Rattle.std.proofs.Common.{◌≡◌, ℕ, ◌+◌, ◌*◌, max, Bool, true, false, refl, arith}
 use Rattle.std.specs.Prelude.{ℤ, pos, ◌+ℤ◌, ◌-ℤ◌, ◌≤ℤ◌, ◌<ℤ◌, int_lt, if◌then◌else◌}
 use Rattle.std.proofs.lemmas.Int.{ints}
 use Rattle.ats_num.specs.declared.time.TheConstants.{PS_PER_SECOND}
-use Rattle.ats_bucket.specs.Scheduler.{holds_at, empty_after}
+use Rattle.ats_bucket.specs.Scheduler.{empty_after}
 
 chosen : (b : Bool) (r s t : ℤ) → (b ≡ true → r ≡ s) → (b ≡ false → r ≡ t) → r ≡ (if b then s else t)
 chosen true r s t x y = x refl

@@ -1,19 +1,17 @@
-use Rattle.std.proofs.Common.{◌≡◌, ℕ, ◌<◌, ◌≤◌, List, length, map, get_or, set, All, sym, ap, ◌∙◌, refl, arith, length-set, subst, replicate}
+use Rattle.std.proofs.Common.{◌≡◌, ℕ, ◌<◌, ◌≤◌, List, length, get_or, set, All, sym, ap, ◌∙◌, refl, arith, length-set, replicate}
 use Rattle.std.specs.Prelude.{ℤ, pos, slice_index}
 use Rattle.std.proofs.lemmas.List.{map-set, get_or-map, length-map, length-replicate}
 use Rattle.std.proofs.Math.Seq.{map-set_same}
 use Rattle.std.proofs.lemmas.List.Elements.{All-set, All-map, All-replicate}
 use Rattle.ats_num.specs.declared.time.TheConstants.{END}
 use Rattle.ats_num.specs.declared.time.Ps.{Ps}
-use Rattle.ats_bucket.specs.Scheduler.{empty_after}
-use Rattle.ats_num.specs.Wire.{bits_of}
 use Rattle.ats_group.specs.declared.member.TheConstants.{MAX_RESIDENCE_NS}
 use Rattle.ats_group.specs.declared.member.Member.{Member}
 use Rattle.ats_group.specs.declared.seat.Seat.{Seat}
 use Rattle.ats_group.specs.declared.verdict.Verdict.{Verdict}
 use Rattle.ats_group.specs.declared.verdict.Verdict.TheVariants.{Eligible, Late, Size}
 use Rattle.ats_group.specs.Group.{empty_once, verdict_on}
-use Rattle.ats_group.specs.Standing.{Standing, no_member, member_at, time_at, empty_at, group_of, declared_of, residence_of, verdict_of, standing_after, value_after, IsStanding, IsMember, AreMembers}
+use Rattle.ats_group.specs.Standing.{Standing, no_member, member_at, time_at, empty_at, verdict_of, standing_after, value_after, IsStanding, IsMember, AreMembers}
 use Rattle.ats_group.specs.Seat.{IsSeat, seat_after, standing_of, members_of, empties_of, IsKept}
 
 standing_is : (r : List ℕ) (m n : List Member) (t u : List Ps) (e f : List ℤ) → m ≡ n → t ≡ u → e ≡ f → (let s : Standing = record { residences_ns = r; members = m; times = t; empties = e } in s) ≡ record { residences_ns = r; members = n; times = u; empties = f }

@@ -1,3 +1,4 @@
 pub mod Group
+pub mod Laws
 pub mod Seat
 pub mod Standing

@@ -1,7 +1,6 @@
-use Rattle.std.specs.Prelude.{◌≡◌, ℕ, ◌+◌, ◌*◌, ◌<◌, ◌≤◌, ℤ, pos, ◌≤ℤ◌, List, length, map, All}
-use Rattle.ats_num.specs.declared.time.TheConstants.{PS_PER_SECOND, END}
+use Rattle.std.specs.Prelude.{◌≡◌, ℕ, ◌*◌, ◌<◌, ◌≤◌, ℤ, pos, ◌≤ℤ◌, List, length, map, All}
+use Rattle.ats_num.specs.declared.time.TheConstants.{END}
 use Rattle.ats_num.specs.declared.time.Ps.{Ps}
-use Rattle.ats_num.specs.declared.wire.TheConstants.{MAX_WIRE_BITS}
 use Rattle.ats_num.specs.Wire.{IsFrameSize, bits_of}
 use Rattle.ats_model.specs.Rules.{KeepsRules}
 use Rattle.ats_bucket.specs.Scheduler.{Bucket, holds_at, empty_after}
@@ -10,7 +9,6 @@ use Rattle.ats_group.specs.declared.member.Member.{Member}
 use Rattle.ats_group.specs.declared.seat.Seat.{Seat}
 use Rattle.ats_group.specs.declared.verdict.Verdict.{Verdict}
 use Rattle.ats_group.specs.declared.verdict.Verdict.TheVariants.{Eligible, Late, Size}
-use Rattle.ats_group.specs.Group.{empty_once}
 use Rattle.ats_group.specs.Standing.{Standing}
 
 -- the scheduler is the member's, and what is declared of it keeps the rules of a stream

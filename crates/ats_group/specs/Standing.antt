@@ -6,7 +6,7 @@ use Rattle.ats_group.specs.declared.member.Declared.{Declared}
 use Rattle.ats_group.specs.declared.member.Member.{Member}
 use Rattle.ats_group.specs.declared.verdict.Verdict.{Verdict}
 use Rattle.ats_group.specs.declared.verdict.Verdict.TheVariants.{Eligible, Late, Size}
-use Rattle.ats_group.specs.Group.{State, Offer, verdict_on, empty_once}
+use Rattle.ats_group.specs.Group.{State, verdict_on, empty_once}
 
 -- where all groups stand: the residence of each group in nanoseconds, the members, the group eligibility time of each
 -- group, and the bucket-empty time of each member, multiplied by its rate

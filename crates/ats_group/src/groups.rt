@@ -130,3 +130,146 @@ fn judge(
     }
     verdict
 }
+
+#[cfg(test)]
+mod tests {
+    use super::*;
+    use crate::member::Declared;
+    use ats_num::Rate;
+    use std::test::Fail;
+
+    #[test]
+    fn opens_without_members(rt: HostRuntime) -> Result<(), Fail> {
+        let groups = Groups::open(rt.alloc(), &[1_000_000], &[])?;
+        assert_eq!(rt; groups.group_time(0), Ps(0));
+        Ok(())
+    }
+
+    #[test]
+    fn empties_the_bucket_exactly(rt: HostRuntime) -> Result<(), Fail> {
+        let rate = Rate::new(100_000_000).expect(&rt, "a rate");
+        let x = Member {
+            group: 0,
+            declared: Declared {
+                rate,
+                burst_bits: 12_336,
+                min_octets: 64,
+                max_octets: 1522,
+            },
+        };
+        let mut groups = Groups::open(rt.alloc(), &[1_000_000], &[x])?;
+        assert_eq!(rt; groups.process(0, Ps(0), 1522), Verdict::Eligible(Ps(0)));
+        assert_eq!(rt;
+            groups.process(0, Ps(12_336_000), 1522),
+            Verdict::Eligible(Ps(123_360_000))
+        );
+        Ok(())
+    }
+
+    #[test]
+    fn rounds_up(rt: HostRuntime) -> Result<(), Fail> {
+        let rate = Rate::new(11_000_000).expect(&rt, "a rate");
+        let x = Member {
+            group: 0,
+            declared: Declared {
+                rate,
+                burst_bits: 672,
+                min_octets: 64,
+                max_octets: 64,
+            },
+        };
+        let mut groups = Groups::open(rt.alloc(), &[1_000_000], &[x])?;
+        assert_eq!(rt; groups.process(0, Ps(0), 64), Verdict::Eligible(Ps(0)));
+        assert_eq!(rt;
+            groups.process(0, Ps(672_000), 64),
+            Verdict::Eligible(Ps(61_090_910))
+        );
+        assert_eq!(rt;
+            groups.process(0, Ps(1_344_000), 64),
+            Verdict::Eligible(Ps(122_181_820))
+        );
+        Ok(())
+    }
+
+    #[test]
+    fn keeps_the_order_of_a_group(rt: HostRuntime) -> Result<(), Fail> {
+        let rate = Rate::new(100_000_000).expect(&rt, "a rate");
+        let x = Member {
+            group: 0,
+            declared: Declared {
+                rate,
+                burst_bits: 12_336,
+                min_octets: 64,
+                max_octets: 1522,
+            },
+        };
+        let y = Member {
+            group: 0,
+            declared: Declared {
+                rate,
+                burst_bits: 12_336,
+                min_octets: 64,
+                max_octets: 1522,
+            },
+        };
+        let mut groups = Groups::open(rt.alloc(), &[1_000_000], &[x, y])?;
+        assert_eq!(rt; groups.process(0, Ps(0), 1522), Verdict::Eligible(Ps(0)));
+        assert_eq!(rt;
+            groups.process(0, Ps(12_336_000), 1522),
+            Verdict::Eligible(Ps(123_360_000))
+        );
+        assert_eq!(rt;
+            groups.process(1, Ps(13_000_000), 1522),
+            Verdict::Eligible(Ps(123_360_000))
+        );
+        assert_eq!(rt; groups.group_time(0), Ps(123_360_000));
+        Ok(())
+    }
+
+    #[test]
+    fn lets_a_frame_stay_for_the_residence(rt: HostRuntime) -> Result<(), Fail> {
+        let rate = Rate::new(100_000_000).expect(&rt, "a rate");
+        let x = Member {
+            group: 0,
+            declared: Declared {
+                rate,
+                burst_bits: 12_336,
+                min_octets: 64,
+                max_octets: 1522,
+            },
+        };
+        let mut groups = Groups::open(rt.alloc(), &[111_024], &[x])?;
+        assert_eq!(rt; groups.process(0, Ps(0), 1522), Verdict::Eligible(Ps(0)));
+        assert_eq!(rt;
+            groups.process(0, Ps(12_336_000), 1522),
+            Verdict::Eligible(Ps(123_360_000))
+        );
+        Ok(())
+    }
+
+    #[test]
+    fn discards_after_the_residence(rt: HostRuntime) -> Result<(), Fail> {
+        let rate = Rate::new(100_000_000).expect(&rt, "a rate");
+        let x = Member {
+            group: 0,
+            declared: Declared {
+                rate,
+                burst_bits: 12_336,
+                min_octets: 64,
+                max_octets: 1522,
+            },
+        };
+        let mut groups = Groups::open(rt.alloc(), &[111_023], &[x])?;
+        assert_eq!(rt; groups.process(0, Ps(0), 1522), Verdict::Eligible(Ps(0)));
+        assert_eq!(rt;
+            groups.process(0, Ps(12_336_000), 1522),
+            Verdict::Late(Ps(123_360_000))
+        );
+        assert_eq!(rt; groups.process(0, Ps(12_337_000), 1523), Verdict::Size);
+        assert_eq!(rt;
+            groups.process(0, Ps(12_337_000), 1522),
+            Verdict::Eligible(Ps(123_360_000))
+        );
+        Ok(())
+    }
+}

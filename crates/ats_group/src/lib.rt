@@ -3,6 +3,7 @@
 #![tactic(auto)]
 
 pub mod groups;
+pub mod laws;
 pub mod member;
 mod seat;
 pub mod verdict;

@@ -1,4 +1,4 @@
-use Rattle.std.proofs.Common.{◌*◌, ◌+◌, ◌≤◌, arith}
+use Rattle.std.proofs.Common.{◌*◌, arith}
 use Rattle.ats_num.specs.declared.time.TheConstants.{PS_PER_SECOND, END}
 use Rattle.ats_bucket.proofs.Ceiling.{ceiling-bounded}
 use Rattle.ats_bucket.proofs.scheduler.filled_at.Goals as goal
