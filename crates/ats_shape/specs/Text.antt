@@ -13,7 +13,7 @@ verdict_text (Late e) = codes "late " ++ decimal e.0
 verdict_text Size = codes "size"
 
 -- `frame N NAME OCTETS AT ` and the verdict
-abbrev pub frame_text : ℕ → List ℕ → ShapeFrame → Verdict → List ℕ
+unfoldable pub frame_text : ℕ → List ℕ → ShapeFrame → Verdict → List ℕ
 frame_text n name frame verdict =
     codes "frame " ++ decimal n ++ codes " " ++ name ++ codes " " ++ decimal frame.octets ++ codes " " ++ decimal frame.at.0 ++ codes " " ++ verdict_text verdict ++ codes "\n"
 
@@ -44,7 +44,7 @@ is_size (Late e) = false
 is_size Size = true
 
 -- `total frames F eligible E late L size S`
-abbrev pub totals_text : List Verdict → List ℕ
+unfoldable pub totals_text : List Verdict → List ℕ
 totals_text verdicts =
     codes "total frames " ++ decimal (length verdicts) ++ codes " eligible " ++ decimal (count_by is_eligible verdicts)
     ++ codes " late " ++ decimal (count_by is_late verdicts) ++ codes " size " ++ decimal (count_by is_size verdicts) ++ codes "\n"

@@ -1,6 +1,6 @@
 //! What is printed for a shape, and for a text that is none.
 
-ghost use Rattle.std.specs.Prelude.{◌≡◌, ◌≤◌, ◌<◌, ◌++◌, length, codes, decimal, All, OnOk, IfOk};
+ghost use Rattle.std.specs.Prelude.{◌≡◌, ◌≤◌, ◌<◌, ◌++◌, length, count_by, codes, decimal, All, OnOk, IfOk};
 ghost use Rattle.ats_shape.specs.Text.{verdict_text, frame_text, frames_text, name_in, is_eligible, is_late, is_size, totals_text, report_on};
 ghost use Rattle.ats_shape.specs.FaultText.{fault_text};
 ghost use Rattle.ats_shape.specs.declared.shape.ShapeFrame.{ShapeFrame};
@@ -59,6 +59,7 @@ fn write_frames(
     Ok(())
 }
 
+#[tactic(auto, unfolding(crate::specs::Text::frame_text))]
 fn write_frame(
     out: &mut Vec<u8>,
     n: usize,
@@ -89,25 +90,14 @@ fn write_verdict(out: &mut Vec<u8>, verdict: &Verdict) -> Result<(), NoMemory>
     }
 }
 
+#[tactic(auto, unfolding(crate::specs::Text::totals_text))]
 fn write_totals(out: &mut Vec<u8>, verdicts: &[Verdict]) -> Result<(), NoMemory>
     ensures { OnOk result (out.new.items ≡ out.old.items ++ totals_text verdicts.now) }
 {
     write_word(out, b"total frames ", verdicts.len())?;
-    write_word(
-        out,
-        b" eligible ",
-        verdicts.iter().filter(|v| is_eligible(v)).count(),
-    )?;
-    write_word(
-        out,
-        b" late ",
-        verdicts.iter().filter(|v| is_late(v)).count(),
-    )?;
-    write_word(
-        out,
-        b" size ",
-        verdicts.iter().filter(|v| is_size(v)).count(),
-    )?;
+    write_word(out, b" eligible ", count_eligible(verdicts))?;
+    write_word(out, b" late ", count_late(verdicts))?;
+    write_word(out, b" size ", count_size(verdicts))?;
     out.extend_from_slice(b"\n")?;
     Ok(())
 }
@@ -122,6 +112,12 @@ fn write_word<I: Integer + Drop>(out: &mut Vec<u8>, word: &[u8], n: I) -> Result
     Ok(())
 }
 
+fn count_eligible(verdicts: &[Verdict]) -> usize
+    ensures { result ≡ count_by is_eligible verdicts.now }
+{
+    verdicts.iter().filter(|v| is_eligible(v)).count()
+}
+
 fn is_eligible(verdict: &Verdict) -> bool
     ensures { result ≡ is_eligible verdict.now }
 {
@@ -132,6 +128,12 @@ fn is_eligible(verdict: &Verdict) -> bool
     }
 }
 
+fn count_late(verdicts: &[Verdict]) -> usize
+    ensures { result ≡ count_by is_late verdicts.now }
+{
+    verdicts.iter().filter(|v| is_late(v)).count()
+}
+
 fn is_late(verdict: &Verdict) -> bool
     ensures { result ≡ is_late verdict.now }
 {
@@ -140,6 +142,12 @@ fn is_late(verdict: &Verdict) -> bool
         Verdict::Late(_) => true,
         Verdict::Size => false,
     }
+}
+
+fn count_size(verdicts: &[Verdict]) -> usize
+    ensures { result ≡ count_by is_size verdicts.now }
+{
+    verdicts.iter().filter(|v| is_size(v)).count()
 }
 
 fn is_size(verdict: &Verdict) -> bool

@@ -54,6 +54,7 @@ impl Shape {
     /// The streams, at most 4096, in file order.
     pub fn streams(&self) -> &[ShapeStream]
         ensures value { result.now ≡ self.now.streams }
+        ensures shape { IsShape self.now }
     {
         &self.stream_list
     }
@@ -61,6 +62,7 @@ impl Shape {
     /// The frames, at most 200,000, in file order. Their arrivals do not descend.
     pub fn frames(&self) -> &[ShapeFrame]
         ensures value { result.now ≡ self.now.frames }
+        ensures shape { IsShape self.now }
     {
         &self.frame_list
     }
