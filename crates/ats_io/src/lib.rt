@@ -13,7 +13,7 @@ pub mod text;
 pub mod whole;
 
 pub use fault::{Failed, ReadFault};
-pub use files::Files;
+pub use files::{Files, MAX_PLACE};
 pub use mem_files::MemFiles;
 pub use mem_sink::MemSink;
 pub use sink::Sink;
