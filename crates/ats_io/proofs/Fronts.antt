@@ -1,21 +1,7 @@
-use Rattle.std.proofs.Common.{◌≡◌, ℕ, ◌+◌, ◌-◌, ◌^◌, ◌<◌, ◌≤◌, min, List, [], ◌∷◌, ◌++◌, length, take, drop, Option, Some, None, Result, Ok, Err, OnErr, refl, sym, ◌∙◌, ap, arith, append_assoc, length-append, length-take, length-take-le, take-append-drop}
+use Rattle.std.proofs.Common.{◌≡◌, ℕ, ◌+◌, ◌≤◌, List, ◌++◌, length, take, drop, Result, Ok, Err, OnErr, sym, ◌∙◌, ap, arith, length-append, length-take, length-take-le, take-append-drop}
 use Rattle.std.proofs.lemmas.List.{take_all}
 use Rattle.std.proofs.Math.Seq.{take-append-add}
-use Rattle.std.proofs.lemmas.Grind.{common_steps}
-use Rattle.ats_io.specs.Outside.{Rose, IfTold, Continues, IsPieceAt, appended, TakesFront}
-
-pub Continues-refl : {S : Type 0} {told : S → List ℕ → Option (List ℕ)} {faults : S → List ℕ → ℕ} (s : S) → Continues told faults s s
-Continues-refl s = record { holds = refl; counts = λ name. omega arith }
-
-pub Continues-trans : {S : Type 0} {told : S → List ℕ → Option (List ℕ)} {faults : S → List ℕ → ℕ} {r s t : S} → Continues told faults r s → Continues told faults s t → Continues told faults r t
-Continues-trans {faults = faults} {r = r} {s = s} {t = t} h k = record {
-  holds = k.holds ∙ h.holds;
-  counts = λ name. let a : faults r name ≤ faults s name = h.counts name in let b : faults s name ≤ faults t name = k.counts name in omega arith
-}
-
--- a fault that came since a later count came since an earlier one
-pub Rose-since : (before since now : ℕ) → before ≤ since → Rose since now → Rose before now
-Rose-since before since now le h = omega arith
+use Rattle.ats_io.specs.Outside.{IsPieceAt}
 
 -- two fronts in a row are one
 pub take_two : (a b : ℕ) (xs : List ℕ) → a ≤ length xs → take (a + b) xs ≡ take a xs ++ take b (drop a xs)
@@ -38,11 +24,6 @@ front_more bytes whole longer buffer at count front place piece joined =
 -- a front that nothing stands behind is all
 pub front_all : (bytes whole buffer : List ℕ) (at count : ℕ) → whole ≡ take (length whole) bytes → at ≡ length whole → count ≡ 0 → IsPieceAt bytes at count buffer → whole ≡ bytes
 front_all bytes whole buffer at count front place none piece = let end : length bytes ≤ at = piece.ends none in let short : length bytes ≤ length whole = omega arith in front ∙ take_all (length whole) bytes short
-
--- what is appended in two pieces is appended in one
-pub appended_twice : (held : Option (List ℕ)) (a b : List ℕ) → appended (appended held a) b ≡ appended held (a ++ b)
-appended_twice None a b = refl
-appended_twice (Some h) a b = ap Some (append_assoc h a b)
 
 -- what holds anyhow holds where there is an error
 pub on_err : {T E P : Type 0} (r : Result T E) → P → OnErr r P

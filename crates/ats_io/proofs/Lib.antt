@@ -1,2 +1,5 @@
-mod Lines
+pub mod Outside
 mod Fronts
+mod Held
+mod Lines
+mod Words

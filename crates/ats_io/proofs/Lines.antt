@@ -1,5 +1,5 @@
-use Rattle.std.proofs.Common.{◌≡◌, ℕ, ◌+◌, ◌-◌, ◌<◌, ◌≤◌, ◌≢◌, ◌==◌, Bool, true, false, not, cond, List, [], ◌∷◌, ◌++◌, length, take, drop, slice_index, Option, Some, None, position, refl, suc, zero, sym, ◌∙◌, ap, arith, length-drop, length-take-le, get_or-take, get_or-drop}
-use Rattle.std.specs.List.{slice_split, onto_first, position_or_len, before_first, after_first, slice_range}
+use Rattle.std.proofs.Common.{◌≡◌, ℕ, ◌+◌, ◌-◌, ◌<◌, ◌≤◌, ◌≢◌, ◌==◌, Bool, List, [], ◌∷◌, length, take, drop, slice_index, Some, None, position, refl, suc, zero, sym, ◌∙◌, ap, arith, length-drop, length-take-le, get_or-take, get_or-drop}
+use Rattle.std.specs.List.{slice_split, position_or_len, before_first, after_first, slice_range}
 use Rattle.std.specs.Str.Lines.{lines, lines_of_parts, strip_carriage_return}
 use Rattle.std.proofs.lemmas.Grind.{common_steps}
 use Rattle.std.proofs.lemmas.List.{drop-drop, take_rest, take-take}

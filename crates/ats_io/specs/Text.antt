@@ -1,4 +1,4 @@
-use Rattle.std.specs.Prelude.{ℕ, Bool, not, ◌==◌, List, length, filter}
+use Rattle.std.specs.Prelude.{ℕ, not, ◌==◌, List, length, filter}
 use Rattle.std.specs.List.{slice_split}
 use Rattle.std.specs.Str.Lines.{lines}
 

@@ -1,6 +1,6 @@
 //! Lines and words of a text.
 
-ghost use Rattle.std.specs.Prelude.{◌≡◌, ◌==◌, ◌<◌, ◌≤◌, ◌∷◌, length, drop, position, IfSome, slice_get, slice_range, option_copied};
+ghost use Rattle.std.specs.Prelude.{◌≡◌, ◌==◌, ◌<◌, ◌≤◌, ◌∷◌, length, drop, position, IfSome, IsSome, ◌↔◌, slice_get, slice_range, option_copied};
 ghost use Rattle.ats_io.specs.Text.{lines_of, words_of};
 
 /// The line that begins at place `at` of the text: the place where it ends, and the place where the next line begins. A
@@ -38,7 +38,8 @@ fn feed_at(text: &[u8]) -> Option<usize>
 /// The word of a line with this number, counted from 0, or `None` exactly where the line has no more words. Words are
 /// separated by one or more spaces; spaces at either end are passed over.
 pub fn word_at(line: &[u8], number: usize) -> Option<&[u8]>
-    ensures { option_copied result ≡ slice_get (words_of line.now) number }
+    ensures word { option_copied result ≡ slice_get (words_of line.now) number }
+    ensures some { IsSome result ↔ (number < length (words_of line.now)) }
 {
     line.split(|b| *b == b' ')
         .filter(|piece| !piece.is_empty())

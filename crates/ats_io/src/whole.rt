@@ -4,12 +4,11 @@ ghost use Rattle.std.specs.Prelude.{◌≡◌, ◌+◌, ◌-◌, ◌<◌, ◌≤
 ghost use Rattle.ats_io.specs.Outside.{Rose, IfTold, Continues, TakesFront, appended};
 ghost use Rattle.ats_io.specs.declared.files.TheConstants.{MAX_PLACE};
 
-use ats_num::NoMemory;
-use std::alloc::Global;
-
 use crate::fault::{Failed, ReadFault};
 use crate::files::Files;
 use crate::sink::Sink;
+use ats_num::NoMemory;
+use std::alloc::Global;
 
 /// The most bytes that one call asks of a file.
 const PIECE: usize = 65_536;
@@ -19,7 +18,12 @@ const PIECE: usize = 65_536;
 ///
 /// `Failed`: a read failed, and the count of faults of the name rose. `TooLong`: the file has more bytes than the limit.
 /// `NoMemory`: memory ran out.
-pub fn read_whole<F: Files>(alloc: Global, files: &mut F, name: &str, limit: u64) -> Result<Vec<u8>, ReadFault>
+pub fn read_whole<F: Files>(
+    alloc: Global,
+    files: &mut F,
+    name: &str,
+    limit: u64,
+) -> Result<Vec<u8>, ReadFault>
     requires { limit ≤ MAX_PLACE }
     ensures within { IfOk result (λ whole. length whole.items ≤ limit) }
     ensures whole { IfOk result (λ whole. IfTold (F.told files.old name.now) (λ bytes. whole.items ≡ bytes)) }
@@ -61,6 +65,7 @@ pub fn write_all<O: Sink>(out: &mut O, text: &[u8]) -> Result<(), Failed>
     ensures failed { OnErr result (Rose (O.faults out.old) (O.faults out.new)) }
     ensures counts { O.faults out.old ≤ O.faults out.new }
     ensures empty { text.now ≡ [] → IsOk result }
+    ensures untouched { text.now ≡ [] → out.new ≡ out.old }
 {
     let mut done = 0;
     while done < text.len() {

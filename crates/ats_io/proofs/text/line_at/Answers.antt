@@ -1,4 +1,4 @@
-use Rattle.std.proofs.Common.{◌≡◌, ◌+◌, ◌<◌, Some, ap, ◌∙◌, sym, add-zero, arith}
+use Rattle.std.proofs.Common.{Some, ap, ◌∙◌, sym, add-zero, arith}
 use Rattle.std.proofs.lemmas.List.{take_rest}
 use Rattle.ats_io.proofs.Lines.{line_open, line_kept, line_cut}
 use Rattle.ats_io.proofs.text.line_at.Goals as goal

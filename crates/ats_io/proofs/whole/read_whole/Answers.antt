@@ -1,6 +1,6 @@
-use Rattle.std.proofs.Common.{rules, ◌≡◌, ◌+◌, ◌-◌, ◌<◌, ◌≤◌, ◌++◌, length, take, Some, refl, sym, ◌∙◌, ap, arith, vec_len}
-use Rattle.ats_io.specs.Outside.{Rose, IfTold, Continues, IsPieceAt}
-use Rattle.ats_io.proofs.Fronts.{Continues-refl, Continues-trans, front_more, front_all, front_length}
+use Rattle.std.proofs.Common.{◌≡◌, ◌++◌, length, take, refl, ◌∙◌, ap, arith}
+use Rattle.ats_io.proofs.Fronts.{front_more, front_all, front_length}
+use Rattle.ats_io.proofs.Outside.{Continues-refl, Continues-trans}
 use Rattle.ats_io.proofs.whole.read_whole.Goals as goal
 
 pub loop-whole-init : goal.loop-whole-init
@@ -8,7 +8,7 @@ loop-whole-init g c = record {
   room = c.in_ok-buffer.ensures;
   within = omega (arith, c.new-whole.ensures.len);
   front = λ bytes told. rw c.new-whole.ensures.items refl;
-  continues = Continues-refl c.args.files.now
+  continues = Continues-refl c.args.files.now;
 }
 
 pub returns-in_err-count-clause-continues : goal.returns-in_err-count-clause-continues
@@ -53,7 +53,7 @@ loop-whole-preserved g c =
       room = c.loop-whole.invariant.room;
       within = omega arith;
       front = λ bytes told.
-        let now = ap (λ f. f c.args.name.now) c.loop-whole.invariant.continues.holds ∙ told in
-        front_more bytes c.loop-whole.whole.items c.extend_from_slice.new.self.items c.read.new.buf c.len-in-loop-whole-2.result c.in_ok-count.count (c.loop-whole.invariant.front bytes told) place (c.in_ok-count.ensures.piece bytes now) joined;
-      continues = Continues-trans c.loop-whole.invariant.continues c.read.ensures.continues
+          let now = ap (λ f. f c.args.name.now) c.loop-whole.invariant.continues.holds ∙ told in
+          front_more bytes c.loop-whole.whole.items c.extend_from_slice.new.self.items c.read.new.buf c.len-in-loop-whole-2.result c.in_ok-count.count (c.loop-whole.invariant.front bytes told) place (c.in_ok-count.ensures.piece bytes now) joined;
+      continues = Continues-trans c.loop-whole.invariant.continues c.read.ensures.continues;
     }

@@ -1,4 +1,4 @@
-use Rattle.std.proofs.Common.{◌≡◌, ◌+◌, ◌-◌, ◌≤◌, ◌<◌, length, take, vec_len}
+use Rattle.std.proofs.Common.{◌≡◌, ◌-◌, ◌≤◌, ◌<◌, length, take, vec_len}
 use Rattle.ats_io.specs.Outside.{IfTold, Continues}
 use Rattle.ats_io.proofs.whole.read_whole.Given as goal
 
@@ -7,7 +7,7 @@ invariant-loop-whole g l = record {
   room : 0 < vec_len l.buffer;
   within : vec_len l.whole ≤ l.limit;
   front : IfTold (g.F.Files.told l.initial.files l.name) (λ bytes. l.whole.items ≡ take (length l.whole.items) bytes);
-  continues : Continues g.F.Files.told g.F.Files.faults l.initial.files l.files
+  continues : Continues g.F.Files.told g.F.Files.faults l.initial.files l.files;
 }
 
 abbrev pub decreases-loop-whole : goal.decreases-loop-whole

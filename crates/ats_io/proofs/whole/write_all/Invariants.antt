@@ -6,7 +6,8 @@ abbrev pub invariant-loop-done : goal.invariant-loop-done
 invariant-loop-done g l = record {
   within : l.done ≤ length l.text;
   taken : g.O.Sink.held l.out ≡ appended (g.O.Sink.held l.initial.out) (take l.done l.text);
-  counts : g.O.Sink.faults l.initial.out ≤ g.O.Sink.faults l.out
+  untouched : l.done ≡ 0 → l.out ≡ l.initial.out;
+  counts : g.O.Sink.faults l.initial.out ≤ g.O.Sink.faults l.out;
 }
 
 abbrev pub decreases-loop-done : goal.decreases-loop-done

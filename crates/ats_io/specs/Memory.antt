@@ -1,0 +1,33 @@
+use Rattle.std.specs.Prelude.{ℕ, ◌+◌, ◌-◌, ◌^◌, ◌==◌, min, Bool, List, [], Option, Some, None, option_map, unwrap_or, position, slice_index, String, Vec, string_bytes}
+use Rattle.std.specs.List.{find, list_any}
+use Rattle.std.specs.Str.{bytes_eq}
+use Rattle.std.specs.declared.alloc.Global.{Global}
+
+-- the file has this name
+abbrev pub is_named : List ℕ → String Global × Vec ℕ Global → Bool
+is_named name file = bytes_eq (string_bytes file.0) name
+
+-- the bytes that a list of files holds under a name: those of the first file of that name, if there is one
+abbrev pub bytes_of : List (String Global × Vec ℕ Global) → List ℕ → Option (List ℕ)
+bytes_of files name = option_map (λ file. file.1.items) (find (is_named name) files)
+
+-- the same, and no bytes where no file has the name
+abbrev pub bytes_or_none : List (String Global × Vec ℕ Global) → List ℕ → List ℕ
+bytes_or_none files name = unwrap_or (bytes_of files name) []
+
+-- the count at a place, and the common count at no place
+abbrev pub count_at : List ℕ → ℕ → Option ℕ → ℕ
+count_at counts others None = others
+count_at counts others (Some place) = slice_index counts place
+
+-- the count of faults of a name: each file has its own, and the names of no file share one
+abbrev pub count_of : List (String Global × Vec ℕ Global) → List ℕ → ℕ → List ℕ → ℕ
+count_of files counts others name = count_at counts others (position (is_named name) files)
+
+-- one more, in a counter that stays at the last value of 64 bits
+abbrev pub next_count : ℕ → ℕ
+next_count count = min (count + 1) (2 ^ 64 - 1)
+
+-- a call of this number is among the ones that are to fail
+abbrev pub is_planned : List ℕ → ℕ → Bool
+is_planned fails call = list_any (λ number. number == call) fails

@@ -1,0 +1,90 @@
+//! A sink in memory whose writes fail where it is planned.
+
+ghost use Rattle.std.specs.Prelude.{◌≡◌, ◌==◌, ◌+◌, ◌-◌, ◌<◌, ◌≤◌, ◌||◌, [], Some, length, take, min, is_err, IfOk, OnErr, vec_len, vec_capacity};
+ghost use Rattle.ats_io.specs.Outside.{Rose, appended};
+ghost use Rattle.ats_io.specs.Memory.{next_count, is_planned};
+
+use crate::fault::Failed;
+use crate::plan;
+use crate::sink::Sink;
+use ats_num::NoMemory;
+use std::alloc::Global;
+
+/// A sink that holds its bytes in a buffer of a size given when it is made, and tells them. It takes at most a stated
+/// number of bytes a call. A full buffer fails. Its calls are counted from 1, and the calls whose numbers are in a given
+/// list fail. Each call that fails raises the count of faults. Both counters stay at the last value of 64 bits.
+#[derive(Drop)]
+pub struct MemSink {
+    bytes: Vec<u8>,
+    room: usize,
+    most: usize,
+    fails: Vec<u32>,
+    calls: u64,
+    raised: u64,
+    ghost some: { 0 < most },
+    ghost within: { vec_len bytes ≤ room },
+    ghost reserved: { room ≤ vec_capacity bytes },
+}
+
+impl MemSink {
+    /// An empty sink with room for so many bytes, which takes at most `most` bytes a call, and at least 1; the calls with
+    /// the numbers in `fails` are to fail. `NoMemory` where there is no memory for the buffer.
+    pub fn new(alloc: Global, room: usize, most: usize, fails: Vec<u32>) -> Result<Self, NoMemory>
+        requires { 0 < most }
+        ensures held { IfOk result (λ made. ⟦<MemSink as Sink>⟧.held made ≡ Some []) }
+        ensures faults { IfOk result (λ made. ⟦<MemSink as Sink>⟧.faults made ≡ 0) }
+        ensures room { IfOk result (λ made. made.room ≡ room) }
+        ensures most { IfOk result (λ made. made.most ≡ most) }
+        ensures calls { IfOk result (λ made. made.calls ≡ 0) }
+        ensures fails { IfOk result (λ made. made.fails ≡ fails) }
+    {
+        let bytes = Vec::with_capacity(alloc, room)?;
+        Ok(MemSink {
+            bytes,
+            room,
+            most,
+            fails,
+            calls: 0,
+            raised: 0,
+        })
+    }
+
+    /// The bytes that it holds.
+    pub fn bytes(&self) -> &[u8]
+        ensures { ⟦<MemSink as Sink>⟧.held self.now ≡ Some result.now }
+    {
+        &self.bytes
+    }
+}
+
+impl Sink for MemSink {
+    ghost held = { λ s. Some s.bytes.items };
+
+    ghost faults = { λ s. s.raised };
+
+    fn write(&mut self, piece: &[u8]) -> Result<usize, Failed>
+        requires { 0 < length piece.now }
+        ensures some { IfOk result (λ count. 0 < count) }
+        ensures within { IfOk result (λ count. count ≤ length piece.now) }
+        ensures taken { IfOk result (λ count. Some self.new.bytes.items ≡ appended (Some self.old.bytes.items) (take count piece.now)) }
+        ensures failed { OnErr result (Rose self.old.raised self.new.raised) }
+        ensures unchanged { OnErr result (Some self.new.bytes.items ≡ Some self.old.bytes.items) }
+        ensures counts { self.old.raised ≤ self.new.raised }
+        ensures full { IfOk result (λ count. count ≡ min (min (length piece.now) self.old.most) (self.old.room - vec_len self.old.bytes)) }
+        ensures fails { is_err result ≡ (vec_len self.old.bytes == self.old.room || is_planned self.old.fails.items (next_count self.old.calls)) }
+        ensures calls { self.new.calls ≡ next_count self.old.calls }
+        ensures plan { self.new.fails ≡ self.old.fails }
+        ensures room { self.new.room ≡ self.old.room }
+        ensures most { self.new.most ≡ self.old.most }
+    {
+        self.calls = plan::next_count(self.calls);
+        if self.bytes.len() == self.room || plan::is_planned(&self.fails, self.calls) {
+            self.raised = plan::next_count(self.raised);
+            return Err(Failed);
+        }
+        let left = self.room - self.bytes.len();
+        let count = piece.len().min(self.most).min(left);
+        self.bytes.extend_from_slice(&piece[..count]).unwrap();
+        Ok(count)
+    }
+}
