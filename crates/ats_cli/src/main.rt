@@ -1,0 +1,48 @@
+//! The program `ats`: it reads its words, runs the command that they name over the system's files and standard output, and
+//! ends with the status as its exit code. It writes nothing on standard error.
+#![tactic(auto)]
+
+mod fault_counts;
+mod real_files;
+mod real_sink;
+mod status;
+#[cfg(test)]
+mod tests;
+mod top;
+
+use crate::real_files::RealFiles;
+use crate::real_sink::RealSink;
+use crate::status::Status;
+use std::alloc::Global;
+use std::env;
+use std::io::ErrorKind;
+use std::process::ExitCode;
+use std::rt::Env;
+
+// The words of the program's call, without its own name. Where a word is not UTF-8 the words name no command.
+fn words_of(rt: &(impl Env + AllocGlobal)) -> Result<Vec<String>, Status> {
+    match env::args(rt) {
+        Ok(all) => all
+            .skip(1)
+            .collect(rt.alloc())
+            .map_err(|_| Status::NoMemory),
+        Err(e) if e.kind() == ErrorKind::OutOfMemory => Err(Status::NoMemory),
+        Err(_) => Err(Status::Words),
+    }
+}
+
+// Runs the command that these words name.
+fn run(rt: HostRuntime, words: &[String]) -> Status {
+    match RealFiles::new(rt.alloc(), rt, words) {
+        Ok(mut files) => top::ats(rt.alloc(), words, &mut files, &mut RealSink::new(rt)),
+        Err(_) => Status::NoMemory,
+    }
+}
+
+fn main(rt: HostRuntime) -> ExitCode {
+    let status = match words_of(&rt) {
+        Ok(words) => run(rt, &words),
+        Err(status) => status,
+    };
+    ExitCode::from(status.code())
+}
