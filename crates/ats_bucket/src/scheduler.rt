@@ -1,12 +1,12 @@
 //! The scheduler of one stream (IEEE Std 802.1Qcr, ATS scheduler state machines), in whole numbers.
 
-ghost use Rattle.std.specs.Prelude.{◌≡◌, ℕ, ◌+◌, ◌-◌, ◌*◌, ◌≤◌, max, pos, ◌≤ℤ◌};
+ghost use Rattle.std.specs.Prelude.{◌≡◌, ◌+◌, ◌-◌, ◌*◌, ◌≤◌, max, pos, ◌≤ℤ◌};
 ghost use Rattle.ats_num.specs.Division.{IsCeiling};
 ghost use Rattle.ats_num.specs.Rate.{IsRate};
 ghost use Rattle.ats_num.specs.declared.time.TheConstants.{PS_PER_SECOND, END};
 ghost use Rattle.ats_num.specs.declared.rate.TheConstants.{MAX_BURST_BITS};
 ghost use Rattle.ats_num.specs.declared.wire.TheConstants.{MAX_WIRE_BITS};
-ghost use Rattle.ats_bucket.specs.Scheduler.{Bucket, first_empty, holds_at, IsEligibility, eligibility_time, empty_after};
+ghost use Rattle.ats_bucket.specs.Scheduler.{first_empty, holds_at, IsEligibility, eligibility_time, empty_after};
 
 use ats_num::time::PS_PER_SECOND;
 use ats_num::{Ps, Rate, ceil_div};
@@ -42,7 +42,8 @@ impl Scheduler {
     /// A scheduler of this committed rate and this burst, of at most 1,000,000,000 bits, whose bucket is full at time 0.
     pub fn new(rate: Rate, burst_bits: u64) -> Scheduler
         requires { burst_bits ≤ MAX_BURST_BITS }
-        ensures { result ≡ record { rate = rate; burst = burst_bits; empty = first_empty burst_bits } }
+        ensures { result
+            ≡ record { rate = rate; burst = burst_bits; empty = first_empty burst_bits } }
     {
         Scheduler {
             rate,
@@ -59,7 +60,8 @@ impl Scheduler {
         requires arrival { arrival.0 ≤ END }
         requires group { group.0 ≤ END }
         ensures least { IsEligibility self.now.rate self.now.empty group.0 arrival.0 bits result.0 }
-        ensures value { result.0 ≡ eligibility_time self.now.rate self.now.empty group.0 arrival.0 bits }
+        ensures value { result.0
+            ≡ eligibility_time self.now.rate self.now.empty group.0 arrival.0 bits }
         ensures bounded { result.0 ≤ END + PS_PER_SECOND * bits }
     {
         let filled = filled_at(self.full, self.burst_bits, bits, self.rate);
@@ -72,7 +74,8 @@ impl Scheduler {
         requires in_frame { bits ≤ MAX_WIRE_BITS }
         requires time { eligible.0 ≤ END }
         requires filled { holds_at self.old.empty bits ≤ℤ pos (eligible.0 * self.old.rate) }
-        ensures { self.new ≡ record self.old { empty = empty_after self.old.rate self.old.burst self.old.empty eligible.0 bits } }
+        ensures { let s = self.old in
+            self.new ≡ record s { empty = empty_after s.rate s.burst s.empty eligible.0 bits } }
     {
         self.full = full_after(self.full, self.rate, eligible, bits);
     }

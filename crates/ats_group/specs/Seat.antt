@@ -2,20 +2,20 @@ use Rattle.std.specs.Prelude.{◌≡◌, ℕ, ◌*◌, ◌<◌, ◌≤◌, ℤ, 
 use Rattle.ats_num.specs.declared.time.TheConstants.{END}
 use Rattle.ats_num.specs.declared.time.Ps.{Ps}
 use Rattle.ats_num.specs.Wire.{IsFrameSize, bits_of}
-use Rattle.ats_model.specs.Rules.{KeepsRules}
 use Rattle.ats_bucket.specs.Scheduler.{Bucket, holds_at, empty_after}
 use Rattle.ats_group.specs.declared.member.TheConstants.{MAX_RESIDENCE_NS}
 use Rattle.ats_group.specs.declared.member.Member.{Member}
 use Rattle.ats_group.specs.declared.seat.Seat.{Seat}
 use Rattle.ats_group.specs.declared.verdict.Verdict.{Verdict}
 use Rattle.ats_group.specs.declared.verdict.Verdict.TheVariants.{Eligible, Late, Size}
+use Rattle.ats_group.specs.Group.{IsRuled}
 use Rattle.ats_group.specs.Standing.{Standing}
 
 -- the scheduler is the member's, and what is declared of it keeps the rules of a stream
 pub record IsSeat (seat : Seat) : Type 0 where
   pub rate : seat.scheduler.rate ≡ seat.member.declared.rate
   pub burst : seat.scheduler.burst ≡ seat.member.declared.burst_bits
-  pub declared : KeepsRules seat.member.declared.rate seat.member.declared.burst_bits seat.member.declared.min_octets seat.member.declared.max_octets
+  pub declared : IsRuled seat.member.declared
 
 -- a frame of so many octets may be taken out of the bucket at this time
 pub record Accepts (bucket : Bucket) (octets eligible : ℕ) : Type 0 where

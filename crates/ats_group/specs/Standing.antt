@@ -1,12 +1,11 @@
 use Rattle.std.specs.Prelude.{◌≡◌, ℕ, ◌<◌, ◌==◌, ℤ, pos, List, length, map, replicate, slice_index, slice_index_or, slice_set, All, if◌then◌else◌}
-use Rattle.ats_model.specs.Rules.{KeepsRules}
 use Rattle.ats_num.specs.declared.time.Ps.{Ps}
 use Rattle.ats_bucket.specs.Scheduler.{first_empty}
 use Rattle.ats_group.specs.declared.member.Declared.{Declared}
 use Rattle.ats_group.specs.declared.member.Member.{Member}
 use Rattle.ats_group.specs.declared.verdict.Verdict.{Verdict}
 use Rattle.ats_group.specs.declared.verdict.Verdict.TheVariants.{Eligible, Late, Size}
-use Rattle.ats_group.specs.Group.{State, verdict_on, empty_once}
+use Rattle.ats_group.specs.Group.{State, verdict_on, empty_once, IsRuled}
 
 -- where all groups stand: the residence of each group in nanoseconds, the members, the group eligibility time of each
 -- group, and the bucket-empty time of each member, multiplied by its rate
@@ -86,14 +85,14 @@ value_after standing member arrival octets = standing_after standing member octe
 -- a member's group is one of so many, and what is declared of it keeps the rules of a stream
 pub record IsMember (groups : ℕ) (m : Member) : Type 0 where
   pub group : m.group < groups
-  pub declared : KeepsRules m.declared.rate m.declared.burst_bits m.declared.min_octets m.declared.max_octets
+  pub declared : IsRuled m.declared
 
 abbrev pub AreMembers : ℕ → List Member → Type 0
 AreMembers groups members = All (IsMember groups) members
 
 -- what is declared of each member keeps the rules of a stream
 abbrev pub AreRuled : List Member → Type 0
-AreRuled members = All (λ (m : Member). KeepsRules m.declared.rate m.declared.burst_bits m.declared.min_octets m.declared.max_octets) members
+AreRuled members = All (λ (m : Member). IsRuled m.declared) members
 
 -- each group has a time, each member a bucket-empty time, and each member's group is there
 pub record IsStanding (standing : Standing) : Type 0 where

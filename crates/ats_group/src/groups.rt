@@ -1,6 +1,6 @@
 //! All groups of a network, and their members.
 
-ghost use Rattle.std.specs.Prelude.{◌≡◌, ℕ, ◌-◌, ◌<◌, ◌≤◌, length, vec_len, All, IfOk};
+ghost use Rattle.std.specs.Prelude.{◌≡◌, ℕ, ◌-◌, ◌<◌, ◌≤◌, length, All, IfOk};
 ghost use Rattle.ats_num.specs.declared.time.TheConstants.{PS_PER_SECOND, END};
 ghost use Rattle.ats_group.specs.declared.member.TheConstants.{MAX_RESIDENCE_NS};
 ghost use Rattle.ats_group.specs.Group.{InTime};
@@ -116,8 +116,10 @@ fn judge(
     requires kept { IsKept residences_ns.now times.old seats.old }
     requires member { member < length seats.old }
     requires arrival { arrival.0 ≤ END - PS_PER_SECOND }
-    ensures verdict { result ≡ verdict_of (standing_of residences_ns.now times.old seats.old) member arrival.0 octets }
-    ensures value { standing_of residences_ns.now times.new seats.new ≡ value_after (standing_of residences_ns.now times.old seats.old) member arrival.0 octets }
+    ensures verdict { let old = standing_of residences_ns.now times.old seats.old in
+        result ≡ verdict_of old member arrival.0 octets }
+    ensures value { let old = standing_of residences_ns.now times.old seats.old in
+        standing_of residences_ns.now times.new seats.new ≡ value_after old member arrival.0 octets }
     ensures in_time { InTime result arrival.0 }
     ensures kept { IsKept residences_ns.now times.new seats.new }
 {

@@ -1,12 +1,10 @@
 //! One member's place in its group.
 
-ghost use Rattle.std.specs.Prelude.{◌≡◌, ℕ, ◌+◌, ◌-◌, ◌*◌, ◌≤◌};
-ghost use Rattle.ats_model.specs.Rules.{KeepsRules};
-ghost use Rattle.ats_num.specs.Wire.{bits_of};
+ghost use Rattle.std.specs.Prelude.{◌≡◌, ◌-◌, ◌≤◌};
+ghost use Rattle.ats_group.specs.Group.{IsRuled, verdict_on, InTime};
 ghost use Rattle.ats_num.specs.declared.time.TheConstants.{PS_PER_SECOND, END};
-ghost use Rattle.ats_bucket.specs.Scheduler.{first_empty, empty_after};
+ghost use Rattle.ats_bucket.specs.Scheduler.{first_empty};
 ghost use Rattle.ats_group.specs.declared.member.TheConstants.{MAX_RESIDENCE_NS};
-ghost use Rattle.ats_group.specs.Group.{verdict_on, InTime};
 ghost use Rattle.ats_group.specs.Seat.{IsSeat, Accepts, MayAccept, seat_after};
 
 use crate::member::Member;
@@ -25,7 +23,7 @@ pub struct Seat {
 impl Seat {
     /// The seat of a member whose bucket is full at time 0.
     pub fn new(member: &Member) -> Seat
-        requires { KeepsRules member.now.declared.rate member.now.declared.burst_bits member.now.declared.min_octets member.now.declared.max_octets }
+        requires { IsRuled member.now.declared }
         ensures seat { IsSeat result }
         ensures member { result.member ≡ member.now }
         ensures empty { result.scheduler.empty ≡ first_empty member.now.declared.burst_bits }
@@ -42,7 +40,9 @@ impl Seat {
         requires residence { residence_ns ≤ MAX_RESIDENCE_NS }
         requires time { time.0 ≤ END }
         requires arrival { arrival.0 ≤ END - PS_PER_SECOND }
-        ensures value { result ≡ verdict_on self.now.member.declared residence_ns time.0 self.now.scheduler.empty arrival.0 octets }
+        ensures value { let declared = self.now.member.declared in
+            let empty = self.now.scheduler.empty in
+            result ≡ verdict_on declared residence_ns time.0 empty arrival.0 octets }
         ensures acceptable { MayAccept self.now.scheduler octets result }
         ensures in_time { InTime result arrival.0 }
     {
