@@ -2,9 +2,12 @@
 //! ends with the status as its exit code. It writes nothing on standard error.
 #![tactic(auto)]
 
+mod command;
 mod fault_counts;
 mod real_files;
 mod real_sink;
+mod reply;
+mod shape_command;
 mod status;
 #[cfg(test)]
 mod tests;

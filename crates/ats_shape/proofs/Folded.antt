@@ -1,5 +1,5 @@
-use Rattle.std.proofs.Common.{◌≡◌, ℕ, ◌+◌, ◌<◌, ◌≤◌, Bool, true, false, List, [], ◌∷◌, ◌++◌, length, map, get_or, drop, replicate, cond, refl, sym, ap, ◌∙◌, arith, add-one, drop-cons, append_assoc, lit<}
-use Rattle.std.specs.Prelude.{All, filter, ◌==◌}
+use Rattle.std.proofs.Common.{◌≡◌, ℕ, ◌+◌, ◌<◌, Bool, true, List, [], ◌∷◌, ◌++◌, length, map, get_or, drop, cond, refl, sym, ap, ◌∙◌, arith, add-one, drop-cons, append_assoc, lit<}
+use Rattle.std.specs.Prelude.{All, ◌==◌}
 use Rattle.std.proofs.Math.Path.{fun_ext}
 use Rattle.std.proofs.Math.ListN.{get_or-map}
 use Rattle.std.proofs.lemmas.List.{length-map}
@@ -9,11 +9,11 @@ use Rattle.ats_group.specs.declared.member.Member.{Member}
 use Rattle.ats_group.specs.declared.verdict.Verdict.{Verdict}
 use Rattle.ats_group.specs.declared.verdict.Verdict.TheVariants.{Eligible, Late, Size}
 use Rattle.ats_group.specs.Group.{Offer, State, first, verdicts_of}
-use Rattle.ats_group.specs.Standing.{Standing, opened, declared_of, group_of, residence_of, state_of, standing_after, no_member, AreMembers, IsMember, IsStanding}
+use Rattle.ats_group.specs.Standing.{Standing, opened, declared_of, group_of, state_of, standing_after, no_member, AreMembers, IsMember, IsStanding}
 use Rattle.ats_group.specs.Laws.{verdict_at, standing_next, verdicts_in, offers_to, IsFold}
 use Rattle.ats_group.proofs.FoldLemmas.{each_group}
 use Rattle.ats_group.proofs.StepLemmas.{opened_first}
-use Rattle.ats_shape.specs.Shape.{DeclaredShape, IsShape, IsRuled, IsFrameOf}
+use Rattle.ats_shape.specs.Shape.{DeclaredShape, IsShape, IsRuled}
 use Rattle.ats_shape.specs.Verdicts.{no_stream, declared_in, member_of, offer_of, verdicts_on}
 use Rattle.ats_shape.specs.declared.shape.ShapeStream.{ShapeStream}
 use Rattle.ats_shape.specs.declared.shape.ShapeFrame.{ShapeFrame}

@@ -1,4 +1,4 @@
-use Rattle.std.specs.Prelude.{◌≡◌, ℕ, ◌≤◌, ◌<◌, List, length, map, All, Option, Some, None}
+use Rattle.std.specs.Prelude.{ℕ, ◌≤◌, ◌<◌, List, length, All}
 use Rattle.ats_num.specs.Wire.{IsFrameSize}
 use Rattle.ats_model.specs.Rules.{KeepsRules}
 use Rattle.ats_shape.specs.declared.shape.ShapeStream.{ShapeStream}

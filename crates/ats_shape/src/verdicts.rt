@@ -1,6 +1,6 @@
 //! The verdicts on the frames of a shape.
 
-ghost use Rattle.std.specs.Prelude.{◌≡◌, IfOk, map};
+ghost use Rattle.std.specs.Prelude.{◌≡◌, IfOk, length, map};
 ghost use Rattle.ats_group.specs.Standing.{AreMembers};
 ghost use Rattle.ats_shape.specs.Verdicts.{verdicts_on, member_of};
 
@@ -12,7 +12,8 @@ use std::alloc::Global;
 /// The verdict on each frame of a shape, in order: the streams are the members of one group. `NoMemory` where memory runs
 /// out.
 pub fn judge(alloc: Global, shape: &Shape) -> Result<Vec<Verdict>, NoMemory>
-    ensures { IfOk result (λ verdicts. verdicts.items ≡ verdicts_on shape.now) }
+    ensures verdicts { IfOk result (λ verdicts. verdicts.items ≡ verdicts_on shape.now) }
+    ensures each { IfOk result (λ verdicts. length verdicts.items ≡ length shape.now.frames) }
 {
     let members = members(alloc, shape.streams())?;
     let residences = [shape.residence_ns()];

@@ -1,4 +1,4 @@
-use Rattle.std.proofs.Common.{◌≡◌, ℕ, List, ◌++◌, length, ap, ◌∙◌}
+use Rattle.std.proofs.Common.{ℕ, ◌++◌, length, ap, ◌∙◌}
 use Rattle.std.specs.Prelude.{codes, decimal, count_by}
 use Rattle.ats_shape.specs.Text.{totals_text, is_eligible, is_late, is_size}
 use Rattle.ats_shape.proofs.Lines.{four_written}

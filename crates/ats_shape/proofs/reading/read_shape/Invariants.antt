@@ -1,4 +1,4 @@
-use Rattle.std.proofs.Common.{◌≡◌, ℕ, ◌+◌, ◌-◌, ◌≤◌, length, drop}
+use Rattle.std.proofs.Common.{◌≡◌, ◌+◌, ◌-◌, ◌≤◌, length, drop}
 use Rattle.ats_io.specs.Text.{lines_of}
 use Rattle.ats_shape.specs.Reading.{shape_from, shape_of}
 use Rattle.ats_shape.proofs.reading.read_shape.Given as goal

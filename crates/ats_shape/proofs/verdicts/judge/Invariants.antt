@@ -1,5 +1,5 @@
 use Rattle.std.proofs.Common.{◌≡◌, ◌++◌, length, drop, map}
-use Rattle.ats_shape.specs.Verdicts.{member_of, offer_of, verdicts_on}
+use Rattle.ats_shape.specs.Verdicts.{offer_of, verdicts_on}
 use Rattle.ats_shape.proofs.Folded.{verdict_list}
 use Rattle.ats_shape.proofs.verdicts.judge.Given as goal
 
@@ -7,5 +7,6 @@ use Rattle.ats_shape.proofs.verdicts.judge.Given as goal
 abbrev pub invariant-loop-frame : goal.invariant-loop-frame
 invariant-loop-frame l = record {
   due : l.verdicts.items ++ verdict_list l.groups (map offer_of (drop l.frame-index l.frames)) ≡ verdicts_on l.fn.shape;
+  each : length l.verdicts.items ≡ l.frame-index;
   members : length l.groups.members ≡ length l.fn.shape.streams;
 }

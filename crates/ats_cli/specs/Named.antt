@@ -1,0 +1,14 @@
+use Rattle.std.specs.Prelude.{ℕ, List, map, String, string_bytes}
+use Rattle.std.specs.declared.alloc.Global.{Global}
+use Rattle.ats_cli.specs.Command as table
+use Rattle.ats_cli.specs.declared.command.Command.{Command}
+use Rattle.ats_cli.specs.declared.command.Command.TheVariants.{Shape, Unknown}
+
+-- the bytes of words
+abbrev pub texts_of : List (String Global) → List (List ℕ)
+texts_of words = map (λ (word : String Global). string_bytes word) words
+
+-- the command that a value of the program stands for
+abbrev pub view : Command → table.Command
+view (Shape file) = table.Shape file.now
+view Unknown = table.Unknown
