@@ -5,3 +5,4 @@ pub mod Due
 pub mod Calls
 pub mod Named
 pub mod Replies
+pub mod Open

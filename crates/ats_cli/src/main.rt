@@ -2,6 +2,8 @@
 //! ends with the status as its exit code. It writes nothing on standard error.
 #![tactic(auto)]
 
+ghost use Rattle.std.specs.Prelude.{◌≡◌, ◌⊎◌, IfErr};
+
 mod command;
 mod fault_counts;
 mod real_files;
@@ -23,7 +25,9 @@ use std::process::ExitCode;
 use std::rt::Env;
 
 // The words of the program's call, without its own name. Where a word is not UTF-8 the words name no command.
-fn words_of(rt: &(impl Env + AllocGlobal)) -> Result<Vec<String>, Status> {
+fn words_of(rt: &(impl Env + AllocGlobal)) -> Result<Vec<String>, Status>
+    ensures { IfErr result (λ status. (status ≡ Status.Words) ⊎ (status ≡ Status.NoMemory)) }
+{
     match env::args(rt) {
         Ok(all) => all
             .skip(1)

@@ -1,8 +1,10 @@
 //! Files of the system, read by name.
 
-ghost use Rattle.std.specs.Prelude.{◌≡◌, ℕ, ◌<◌, ◌≤◌, List, length, None, IfOk, OnOk, OnErr};
+ghost use Rattle.std.specs.Prelude.{◌≡◌, ℕ, ◌+◌, ◌<◌, ◌≤◌, List, length, None, IsSomeAnd, IfSome, IfNone, OnSome, IfOk, OnOk, OnErr};
 ghost use Rattle.ats_io.specs.Outside.{Rose, IfTold, Continues, IsPieceAt};
 ghost use Rattle.ats_cli.specs.Faults.{faults_of, Raises};
+ghost use Rattle.ats_cli.specs.Words.{place_of};
+ghost use Rattle.ats_cli.specs.Open.{Stands};
 
 use crate::fault_counts::FaultCounts;
 use ats_io::Failed;
@@ -20,13 +22,13 @@ use std::rt::Files;
 /// A read fails where the file is not there, may not be read or is a folder, and where the system reports any other error,
 /// an interrupted read among them.
 ///
-/// The file of the word that was read last stays open, and is sought only where a read asks for another place than the one
+/// The file of the word that was read last stays open, and its place is set only where a read asks for another one than that
 /// where it stands: a pipe can be read once, from front to end. A name that is no word is opened for each read.
 #[derive(Drop)]
 pub struct RealFiles<'a, R: Files + Drop> {
     rt: R,
     faults: FaultCounts<'a>,
-    open: Option<OpenWord<R::File>>,
+    current: Option<OpenWord<R::File>>,
 }
 
 // An open file, the place of its word among the words, and the place in the file where it stands, in bytes.
@@ -41,35 +43,40 @@ impl<'a, R: Files + Drop> RealFiles<'a, R> {
     /// The files, none of them open, with no fault yet, and a count for each of these words. `NoMemory` where there is no
     /// memory for the counts.
     pub fn new(alloc: Global, rt: R, words: &'a [String]) -> Result<Self, NoMemory>
+        ensures words { IfOk result (λ made. made.faults.words.now ≡ words.entry.now) }
         ensures faults { IfOk result (λ made. (name : List ℕ) → ⟦<RealFiles<'a, R> as ats_io::Files>⟧.faults made name ≡ 0) }
     {
         Ok(RealFiles {
             rt,
             faults: FaultCounts::new(alloc, words)?,
-            open: None,
+            current: None,
         })
     }
 
-    // The read itself. After an error no file is open.
+    // The read itself. The file of a word stays open where it was read, and is closed after an error.
     fn read_piece(&mut self, name: &str, at: u64, buf: &mut [u8]) -> io::Result<usize>
+        requires { at ≤ MAX_PLACE }
         ensures within { IfOk result (λ count. count ≤ length buf.new) }
         ensures faults { self.new.faults ≡ self.old.faults }
+        ensures stands { IfOk result (λ count. IfSome (place_of self.old.faults.words.now name.now) (λ word. IsSomeAnd self.new.current (Stands word (at + count)))) }
+        ensures closed { OnErr result (OnSome (place_of self.old.faults.words.now name.now) (self.new.current ≡ None)) }
+        ensures others { IfNone (place_of self.old.faults.words.now name.now) (self.new.current ≡ self.old.current) }
     {
         let Some(word) = self.faults.place_of(name) else {
             let mut file = File::open(&self.rt, name)?;
             return read_at(&mut file, 0, at, buf);
         };
-        let mut open = match self.open.take() {
-            Some(open) if open.word == word => open,
+        let mut current = match self.current.take() {
+            Some(current) if current.word == word => current,
             _ => OpenWord {
                 file: File::open(&self.rt, name)?,
                 word,
                 at: 0,
             },
         };
-        let count = read_at(&mut open.file, open.at, at, buf)?;
-        open.at = at.saturating_add(count as u64);
-        self.open = Some(open);
+        let count = read_at(&mut current.file, current.at, at, buf)?;
+        current.at = at + count as u64;
+        self.current = Some(current);
         Ok(count)
     }
 }
