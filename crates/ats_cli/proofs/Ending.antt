@@ -8,7 +8,7 @@ use Rattle.ats_cli.specs.declared.status.Status.{Status}
 use Rattle.ats_cli.specs.declared.status.Status.TheVariants.{Done, Words, Input, Refused, ReadFailed, WriteFailed, NoMemory}
 
 -- the bytes that are told
-some_bytes : (o : Option (List ℕ)) → IsSome o → (bytes : List ℕ) × (o ≡ Some bytes)
+pub some_bytes : (o : Option (List ℕ)) → IsSome o → (bytes : List ℕ) × (o ≡ Some bytes)
 some_bytes None h = cc
 some_bytes (Some bytes) h = (bytes, refl)
 

@@ -6,3 +6,4 @@ pub mod Calls
 pub mod Named
 pub mod Replies
 pub mod Open
+pub mod Laws

@@ -6,9 +6,12 @@ ghost use Rattle.std.specs.Prelude.{◌≡◌, ◌⊎◌, IfErr};
 
 mod command;
 mod fault_counts;
+mod laws;
 mod real_files;
 mod real_sink;
 mod reply;
+#[cfg(test)]
+mod row_tests;
 mod shape_command;
 mod status;
 #[cfg(test)]

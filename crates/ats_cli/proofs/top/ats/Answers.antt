@@ -17,7 +17,7 @@ returns-in-Shape-clause-complete g c =
     let Ends : Command → Type 0 = λ command. IsTold told command → IsCalm command before after → ¬ write → (c.shape.result ≡ NoMemory) ⊎ StatusIsDue told command c.shape.result in
     subst Ends c.in-Shape.ensures
     (λ is_told calm quiet. ends_as_due told (Shape c.in-Shape.file.now) c.shape.result (g.O.Sink.held c.args.out.now) (g.O.Sink.held c.shape.new.out)
-        (Rose (before c.in-Shape.file.now) (after c.in-Shape.file.now)) write c.shape.ensures.printed c.shape.ensures.read_failed c.shape.ensures.write_failed is_told (calm 0 [] (lit< tt)) quiet)
+    (Rose (before c.in-Shape.file.now) (after c.in-Shape.file.now)) write c.shape.ensures.printed c.shape.ensures.read_failed c.shape.ensures.write_failed is_told (calm 0 [] (lit< tt)) quiet)
 
 pub returns-in-Unknown-clause-cut_short : goal.returns-in-Unknown-clause-cut_short
 returns-in-Unknown-clause-cut_short g c = λ h.
