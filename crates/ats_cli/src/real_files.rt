@@ -1,6 +1,7 @@
 //! Files of the system, read by name.
 
 ghost use Rattle.std.specs.Prelude.{◌≡◌, ℕ, ◌+◌, ◌<◌, ◌≤◌, List, length, None, IsSomeAnd, IfSome, IfNone, OnSome, IfOk, OnOk, OnErr};
+ghost use Rattle.std.specs.Io.KnownBytes.{ReadConsumes};
 ghost use Rattle.ats_io.specs.Outside.{Rose, IfTold, Continues, IsPieceAt};
 ghost use Rattle.ats_cli.specs.Faults.{faults_of, Raises};
 ghost use Rattle.ats_cli.specs.Words.{place_of};
@@ -81,9 +82,10 @@ impl<'a, R: Files + Drop> RealFiles<'a, R> {
     }
 }
 
-// Reads from place `at` of a file that stands at `stands`.
+// Reads from place `at` of a file that stands at `stands`. Where it stands there, the bytes are the ones that it has left.
 fn read_at<F: Read + Seek>(file: &mut F, stands: u64, at: u64, buf: &mut [u8]) -> io::Result<usize>
-    ensures { IfOk result (λ count. count ≤ length buf.new) }
+    ensures within { IfOk result (λ count. count ≤ length buf.new) }
+    ensures in_place { stands ≡ at → ReadConsumes (F.remaining file.old) (F.remaining file.new) result buf.new }
 {
     if stands != at {
         file.seek(SeekFrom::Start(at))?;
