@@ -20,7 +20,7 @@ is_declared_size declared octets = nat_le declared.min_octets octets && nat_le o
 abbrev pub verdict_by : ℕ → ℕ → Verdict
 verdict_by latest eligible = if nat_le eligible latest then Eligible (record { 0 = eligible }) else Late (record { 0 = eligible })
 
--- the verdict on a frame of a member with this bucket-empty time, in a group with this residence and this group
+-- the verdict on a frame of a member with this bucket-empty time, in a group with this maximum residence time and this group
 -- eligibility time
 abbrev pub verdict_on : Declared → ℕ → ℕ → ℤ → ℕ → ℕ → Verdict
 verdict_on declared residence_ns time empty arrival octets =
@@ -78,7 +78,7 @@ abbrev pub state_after : (ℕ → Declared) → ℕ → State → List Offer →
 state_after declared residence_ns state [] = state
 state_after declared residence_ns state (offer ∷ offers) = state_after declared residence_ns (next declared residence_ns state offer) offers
 
--- how far the time of a verdict is from the arrival
+-- the bounds of the time of a verdict: at most a second after the arrival; where late, after it, and below the end of time
 abbrev pub InTime : Verdict → ℕ → Type 0
 InTime (Eligible e) arrival = (arrival ≤ e.0) × (e.0 ≤ arrival + PS_PER_SECOND)
 InTime (Late e) arrival = (arrival < e.0) × (e.0 ≤ END + PS_PER_SECOND * MAX_WIRE_BITS)

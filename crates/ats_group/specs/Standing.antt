@@ -7,7 +7,7 @@ use Rattle.ats_group.specs.declared.verdict.Verdict.{Verdict}
 use Rattle.ats_group.specs.declared.verdict.Verdict.TheVariants.{Eligible, Late, Size}
 use Rattle.ats_group.specs.Group.{State, verdict_on, empty_once, IsRuled}
 
--- where all groups stand: the residence of each group in nanoseconds, the members, the group eligibility time of each
+-- where all groups stand: the maximum residence time of each group in nanoseconds, the members, the group eligibility time of each
 -- group, and the bucket-empty time of each member, multiplied by its rate
 pub record Standing : Type 0 where
   pub residences_ns : List ℕ
@@ -36,7 +36,7 @@ group_of standing member = (member_at standing.members member).group
 abbrev pub declared_of : Standing → ℕ → Declared
 declared_of standing member = (member_at standing.members member).declared
 
--- the residence of a group, in nanoseconds
+-- the maximum residence time of a group, in nanoseconds
 abbrev pub residence_of : Standing → ℕ → ℕ
 residence_of standing group = slice_index standing.residences_ns group
 
