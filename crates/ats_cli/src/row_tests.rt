@@ -1,5 +1,7 @@
 //! Whole calls over files and a sink in memory. The expected texts were worked out by hand from the rules.
 
+ghost use Rattle.std.specs.Prelude.{◌<◌};
+
 use crate::laws::ats_surely;
 use crate::status::Status;
 use crate::top::ats;
