@@ -36,9 +36,9 @@ impl Model for Groups {
 }
 
 impl Groups {
-    /// Groups with these maximum residence times, each at most 1,000,000,000 ns, and these members. Each group's
-    /// eligibility time is 0, and each member's bucket is full at time 0. Each member's group is a place in the list of
-    /// residences, and what is declared of it keeps the rules of a stream. `NoMemory` where memory runs out.
+    /// Opens one group for each maximum residence time (at most 1,000,000,000 ns), and a scheduler for each member. Group
+    /// eligibility times are 0 at first, and buckets are full at time 0. Conditions: a member names one of these groups,
+    /// and its declaration keeps the rules of `ats_model`. `NoMemory` where memory runs out.
     pub fn open(
         alloc: Global,
         residences_ns: &[u32],
@@ -57,10 +57,10 @@ impl Groups {
         })
     }
 
-    /// Judges a frame of so many octets of a member, and keeps what it changes. `Size` where the octets are outside the
-    /// declared sizes. Else the eligibility time is the scheduler's: `Late` where it is after the arrival and the
-    /// maximum residence time, else `Eligible`. Only `Eligible` changes anything: the group eligibility time of the
-    /// member's group, and the member's own bucket. It takes no memory.
+    /// Takes a frame of a member through its group. A frame that its declaration does not allow is `Size`. For any other
+    /// the member's scheduler proposes an eligibility time: one that lies within the maximum residence time makes the
+    /// frame `Eligible`, sets the group eligibility time and charges the member's bucket; a later one makes it `Late`.
+    /// Frames that are not eligible leave no trace. It takes no memory, and arrivals are at most `END` less a second.
     pub fn process(&mut self, member: u32, arrival: Ps, octets: u32) -> Verdict
         requires member { member < length self.old.members }
         requires arrival { arrival.0 ≤ END - PS_PER_SECOND }

@@ -16,7 +16,9 @@ use ats_num::{Ps, wire_bits};
 /// A member and its own scheduler.
 #[derive(Clone, Copy, Debug)]
 pub struct Seat {
+    /// The member.
     pub member: Member,
+    /// Its scheduler, with the declared rate and burst.
     pub scheduler: Scheduler,
 }
 

@@ -1,11 +1,11 @@
 use Rattle.std.specs.Prelude.{◌≢◌, ℕ, ◌+◌, ◌-◌, ◌*◌, ◌<◌, ◌^◌, bit_xor}
 use Rattle.std.proofs.Common.{arith}
 
--- different frames have different keys, whatever their senders
+-- no two frames share a key, even of different senders
 abbrev pub AreDistinct : (ℕ → ℕ → ℕ) → Type 0
 AreDistinct key = (sender other frame next : ℕ) → sender < 2 ^ 32 → other < 2 ^ 32 → frame < 2 ^ 32 → next < 2 ^ 32 → frame ≢ next → key sender frame ≢ key other next
 
--- for one sender the key ascends with the frame
+-- a sender's later frame has the greater key
 abbrev pub Ascends : (ℕ → ℕ → ℕ) → Type 0
 Ascends key = (sender frame next : ℕ) → sender < 2 ^ 32 → next < 2 ^ 32 → frame < next → key sender frame < key sender next
 

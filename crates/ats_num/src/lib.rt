@@ -2,6 +2,7 @@
 #![tactic(auto)]
 
 pub mod division;
+pub mod laws;
 pub mod memory;
 pub mod name;
 pub mod numbers;

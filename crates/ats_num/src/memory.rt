@@ -1,4 +1,4 @@
-//! Want of memory, as an error by itself.
+//! The error of a call that can fail only because memory ran out.
 
 ghost use Rattle.std.specs.Prelude.{codes, Some};
 

@@ -4,7 +4,6 @@ ghost use Rattle.std.specs.Prelude.{◌≡◌, ◌≤◌, length, IsTrue};
 ghost use Rattle.std.specs.List.{list_all};
 ghost use Rattle.std.specs.Char.{is_ascii_digit};
 ghost use Rattle.ats_num.specs.Number.{number_of, is_number, value_of};
-ghost use Rattle.ats_num.specs.ReadsBack.{ReadsBack};
 
 /// The most digits of a number in a file.
 pub const MAX_DIGITS: usize = 36;
@@ -50,8 +49,3 @@ fn value(digits: &[u8]) -> u128
     }
     value
 }
-
-/// A law: what is printed in decimal is read back, for each number below 10^36.
-pub fn decimal_reads_back()
-    ensures { ReadsBack }
-{}

@@ -14,10 +14,10 @@ pub trait Tie: Copy {
     fn key(&self, sender: u32, frame: u32) -> u64
         ensures { result ≡ key self.now sender frame };
 
-    /// Different frames have different keys, whatever their senders.
+    /// No two frames share a key, even of different senders.
     ghost distinct: { (tie : Self) → AreDistinct (key tie) };
 
-    /// For one sender the key ascends with the frame.
+    /// A sender's later frame has the greater key.
     ghost ascends: { (tie : Self) → Ascends (key tie) };
 }
 

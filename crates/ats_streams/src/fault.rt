@@ -20,8 +20,7 @@ pub enum StreamFault {
     BadSizes,
     /// The burst is below the wire bits of the longest frame.
     BurstBelowFrame,
-    /// The path has no port or more than 16, the burst is over 1,000,000,000 bits, or the deadline is not 1 to
-    /// 1,000,000,000 ns.
+    /// A limit is passed: a path of 1 to 16 ports, a burst of at most 1,000,000,000 bits, a deadline of 1 ns to 1 s.
     Limit,
 }
 

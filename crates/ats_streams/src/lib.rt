@@ -3,6 +3,7 @@
 
 pub mod fault;
 pub mod flow;
+pub mod laws;
 pub mod path;
 pub mod stream;
 
