@@ -7,3 +7,4 @@ pub mod Named
 pub mod Replies
 pub mod Open
 pub mod Laws
+pub mod Status

@@ -2,7 +2,7 @@
 //! ends with the status as its exit code. It writes nothing on standard error.
 #![tactic(auto)]
 
-ghost use Rattle.std.specs.Prelude.{◌≡◌, ◌⊎◌, IfErr};
+ghost use Rattle.std.specs.Prelude.{◌≡◌, ◌≢◌, ◌⊎◌, IfErr};
 
 mod command;
 mod fault_counts;
@@ -27,7 +27,7 @@ use std::io::ErrorKind;
 use std::process::ExitCode;
 use std::rt::Env;
 
-// The words of the program's call, without its own name. Where a word is not UTF-8 the words name no command.
+// The words of the program's call, without its own name.
 fn words_of(rt: &(impl Env + AllocGlobal)) -> Result<Vec<String>, Status>
     ensures { IfErr result (λ status. (status ≡ Status.Words) ⊎ (status ≡ Status.NoMemory)) }
 {
@@ -36,8 +36,19 @@ fn words_of(rt: &(impl Env + AllocGlobal)) -> Result<Vec<String>, Status>
             .skip(1)
             .collect(rt.alloc())
             .map_err(|_| Status::NoMemory),
-        Err(e) if e.kind() == ErrorKind::OutOfMemory => Err(Status::NoMemory),
-        Err(_) => Err(Status::Words),
+        Err(e) => Err(status_of(e.kind())),
+    }
+}
+
+// How a call ends whose words the system does not give: where a word is not UTF-8, they name no command.
+fn status_of(kind: ErrorKind) -> Status
+    ensures memory { kind ≡ ErrorKind.OutOfMemory → result ≡ Status.NoMemory }
+    ensures words { kind ≢ ErrorKind.OutOfMemory → result ≡ Status.Words }
+{
+    if kind == ErrorKind::OutOfMemory {
+        Status::NoMemory
+    } else {
+        Status::Words
     }
 }
 
