@@ -21,7 +21,6 @@ mod top;
 use crate::real_files::RealFiles;
 use crate::real_sink::RealSink;
 use crate::status::Status;
-use std::alloc::Global;
 use std::env;
 use std::io::ErrorKind;
 use std::process::ExitCode;
