@@ -2,4 +2,5 @@ pub mod Outside
 mod Fronts
 mod Held
 mod Lines
+mod Pairs
 mod Words

@@ -1,18 +1,45 @@
-use Rattle.std.specs.Prelude.{ℕ, ◌+◌, ◌-◌, ◌^◌, ◌==◌, min, Bool, List, [], Option, Some, None, option_map, unwrap_or, position, slice_index, String, Vec, string_bytes}
+use Rattle.std.specs.Prelude.{ℕ, ◌+◌, ◌-◌, ◌^◌, ◌==◌, min, Bool, List, [], map, Option, Some, None, option_map, unwrap_or, position, slice_index, String, Vec, string_bytes}
 use Rattle.std.specs.List.{find, list_any}
 use Rattle.std.specs.Str.{bytes_eq}
 use Rattle.std.specs.declared.alloc.Global.{Global}
 
+-- files as contracts see them: the bytes of each name beside the bytes of the file
+abbrev pub pairs_of : List (String Global × Vec ℕ Global) → List (List ℕ × List ℕ)
+pairs_of files = map (λ file. (string_bytes file.0, file.1.items)) files
+
 -- the file has this name
-abbrev pub is_named : List ℕ → String Global × Vec ℕ Global → Bool
-is_named name file = bytes_eq (string_bytes file.0) name
+abbrev pub has_name : List ℕ → String Global × Vec ℕ Global → Bool
+has_name name file = bytes_eq (string_bytes file.0) name
+
+-- files in memory: their names and bytes, the count of faults of each, the count that all other names share, the number of
+-- calls so far, and the numbers of the calls that are to fail
+pub record HeldFiles : Type 0 where
+  pub files : List (List ℕ × List ℕ)
+  pub counts : List ℕ
+  pub others : ℕ
+  pub calls : ℕ
+  pub fails : List ℕ
+
+-- a sink in memory: its bytes, how many there may be, how many it takes a call at most, the numbers of the calls that are to
+-- fail, the number of calls so far, and the count of faults
+pub record HeldText : Type 0 where
+  pub bytes : List ℕ
+  pub room : ℕ
+  pub most : ℕ
+  pub fails : List ℕ
+  pub calls : ℕ
+  pub raised : ℕ
+
+-- the file has this name
+abbrev pub is_named : List ℕ → List ℕ × List ℕ → Bool
+is_named name file = bytes_eq file.0 name
 
 -- the bytes that a list of files holds under a name: those of the first file of that name, if there is one
-abbrev pub bytes_of : List (String Global × Vec ℕ Global) → List ℕ → Option (List ℕ)
-bytes_of files name = option_map (λ file. file.1.items) (find (is_named name) files)
+abbrev pub bytes_of : List (List ℕ × List ℕ) → List ℕ → Option (List ℕ)
+bytes_of files name = option_map (λ file. file.1) (find (is_named name) files)
 
 -- the same, and no bytes where no file has the name
-abbrev pub bytes_or_none : List (String Global × Vec ℕ Global) → List ℕ → List ℕ
+abbrev pub bytes_or_none : List (List ℕ × List ℕ) → List ℕ → List ℕ
 bytes_or_none files name = unwrap_or (bytes_of files name) []
 
 -- the count at a place, and the common count at no place
@@ -21,7 +48,7 @@ count_at counts others None = others
 count_at counts others (Some place) = slice_index counts place
 
 -- the count of faults of a name: each file has its own, and the names of no file share one
-abbrev pub count_of : List (String Global × Vec ℕ Global) → List ℕ → ℕ → List ℕ → ℕ
+abbrev pub count_of : List (List ℕ × List ℕ) → List ℕ → ℕ → List ℕ → ℕ
 count_of files counts others name = count_at counts others (position (is_named name) files)
 
 -- one more, in a counter that stays at the last value of 64 bits

@@ -1,20 +1,22 @@
 //! Files in memory whose reads fail where it is planned.
 
-ghost use Rattle.std.specs.Prelude.{◌≡◌, ℕ, ◌<◌, ◌≤◌, ◌||◌, List, length, drop, min, position, is_err, is_none, IfOk, OnErr, vec_len};
+ghost use Rattle.std.specs.Prelude.{◌≡◌, ℕ, ◌<◌, ◌≤◌, ◌||◌, List, length, drop, min, position, is_err, is_none, Option, IfOk, IfSome, OnErr};
 ghost use Rattle.ats_io.specs.Outside.{Rose, IfTold, Continues, IsPieceAt};
-ghost use Rattle.ats_io.specs.Memory.{bytes_of, count_of, next_count, is_named, is_planned};
+ghost use Rattle.ats_io.specs.Memory.{pairs_of, bytes_of, count_at, count_of, next_count, has_name, is_named, is_planned};
 
 use crate::fault::Failed;
 use crate::files::{Files, MAX_PLACE};
 use crate::plan;
 use ats_num::NoMemory;
 use std::alloc::Global;
+use std::marker::Model;
 
 /// Named byte lists in memory, each with a count of faults; all names that it does not hold share one count. Names are
 /// compared byte for byte, and of two entries of one name the first is held. It tells the bytes of the names that it holds.
 ///
 /// Its calls are counted from 1, and the calls whose numbers are in a given list fail. A read of a name that is not held
 /// fails. A read that succeeds gives as many bytes as are there and fit. Both counters stay at the last value of 64 bits.
+/// Contracts see the names and bytes, the counts, the number of calls and the numbers that are to fail.
 #[derive(Drop)]
 pub struct MemFiles {
     files: Vec<(String, Vec<u8>)>,
@@ -22,7 +24,17 @@ pub struct MemFiles {
     others: u64,
     calls: u64,
     fails: Vec<u32>,
-    ghost paired: { vec_len counts ≡ vec_len files },
+}
+
+impl Model for MemFiles {
+    ghost use Rattle.std.specs.Prelude.{◌≡◌, vec_len};
+    ghost use Rattle.ats_io.specs.Memory.{HeldFiles, pairs_of};
+
+    ghost Value = { HeldFiles };
+
+    ghost view = { λ s. record { files = pairs_of s.files.items; counts = s.counts.items; others = s.others; calls = s.calls; fails = s.fails.items } };
+
+    ghost invariant = { λ s. vec_len s.counts ≡ vec_len s.files };
 }
 
 impl MemFiles {
@@ -33,11 +45,11 @@ impl MemFiles {
         files: Vec<(String, Vec<u8>)>,
         fails: Vec<u32>,
     ) -> Result<Self, NoMemory>
-        ensures told { IfOk result (λ made. (name : List ℕ) → ⟦<MemFiles as Files>⟧.told made name ≡ bytes_of files.items name) }
+        ensures told { IfOk result (λ made. (name : List ℕ) → ⟦<MemFiles as Files>⟧.told made name ≡ bytes_of (pairs_of files.items) name) }
         ensures faults { IfOk result (λ made. (name : List ℕ) → ⟦<MemFiles as Files>⟧.faults made name ≡ 0) }
-        ensures held { IfOk result (λ made. made.files ≡ files) }
+        ensures held { IfOk result (λ made. made.files ≡ pairs_of files.items) }
         ensures calls { IfOk result (λ made. made.calls ≡ 0) }
-        ensures fails { IfOk result (λ made. made.fails ≡ fails) }
+        ensures fails { IfOk result (λ made. made.fails ≡ fails.items) }
     {
         let counts = vec![in alloc; 0u64; files.len()]?;
         Ok(MemFiles {
@@ -51,38 +63,83 @@ impl MemFiles {
 }
 
 impl Files for MemFiles {
-    ghost told = { λ s name. bytes_of s.files.items name };
+    ghost told = { λ s name. bytes_of s.files name };
 
-    ghost faults = { λ s name. count_of s.files.items s.counts.items s.others name };
+    ghost faults = { λ s name. count_of s.files s.counts s.others name };
 
     fn read(&mut self, name: &str, at: u64, buf: &mut [u8]) -> Result<usize, Failed>
         requires room { 0 < length buf.old }
         requires place { at ≤ MAX_PLACE }
         ensures within { IfOk result (λ count. count ≤ length buf.new) }
-        ensures piece { IfOk result (λ count. IfTold (bytes_of self.old.files.items name.now) (λ bytes. IsPieceAt bytes at count buf.new)) }
-        ensures failed { OnErr result (Rose (count_of self.old.files.items self.old.counts.items self.old.others name.now) (count_of self.new.files.items self.new.counts.items self.new.others name.now)) }
+        ensures piece { IfOk result (λ count. IfTold (bytes_of self.old.files name.now) (λ bytes. IsPieceAt bytes at count buf.new)) }
+        ensures failed { OnErr result (Rose (count_of self.old.files self.old.counts self.old.others name.now) (count_of self.new.files self.new.counts self.new.others name.now)) }
         ensures continues { Continues ⟦<MemFiles as Files>⟧.told ⟦<MemFiles as Files>⟧.faults self.old self.new }
-        ensures full { IfOk result (λ count. IfTold (bytes_of self.old.files.items name.now) (λ bytes. count ≡ min (length buf.new) (length (drop at bytes)))) }
-        ensures fails { is_err result ≡ (is_none (position (is_named name.now) self.old.files.items) || is_planned self.old.fails.items (next_count self.old.calls)) }
+        ensures full { IfOk result (λ count. IfTold (bytes_of self.old.files name.now) (λ bytes. count ≡ min (length buf.new) (length (drop at bytes)))) }
+        ensures fails { is_err result ≡ (is_none (position (is_named name.now) self.old.files) || is_planned self.old.fails (next_count self.old.calls)) }
         ensures calls { self.new.calls ≡ next_count self.old.calls }
         ensures plan { self.new.fails ≡ self.old.fails }
     {
         self.calls = plan::next_count(self.calls);
-        let Some(place) = place_of(&self.files, name) else {
-            self.others = plan::next_count(self.others);
-            return Err(Failed);
-        };
-        if plan::is_planned(&self.fails, self.calls) {
-            self.counts[place] = plan::next_count(self.counts[place]);
-            return Err(Failed);
+        let fails = plan::is_planned(&self.fails, self.calls);
+        read_named(
+            &self.files,
+            &mut self.counts,
+            &mut self.others,
+            fails,
+            name,
+            at,
+            buf,
+        )
+    }
+}
+
+// Reads from the file of this name, or counts a fault: where no file has the name, and where the read is to fail.
+#[tactic(auto, using(crate::proofs::Pairs::place_of_pairs))]
+fn read_named(
+    files: &[(String, Vec<u8>)],
+    counts: &mut [u64],
+    others: &mut u64,
+    fails: bool,
+    name: &str,
+    at: u64,
+    buf: &mut [u8],
+) -> Result<usize, Failed>
+    requires paired { length counts.old ≡ length files.now }
+    requires room { 0 < length buf.old }
+    ensures within { IfOk result (λ count. count ≤ length buf.new) }
+    ensures piece { IfOk result (λ count. IfTold (bytes_of (pairs_of files.now) name.now) (λ bytes. IsPieceAt bytes at count buf.new)) }
+    ensures full { IfOk result (λ count. IfTold (bytes_of (pairs_of files.now) name.now) (λ bytes. count ≡ min (length buf.new) (length (drop at bytes)))) }
+    ensures failed { OnErr result (Rose (count_of (pairs_of files.now) counts.old others.old name.now) (count_of (pairs_of files.now) counts.new others.new name.now)) }
+    ensures grows { (other : List ℕ) → count_of (pairs_of files.now) counts.old others.old other ≤ count_of (pairs_of files.now) counts.new others.new other }
+    ensures fails { is_err result ≡ (is_none (position (is_named name.now) (pairs_of files.now)) || fails) }
+    ensures paired { length counts.new ≡ length counts.old }
+{
+    let place = place_of(files, name);
+    match place {
+        Some(found) if !fails => Ok(plan::put_piece(&files[found].1, at, buf)),
+        _ => {
+            raise(counts, others, place);
+            Err(Failed)
         }
-        Ok(plan::put_piece(&self.files[place].1, at, buf))
+    }
+}
+
+// Counts a fault of the file at this place, or of all other names where there is no place.
+fn raise(counts: &mut [u64], others: &mut u64, place: Option<usize>)
+    requires { IfSome place (λ at. at < length counts.old) }
+    ensures raised { count_at counts.new others.new place ≡ next_count (count_at counts.old others.old place) }
+    ensures grows { (other : Option ℕ) → count_at counts.old others.old other ≤ count_at counts.new others.new other }
+    ensures length { length counts.new ≡ length counts.old }
+{
+    match place {
+        Some(at) => counts[at] = plan::next_count(counts[at]),
+        None => *others = plan::next_count(*others),
     }
 }
 
 // The place of the first file of this name.
 fn place_of(files: &[(String, Vec<u8>)], name: &str) -> Option<usize>
-    ensures { result ≡ position (is_named name.now) files.now }
+    ensures { result ≡ position (has_name name.now) files.now }
 {
     files.iter().position(|file| file.0.as_str() == name)
 }

@@ -1,6 +1,6 @@
 //! A sink in memory whose writes fail where it is planned.
 
-ghost use Rattle.std.specs.Prelude.{◌≡◌, ◌==◌, ◌+◌, ◌-◌, ◌<◌, ◌≤◌, ◌||◌, [], Some, length, take, min, is_err, IfOk, OnErr, vec_len, vec_capacity};
+ghost use Rattle.std.specs.Prelude.{◌≡◌, ◌==◌, ◌+◌, ◌-◌, ◌<◌, ◌≤◌, ◌||◌, [], Some, length, take, min, is_err, IfOk, OnErr};
 ghost use Rattle.ats_io.specs.Outside.{Rose, appended};
 ghost use Rattle.ats_io.specs.Memory.{next_count, is_planned};
 
@@ -9,10 +9,12 @@ use crate::plan;
 use crate::sink::Sink;
 use ats_num::NoMemory;
 use std::alloc::Global;
+use std::marker::Model;
 
 /// A sink that holds its bytes in a buffer of a size given when it is made, and tells them. It takes at most a stated
 /// number of bytes a call. A full buffer fails. Its calls are counted from 1, and the calls whose numbers are in a given
-/// list fail. Each call that fails raises the count of faults. Both counters stay at the last value of 64 bits.
+/// list fail. Each call that fails raises the count of faults. Both counters stay at the last value of 64 bits. Contracts see
+/// the bytes, the size and the most of a call, the numbers that are to fail, the number of calls and the count of faults.
 #[derive(Drop)]
 pub struct MemSink {
     bytes: Vec<u8>,
@@ -21,9 +23,17 @@ pub struct MemSink {
     fails: Vec<u32>,
     calls: u64,
     raised: u64,
-    ghost some: { 0 < most },
-    ghost within: { vec_len bytes ≤ room },
-    ghost reserved: { room ≤ vec_capacity bytes },
+}
+
+impl Model for MemSink {
+    ghost use Rattle.std.specs.Prelude.{◌<◌, ◌≤◌, vec_len, vec_capacity};
+    ghost use Rattle.ats_io.specs.Memory.{HeldText};
+
+    ghost Value = { HeldText };
+
+    ghost view = { λ s. record { bytes = s.bytes.items; room = s.room; most = s.most; fails = s.fails.items; calls = s.calls; raised = s.raised } };
+
+    ghost invariant = { λ s. (0 < s.most) × (vec_len s.bytes ≤ s.room) × (s.room ≤ vec_capacity s.bytes) };
 }
 
 impl MemSink {
@@ -36,7 +46,7 @@ impl MemSink {
         ensures room { IfOk result (λ made. made.room ≡ room) }
         ensures most { IfOk result (λ made. made.most ≡ most) }
         ensures calls { IfOk result (λ made. made.calls ≡ 0) }
-        ensures fails { IfOk result (λ made. made.fails ≡ fails) }
+        ensures fails { IfOk result (λ made. made.fails ≡ fails.items) }
     {
         let bytes = Vec::with_capacity(alloc, room)?;
         Ok(MemSink {
@@ -58,7 +68,7 @@ impl MemSink {
 }
 
 impl Sink for MemSink {
-    ghost held = { λ s. Some s.bytes.items };
+    ghost held = { λ s. Some s.bytes };
 
     ghost faults = { λ s. s.raised };
 
@@ -66,12 +76,12 @@ impl Sink for MemSink {
         requires { 0 < length piece.now }
         ensures some { IfOk result (λ count. 0 < count) }
         ensures within { IfOk result (λ count. count ≤ length piece.now) }
-        ensures taken { IfOk result (λ count. Some self.new.bytes.items ≡ appended (Some self.old.bytes.items) (take count piece.now)) }
+        ensures taken { IfOk result (λ count. Some self.new.bytes ≡ appended (Some self.old.bytes) (take count piece.now)) }
         ensures failed { OnErr result (Rose self.old.raised self.new.raised) }
-        ensures unchanged { OnErr result (Some self.new.bytes.items ≡ Some self.old.bytes.items) }
+        ensures unchanged { OnErr result (Some self.new.bytes ≡ Some self.old.bytes) }
         ensures counts { self.old.raised ≤ self.new.raised }
-        ensures full { IfOk result (λ count. count ≡ min (min (length piece.now) self.old.most) (self.old.room - vec_len self.old.bytes)) }
-        ensures fails { is_err result ≡ (vec_len self.old.bytes == self.old.room || is_planned self.old.fails.items (next_count self.old.calls)) }
+        ensures full { IfOk result (λ count. count ≡ min (min (length piece.now) self.old.most) (self.old.room - length self.old.bytes)) }
+        ensures fails { is_err result ≡ (length self.old.bytes == self.old.room || is_planned self.old.fails (next_count self.old.calls)) }
         ensures calls { self.new.calls ≡ next_count self.old.calls }
         ensures plan { self.new.fails ≡ self.old.fails }
         ensures room { self.new.room ≡ self.old.room }

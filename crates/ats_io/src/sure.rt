@@ -1,25 +1,39 @@
 //! Files and a sink that never fail.
 
-ghost use Rattle.std.specs.Prelude.{◌≡◌, ℕ, ◌<◌, ◌≤◌, List, [], None, Some, length, drop, min, IfOk, Ok};
+ghost use Rattle.std.specs.Prelude.{◌≡◌, ℕ, ◌<◌, ◌≤◌, List, [], None, Some, length, drop, min, IfOk, Ok, option_map, unwrap_or};
+ghost use Rattle.std.specs.List.{find};
 ghost use Rattle.ats_io.specs.Outside.{IfTold, Continues, IsPieceAt};
-ghost use Rattle.ats_io.specs.Memory.{bytes_or_none};
+ghost use Rattle.ats_io.specs.Memory.{pairs_of, has_name, bytes_or_none};
 
 use crate::fault::Failed;
 use crate::files::{Files, MAX_PLACE};
 use crate::plan;
 use crate::sink::Sink;
+use std::marker::Model;
 
 /// Named byte lists in memory whose reads never fail. Names are compared byte for byte, and of two entries of one name the
 /// first is held; a name that is not held reads as an empty file, and this is told. The count of faults is always 0.
+/// Contracts see the list of the entries, each as the bytes of its name and its bytes.
 #[derive(Drop)]
 pub struct SureFiles {
     files: Vec<(String, Vec<u8>)>,
 }
 
+impl Model for SureFiles {
+    ghost use Rattle.std.specs.Prelude.{List, ℕ};
+    ghost use Rattle.ats_io.specs.Memory.{pairs_of};
+
+    ghost Value = { List (List ℕ × List ℕ) };
+
+    ghost view = { λ s. pairs_of s.files.items };
+}
+
 impl SureFiles {
-    /// These files. It takes no memory.
+    /// Files that hold these entries, each a name and its bytes. Names may be the same: then the first is held. It takes no
+    /// memory and has no errors.
     pub fn new(files: Vec<(String, Vec<u8>)>) -> Self
-        ensures told { (name : List ℕ) → ⟦<SureFiles as Files>⟧.told result name ≡ Some (bytes_or_none files.items name) }
+        ensures held { result ≡ pairs_of files.items }
+        ensures told { (name : List ℕ) → ⟦<SureFiles as Files>⟧.told result name ≡ Some (bytes_or_none (pairs_of files.items) name) }
         ensures faults { (name : List ℕ) → ⟦<SureFiles as Files>⟧.faults result name ≡ 0 }
     {
         SureFiles { files }
@@ -27,17 +41,20 @@ impl SureFiles {
 }
 
 impl Files for SureFiles {
-    ghost told = { λ s name. Some (bytes_or_none s.files.items name) };
+    ghost told = { λ s name. Some (bytes_or_none s name) };
 
     ghost faults = { λ _ _. 0 };
 
+    /// Puts bytes of the file `name` from place `at`, in bytes, into the front of the buffer, as many as are there and fit,
+    /// and gives their number. It is never `Failed`.
+    #[tactic(auto, using(crate::proofs::Pairs::bytes_of_pairs))]
     fn read(&mut self, name: &str, at: u64, buf: &mut [u8]) -> Result<usize, Failed>
         requires room { 0 < length buf.old }
         requires place { at ≤ MAX_PLACE }
         ensures within { IfOk result (λ count. count ≤ length buf.new) }
-        ensures piece { IfOk result (λ count. IfTold (Some (bytes_or_none self.old.files.items name.now)) (λ bytes. IsPieceAt bytes at count buf.new)) }
+        ensures piece { IfOk result (λ count. IfTold (Some (bytes_or_none self.old name.now)) (λ bytes. IsPieceAt bytes at count buf.new)) }
         ensures continues { Continues ⟦<SureFiles as Files>⟧.told ⟦<SureFiles as Files>⟧.faults self.old self.new }
-        ensures full { result ≡ Ok (min (length buf.new) (length (drop at (bytes_or_none self.old.files.items name.now)))) }
+        ensures full { result ≡ Ok (min (length buf.new) (length (drop at (bytes_or_none self.old name.now)))) }
         ensures same { self.new ≡ self.old }
     {
         Ok(plan::put_piece(bytes_of(&self.files, name), at, buf))
@@ -46,7 +63,7 @@ impl Files for SureFiles {
 
 // The bytes of the first file of this name, or none where no file has it.
 fn bytes_of<'a>(files: &'a [(String, Vec<u8>)], name: &str) -> &'a [u8]
-    ensures { result.now ≡ bytes_or_none files.entry.now name.now }
+    ensures { result.now ≡ unwrap_or (option_map (λ file. file.1.items) (find (has_name name.now) files.entry.now)) [] }
 {
     match files.iter().find(|file| file.0.as_str() == name) {
         Some(file) => &file.1,
@@ -54,12 +71,13 @@ fn bytes_of<'a>(files: &'a [(String, Vec<u8>)], name: &str) -> &'a [u8]
     }
 }
 
-/// A sink that takes every byte, and holds and tells no content. The count of faults is always 0.
+/// A sink that takes every byte, and holds and tells no content: what was written to it cannot be had back. Its writes never
+/// fail, and the count of faults is always 0. It takes no memory.
 #[derive(Clone, Copy, Debug, PartialEq, Eq, Hash)]
 pub struct SureSink;
 
 impl SureSink {
-    /// The sink.
+    /// The sink; all of them are the same. It has no errors.
     pub fn new() -> Self
         ensures held { ⟦<SureSink as Sink>⟧.held result ≡ None }
         ensures faults { ⟦<SureSink as Sink>⟧.faults result ≡ 0 }
@@ -73,6 +91,7 @@ impl Sink for SureSink {
 
     ghost faults = { λ _. 0 };
 
+    /// Takes the whole piece, and gives the number of its bytes. It is never `Failed`.
     fn write(&mut self, piece: &[u8]) -> Result<usize, Failed>
         requires { 0 < length piece.now }
         ensures some { IfOk result (λ count. 0 < count) }
