@@ -1,9 +1,9 @@
 use Rattle.std.proofs.Common.{◌≡◌, ℕ, List, Option, Some, None, inl, inr, refl, sym}
 use Rattle.std.specs.Prelude.{IsSome, ◌⊎◌, codes}
-use Rattle.ats_io.specs.Outside.{Rose, TakesFront, appended}
+use Rattle.ats_io.specs.Outside.{Rose, TakesPrefix, appended}
 use Rattle.ats_cli.specs.Command.{Command, Shape, Unknown}
 use Rattle.ats_cli.specs.Due.{Answer, HasText, IsDue, IsTold, words_answer, shape_due}
-use Rattle.ats_cli.specs.Calls.{Printed, PrintedFront, StatusIsDue}
+use Rattle.ats_cli.specs.Calls.{Printed, PrintedPrefix, StatusIsDue}
 use Rattle.ats_cli.specs.declared.status.Status.{Status}
 use Rattle.ats_cli.specs.declared.status.Status.TheVariants.{Done, Words, Input, Refused, ReadFailed, WriteFailed, NoMemory}
 
@@ -14,7 +14,7 @@ some_bytes (Some bytes) h = (bytes, refl)
 
 -- a front of the reply to a file was printed
 pub front_of_reply : (told : List ℕ → Option (List ℕ)) (file : List ℕ) (answer : Answer) (old new : Option (List ℕ))
-    → ((bytes : List ℕ) → told file ≡ Some bytes → answer ≡ shape_due file bytes) → TakesFront answer.text old new → PrintedFront told (Shape file) old new
+    → ((bytes : List ℕ) → told file ≡ Some bytes → answer ≡ shape_due file bytes) → TakesPrefix answer.text old new → PrintedPrefix told (Shape file) old new
 front_of_reply told file answer old new due front = λ is_told. let b : (bytes : List ℕ) × (told file ≡ Some bytes) = some_bytes (told file) is_told in (answer, (b.0, b.1, due b.0 b.1), front)
 
 -- a status that is printed where no fault came is due
@@ -30,7 +30,7 @@ ends_as_due told command WriteFailed old new read write printed failed cut is_to
 ends_as_due told command NoMemory old new read write printed failed cut is_told calm quiet = inl refl
 
 -- a front of the line for words outside the table was printed
-pub front_of_words : (told : List ℕ → Option (List ℕ)) (old new : Option (List ℕ)) → TakesFront (codes "words\n") old new → PrintedFront told Unknown old new
+pub front_of_words : (told : List ℕ → Option (List ℕ)) (old new : Option (List ℕ)) → TakesPrefix (codes "words\n") old new → PrintedPrefix told Unknown old new
 front_of_words told old new front = λ is_told. (words_answer, refl, front)
 
 -- once the line for words outside the table was printed, its status is due

@@ -1,5 +1,5 @@
 use Rattle.std.specs.Prelude.{◌≡◌, ℕ, List, Option, All}
-use Rattle.ats_io.specs.Outside.{Rose, TakesFront, appended}
+use Rattle.ats_io.specs.Outside.{Rose, TakesPrefix, appended}
 use Rattle.ats_cli.specs.Command.{Command, file_words}
 use Rattle.ats_cli.specs.Due.{Answer, IsDue, IsTold, Reaches}
 use Rattle.ats_cli.specs.declared.status.Status.{Status}
@@ -9,8 +9,8 @@ abbrev pub Printed : (List ℕ → Option (List ℕ)) → Command → Status →
 Printed told command status old new = (text : List ℕ) × (new ≡ appended old text) × (IsTold told command → IsDue told command (record { status = status; text = text }))
 
 -- a front of a text was printed; the text is due, where the files tell their bytes
-abbrev pub PrintedFront : (List ℕ → Option (List ℕ)) → Command → Option (List ℕ) → Option (List ℕ) → Type 0
-PrintedFront told command old new = IsTold told command → (answer : Answer) × IsDue told command answer × TakesFront answer.text old new
+abbrev pub PrintedPrefix : (List ℕ → Option (List ℕ)) → Command → Option (List ℕ) → Option (List ℕ) → Type 0
+PrintedPrefix told command old new = IsTold told command → (answer : Answer) × IsDue told command answer × TakesPrefix answer.text old new
 
 -- a fault came at a file that the command comes to
 abbrev pub ReadRose : (List ℕ → Option (List ℕ)) → Command → (List ℕ → ℕ) → (List ℕ → ℕ) → Type 0

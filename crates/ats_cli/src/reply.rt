@@ -1,7 +1,7 @@
 //! Replies to commands.
 
 ghost use Rattle.std.specs.Prelude.{◌≡◌, ◌≤◌, ◌⊎◌};
-ghost use Rattle.ats_io.specs.Outside.{Rose, TakesFront, appended};
+ghost use Rattle.ats_io.specs.Outside.{Rose, TakesPrefix, appended};
 ghost use Rattle.ats_cli.specs.Due.{HasText, input_answer};
 ghost use Rattle.ats_cli.specs.Replies.{answer_of};
 
@@ -28,7 +28,7 @@ pub fn write_reply<O: Sink>(out: &mut O, status: Status, text: &[u8]) -> Status
     requires { HasText status }
     ensures ends { (result ≡ status) ⊎ (result ≡ Status.WriteFailed) }
     ensures printed { result ≡ status → O.held out.new ≡ appended (O.held out.old) text.now }
-    ensures cut_short { result ≡ Status.WriteFailed → TakesFront text.now (O.held out.old) (O.held out.new) }
+    ensures cut_short { result ≡ Status.WriteFailed → TakesPrefix text.now (O.held out.old) (O.held out.new) }
     ensures failed { result ≡ Status.WriteFailed → Rose (O.faults out.old) (O.faults out.new) }
     ensures counts { O.faults out.old ≤ O.faults out.new }
 {

@@ -6,7 +6,7 @@ ghost use Rattle.ats_cli.specs.Command.{command_of};
 ghost use Rattle.ats_cli.specs.Command as table;
 ghost use Rattle.ats_cli.specs.Named.{texts_of};
 ghost use Rattle.ats_cli.specs.Due.{HasText, IsTold};
-ghost use Rattle.ats_cli.specs.Calls.{Printed, PrintedFront, ReadRose, IsCalm, StatusIsDue};
+ghost use Rattle.ats_cli.specs.Calls.{Printed, PrintedPrefix, ReadRose, IsCalm, StatusIsDue};
 
 use crate::command::{Command, named_by};
 use crate::reply::{Stop, write_reply};
@@ -29,7 +29,7 @@ pub fn ats<F: Files, O: Sink>(alloc: Global, words: &[String], files: &mut F, ou
     ensures write_failed { result ≡ Status.WriteFailed → Rose (O.faults out.old) (O.faults out.new) }
 
     // After WriteFailed a front of a due text was printed, and after ReadFailed and NoMemory nothing.
-    ensures cut_short { result ≡ Status.WriteFailed → PrintedFront (F.told files.old) (command_of (texts_of words.now)) (O.held out.old) (O.held out.new) }
+    ensures cut_short { result ≡ Status.WriteFailed → PrintedPrefix (F.told files.old) (command_of (texts_of words.now)) (O.held out.old) (O.held out.new) }
     ensures silent { (result ≡ Status.ReadFailed) ⊎ (result ≡ Status.NoMemory) → O.held out.new ≡ O.held out.old }
 
     // Where the files tell their bytes and no fault came, the status that is due comes, or NoMemory.
@@ -52,7 +52,7 @@ fn shape<F: Files, O: Sink>(alloc: Global, file: &str, files: &mut F, out: &mut 
     ensures no_words { ¬ (result ≡ Status.Words) }
     ensures read_failed { result ≡ Status.ReadFailed → Rose (F.faults files.old file.now) (F.faults files.new file.now) }
     ensures write_failed { result ≡ Status.WriteFailed → Rose (O.faults out.old) (O.faults out.new) }
-    ensures cut_short { result ≡ Status.WriteFailed → PrintedFront (F.told files.old) (table.Shape file.now) (O.held out.old) (O.held out.new) }
+    ensures cut_short { result ≡ Status.WriteFailed → PrintedPrefix (F.told files.old) (table.Shape file.now) (O.held out.old) (O.held out.new) }
     ensures silent { (result ≡ Status.ReadFailed) ⊎ (result ≡ Status.NoMemory) → O.held out.new ≡ O.held out.old }
     ensures files { Continues F.told F.faults files.old files.new }
     ensures sink { O.faults out.old ≤ O.faults out.new }

@@ -23,8 +23,8 @@ pub record IsPieceAt (bytes : List ℕ) (at count : ℕ) (buffer : List ℕ) : T
 abbrev pub appended : Option (List ℕ) → List ℕ → Option (List ℕ)
 appended held piece = option_map (λ bytes. bytes ++ piece) held
 
--- from `old` to `new` a sink took a front of the text, and no more
-pub record TakesFront (text : List ℕ) (old new : Option (List ℕ)) : Type 0 where
+-- from `old` to `new` a sink took a prefix of the text, and no more
+pub record TakesPrefix (text : List ℕ) (old new : Option (List ℕ)) : Type 0 where
   pub front : List ℕ
   pub rest : List ℕ
   pub parts : front ++ rest ≡ text

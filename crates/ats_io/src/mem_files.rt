@@ -11,12 +11,12 @@ use ats_num::NoMemory;
 use std::alloc::Global;
 use std::marker::Model;
 
-/// Named byte lists in memory, each with a count of faults; all names that it does not hold share one count. Names are
-/// compared byte for byte, and of two entries of one name the first is held. It tells the bytes of the names that it holds.
+/// Files for tests: lists of bytes under names, where reads fail when a test wants them to.
 ///
-/// Its calls are counted from 1, and the calls whose numbers are in a given list fail. A read of a name that is not held
-/// fails. A read that succeeds gives as many bytes as are there and fit. Both counters stay at the last value of 64 bits.
-/// Contracts see the names and bytes, the counts, the number of calls and the numbers that are to fail.
+/// A name means the first entry with exactly its bytes; what that entry has is told. A read gives all the bytes from the
+/// place on, as far as the buffer has room. It fails where there is no such entry, and where its number, the first read
+/// being 1, is in the list that was given. Each entry has its own count of faults, and the names without an entry have one
+/// together. Counters that reach the greatest `u64` stay there. In contracts it is the record `HeldFiles`.
 #[derive(Drop)]
 pub struct MemFiles {
     files: Vec<(String, Vec<u8>)>,

@@ -11,10 +11,11 @@ use ats_num::NoMemory;
 use std::alloc::Global;
 use std::marker::Model;
 
-/// A sink that holds its bytes in a buffer of a size given when it is made, and tells them. It takes at most a stated
-/// number of bytes a call. A full buffer fails. Its calls are counted from 1, and the calls whose numbers are in a given
-/// list fail. Each call that fails raises the count of faults. Both counters stay at the last value of 64 bits. Contracts see
-/// the bytes, the size and the most of a call, the numbers that are to fail, the number of calls and the count of faults.
+/// A sink for tests: a buffer that takes its memory at the start, tells what it took, and fails when a test wants it to.
+///
+/// A write takes up to `most` bytes, as far as there is room. It fails where the buffer is full, and where its number, the
+/// first write being 1, is in the list that was given; then the count of faults goes up. Counters that reach the greatest
+/// `u64` stay there. In contracts it is the record `HeldText`.
 #[derive(Drop)]
 pub struct MemSink {
     bytes: Vec<u8>,

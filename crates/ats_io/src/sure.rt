@@ -11,9 +11,8 @@ use crate::plan;
 use crate::sink::Sink;
 use std::marker::Model;
 
-/// Named byte lists in memory whose reads never fail. Names are compared byte for byte, and of two entries of one name the
-/// first is held; a name that is not held reads as an empty file, and this is told. The count of faults is always 0.
-/// Contracts see the list of the entries, each as the bytes of its name and its bytes.
+/// Files in memory that cannot fail: there is no fault to count, and a name without an entry is an empty file. What a name
+/// has is always told. In contracts it is the list of its entries, names and bytes.
 #[derive(Drop)]
 pub struct SureFiles {
     files: Vec<(String, Vec<u8>)>,
@@ -71,8 +70,7 @@ fn bytes_of<'a>(files: &'a [(String, Vec<u8>)], name: &str) -> &'a [u8]
     }
 }
 
-/// A sink that takes every byte, and holds and tells no content: what was written to it cannot be had back. Its writes never
-/// fail, and the count of faults is always 0. It takes no memory.
+/// A sink that cannot fail: it takes whatever comes and forgets it, so it tells nothing. It takes no memory.
 #[derive(Clone, Copy, Debug, PartialEq, Eq, Hash)]
 pub struct SureSink;
 

@@ -1,6 +1,6 @@
 //! Lines and words of a text.
 
-ghost use Rattle.std.specs.Prelude.{◌≡◌, ◌==◌, ◌<◌, ◌≤◌, ◌∷◌, length, drop, position, IfSome, IsSome, ◌↔◌, slice_get, slice_range, option_copied};
+ghost use Rattle.std.specs.Prelude.{◌≡◌, ◌==◌, ◌<◌, ◌≤◌, ◌∷◌, length, drop, position, IfSome, IsSome, ◌↔◌, slice_get, slice_range, option_copied, slice_index, ◌-◌};
 ghost use Rattle.ats_io.specs.Text.{lines_of, words_of};
 
 /// The line that begins at place `at` of the text: the place where it ends, and the place where the next line begins. A
@@ -12,6 +12,7 @@ pub fn line_at(text: &[u8], at: usize) -> (usize, usize)
     ensures ends { result.0 ≤ result.1 }
     ensures advances { at < result.1 }
     ensures within { result.1 ≤ length text.now }
+    ensures next { result.1 < length text.now → slice_index text.now (result.1 - 1) ≡ 10 }
 {
     match feed_at(&text[at..]) {
         None => (text.len(), text.len()),
@@ -31,6 +32,7 @@ pub fn line_at(text: &[u8], at: usize) -> (usize, usize)
 fn feed_at(text: &[u8]) -> Option<usize>
     ensures place { result ≡ position (λ b. b == 10) text.now }
     ensures within { IfSome result (λ place. place < length text.now) }
+    ensures feed { IfSome result (λ place. slice_index text.now place ≡ 10) }
 {
     text.iter().position(|b| *b == b'\n')
 }

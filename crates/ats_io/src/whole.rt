@@ -1,7 +1,7 @@
 //! Reads of whole files and writes of whole texts.
 
 ghost use Rattle.std.specs.Prelude.{◌≡◌, ◌+◌, ◌-◌, ◌<◌, ◌≤◌, ◌⊎◌, [], length, take, IfOk, OnOk, OnErr, IsOk, IsErrOf, IsOkUnless, vec_len};
-ghost use Rattle.ats_io.specs.Outside.{Rose, IfTold, Continues, TakesFront, appended};
+ghost use Rattle.ats_io.specs.Outside.{Rose, IfTold, Continues, TakesPrefix, appended};
 ghost use Rattle.ats_io.specs.declared.files.TheConstants.{MAX_PLACE};
 
 use crate::fault::{Failed, ReadFault};
@@ -61,7 +61,7 @@ fn new_buffer(alloc: Global) -> Result<Vec<u8>, NoMemory>
 /// rose, and then a front of the text was taken. An empty text makes no call. It takes no memory.
 pub fn write_all<O: Sink>(out: &mut O, text: &[u8]) -> Result<(), Failed>
     ensures taken { OnOk result (O.held out.new ≡ appended (O.held out.old) text.now) }
-    ensures cut_short { OnErr result (TakesFront text.now (O.held out.old) (O.held out.new)) }
+    ensures cut_short { OnErr result (TakesPrefix text.now (O.held out.old) (O.held out.new)) }
     ensures failed { OnErr result (Rose (O.faults out.old) (O.faults out.new)) }
     ensures counts { O.faults out.old ≤ O.faults out.new }
     ensures empty { text.now ≡ [] → IsOk result }

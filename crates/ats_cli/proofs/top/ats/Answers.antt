@@ -3,7 +3,7 @@ use Rattle.std.specs.Prelude.{◌⊎◌}
 use Rattle.ats_io.specs.Outside.{Rose}
 use Rattle.ats_cli.specs.Command.{Command, Shape, Unknown}
 use Rattle.ats_cli.specs.Due.{IsTold}
-use Rattle.ats_cli.specs.Calls.{PrintedFront, IsCalm, StatusIsDue}
+use Rattle.ats_cli.specs.Calls.{PrintedPrefix, IsCalm, StatusIsDue}
 use Rattle.ats_cli.specs.declared.status.Status.TheVariants.{NoMemory}
 use Rattle.ats_cli.proofs.Ending.{ends_as_due, words_end_as_due, front_of_words}
 use Rattle.ats_cli.proofs.top.ats.Goals as goal
@@ -24,7 +24,7 @@ returns-in-Unknown-clause-cut_short g c = λ h.
     let told : List ℕ → Option (List ℕ) = g.F.Files.told c.args.files.now in
     let old : Option (List ℕ) = g.O.Sink.held c.args.out.now in
     let new : Option (List ℕ) = g.O.Sink.held c.write_reply.new.out in
-    subst (λ (command : Command). PrintedFront told command old new) c.in-Unknown.ensures (front_of_words told old new (c.write_reply.ensures.cut_short h))
+    subst (λ (command : Command). PrintedPrefix told command old new) c.in-Unknown.ensures (front_of_words told old new (c.write_reply.ensures.cut_short h))
 
 pub returns-in-Unknown-clause-complete : goal.returns-in-Unknown-clause-complete
 returns-in-Unknown-clause-complete g c = λ is_told calm quiet.
