@@ -5,3 +5,4 @@ pub mod Draft
 pub mod Verdicts
 pub mod Text
 pub mod FaultText
+pub mod FaultLaw

@@ -3,6 +3,7 @@
 
 mod draft;
 pub mod fault;
+pub mod laws;
 mod line;
 pub mod printing;
 pub mod reading;
@@ -11,7 +12,11 @@ pub mod verdicts;
 mod words;
 
 pub use fault::ShapeFault;
+pub use laws::{each_fault_is_the_first, each_shape_is_faultless};
 pub use printing::{report, write_fault};
 pub use reading::read_shape;
 pub use shape::{Shape, ShapeFrame, ShapeStream};
 pub use verdicts::judge;
+
+#[cfg(test)]
+mod tests;
