@@ -10,6 +10,7 @@ use crate::fault::ShapeFault;
 use crate::shape::{ShapeFrame, ShapeStream};
 use crate::words::{has_words, named, numbered, word};
 use ats_group::Declared;
+use ats_num::wire::{MAX_OCTETS, MIN_OCTETS};
 use ats_num::{Name, Rate};
 use ats_streams::declared_fault;
 
@@ -91,7 +92,11 @@ pub(crate) fn frame_in(n: u32, line: &[u8]) -> Result<FrameWords, ShapeFault>
     let at = numbered(n, line, 1)?;
     let name = named(n, line, 2)?;
     let octets = numbered(n, line, 3)?;
-    if has_words(line, 4) && at <= MAX_ARRIVAL_PS && octets >= 64 && octets <= 2000 {
+    if has_words(line, 4)
+        && at <= MAX_ARRIVAL_PS
+        && octets >= u128::from(MIN_OCTETS)
+        && octets <= u128::from(MAX_OCTETS)
+    {
         Ok(FrameWords {
             at: at as u64,
             name,

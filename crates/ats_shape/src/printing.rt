@@ -23,7 +23,7 @@ pub fn report(alloc: Global, shape: &Shape, verdicts: &[Verdict]) -> Result<Vec<
     Ok(out)
 }
 
-/// Appends the words for a fault and its line. `NoMemory` leaves a front of them.
+/// Appends the words for a fault and its line. After `NoMemory` nothing is said of `out`.
 pub fn write_fault(out: &mut Vec<u8>, fault: &ShapeFault) -> Result<(), NoMemory>
     ensures { OnOk result (out.new.items ≡ out.old.items ++ fault_text fault.now) }
 {

@@ -6,18 +6,23 @@ use ats_group::Declared;
 use ats_num::{Name, Ps};
 use std::marker::Model;
 
-/// A stream of a shape file: its name, and what is declared of it.
+/// A stream of a shape file.
 #[derive(Clone, Copy, Debug)]
 pub struct ShapeStream {
+    /// Its name, which no other stream of the file has.
     pub name: Name,
+    /// What is declared of it.
     pub declared: Declared,
 }
 
-/// A frame of a shape file: its arrival in picoseconds, the place of its stream among the streams, and its octets.
+/// A frame of a shape file.
 #[derive(Clone, Copy, Debug)]
 pub struct ShapeFrame {
+    /// When it arrives, at most 100,000,000,000,000,000 ps.
     pub at: Ps,
+    /// The place of its stream among the streams, from 0.
     pub stream: u32,
+    /// Its octets, counted with the frame check sequence: 64 to 2000.
     pub octets: u32,
 }
 
