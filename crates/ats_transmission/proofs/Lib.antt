@@ -1,0 +1,4 @@
+pub mod InOrder
+pub mod OneMore
+pub mod Pairs
+pub mod Permuted

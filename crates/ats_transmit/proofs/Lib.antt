@@ -1,0 +1,9 @@
+pub mod Anys
+pub mod Due
+pub mod Kept
+pub mod Lawful
+pub mod Offered
+pub mod Offers
+pub mod Queues
+pub mod Started
+pub mod Totals

@@ -1,0 +1,4 @@
+pub mod Inside
+pub mod Picks
+pub mod Sending
+pub mod Standing

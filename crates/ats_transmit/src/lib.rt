@@ -1,0 +1,15 @@
+//! One port: a class queue for each class, and the transmissions that the port made. It sends one frame at a time and is
+//! never interrupted; when it is free it sends the highest class first, and in a class the frame that became eligible
+//! first (IEEE Std 802.1Q, strict priority; IEEE Std 802.1Qcr, ATS transmission selection).
+#![tactic(auto)]
+
+mod choice;
+pub mod offer;
+pub mod pick;
+pub mod port;
+pub mod sent;
+
+pub use offer::Offer;
+pub use pick::Pick;
+pub use port::Port;
+pub use sent::Sent;
