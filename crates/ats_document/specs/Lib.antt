@@ -1,0 +1,5 @@
+pub mod Words
+pub mod Steps
+pub mod Kinds
+pub mod Walk
+pub mod Seen
