@@ -1,5 +1,4 @@
-use Rattle.std.specs.Prelude.{◌≡◌, Bool, List, Option, Some, None, Result, Ok, Err, Vec, if◌then◌else◌}
-use Rattle.std.specs.declared.alloc.Global.{Global}
+use Rattle.std.specs.Prelude.{◌≡◌, Bool, Option, Some, None, Result, Ok, Err, if◌then◌else◌}
 use Rattle.ats_document.specs.declared.fault.DocumentFault.{DocumentFault}
 use Rattle.ats_document.specs.declared.fault.DocumentFault.TheVariants.{NotToml, Missing, Unknown, WrongKind, Limit, NoMemory}
 
@@ -32,7 +31,7 @@ abbrev pub Gives : {A : Type 0} → Result A DocumentFault → Result A Document
 Gives (Ok x) due = due ≡ Ok x
 Gives (Err e) due = Fails e due
 
--- the same for a call that answers a list in a vector
-abbrev pub GivesItems : {A : Type 0} → Result (Vec A Global) DocumentFault → Result (List A) DocumentFault → Type 0
-GivesItems (Ok v) due = due ≡ Ok v.items
-GivesItems (Err e) due = Fails e due
+-- the same for a call whose value is seen as another
+abbrev pub GivesSeen : {A B : Type 0} → (A → B) → Result A DocumentFault → Result B DocumentFault → Type 0
+GivesSeen seen (Ok x) due = due ≡ Ok (seen x)
+GivesSeen seen (Err e) due = Fails e due

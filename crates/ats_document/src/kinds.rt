@@ -1,7 +1,6 @@
 //! The kinds of values that a key may hold.
 
 ghost use Rattle.std.specs.Prelude.{◌≡◌, ◌≤◌, ◌<◌, ◌^◌, ◌&&◌, nat_le, slice_index, IfSome};
-
 ghost use Rattle.toml.specs.View.{view};
 ghost use Rattle.ats_document.specs.Kinds.{some_where, name_in, whole_in, digit_at, pair_at, joined_at, address_of, address_in};
 

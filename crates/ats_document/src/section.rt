@@ -1,17 +1,24 @@
 //! The walk over one table of a network file.
 
-ghost use Rattle.std.specs.Prelude.{◌≡◌, ◌≤◌, ◌<◌, option_map, IfOk};
-ghost use Rattle.std.specs.List.{list_any};
+ghost use Rattle.std.specs.Prelude.{◌≡◌, ◌≤◌, ◌<◌, ◌^◌, option_map, length, IsTrue, IfOk, IfErr};
+ghost use Rattle.std.specs.Option.{ForSome};
 ghost use Rattle.toml.specs.Data.{get_member};
-ghost use Rattle.toml.specs.View.{view, table_view};
+ghost use Rattle.toml.specs.View.{view, items_view, table_view};
 ghost use Rattle.ats_document.specs.Words.{key_text};
-ghost use Rattle.ats_document.specs.Walk.{has, is_due, is_missing, missing_key, is_known, has_unknown, formed, name_at, whole_at, deadline_at};
+ghost use Rattle.ats_document.specs.Walk.{has, is_due, is_missing, missing_key, is_known, has_unknown, formed, at, name_at, whole_at, tables_at, path_at, identity_at, deadline_at};
+ghost use Rattle.ats_document.specs.Steps.{or_fault, GivesSeen};
+ghost use Rattle.ats_document.specs.Kinds.{name_in, address_in, all_in};
+ghost use Rattle.ats_document.specs.Entries.{route_at};
+ghost use Rattle.ats_document.specs.Document.{IsRoute, IsIdentity};
+ghost use Rattle.ats_document.specs.Seen.{are_tables, tables_of, route_seen};
 
+use crate::entries::Route;
 use crate::fault::DocumentFault;
 use crate::key::Key;
-use crate::kinds::{name_in, whole_in};
+use crate::kinds::{address_in, name_in, whole_in};
 use crate::table::Table;
 use ats_num::Name;
+use std::alloc::Global;
 use toml::Value;
 
 /// The greatest whole number of a TOML text.
@@ -174,6 +181,85 @@ impl<'a> Section<'a> {
         self.whole(key, 0, MAX_WHOLE)
     }
 
+    /// The tables of the array that stands with a key; none where nothing stands there.
+    pub(crate) fn tables(&self, key: Key) -> Result<&'a [Value], DocumentFault>
+        ensures ok { IfOk result (λ vs. (tables_at (entry_of self.now) key ≡ Ok (tables_of vs.now)) × IsTrue (are_tables vs.now)) }
+        ensures err { IfErr result (λ e. tables_at (entry_of self.now) key ≡ Err e) }
+    {
+        let value = match self.value(key) {
+            Some(value) => value,
+            None => return Ok(&[]),
+        };
+        let values = match value.as_array() {
+            Some(values) => values.as_slice(),
+            None => return Err(self.wrong_kind(key)),
+        };
+        if !are_tables(values) {
+            return Err(self.wrong_kind(key));
+        }
+        Ok(values)
+    }
+
+    /// The way of a stream or a flow: its path, or its two ends.
+    pub(crate) fn route(&self, alloc: Global) -> Result<Route, DocumentFault>
+        ensures value { GivesSeen route_seen result (route_at (entry_of self.now)) }
+        ensures route { IfOk result (λ route. IsRoute (route_seen route)) }
+    {
+        if self.has(Key::Path) {
+            return Ok(Route::Path(self.path(alloc)?));
+        }
+        let from = self.name(Key::From)?;
+        let to = self.name(Key::To)?;
+        Ok(Route::Ends(from, to))
+    }
+
+    // The names of a path, which has none of its ends beside it.
+    fn path(&self, alloc: Global) -> Result<Vec<Name>, DocumentFault>
+        ensures value { GivesSeen (λ names. names.items) result (path_at (entry_of self.now)) }
+        ensures long { IfOk result (λ names. 2 ≤ length names.items) }
+    {
+        if self.has(Key::From) || self.has(Key::To) {
+            return Err(self.wrong_kind(Key::Path));
+        }
+        let value = match self.value(Key::Path) {
+            Some(value) => value,
+            None => return Err(self.wrong_kind(Key::Path)),
+        };
+        let values = match value.as_array() {
+            Some(values) => values.as_slice(),
+            None => return Err(self.wrong_kind(Key::Path)),
+        };
+        let names = names_in(alloc, values, self.wrong_kind(Key::Path))?;
+        if names.len() < 2 {
+            return Err(self.wrong_kind(Key::Path));
+        }
+        Ok(names)
+    }
+
+    /// Destination address and VLAN identifier, where they stand there.
+    pub(crate) fn identity(&self) -> Result<Option<(u64, u16)>, DocumentFault>
+        ensures value { result ≡ identity_at (entry_of self.now) }
+        ensures within { IfOk result (λ identity. ForSome identity IsIdentity) }
+    {
+        if !self.has(Key::Address) {
+            return Ok(None);
+        }
+        let address = self.address()?;
+        let vlan = self.whole(Key::Vlan, 1, 4094)? as u16;
+        Ok(Some((address, vlan)))
+    }
+
+    // The number of the address that stands there.
+    fn address(&self) -> Result<u64, DocumentFault>
+        ensures value { result ≡ at (entry_of self.now) Key.Address address_in }
+        ensures within { IfOk result (λ n. n < 2 ^ 48) }
+    {
+        match self.value(Key::Address) {
+            Some(value) => address_in(value).ok_or(self.wrong_kind(Key::Address)),
+            None => Err(self.wrong_kind(Key::Address)),
+        }
+    }
+
     /// The deadline in nanoseconds; a second where none stands there.
     pub(crate) fn deadline_ns(&self) -> Result<u64, DocumentFault>
         ensures { result ≡ deadline_at (entry_of self.now) }
@@ -192,6 +278,37 @@ fn member<'a>(members: &'a toml::Table, key: &str) -> Option<&'a Value>
     members.get(key)
 }
 
+// The names that the items of an array are, or this fault where one is none.
+fn names_in(
+    alloc: Global,
+    values: &[Value],
+    fault: DocumentFault,
+) -> Result<Vec<Name>, DocumentFault>
+    ensures { GivesSeen (λ names. names.items) result (or_fault fault (all_in name_in (items_view values.now))) }
+{
+    let mut names = Vec::new(alloc);
+    for value in values {
+        let name = match name_in(value) {
+            Some(name) => name,
+            None => return Err(fault),
+        };
+        names.push(name)?;
+    }
+    Ok(names)
+}
+
+#[tactic(auto, using(crate::proofs::Joined::all_in_drop))]
+fn are_tables(values: &[Value]) -> bool
+    ensures { result ≡ are_tables values.now }
+{
+    for value in values {
+        if !value.is_table() {
+            return false;
+        }
+    }
+    true
+}
+
 fn has_unknown(keys: &[Key], members: &toml::Table) -> bool
     ensures { result ≡ has_unknown keys.now (table_view members.now) }
 {
@@ -206,5 +323,6 @@ fn has_unknown(keys: &[Key], members: &toml::Table) -> bool
 fn is_known(keys: &[Key], text: &str) -> bool
     ensures { result ≡ is_known keys.now text.now }
 {
-    keys.iter().any(|key| text.as_bytes() == key.text().as_bytes())
+    keys.iter()
+        .any(|key| text.as_bytes() == key.text().as_bytes())
 }

@@ -68,13 +68,7 @@ impl Table {
                 Key::Address,
                 Key::Vlan,
             ],
-            Table::Flow => &[
-                Key::Name,
-                Key::Path,
-                Key::From,
-                Key::To,
-                Key::MaxOctets,
-            ],
+            Table::Flow => &[Key::Name, Key::Path, Key::From, Key::To, Key::MaxOctets],
         }
     }
 }
