@@ -1,13 +1,16 @@
-use Rattle.std.proofs.Common.{◌≡◌, ℕ, ◌+◌, ◌<◌, Bool, true, false, List, [], ◌∷◌, ◌++◌, length, get_or, drop, Option, Some, None, option_map, is_some, unwrap_or, Result, Ok, Err, refl, sym, ap, ◌∙◌, append_assoc, append-nil, arith}
+use Rattle.std.proofs.Common.{◌≡◌, ℕ, ◌+◌, ◌<◌, ◌≤◌, Bool, true, false, List, [], ◌∷◌, ◌++◌, length, get_or, drop, Option, Some, None, option_map, is_some, unwrap_or, Result, Ok, Err, refl, sym, ap, ◌∙◌, append_assoc, append-nil, arith}
 use Rattle.toml.specs.Data.{Data, Items, no_items, item, Members, as_table}
 use Rattle.toml.specs.View.{view, items_view}
 use Rattle.toml.specs.declared.value.Value.{Value}
 use Rattle.toml.proofs.Views.{items_view-drop}
-use Rattle.ats_document.specs.Steps.{◌>>=◌, Fails}
+use Rattle.ats_document.specs.Steps.{◌>>=◌, Fails, GivesSeen}
 use Rattle.ats_document.specs.Kinds.{in_front, all_in}
 use Rattle.ats_document.specs.Walk.{Entry}
 use Rattle.ats_document.specs.Seen.{are_tables, tables_of}
-use Rattle.ats_document.specs.Reading.{entries_from}
+use Rattle.std.specs.Result.{IsErrAnd}
+use Rattle.std.proofs.lemmas.Bool.{lt-ltb, le-ltb}
+use Rattle.std.proofs.lemmas.List.{drop_all}
+use Rattle.ats_document.specs.Reading.{entries_from, entries_in}
 use Rattle.ats_document.specs.declared.table.Table.{Table}
 use Rattle.ats_document.specs.declared.fault.DocumentFault.{DocumentFault}
 use Rattle.ats_document.specs.declared.fault.DocumentFault.TheVariants.{NotToml, Missing, Unknown, WrongKind, Limit, NoMemory}
@@ -90,3 +93,29 @@ front_length (Some t) (Some ts) n h ih = omega (arith, ih refl)
 pub tables_of_length : (vs : List Value) → are_tables vs ≡ true → length (tables_of vs) ≡ length vs
 tables_of_length [] h = refl
 tables_of_length (v ∷ vs) h = front_length (as_table (view v)) (all_in as_table (items_view vs)) (length vs) h (tables_of_length vs) ∙ omega arith
+
+-- an array past its limit
+pub entries_past : {A : Type 0} (read : Entry → Result A DocumentFault) (table : Table) (most : ℕ) (tables : List Members) → most < length tables → entries_in read table most tables ≡ Err (Limit table)
+entries_past read table most tables h = rw (lt-ltb most (length tables) h)
+
+-- an array within its limit
+pub entries_within : {A : Type 0} (read : Entry → Result A DocumentFault) (table : Table) (most : ℕ) (tables : List Members) → length tables ≤ most → entries_in read table most tables ≡ entries_from read table 1 tables
+entries_within read table most tables h = rw (le-ltb most (length tables) h)
+
+-- a fault of the next entry is the fault of the array
+pub entry_stops : {A : Type 0} (read : Entry → Result A DocumentFault) (table : Table) (most n : ℕ) (before : List A) (e : DocumentFault) (entry : Entry) (ms : Members) (rest left all : List Members)
+    → entry ≡ record { table = table; number = n; members = ms } → left ≡ ms ∷ rest → length all ≤ most
+    → behind before (entries_from read table n left) ≡ entries_from read table 1 all → Fails e (read entry) → Fails e (entries_in read table most all)
+entry_stops read table most n before e entry ms rest left all is next few so_far failed =
+    fails_along e (read entry) (entries_in read table most all)
+    (λ part. entries_within read table most all few ∙ sym so_far ∙ ap (λ ts. behind before (entries_from read table n ts)) next ∙ entry_fails read table n before e ms rest (ap read (sym is) ∙ part)) failed
+
+-- after the last entry
+pub entries_end : {A : Type 0} (read : Entry → Result A DocumentFault) (table : Table) (n : ℕ) (before : List A) (vs : List Value) (i : ℕ) → length vs ≤ i
+    → behind before (entries_from read table n (tables_of (drop i vs))) ≡ Ok before
+entries_end read table n before vs i past = rw (drop_all i vs past) (ap Ok (append-nil before))
+
+-- a fault that is passed on
+pub fault_passed : {A B : Type 0} (seen : A → B) (result : Result A DocumentFault) (e : DocumentFault) (due : Result B DocumentFault) → IsErrAnd result (λ f. f ≡ e) → Fails e due → GivesSeen seen result due
+fault_passed seen (Ok x) e due h failed = absurd h
+fault_passed seen (Err f) e due h failed = rw h failed
