@@ -119,3 +119,8 @@ entries_end read table n before vs i past = rw (drop_all i vs past) (ap Ok (appe
 pub fault_passed : {A B : Type 0} (seen : A → B) (result : Result A DocumentFault) (e : DocumentFault) (due : Result B DocumentFault) → IsErrAnd result (λ f. f ≡ e) → Fails e due → GivesSeen seen result due
 fault_passed seen (Ok x) e due h failed = absurd h
 fault_passed seen (Err f) e due h failed = rw h failed
+
+-- the array is read once no value is left
+pub entries_done : {A : Type 0} (read : Entry → Result A DocumentFault) (table : Table) (most n : ℕ) (before : List A) (vs : List Value) (i : ℕ) → length (tables_of vs) ≤ most → length vs ≤ i
+    → behind before (entries_from read table n (tables_of (drop i vs))) ≡ entries_from read table 1 (tables_of vs) → entries_in read table most (tables_of vs) ≡ Ok before
+entries_done read table most n before vs i few past so_far = entries_within read table most (tables_of vs) few ∙ sym so_far ∙ entries_end read table n before vs i past

@@ -8,3 +8,4 @@ pub mod Seen
 pub mod Reading
 pub mod ArraysSeen
 pub mod PartsSeen
+pub mod FaultText

@@ -3,7 +3,7 @@ use Rattle.toml.specs.declared.value.Value.{Value}
 use Rattle.toml.specs.View.{view, table_view}
 use Rattle.toml.specs.Data.{as_table}
 use Rattle.ats_document.specs.Seen.{entry_of, tables_of}
-use Rattle.ats_document.proofs.Joined.{tables_of_length, tables_of_drop, entries_past, entries_within, entries_end, entry_stops, fault_passed}
+use Rattle.ats_document.proofs.Joined.{tables_of_length, tables_of_drop, entries_past, entries_done, entry_stops, fault_passed}
 use Rattle.ats_document.proofs.arrays.read_entries.Goals as goal
 
 pub returns-then-values-most-clause-value : goal.returns-then-values-most-clause-value
@@ -25,6 +25,4 @@ returns-in_err-entry-clause-value g c =
 pub returns-clause-value : goal.returns-clause-value
 returns-clause-value g c =
     let few : length (tables_of c.args.values.now) ≤ c.args.most = omega (arith, tables_of_length c.args.values.now c.requires.tables) in
-    entries_within g.E.FromSection.reads c.args.table c.args.most (tables_of c.args.values.now) few
-    ∙ sym c.loop-place.invariant.read
-    ∙ entries_end g.E.FromSection.reads c.args.table (c.loop-place.place + 1) c.loop-place.entries.items c.args.values.now c.loop-place.place c.loop-place-test.false
+    entries_done g.E.FromSection.reads c.args.table c.args.most (c.loop-place.place + 1) c.loop-place.entries.items c.args.values.now c.loop-place.place few c.loop-place-test.false c.loop-place.invariant.read
