@@ -15,51 +15,66 @@ const STREAM: &str =
 
 const FLOW: &str = "[[flow]]\nname = \"f\"\nfrom = \"s\"\nto = \"t\"\nmax_octets = 64\n";
 
-/// What a file tells that has one entry so often, then another so often.
-fn told_counts(
-    alloc: Global,
-    first: &str,
-    times: usize,
-    second: &str,
-    more: usize,
-) -> Result<Vec<u8>, Fail> {
+// In each row a file has so many of one entry, and then so many of another.
+const ROWS: &str = "1024 station => well
+1025 station => limit station
+1000 station 24 bridge => well
+1000 station 25 bridge => limit bridge
+1024 station 1 bridge => limit bridge
+0 station 1024 bridge => well
+0 station 1025 bridge => limit bridge
+2048 link => well
+2049 link => limit link
+4096 stream 1024 flow => well
+4097 stream => limit stream
+0 stream 1025 flow => limit flow
+1025 station 1 empty-bridge => limit station
+1025 empty-station 1 bridge => limit station
+1 empty-station 1024 bridge => missing station 1 name
+1 station 1024 empty-bridge => limit bridge
+1 station 1023 empty-bridge => missing bridge 1 name
+";
+
+/// The text of an entry.
+fn entry_text(word: &str) -> &'static str {
+    match word {
+        "station" => STATION,
+        "bridge" => BRIDGE,
+        "link" => LINK,
+        "stream" => STREAM,
+        "flow" => FLOW,
+        "empty-station" => "[[station]]\n",
+        "empty-bridge" => "[[bridge]]\n",
+        _ => "",
+    }
+}
+
+/// A file with these entries.
+fn file(alloc: Global, entries: &str) -> Result<Vec<u8>, Fail> {
     let mut text = Vec::new(alloc);
     text.extend_from_slice(b"format = 1\n")?;
-    for _ in 0..times {
-        text.extend_from_slice(first.as_bytes())?;
+    let mut times = 0;
+    for word in entries.split_whitespace() {
+        match word.parse::<usize>() {
+            Ok(n) => times = n,
+            Err(_) => {
+                for _ in 0..times {
+                    text.extend_from_slice(entry_text(word).as_bytes())?;
+                }
+            }
+        }
     }
-    for _ in 0..more {
-        text.extend_from_slice(second.as_bytes())?;
-    }
-    Ok(told(alloc, &text)?)
+    Ok(text)
 }
 
 #[test]
 fn keeps_limits(rt: HostRuntime) -> Result<(), Fail> {
-    let rows = [
-        (STATION, 1024, BRIDGE, 0, "well"),
-        (STATION, 1025, BRIDGE, 0, "limit station"),
-        (STATION, 1000, BRIDGE, 24, "well"),
-        (STATION, 1000, BRIDGE, 25, "limit bridge"),
-        (STATION, 1024, BRIDGE, 1, "limit bridge"),
-        (STATION, 0, BRIDGE, 1024, "well"),
-        (STATION, 0, BRIDGE, 1025, "limit bridge"),
-        (LINK, 2048, FLOW, 0, "well"),
-        (LINK, 2049, FLOW, 0, "limit link"),
-        (STREAM, 4096, FLOW, 1024, "well"),
-        (STREAM, 4097, FLOW, 0, "limit stream"),
-        (STREAM, 0, FLOW, 1025, "limit flow"),
-        (STATION, 1025, "[[bridge]]\n", 1, "limit station"),
-        ("[[station]]\n", 1025, BRIDGE, 1, "limit station"),
-        ("[[station]]\n", 1, BRIDGE, 1024, "missing station 1 name"),
-        (STATION, 1, "[[bridge]]\n", 1024, "limit bridge"),
-        (STATION, 1, "[[bridge]]\n", 1023, "missing bridge 1 name"),
-    ];
-    for (first, times, second, more, due) in rows {
-        assert!(rt;
-            told_counts(rt.alloc(), first, times, second, more)?.as_slice() == due.as_bytes(),
-            "{times} {more}"
-        );
+    for row in ROWS.lines() {
+        let (entries, due) = row.split_once(" => ").ok_or("a row")?;
+        let text = file(rt.alloc(), entries)?;
+        if told(rt.alloc(), &text)?.as_slice() != due.as_bytes() {
+            return Err(row.into());
+        }
     }
     Ok(())
 }
