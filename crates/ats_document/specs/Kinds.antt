@@ -1,0 +1,75 @@
+use Rattle.std.specs.Prelude.{ℕ, ◌+◌, ◌*◌, ℤ, pos, negsuc, Bool, ◌&&◌, ◌==◌, nat_le, List, [], ◌∷◌, length, slice_index, Option, Some, None, option_and_then, if◌then◌else◌}
+use Rattle.std.specs.Char.{is_digit, digit_value}
+use Rattle.ats_num.specs.Name.{name_of}
+use Rattle.toml.specs.Data.{Data, Items, no_items, item, Members, as_str, as_integer, as_array, as_table}
+
+infixl 10 ◌>>=◌
+abbrev pub ◌>>=◌ : {A B : Type 0} → Option A → (A → Option B) → Option B
+o >>= f = option_and_then f o
+
+-- this value where the test passes
+abbrev pub some_where : {A : Type 0} → Bool → A → Option A
+some_where passes x = if passes then Some x else None
+
+-- a string that is a name
+abbrev pub name_in : Data → Option (List ℕ)
+name_in d = as_str d >>= name_of
+
+-- a whole number of a range
+abbrev pub ranged : ℕ → ℕ → ℤ → Option ℕ
+ranged least most (pos n) = some_where (nat_le least n && nat_le n most) n
+ranged least most (negsuc n) = None
+
+abbrev pub whole_in : ℕ → ℕ → Data → Option ℕ
+whole_in least most d = as_integer d >>= ranged least most
+
+-- the hexadecimal digit at a place of a text
+abbrev pub digit_at : List ℕ → ℕ → Option ℕ
+digit_at text k = some_where (is_digit (slice_index text k) 16) (digit_value (slice_index text k))
+
+-- the number that two hexadecimal digits write
+abbrev pub pair_at : List ℕ → ℕ → Option ℕ
+pair_at text k = do
+  high ← digit_at text k
+  low ← digit_at text (k + 1)
+  Some (high * 16 + low)
+
+-- a colon, and the number that two hexadecimal digits behind it write
+abbrev pub joined_at : List ℕ → ℕ → Option ℕ
+joined_at text k = if slice_index text k == 58 then pair_at text (k + 1) else None
+
+-- six pairs of hexadecimal digits, joined by colons, as a number with the first pair highest
+abbrev pub address_of : List ℕ → Option ℕ
+address_of text = do
+  a ← pair_at text 0
+  b ← joined_at text 2
+  c ← joined_at text 5
+  d ← joined_at text 8
+  e ← joined_at text 11
+  f ← joined_at text 14
+  some_where (length text == 17) (((((a * 256 + b) * 256 + c) * 256 + d) * 256 + e) * 256 + f)
+
+abbrev pub address_in : Data → Option ℕ
+address_in d = as_str d >>= address_of
+
+-- what stands in front of a list
+abbrev pub in_front : {A : Type 0} → Option A → Option (List A) → Option (List A)
+in_front None xs = None
+in_front (Some x) None = None
+in_front (Some x) (Some xs) = Some (x ∷ xs)
+
+-- an array whose items are all of one kind
+abbrev pub all_in : {A : Type 0} → (Data → Option A) → Items → Option (List A)
+all_in kind no_items = Some []
+all_in kind (item d ds) = in_front (kind d) (all_in kind ds)
+
+-- an array of at least two strings that are names
+abbrev pub path_in : Data → Option (List (List ℕ))
+path_in d = do
+  items ← as_array d
+  names ← all_in name_in items
+  some_where (nat_le 2 (length names)) names
+
+-- an array of tables
+abbrev pub tables_in : Data → Option (List Members)
+tables_in d = as_array d >>= all_in as_table

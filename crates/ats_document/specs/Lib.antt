@@ -1,0 +1,11 @@
+pub mod Words
+pub mod Steps
+pub mod Kinds
+pub mod Walk
+pub mod Document
+pub mod Entries
+pub mod Seen
+pub mod Reading
+pub mod ArraysSeen
+pub mod PartsSeen
+pub mod FaultText
