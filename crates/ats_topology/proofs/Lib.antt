@@ -1,0 +1,4 @@
+pub mod FirstBelow
+pub mod Pairs
+pub mod NameLemmas
+pub mod LinkLemmas

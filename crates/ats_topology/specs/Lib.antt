@@ -1,0 +1,4 @@
+pub mod Node
+pub mod Rates
+pub mod Link
+pub mod Faults

@@ -1,0 +1,16 @@
+//! Networks as nodes, links and numbered ports, and the walks between nodes.
+#![tactic(auto)]
+
+mod checks;
+pub mod fault;
+pub mod link;
+pub mod node;
+pub mod port;
+pub mod rates;
+mod stations;
+
+pub use fault::TopologyFault;
+pub use link::Link;
+pub use node::{Kind, Node};
+pub use port::Port;
+pub use rates::ps_per_bit;
