@@ -1,7 +1,6 @@
 use Rattle.std.specs.Prelude.{ℕ, Bool, ◌&&◌, ◌||◌, List, count_by, map}
 use Rattle.std.specs.Str.{bytes_eq}
 use Rattle.ats_topology.specs.declared.link.Link.{Link}
-use Rattle.ats_topology.specs.declared.node.Node.{Node}
 
 -- the link joins these two names, in this direction or the other
 abbrev pub joins : List ℕ → List ℕ → Link → Bool
@@ -15,6 +14,6 @@ ends_at name link = bytes_eq link.a name || bytes_eq link.b name
 abbrev pub is_self_link : Link → Bool
 is_self_link link = bytes_eq link.a link.b
 
--- for each node the number of links that end there
-abbrev pub link_counts : List Node → List Link → List ℕ
-link_counts nodes links = map (λ (node : Node). count_by (ends_at node.name) links) nodes
+-- for each name the number of links that end there
+abbrev pub link_counts : List (List ℕ) → List Link → List ℕ
+link_counts names links = map (λ name. count_by (ends_at name) links) names

@@ -1,4 +1,5 @@
-use Rattle.std.specs.Prelude.{◌≡◌, ℕ, ◌≤◌, Bool, true, false, List, map}
+use Rattle.std.specs.Prelude.{◌≡◌, ℕ, ◌<◌, Bool, true, false, List, [], length, map, slice_index_or, Some}
+use Rattle.ats_names.specs.Places.{place_of}
 use Rattle.ats_topology.specs.declared.node.Kind.{Kind}
 use Rattle.ats_topology.specs.declared.node.Kind.TheVariants.{Station, Bridge}
 use Rattle.ats_topology.specs.declared.node.Node.{Node}
@@ -21,3 +22,7 @@ residence_of (Bridge processing_ns residence_ns) = residence_ns
 -- the names of nodes
 abbrev pub names_of : List Node → List (List ℕ)
 names_of nodes = map (λ (node : Node). node.name) nodes
+
+-- each name is found at its own place, so no two are the same
+abbrev pub AreApart : List (List ℕ) → Type 0
+AreApart names = (n : ℕ) → n < length names → place_of (slice_index_or names n []) names ≡ Some n

@@ -1,8 +1,8 @@
 //! How many links each node has.
 
-ghost use Rattle.std.specs.Prelude.{◌≡◌, ◌<◌, ◌≤◌, None, IfSome, IfOk, IfErr, OnOk, length};
+ghost use Rattle.std.specs.Prelude.{◌≡◌, ◌<◌, ◌==◌, ◌&&◌, not, None, IfSome, IfOk, IfErr, OnOk, length};
 ghost use Rattle.std.specs.List.{position_from};
-ghost use Rattle.ats_topology.specs.Node.{names_of};
+ghost use Rattle.ats_topology.specs.Node.{names_of, is_station};
 ghost use Rattle.ats_topology.specs.Link.{link_counts};
 ghost use Rattle.ats_topology.specs.Faults.{IsDue, node_twice, self_link, unknown_node, station_links, is_badly_linked};
 
@@ -48,7 +48,7 @@ fn link_counts(
     requires apart { node_twice nodes.now ≡ None }
     requires open { self_link links.now ≡ None }
     requires known { unknown_node nodes.now links.now ≡ None }
-    ensures { IfOk result (λ counts. counts.items ≡ link_counts nodes.now links.now) }
+    ensures { IfOk result (λ counts. counts.items ≡ link_counts names.now links.now) }
 {
     let mut counts = vec![in alloc; 0; nodes.len()]?;
     for link in links {
@@ -61,14 +61,21 @@ fn link_counts(
 }
 
 fn bad_station_place(nodes: &[Node], links: &[Link], counts: &[usize]) -> Option<usize>
-    requires { counts.now ≡ link_counts nodes.now links.now }
+    requires { counts.now ≡ link_counts (names_of nodes.now) links.now }
     ensures place { result ≡ position_from (is_badly_linked links.now) 0 nodes.now }
     ensures within { IfSome result (λ i. i < length nodes.now) }
 {
     for (i, node) in nodes.iter().enumerate() {
-        if node.kind.is_station() && counts[i] != 1 {
+        if is_badly_linked(node, counts[i]) {
             return Some(i);
         }
     }
     None
+}
+
+// Whether a node with so many links is a station and does not have exactly one.
+fn is_badly_linked(node: &Node, count: usize) -> bool
+    ensures { result ≡ (is_station node.now.kind && not (count == 1)) }
+{
+    node.kind.is_station() && count != 1
 }
