@@ -5,3 +5,4 @@ pub mod NameLemmas
 pub mod Known
 pub mod CountLemmas
 pub mod LinkLemmas
+pub mod TableLemmas

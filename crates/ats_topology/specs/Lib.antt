@@ -2,3 +2,5 @@ pub mod Node
 pub mod Rates
 pub mod Link
 pub mod Faults
+pub mod Port
+pub mod PortTable

@@ -6,6 +6,7 @@ pub mod fault;
 pub mod link;
 pub mod node;
 pub mod port;
+mod port_table;
 pub mod rates;
 mod stations;
 
