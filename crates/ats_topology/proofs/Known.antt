@@ -4,7 +4,7 @@ use Rattle.std.specs.Bool.{Decides}
 use Rattle.std.specs.List.{position_from, All}
 use Rattle.std.specs.Option.{option_map}
 use Rattle.std.specs.Str.{bytes_eq}
-use Rattle.std.proofs.lemmas.Bool.{cases_eq, false≢true}
+use Rattle.std.proofs.lemmas.Bool.{false≢true, or_parts}
 use Rattle.std.proofs.lemmas.Bool.Decides.{same_from_decides, Decides-eqb}
 use Rattle.std.proofs.lemmas.Slice.Eq.{bytes_eq-Decides}
 use Rattle.ats_names.specs.Places.{place_of}
@@ -68,10 +68,6 @@ pub record IsOpen (names : List (List ℕ)) (link : Link) : Type 0 where
   pub a_at : place_of link.a names ≡ Some a
   pub b_at : place_of link.b names ≡ Some b
   pub differ : a ≡ b → ⊥
-
-or_parts : (p q : Bool) → (p || q) ≡ false → (p ≡ false) × (q ≡ false)
-or_parts true q h = absurd (false≢true (sym h))
-or_parts false q h = (refl, h)
 
 is_open : (names : List (List ℕ)) (link : Link) → has_unknown_end names link ≡ false → is_self_link link ≡ false → IsOpen names link
 is_open names link known self =

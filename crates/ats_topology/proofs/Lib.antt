@@ -6,3 +6,5 @@ pub mod Known
 pub mod CountLemmas
 pub mod LinkLemmas
 pub mod TableLemmas
+pub mod Numbered
+pub mod Due

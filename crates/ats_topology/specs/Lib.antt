@@ -4,3 +4,5 @@ pub mod Link
 pub mod Faults
 pub mod Port
 pub mod PortTable
+pub mod Topology
+pub mod Kept

@@ -5,13 +5,16 @@ mod checks;
 pub mod fault;
 pub mod link;
 pub mod node;
+mod numbering;
 pub mod port;
 mod port_table;
 pub mod rates;
 mod stations;
+pub mod topology;
 
 pub use fault::TopologyFault;
 pub use link::Link;
 pub use node::{Kind, Node};
 pub use port::Port;
 pub use rates::ps_per_bit;
+pub use topology::Topology;
