@@ -8,3 +8,7 @@ pub mod LinkLemmas
 pub mod TableLemmas
 pub mod Numbered
 pub mod Due
+pub mod Leaving
+pub mod Spreading
+pub mod Searching
+pub mod LeastWalks

@@ -6,3 +6,5 @@ pub mod Port
 pub mod PortTable
 pub mod Topology
 pub mod Kept
+pub mod Walks
+pub mod Search

@@ -11,6 +11,7 @@ mod port_table;
 pub mod rates;
 mod stations;
 pub mod topology;
+mod walks;
 
 pub use fault::TopologyFault;
 pub use link::Link;

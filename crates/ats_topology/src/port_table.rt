@@ -43,6 +43,13 @@ impl PortTable {
         })
     }
 
+    /// The number of nodes.
+    pub(crate) fn nodes(&self) -> usize
+        ensures { result ≡ self.now.nodes }
+    {
+        self.lists.len()
+    }
+
     /// The ports.
     pub(crate) fn ports(&self) -> &[Port]
         ensures { result.now ≡ self.now.ports }
