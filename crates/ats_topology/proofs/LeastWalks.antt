@@ -1,5 +1,5 @@
-use Rattle.std.proofs.Common.{◌≡◌, ℕ, zero, suc, ◌+◌, ◌-◌, ◌<◌, ◌≤◌, Bool, true, false, List, [], ◌∷◌, ◌++◌, length, Option, Some, None, refl, sym, ap, ◌∙◌, arith, subst, ⊎_elim, eqb}
-use Rattle.std.specs.Prelude.{IsTrue}
+use Rattle.std.proofs.Common.{◌≡◌, ℕ, zero, suc, ◌+◌, ◌-◌, ◌<◌, ◌≤◌, Bool, true, false, List, [], ◌∷◌, ◌++◌, length, Option, Some, None, refl, sym, ap, ◌∙◌, arith, subst, ⊎_elim, eqb, append_assoc, IsSome}
+use Rattle.std.specs.Prelude.{IsTrue, unwrap_or}
 use Rattle.std.specs.List.{find}
 use Rattle.std.specs.Option.{option_eq}
 use Rattle.std.specs.Ordering.{nat_cmp, is_le, ordering_then}
@@ -134,3 +134,30 @@ no_walk ports to distances at d none walk is =
 pub is_at_eq : (far : ℕ) (o : Option ℕ) → is_at far o ≡ option_eq eqb o (Some far)
 is_at_eq far None = refl
 is_at_eq far (Some e) = refl
+
+-- the port that is found leads one nearer
+pub nearer_end : (ports : List Port) (distances : List (Option ℕ)) (at far p : ℕ) → find (λ q. is_at far (distance distances (port_at ports q).to)) (leaving at ports) ≡ Some p → distance distances (port_at ports p).to ≡ Some far
+nearer_end ports distances at far p found = at_is far (distance distances (port_at ports p).to) (find-leaving (λ q. is_at far (distance distances (port_at ports q).to)) at ports p found).passes
+
+pub nearer_within : (ports : List Port) (distances : List (Option ℕ)) (at far p : ℕ) → find (λ q. is_at far (distance distances (port_at ports q).to)) (leaving at ports) ≡ Some p → p < length ports
+nearer_within ports distances at far p found = (find-leaving (λ q. is_at far (distance distances (port_at ports q).to)) at ports p found).leaves.within
+
+pub not_none : (o : Option ℕ) → (o ≡ None → ⊥) → IsSome o
+not_none None h = absurd (h refl)
+not_none (Some n) h = refl
+
+pub some_there : (o : Option ℕ) (n : ℕ) → o ≡ Some n → IsSome o
+some_there None n h = absurd (no_some n h)
+some_there (Some m) n h = refl
+
+-- the number falls
+pub nearer_falls : (o p : Option ℕ) (far : ℕ) → 1 ≤ far → o ≡ Some (far - 1) → p ≡ Some far → unwrap_or o 0 < unwrap_or p 0
+nearer_falls o p far positive e g = omega (arith, ap (λ (q : Option ℕ). unwrap_or q 0) e, ap (λ (q : Option ℕ). unwrap_or q 0) g)
+
+-- the walk so far, with one port more
+pub least_so_far : (ports : List Port) (from to : ℕ) (distances : List (Option ℕ)) (at far p : ℕ) (walk longer : List ℕ) → AreDistances ports to distances → distance distances at ≡ Some far → (at ≡ to → ⊥)
+    → find (λ q. is_at (far - 1) (distance distances (port_at ports q).to)) (leaving at ports) ≡ Some p → longer ≡ walk ++ p ∷ []
+    → ((rest : List ℕ) → IsLeastWalk ports at to rest → IsLeastWalk ports from to (walk ++ rest)) → (rest : List ℕ) → IsLeastWalk ports (port_at ports p).to to rest → IsLeastWalk ports from to (longer ++ rest)
+least_so_far ports from to distances at far p walk longer d is apart found pushed so_far rest l =
+    subst (IsLeastWalk ports from to) (sym (ap (λ (w : List ℕ). w ++ rest) pushed ∙ append_assoc walk (p ∷ []) rest))
+    (so_far (p ∷ rest) (least_step ports to distances at far p rest d is apart found l))

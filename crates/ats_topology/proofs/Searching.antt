@@ -1,14 +1,15 @@
-use Rattle.std.proofs.Common.{◌≡◌, ℕ, zero, suc, ◌+◌, ◌<◌, ◌≤◌, List, [], ◌∷◌, ◌++◌, length, get_or, set, replicate, Option, Some, None, refl, sym, ap, ◌∙◌, arith, subst, append_assoc, length-append, get_or-set_same, get_or-set_other, ⊎_elim, inl, inr, ◌⊎◌}
+use Rattle.std.proofs.Common.{◌≡◌, ℕ, zero, suc, ◌+◌, ◌<◌, ◌≤◌, List, [], ◌∷◌, ◌++◌, length, get_or, set, replicate, drop, Option, Some, None, refl, sym, ap, ◌∙◌, arith, subst, append_assoc, length-append, length-drop, get_or-set_same, get_or-set_other, ⊎_elim, inl, inr, ◌⊎◌}
 use Rattle.std.specs.List.{All, Contains}
 use Rattle.std.proofs.lemmas.Bool.{cases_eq, cases_lt}
-use Rattle.std.proofs.lemmas.List.{append-nil, get_or-replicate, get_or_past, length-replicate}
+use Rattle.std.proofs.lemmas.List.{append-nil, get_or-replicate, get_or_past, length-replicate, drop_more, drop-append-le}
 use Rattle.std.proofs.lemmas.List.Elements.{All-nil, All-cons, All-head, All-tail, All-append, All-weaker, All-same, All-contains, Contains-append_left, Contains-append_right}
+use Rattle.std.proofs.lemmas.List.Sums.{sum_by-cons}
 use Rattle.ats_topology.specs.Port.{port_at, leaving}
 use Rattle.ats_topology.specs.Walks.{IsPortFrom, IsWalk}
 use Rattle.ats_topology.specs.Search.{distance, unreached, Spreads, IsAdded, HasWalk, HasBack, ArePaired, IsWithin, AreDistances}
 use Rattle.ats_topology.specs.declared.port.Port.{Port}
 use Rattle.ats_topology.proofs.Leaving.{leaving-all, leaving-has}
-use Rattle.ats_topology.proofs.Spreading.{some_is, no_some}
+use Rattle.ats_topology.proofs.Spreading.{some_is, no_some, counts, unreached-set}
 
 -- each port of a node leads to one with a distance at most one greater
 abbrev pub IsSettled : List Port → List (Option ℕ) → ℕ → ℕ → Type 0
@@ -196,3 +197,41 @@ search_start ports nodes to within = record {
     only : (node e : ℕ) → distance first node ≡ Some e → (node ≡ to) × (e ≡ 0)
     only node e h = ⊎_elim (λ same. (same, some_is e 0 (sym h ∙ ap (distance first) same ∙ here)))
       (λ apart. absurd (no_some e (sym (get_or-set_other blank to node (Some 0) None apart ∙ nowhere node) ∙ h))) (cases_eq node to)
+
+-- the node at the head of the queue
+pub turn_at : (ports : List Port) (to : ℕ) (distances : List (Option ℕ)) (head node : ℕ) (queue : List ℕ) → head < length queue → node ≡ get_or queue head node → IsSearch ports to distances head (drop head queue) → IsTurn ports to distances head node (drop (head + 1) queue)
+turn_at ports to distances head node queue within read s =
+    turn ports to distances head node (drop (head + 1) queue)
+    (subst (IsSearch ports to distances head) (drop_more queue head node within ∙ ap (λ (n : ℕ). n ∷ drop (head + 1) queue) (sym read)) s)
+
+-- its distance is below the number of nodes that were queued
+pub turn_small : (ports : List Port) (to : ℕ) (distances : List (Option ℕ)) (head node : ℕ) (queue : List ℕ) → head < length queue → (t : IsTurn ports to distances head node (drop (head + 1) queue)) → t.far < length queue
+turn_small ports to distances head node queue within t =
+    omega (arith, t.slow, ap (λ (q : List ℕ). length q) t.split, length-append t.level t.next, length-drop (head + 1) queue)
+
+-- the queue from the next place on
+pub queue_after : (head : ℕ) (queue longer added : List ℕ) → head < length queue → longer ≡ queue ++ added → drop (head + 1) queue ++ added ≡ drop (head + 1) longer
+queue_after head queue longer added within queued =
+    sym (ap (drop (head + 1)) queued ∙ drop-append-le (head + 1) queue added (omega arith))
+
+-- how the search stands after the node at the head has spread
+pub search_on : (ports : List Port) (to : ℕ) (old new : List (Option ℕ)) (head node far : ℕ) (queue longer : List ℕ) → ArePaired ports → head < length queue → node ≡ get_or queue head node → IsSearch ports to old head (drop head queue)
+    → distance old node ≡ Some far → Spreads ports (leaving node ports) (far + 1) old new queue longer → IsSearch ports to new (head + 1) (drop (head + 1) longer)
+search_on ports to old new head node far queue longer paired within read s is spread =
+    let t : IsTurn ports to old head node (drop (head + 1) queue) = turn_at ports to old head node queue within read s in
+    let same : far ≡ t.far = some_is far t.far (sym is ∙ t.at) in
+    let from_turn : Spreads ports (leaving node ports) (t.far + 1) old new queue longer = subst (λ (n : ℕ). Spreads ports (leaving node ports) (n + 1) old new queue longer) same spread in
+    subst (IsSearch ports to new (head + 1)) (queue_after head queue longer from_turn.added within from_turn.queued)
+    (after ports to old new head node (drop (head + 1) queue) queue longer paired t from_turn)
+
+all_none : (nothing : Option ℕ) → nothing ≡ None → (n : ℕ) → unreached (replicate n nothing) ≡ n
+all_none nothing none zero = refl
+all_none nothing none (suc n) = omega (arith, all_none nothing none n, sum_by-cons counts nothing (replicate n nothing), ap counts none)
+
+-- at first all nodes but one are without a distance
+pub unreached_start : (nodes to : ℕ) → to < nodes → unreached (set (replicate nodes None) to (Some 0)) + 1 ≡ nodes
+unreached_start nodes to within =
+    unreached-set (replicate nodes None) to 0 (omega (arith, length-replicate nodes nothing)) (get_or-replicate nodes to None None within) ∙ all_none nothing refl nodes
+  where
+    nothing : Option ℕ
+    nothing = None

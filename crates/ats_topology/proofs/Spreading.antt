@@ -19,7 +19,7 @@ no_some n h = cc
 pub distance_within : (distances : List (Option ℕ)) (node e : ℕ) → distance distances node ≡ Some e → node < length distances
 distance_within distances node e is = ⊎_elim (λ h. h) (λ h. absurd (no_some e (sym (get_or_past distances node None h) ∙ is))) (cases_lt node (length distances))
 
-abbrev counts : Option ℕ → ℕ
+abbrev pub counts : Option ℕ → ℕ
 counts o = cond (is_none o) 1 0
 
 -- one node less without a distance
@@ -108,7 +108,7 @@ list_more node ports items i is within =
     ap (λ (xs : List ℕ). take i xs ++ get_or items i 0 ∷ []) (sym is) ∙ sym (take_more items i 0 within) ∙ ap (take (i + 1)) is
 
 -- what is read of a node's distance
-read_is : (distances : List (Option ℕ)) (node : ℕ) (read : Option ℕ) → node < length distances → read ≡ get_or distances node read → distance distances node ≡ read
+pub read_is : (distances : List (Option ℕ)) (node : ℕ) (read : Option ℕ) → node < length distances → read ≡ get_or distances node read → distance distances node ≡ read
 read_is distances node read within h = get_or_default distances node None read within ∙ sym h
 
 some_value : (o : Option ℕ) → is_some o ≡ true → (e : ℕ) × (o ≡ Some e)
