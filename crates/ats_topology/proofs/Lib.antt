@@ -12,3 +12,4 @@ pub mod Leaving
 pub mod Spreading
 pub mod Searching
 pub mod LeastWalks
+pub mod Rules

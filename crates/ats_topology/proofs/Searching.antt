@@ -4,9 +4,9 @@ use Rattle.std.proofs.lemmas.Bool.{cases_eq, cases_lt}
 use Rattle.std.proofs.lemmas.List.{append-nil, get_or-replicate, get_or_past, length-replicate, drop_more, drop-append-le}
 use Rattle.std.proofs.lemmas.List.Elements.{All-nil, All-cons, All-head, All-tail, All-append, All-weaker, All-same, All-contains, Contains-append_left, Contains-append_right}
 use Rattle.std.proofs.lemmas.List.Sums.{sum_by-cons}
-use Rattle.ats_topology.specs.Port.{port_at, leaving}
+use Rattle.ats_topology.specs.Port.{port_at, leaving, HasBack, ArePaired}
 use Rattle.ats_topology.specs.Walks.{IsPortFrom, IsWalk}
-use Rattle.ats_topology.specs.Search.{distance, unreached, Spreads, IsAdded, HasWalk, HasBack, ArePaired, IsWithin, AreDistances}
+use Rattle.ats_topology.specs.Search.{distance, unreached, Spreads, IsAdded, HasWalk, IsWithin, AreDistances}
 use Rattle.ats_topology.specs.declared.port.Port.{Port}
 use Rattle.ats_topology.proofs.Leaving.{leaving-all, leaving-has}
 use Rattle.ats_topology.proofs.Spreading.{some_is, no_some, counts, unreached-set}

@@ -5,8 +5,8 @@ use Rattle.std.proofs.lemmas.Bool.{cases_eq, cases_lt, true≢false}
 use Rattle.std.proofs.lemmas.List.{append-nil, get_or_past, get_or_default, take_more}
 use Rattle.std.proofs.lemmas.List.Sums.{sum_by-cons}
 use Rattle.std.proofs.lemmas.List.Elements.{All-nil, All-push, All-weaker, Contains-append_left, Contains-append_right, Contains-push, Contains-push_cases}
-use Rattle.ats_topology.specs.Port.{port_at, leaving, no_port}
-use Rattle.ats_topology.specs.Search.{distance, unreached, Spreads, IsAdded, IsBetween}
+use Rattle.ats_topology.specs.Port.{port_at, leaving, no_port, IsBetween}
+use Rattle.ats_topology.specs.Search.{distance, unreached, Spreads, IsAdded}
 use Rattle.ats_topology.specs.declared.port.Port.{Port}
 
 pub some_is : (a b : ℕ) → Some a ≡ Some b → a ≡ b

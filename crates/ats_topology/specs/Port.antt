@@ -1,4 +1,4 @@
-use Rattle.std.specs.Prelude.{ℕ, ◌+◌, Bool, ◌&&◌, ◌==◌, List, [], ◌∷◌, Option, if◌then◌else◌, slice_index_or}
+use Rattle.std.specs.Prelude.{◌≡◌, ℕ, ◌+◌, ◌<◌, length, Bool, ◌&&◌, ◌==◌, List, [], ◌∷◌, Option, if◌then◌else◌, slice_index_or}
 use Rattle.std.specs.List.{position_from}
 use Rattle.ats_topology.specs.declared.port.Port.{Port}
 
@@ -34,3 +34,19 @@ leaving_from node k (port ∷ ports) = if leaves node port then k ∷ leaving_fr
 -- the numbers of the ports that leave a node, in ascending order
 abbrev pub leaving : ℕ → List Port → List ℕ
 leaving node ports = leaving_from node 0 ports
+
+-- the port's ends are two of so many nodes
+pub record IsBetween (nodes : ℕ) (port : Port) : Type 0 where
+  pub from : port.from < nodes
+  pub to : port.to < nodes
+
+-- a port leads back from where this one leads to
+pub record HasBack (ports : List Port) (p : ℕ) : Type 0 where
+  pub back : ℕ
+  pub within : back < length ports
+  pub from : (port_at ports back).from ≡ (port_at ports p).to
+  pub to : (port_at ports back).to ≡ (port_at ports p).from
+
+-- each port has one that leads back
+abbrev pub ArePaired : List Port → Type 0
+ArePaired ports = (p : ℕ) → p < length ports → HasBack ports p

@@ -3,22 +3,6 @@ use Rattle.ats_topology.specs.Port.{port_at}
 use Rattle.ats_topology.specs.Walks.{IsWalk}
 use Rattle.ats_topology.specs.declared.port.Port.{Port}
 
--- the port's ends are two of so many nodes
-pub record IsBetween (nodes : ℕ) (port : Port) : Type 0 where
-  pub from : port.from < nodes
-  pub to : port.to < nodes
-
--- a port leads back from where this one leads to
-pub record HasBack (ports : List Port) (p : ℕ) : Type 0 where
-  pub back : ℕ
-  pub within : back < length ports
-  pub from : (port_at ports back).from ≡ (port_at ports p).to
-  pub to : (port_at ports back).to ≡ (port_at ports p).from
-
--- each port has one that leads back
-abbrev pub ArePaired : List Port → Type 0
-ArePaired ports = (p : ℕ) → p < length ports → HasBack ports p
-
 -- the distance of a node, where it has one
 abbrev pub distance : List (Option ℕ) → ℕ → Option ℕ
 distance distances node = slice_index_or distances node None

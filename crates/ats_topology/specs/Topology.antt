@@ -1,8 +1,8 @@
-use Rattle.std.specs.Prelude.{◌≡◌, ℕ, ◌+◌, ◌*◌, ◌<◌, ◌≤◌, ◌≢◌, IsTrue, List, [], ◌∷◌, length, slice_index_or, unwrap_or, count_by, All}
+use Rattle.std.specs.Prelude.{◌≡◌, ℕ, ◌+◌, ◌*◌, ◌<◌, ◌≤◌, ◌≢◌, IsTrue, IsSome, List, [], ◌∷◌, length, slice_index_or, unwrap_or, count_by, All}
 use Rattle.std.specs.List.{flat_map}
 use Rattle.ats_names.specs.Places.{place_of}
 use Rattle.ats_topology.specs.Node.{names_of, is_station, processing_of, residence_of, AreApart}
-use Rattle.ats_topology.specs.Port.{port_at, leaves, leads_to}
+use Rattle.ats_topology.specs.Port.{port_at, leaves, leads_to, IsBetween, ArePaired}
 use Rattle.ats_topology.specs.Rates.{ps_per_bit_of, IsPsPerBit}
 use Rattle.ats_topology.specs.Faults.{no_link}
 use Rattle.ats_topology.specs.declared.node.Node.{Node}
@@ -51,3 +51,51 @@ pub record DeclaredTopology : Type 0 where
 -- the topology of nodes and links
 abbrev pub topology_of : List Node → List Link → DeclaredTopology
 topology_of nodes links = record { nodes = nodes; links = links; ports = ports_of nodes links }
+
+-- the link with a number, counted from 0
+abbrev pub link_at : List Link → ℕ → Link
+link_at links i = slice_index_or links i no_link
+
+-- what each node of a topology keeps: its times are within their limits
+pub record IsNode (node : Node) : Type 0 where
+  pub processing : processing_of node.kind ≤ MAX_PROCESSING_NS
+  pub residence : residence_of node.kind ≤ MAX_RESIDENCE_NS
+
+-- what each link keeps: its ends are different names of nodes, a link may have its rate, and its time is within its limit
+pub record IsLink (nodes : List Node) (link : Link) : Type 0 where
+  pub a : IsSome (place_of link.a (names_of nodes))
+  pub b : IsSome (place_of link.b (names_of nodes))
+  pub differ : link.a ≢ link.b
+  pub rate : IsSome (ps_per_bit_of link.mbps)
+  pub propagation : link.propagation_ns ≤ MAX_PROPAGATION_NS
+
+-- what each port between so many nodes keeps
+pub record IsPort (nodes : ℕ) (port : Port) : Type 0 where
+  pub between : IsBetween nodes port
+  pub differ : port.from ≢ port.to
+  pub rate : IsPsPerBit port.ps_per_bit
+  pub latency : port.latency.0 ≤ 2000000000
+
+-- link i has port 2 * i from its first end to its second, and port 2 * i + 1 back
+pub record HasPorts (topology : DeclaredTopology) (i : ℕ) : Type 0 where
+  pub there : port_at topology.ports (2 * i) ≡ port_of topology.nodes (link_at topology.links i) (link_at topology.links i).a (link_at topology.links i).b
+  pub back : port_at topology.ports (2 * i + 1) ≡ port_of topology.nodes (link_at topology.links i) (link_at topology.links i).b (link_at topology.links i).a
+
+-- exactly one port leaves the node, and exactly one leads to it
+pub record HasOnePort (ports : List Port) (node : ℕ) : Type 0 where
+  pub leaves : count_by (leaves node) ports ≡ 1
+  pub leads : count_by (leads_to node) ports ≡ 1
+
+-- what each topology keeps
+pub record IsTopology (topology : DeclaredTopology) : Type 0 where
+  pub numbered : topology.ports ≡ ports_of topology.nodes topology.links
+  pub names : AreApart (names_of topology.nodes)
+  pub few_nodes : length topology.nodes ≤ MAX_NODES
+  pub few_links : length topology.links ≤ MAX_LINKS
+  pub two_each : length topology.ports ≡ 2 * length topology.links
+  pub each_node : All IsNode topology.nodes
+  pub each_link : All (IsLink topology.nodes) topology.links
+  pub each_port : All (IsPort (length topology.nodes)) topology.ports
+  pub link_ports : (i : ℕ) → i < length topology.links → HasPorts topology i
+  pub stations : (n : ℕ) → n < length topology.nodes → IsTrue (is_station (node_at topology.nodes n).kind) → HasOnePort topology.ports n
+  pub paired : ArePaired topology.ports

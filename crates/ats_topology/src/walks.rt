@@ -2,9 +2,9 @@
 
 ghost use Rattle.std.specs.Prelude.{◌≡◌, ◌+◌, ◌<◌, ◌^◌, ℕ, All, IfOk, OnOk, length, Some, None, IsSome, IfSome, IfNone, is_some};
 ghost use Rattle.std.specs.List.{find};
-ghost use Rattle.ats_topology.specs.Port.{leaving, port_at};
+ghost use Rattle.ats_topology.specs.Port.{leaving, port_at, IsBetween, ArePaired};
 ghost use Rattle.ats_topology.specs.Walks.{IsLeastWalk, NoWalk};
-ghost use Rattle.ats_topology.specs.Search.{IsBetween, ArePaired, AreDistances, Spreads, distance, is_at};
+ghost use Rattle.ats_topology.specs.Search.{AreDistances, Spreads, distance, is_at};
 
 use crate::port_table::PortTable;
 use ats_num::NoMemory;
