@@ -13,3 +13,5 @@ pub mod Spreading
 pub mod Searching
 pub mod LeastWalks
 pub mod Rules
+pub mod KeptRules
+pub mod LawLemmas

@@ -8,3 +8,4 @@ pub mod Topology
 pub mod Kept
 pub mod Walks
 pub mod Search
+pub mod Laws

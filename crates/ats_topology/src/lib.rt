@@ -3,6 +3,7 @@
 
 mod checks;
 pub mod fault;
+pub mod laws;
 pub mod link;
 pub mod node;
 mod numbering;

@@ -1,11 +1,12 @@
 //! The nodes, links and ports of a network.
 
-ghost use Rattle.std.specs.Prelude.{◌≡◌, ◌<◌, None, IfOk, IfErr, OnOk, length};
+ghost use Rattle.std.specs.Prelude.{◌≡◌, ◌<◌, None, IfOk, IfErr, IfSome, IfNone, OnOk, length};
 ghost use Rattle.ats_names.specs.Places.{place_of};
 ghost use Rattle.ats_topology.specs.Node.{names_of};
 ghost use Rattle.ats_topology.specs.Port.{port_between};
 ghost use Rattle.ats_topology.specs.Faults.{IsDue, topology_fault};
-ghost use Rattle.ats_topology.specs.Topology.{topology_of};
+ghost use Rattle.ats_topology.specs.Topology.{topology_of, IsTopology};
+ghost use Rattle.ats_topology.specs.Walks.{IsLeastWalk, NoWalk};
 
 use crate::checks::{bad_rate, check_joined, limit, named, self_link, unknown_node};
 use crate::fault::TopologyFault;
@@ -15,8 +16,9 @@ use crate::numbering::ports_of;
 use crate::port::Port;
 use crate::port_table::PortTable;
 use crate::stations::check_stations;
+use crate::walks::least_walk;
 use ats_names::NameTable;
-use ats_num::Name;
+use ats_num::{Name, NoMemory};
 use std::alloc::Global;
 use std::marker::Model;
 
@@ -81,21 +83,24 @@ impl Topology {
 
     /// The nodes.
     pub fn nodes(&self) -> &[Node]
-        ensures { result.now ≡ self.now.nodes }
+        ensures value { result.now ≡ self.now.nodes }
+        ensures rules { IsTopology self.now }
     {
         self.node_list.as_slice()
     }
 
     /// The links.
     pub fn links(&self) -> &[Link]
-        ensures { result.now ≡ self.now.links }
+        ensures value { result.now ≡ self.now.links }
+        ensures rules { IsTopology self.now }
     {
         self.link_list.as_slice()
     }
 
     /// The ports.
     pub fn ports(&self) -> &[Port]
-        ensures { result.now ≡ self.now.ports }
+        ensures value { result.now ≡ self.now.ports }
+        ensures rules { IsTopology self.now }
     {
         self.table.ports()
     }
@@ -112,5 +117,21 @@ impl Topology {
         ensures { result ≡ port_between a b self.now.ports }
     {
         self.table.between(a, b)
+    }
+
+    /// The ports of a walk from node `a` to node `b`: of all such walks one of fewest ports, and of those the one whose
+    /// list of port numbers is first in lexicographic order. `None` exactly where no walk leads there. From a node to
+    /// itself the walk is empty. The search is breadth first, and looks at each port once.
+    ///
+    /// # Errors
+    ///
+    /// `NoMemory` where memory runs out.
+    pub fn shortest(&self, alloc: Global, a: u32, b: u32) -> Result<Option<Vec<u32>>, NoMemory>
+        requires a { a < length self.now.nodes }
+        requires b { b < length self.now.nodes }
+        ensures walk { IfOk result (λ found. IfSome found (λ walk. IsLeastWalk self.now.ports a b walk.items)) }
+        ensures none { IfOk result (λ found. IfNone found (NoWalk self.now.ports a b)) }
+    {
+        least_walk(alloc, &self.table, a, b)
     }
 }
