@@ -1,7 +1,9 @@
-use Rattle.std.proofs.Common.{◌≡◌, ℕ, ◌<◌, ◌^◌, List, length, sym, ap, ◌∙◌, subst, arith}
+use Rattle.std.proofs.Common.{◌≡◌, ℕ, ◌<◌, ◌^◌, List, length, sym, ap, ◌∙◌, subst, arith, Option, Some, None, IfSome, true}
+use Rattle.std.specs.Prelude.{◌==◌}
+use Rattle.std.proofs.lemmas.Bool.{eqb-true, and_parts}
 use Rattle.std.specs.List.{All}
 use Rattle.std.proofs.lemmas.List.Elements.{All-weaker}
-use Rattle.ats_topology.specs.Port.{IsBetween, ArePaired}
+use Rattle.ats_topology.specs.Port.{IsBetween, ArePaired, GoesBetween, port_between, port_at, goes, no_port}
 use Rattle.ats_topology.specs.PortTable.{NodePorts, node_ports}
 use Rattle.ats_topology.specs.Topology.{DeclaredTopology, ports_of, topology_of, IsPort, IsTopology}
 use Rattle.ats_topology.specs.Kept.{AreKept}
@@ -9,6 +11,7 @@ use Rattle.ats_topology.specs.declared.node.Node.{Node}
 use Rattle.ats_topology.specs.declared.link.Link.{Link}
 use Rattle.ats_topology.specs.declared.port.Port.{Port}
 use Rattle.ats_topology.proofs.Rules.{topology_rules}
+use Rattle.ats_topology.proofs.PositionLemmas.{IsFound, found}
 
 -- what is kept beside nodes and links makes them a topology
 pub kept_rules : (nodes : List Node) (links : List Link) (table : List (List ℕ)) (between : NodePorts) (value : DeclaredTopology) → AreKept nodes links table between → record { nodes = nodes; links = links; ports = between.ports } ≡ value → IsTopology value
@@ -27,3 +30,12 @@ table_between nodes links table between kept =
 
 pub table_paired : (nodes : List Node) (links : List Link) (table : List (List ℕ)) (between : NodePorts) → AreKept nodes links table between → ArePaired between.ports
 table_paired nodes links table between kept = subst (λ (v : NodePorts). ArePaired v.ports) (sym kept.ports) (topology_rules nodes links kept.sound).paired
+
+-- the port that a search finds goes between its nodes
+pub goes_between : (ports : List Port) (a b : ℕ) (number : Option ℕ) → number ≡ port_between a b ports → IfSome number (GoesBetween ports a b)
+goes_between ports a b None is = tt
+goes_between ports a b (Some p) is =
+    let f : IsFound (goes a b) ports no_port 0 p = found (goes a b) 0 ports p no_port (sym is) in
+    let same : f.place ≡ p = omega (arith, f.is) in
+    let parts : ((port_at ports f.place).from == a ≡ true) × ((port_at ports f.place).to == b ≡ true) = and_parts ((port_at ports f.place).from == a) ((port_at ports f.place).to == b) f.passes in
+    subst (GoesBetween ports a b) same (record { within = f.within; from = eqb-true (port_at ports f.place).from a parts.0; to = eqb-true (port_at ports f.place).to b parts.1 })

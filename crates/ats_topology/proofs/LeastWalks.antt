@@ -9,7 +9,8 @@ use Rattle.std.specs.Cmp.Lexicographic.{slice_cmp}
 use Rattle.std.proofs.lemmas.Bool.{cases_eq, true≢false, eqb-true, eq-eqb}
 use Rattle.std.proofs.lemmas.Bool.Decides.{nat_tests}
 use Rattle.ats_topology.specs.Port.{port_at, leaving}
-use Rattle.ats_topology.specs.Walks.{IsPortFrom, IsWalk, IsLeastWalk, NoWalk}
+use Rattle.ats_topology.specs.Walks.{IsPortFrom, IsWalk, IsLeastWalk, NoWalk, ArePorts}
+use Rattle.std.proofs.lemmas.List.Elements.{All-nil, All-cons}
 use Rattle.ats_topology.specs.Search.{distance, is_at, HasWalk, IsWithin, AreDistances}
 use Rattle.ats_topology.specs.declared.port.Port.{Port}
 use Rattle.ats_topology.proofs.Leaving.{IsLeastPort, find-leaving, find-leaving_some}
@@ -161,3 +162,8 @@ pub least_so_far : (ports : List Port) (from to : ℕ) (distances : List (Option
 least_so_far ports from to distances at far p walk longer d is apart found pushed so_far rest l =
     subst (IsLeastWalk ports from to) (sym (ap (λ (w : List ℕ). w ++ rest) pushed ∙ append_assoc walk (p ∷ []) rest))
     (so_far (p ∷ rest) (least_step ports to distances at far p rest d is apart found l))
+
+-- a walk has numbers of ports
+pub walk_ports : (ports : List Port) (to at : ℕ) (walk : List ℕ) → IsWalk ports at to walk → ArePorts ports walk
+walk_ports ports to at [] is = All-nil (λ p. p < length ports)
+walk_ports ports to at (p ∷ walk) is = All-cons (λ q. q < length ports) p walk is.0.within (walk_ports ports to (port_at ports p).to walk is.1)

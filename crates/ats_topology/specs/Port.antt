@@ -50,3 +50,9 @@ pub record HasBack (ports : List Port) (p : ℕ) : Type 0 where
 -- each port has one that leads back
 abbrev pub ArePaired : List Port → Type 0
 ArePaired ports = (p : ℕ) → p < length ports → HasBack ports p
+
+-- the port with this number leaves the first node and leads to the second
+pub record GoesBetween (ports : List Port) (a b p : ℕ) : Type 0 where
+  pub within : p < length ports
+  pub from : (port_at ports p).from ≡ a
+  pub to : (port_at ports p).to ≡ b

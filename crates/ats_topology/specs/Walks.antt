@@ -1,4 +1,4 @@
-use Rattle.std.specs.Prelude.{◌≡◌, ℕ, ◌<◌, ◌≤◌, List, [], ◌∷◌, length, IsTrue}
+use Rattle.std.specs.Prelude.{◌≡◌, ℕ, ◌<◌, ◌≤◌, List, [], ◌∷◌, length, IsTrue, All}
 use Rattle.std.specs.Ordering.{nat_cmp, is_le}
 use Rattle.std.specs.Cmp.Lexicographic.{slice_cmp}
 use Rattle.ats_topology.specs.Port.{port_at}
@@ -24,3 +24,7 @@ pub record IsLeastWalk (ports : List Port) (a b : ℕ) (walk : List ℕ) : Type 
   pub walk_is : IsWalk ports a b walk
   pub least : (other : List ℕ) → IsWalk ports a b other → length walk ≤ length other
   pub first : (other : List ℕ) → IsWalk ports a b other → length other ≡ length walk → IsTrue (is_le (slice_cmp nat_cmp walk other))
+
+-- these are numbers of ports
+abbrev pub ArePorts : List Port → List ℕ → Type 0
+ArePorts ports numbers = All (λ p. p < length ports) numbers

@@ -3,10 +3,10 @@
 ghost use Rattle.std.specs.Prelude.{◌≡◌, ◌<◌, None, IfOk, IfErr, IfSome, IfNone, OnOk, length};
 ghost use Rattle.ats_names.specs.Places.{place_of};
 ghost use Rattle.ats_topology.specs.Node.{names_of};
-ghost use Rattle.ats_topology.specs.Port.{port_between};
+ghost use Rattle.ats_topology.specs.Port.{port_between, GoesBetween};
 ghost use Rattle.ats_topology.specs.Faults.{IsDue, topology_fault};
 ghost use Rattle.ats_topology.specs.Topology.{topology_of, IsTopology};
-ghost use Rattle.ats_topology.specs.Walks.{IsLeastWalk, NoWalk};
+ghost use Rattle.ats_topology.specs.Walks.{IsLeastWalk, NoWalk, ArePorts};
 
 use crate::checks::{bad_rate, check_joined, limit, named, self_link, unknown_node};
 use crate::fault::TopologyFault;
@@ -107,14 +107,16 @@ impl Topology {
 
     /// The number of the node with this name; `None` exactly where no node has it.
     pub fn node_named(&self, name: &Name) -> Option<u32>
-        ensures { result ≡ place_of name.now (names_of self.now.nodes) }
+        ensures number { result ≡ place_of name.now (names_of self.now.nodes) }
+        ensures within { IfSome result (λ n. n < length self.now.nodes) }
     {
         self.names.place(name)
     }
 
     /// The number of the port from node `a` to node `b`; `None` exactly where no link joins them.
     pub fn port_between(&self, a: u32, b: u32) -> Option<u32>
-        ensures { result ≡ port_between a b self.now.ports }
+        ensures number { result ≡ port_between a b self.now.ports }
+        ensures goes { IfSome result (GoesBetween self.now.ports a b) }
     {
         self.table.between(a, b)
     }
@@ -130,6 +132,7 @@ impl Topology {
         requires a { a < length self.now.nodes }
         requires b { b < length self.now.nodes }
         ensures walk { IfOk result (λ found. IfSome found (λ walk. IsLeastWalk self.now.ports a b walk.items)) }
+        ensures ports { IfOk result (λ found. IfSome found (λ walk. ArePorts self.now.ports walk.items)) }
         ensures none { IfOk result (λ found. IfNone found (NoWalk self.now.ports a b)) }
     {
         least_walk(alloc, &self.table, a, b)

@@ -3,7 +3,7 @@
 ghost use Rattle.std.specs.Prelude.{◌≡◌, ◌+◌, ◌<◌, ◌^◌, ℕ, All, IfOk, OnOk, length, Some, None, IsSome, IfSome, IfNone, is_some};
 ghost use Rattle.std.specs.List.{find};
 ghost use Rattle.ats_topology.specs.Port.{leaving, port_at, IsBetween, ArePaired};
-ghost use Rattle.ats_topology.specs.Walks.{IsLeastWalk, NoWalk};
+ghost use Rattle.ats_topology.specs.Walks.{IsLeastWalk, NoWalk, ArePorts};
 ghost use Rattle.ats_topology.specs.Search.{AreDistances, Spreads, distance, is_at};
 
 use crate::port_table::PortTable;
@@ -24,6 +24,7 @@ pub(crate) fn least_walk(
     requires inside { All (IsBetween table.now.nodes) table.now.ports }
     requires paired { ArePaired table.now.ports }
     ensures walk { IfOk result (λ found. IfSome found (λ walk. IsLeastWalk table.now.ports from to walk.items)) }
+    ensures ports { IfOk result (λ found. IfSome found (λ walk. ArePorts table.now.ports walk.items)) }
     ensures none { IfOk result (λ found. IfNone found (NoWalk table.now.ports from to)) }
 {
     let distances = distances(alloc, table, to)?;
@@ -96,7 +97,8 @@ fn descend(
     requires inside { All (IsBetween table.now.nodes) table.now.ports }
     requires exact { AreDistances table.now.ports to distances.now }
     requires reached { IsSome (distance distances.now from) }
-    ensures { IfOk result (λ walk. IsLeastWalk table.now.ports from to walk.items) }
+    ensures walk { IfOk result (λ walk. IsLeastWalk table.now.ports from to walk.items) }
+    ensures ports { IfOk result (λ walk. ArePorts table.now.ports walk.items) }
 {
     let mut walk = Vec::new(alloc);
     let mut at = from;
@@ -117,9 +119,9 @@ fn first_port(table: &PortTable, distances: &[Option<u32>], node: u32, far: u32)
     ensures { result ≡ find (λ p. is_at far (distance distances.now (port_at table.now.ports p).to)) (leaving node table.now.ports) }
 {
     let ports = table.ports();
-    for p in table.leaving(node) {
-        if distances[ports[*p as usize].to as usize] == Some(far) {
-            return Some(*p);
+    for port in table.leaving(node) {
+        if distances[ports[*port as usize].to as usize] == Some(far) {
+            return Some(*port);
         }
     }
     None

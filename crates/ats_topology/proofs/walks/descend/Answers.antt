@@ -1,10 +1,10 @@
 use Rattle.std.proofs.Common.{◌≡◌, ℕ, ◌+◌, ◌-◌, ◌<◌, ◌≤◌, List, [], ◌∷◌, ◌++◌, length, get_or, sym, ap, ◌∙◌, arith, Some, None, subst}
 use Rattle.std.proofs.lemmas.List.{append-nil}
 use Rattle.ats_topology.specs.Port.{port_at}
-use Rattle.ats_topology.specs.Walks.{IsLeastWalk}
+use Rattle.ats_topology.specs.Walks.{IsWalk, IsLeastWalk}
 use Rattle.ats_topology.specs.Search.{distance}
 use Rattle.ats_topology.specs.declared.port.Port.{Port}
-use Rattle.ats_topology.proofs.LeastWalks.{far_positive, nearer_found, nearer_end, nearer_within, nearer_falls, not_none, some_there, least_so_far, least_here}
+use Rattle.ats_topology.proofs.LeastWalks.{far_positive, nearer_found, nearer_end, nearer_within, nearer_falls, not_none, some_there, least_so_far, least_here, walk_ports}
 use Rattle.ats_topology.proofs.walks.descend.Goals as goal
 
 pub overflow_sub-far : goal.overflow_sub-far
@@ -38,7 +38,13 @@ loop-at-preserved c =
       reached = some_there (distance c.args.distances.now (port_at c.ports.result.now c.unwrap-port.result).to) (c.unwrap-far.result - 1) (ap (distance c.args.distances.now) to ∙ end);
     }
 
-pub returns : goal.returns
-returns c =
+pub returns-clause-ports : goal.returns-clause-ports
+returns-clause-ports c =
+    walk_ports c.args.table.now.ports c.args.to c.args.from c.loop-at.walk.items
+    (subst (IsWalk c.args.table.now.ports c.args.from c.args.to) (append-nil c.loop-at.walk.items)
+    (c.loop-at.invariant.least [] (least_here c.args.table.now.ports c.loop-at.at c.args.to c.loop-at-test.false)).walk_is)
+
+pub returns-clause-walk : goal.returns-clause-walk
+returns-clause-walk c =
     subst (IsLeastWalk c.args.table.now.ports c.args.from c.args.to) (append-nil c.loop-at.walk.items)
     (c.loop-at.invariant.least [] (least_here c.args.table.now.ports c.loop-at.at c.args.to c.loop-at-test.false))
