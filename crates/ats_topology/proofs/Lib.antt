@@ -1,0 +1,17 @@
+pub mod FirstBelow
+pub mod PositionLemmas
+pub mod Pairs
+pub mod NameLemmas
+pub mod Known
+pub mod CountLemmas
+pub mod LinkLemmas
+pub mod TableLemmas
+pub mod Numbered
+pub mod Due
+pub mod Leaving
+pub mod Spreading
+pub mod Searching
+pub mod LeastWalks
+pub mod Rules
+pub mod KeptRules
+pub mod LawLemmas

@@ -1,0 +1,11 @@
+pub mod Node
+pub mod Rates
+pub mod Link
+pub mod Faults
+pub mod Port
+pub mod PortTable
+pub mod Topology
+pub mod Kept
+pub mod Walks
+pub mod Search
+pub mod Laws

@@ -1,0 +1,28 @@
+use Rattle.std.specs.Prelude.{◌≡◌, ℕ, ◌<◌, Bool, true, false, List, [], length, map, slice_index_or, Some}
+use Rattle.ats_names.specs.Places.{place_of}
+use Rattle.ats_topology.specs.declared.node.Kind.{Kind}
+use Rattle.ats_topology.specs.declared.node.Kind.TheVariants.{Station, Bridge}
+use Rattle.ats_topology.specs.declared.node.Node.{Node}
+
+-- the node is a station
+abbrev pub is_station : Kind → Bool
+is_station Station = true
+is_station (Bridge processing_ns residence_ns) = false
+
+-- the processing time of a node in nanoseconds; a station has none
+abbrev pub processing_of : Kind → ℕ
+processing_of Station = 0
+processing_of (Bridge processing_ns residence_ns) = processing_ns
+
+-- the maximum residence time of a bridge in nanoseconds
+abbrev pub residence_of : Kind → ℕ
+residence_of Station = 0
+residence_of (Bridge processing_ns residence_ns) = residence_ns
+
+-- the names of nodes
+abbrev pub names_of : List Node → List (List ℕ)
+names_of nodes = map (λ (node : Node). node.name) nodes
+
+-- each name is found at its own place, so no two are the same
+abbrev pub AreApart : List (List ℕ) → Type 0
+AreApart names = (n : ℕ) → n < length names → place_of (slice_index_or names n []) names ≡ Some n

@@ -1,0 +1,158 @@
+//! The faults of a list of nodes and a list of links.
+
+ghost use Rattle.std.specs.Prelude.{◌≡◌, ◌<◌, ◌≤◌, None, IfSome, IfOk, IfErr, OnOk, length};
+ghost use Rattle.std.specs.List.{position_from, list_any};
+ghost use Rattle.ats_topology.specs.Node.{names_of};
+ghost use Rattle.ats_topology.specs.Link.{is_self_link};
+ghost use Rattle.ats_topology.specs.Faults.{IsDue, node_twice, link_twice, self_link, unknown_node, bad_rate, limit, has_unknown_end, has_bad_rate, is_kind_over, is_node_over, is_link_over, is_over};
+
+use crate::fault::TopologyFault;
+use crate::link::{Link, MAX_LINKS, MAX_PROPAGATION_NS};
+use crate::node::{Kind, MAX_NODES, MAX_PROCESSING_NS, MAX_RESIDENCE_NS, Node};
+use crate::rates::ps_per_bit;
+use ats_names::NameTable;
+use std::alloc::Global;
+use std::collections::BTreeSet;
+
+/// The names of the nodes, or the first node whose name an earlier one has.
+pub(crate) fn named(alloc: Global, nodes: &[Node]) -> Result<NameTable, TopologyFault>
+    requires few { length nodes.now < 4294967295 }
+    ensures names { IfOk result (λ names. names ≡ names_of nodes.now) }
+    ensures ok { OnOk result (node_twice nodes.now ≡ None) }
+    ensures fault { IfErr result (λ fault. IsDue fault (node_twice nodes.now)) }
+{
+    let mut names = NameTable::new(alloc);
+    for (i, node) in nodes.iter().enumerate() {
+        if names.place(&node.name).is_some() {
+            return Err(TopologyFault::NodeTwice(i as u32 + 1));
+        }
+        names.push(node.name)?;
+    }
+    Ok(names)
+}
+
+/// The first link that joins what an earlier one joins.
+pub(crate) fn check_joined(alloc: Global, links: &[Link]) -> Result<(), TopologyFault>
+    requires few { length links.now < 4294967295 }
+    ensures ok { OnOk result (link_twice links.now ≡ None) }
+    ensures fault { IfErr result (λ fault. IsDue fault (link_twice links.now)) }
+{
+    let mut joined = BTreeSet::new(alloc);
+    for (i, link) in links.iter().enumerate() {
+        if joined.contains(&(link.a, link.b)) {
+            return Err(TopologyFault::LinkTwice(i as u32 + 1));
+        }
+        joined.insert((link.a, link.b))?;
+        joined.insert((link.b, link.a))?;
+    }
+    Ok(())
+}
+
+/// The first link with one name at both ends.
+pub(crate) fn self_link(links: &[Link]) -> Option<TopologyFault>
+    requires few { length links.now < 4294967295 }
+    ensures { result ≡ self_link links.now }
+{
+    match self_place(links) {
+        Some(i) => Some(TopologyFault::SelfLink(i as u32 + 1)),
+        None => None,
+    }
+}
+
+fn self_place(links: &[Link]) -> Option<usize>
+    ensures place { result ≡ position_from is_self_link 0 links.now }
+    ensures within { IfSome result (λ i. i < length links.now) }
+{
+    links.iter().position(|link| link.a == link.b)
+}
+
+/// The first link with an end that is the name of no node.
+pub(crate) fn unknown_node(names: &NameTable, nodes: &[Node], links: &[Link]) -> Option<TopologyFault>
+    requires few { length links.now < 4294967295 }
+    requires names { names.now ≡ names_of nodes.now }
+    ensures { result ≡ unknown_node nodes.now links.now }
+{
+    match unknown_place(names, links) {
+        Some(i) => Some(TopologyFault::UnknownNode(i as u32 + 1)),
+        None => None,
+    }
+}
+
+fn unknown_place(names: &NameTable, links: &[Link]) -> Option<usize>
+    ensures place { result ≡ position_from (has_unknown_end names.now) 0 links.now }
+    ensures within { IfSome result (λ i. i < length links.now) }
+{
+    links.iter().position(|link| has_unknown_end(names, link))
+}
+
+fn has_unknown_end(names: &NameTable, link: &Link) -> bool
+    ensures { result ≡ has_unknown_end names.now link.now }
+{
+    names.place(&link.a).is_none() || names.place(&link.b).is_none()
+}
+
+/// The first link with a rate that a link may not have.
+pub(crate) fn bad_rate(links: &[Link]) -> Option<TopologyFault>
+    requires few { length links.now < 4294967295 }
+    ensures { result ≡ bad_rate links.now }
+{
+    match bad_rate_place(links) {
+        Some(i) => Some(TopologyFault::BadRate(i as u32 + 1)),
+        None => None,
+    }
+}
+
+fn bad_rate_place(links: &[Link]) -> Option<usize>
+    ensures place { result ≡ position_from has_bad_rate 0 links.now }
+    ensures within { IfSome result (λ i. i < length links.now) }
+{
+    links
+        .iter()
+        .position(|link| ps_per_bit(link.mbps).is_none())
+}
+
+/// A number of nodes or links, or a time of one of them, that is over its limit.
+pub(crate) fn limit(nodes: &[Node], links: &[Link]) -> Option<TopologyFault>
+    ensures { result ≡ limit nodes.now links.now }
+{
+    if is_over(nodes, links) {
+        Some(TopologyFault::Limit)
+    } else {
+        None
+    }
+}
+
+fn is_over(nodes: &[Node], links: &[Link]) -> bool
+    ensures { result ≡ is_over nodes.now links.now }
+{
+    if nodes.len() > MAX_NODES || links.len() > MAX_LINKS {
+        return true;
+    }
+    are_nodes_over(nodes) || are_links_over(links)
+}
+
+fn are_nodes_over(nodes: &[Node]) -> bool
+    ensures { result ≡ list_any is_node_over nodes.now }
+{
+    nodes.iter().any(|node| is_kind_over(&node.kind))
+}
+
+fn is_kind_over(kind: &Kind) -> bool
+    ensures { result ≡ is_kind_over kind.now }
+{
+    match kind {
+        Kind::Station => false,
+        Kind::Bridge {
+            processing_ns,
+            residence_ns,
+        } => *processing_ns > MAX_PROCESSING_NS || *residence_ns > MAX_RESIDENCE_NS,
+    }
+}
+
+fn are_links_over(links: &[Link]) -> bool
+    ensures { result ≡ list_any is_link_over links.now }
+{
+    links
+        .iter()
+        .any(|link| link.propagation_ns > MAX_PROPAGATION_NS)
+}

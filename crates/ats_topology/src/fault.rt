@@ -1,0 +1,79 @@
+//! Why nodes and links are no network.
+
+use ats_num::NoMemory as OutOfMemory;
+use std::alloc::{AllocError, AllocFailed};
+use std::error::Error;
+use std::fmt;
+
+/// The first fault of a list of nodes and a list of links: the one that stands first here, and of several of one kind the
+/// one of the earliest entry. Nodes and links are counted from 1.
+#[derive(Clone, Copy, Debug, PartialEq, Eq)]
+pub enum TopologyFault {
+    /// An earlier node has the name of this one.
+    NodeTwice(u32),
+    /// An earlier link joins the same two names as this one, in either direction.
+    LinkTwice(u32),
+    /// The link has one name at both ends.
+    SelfLink(u32),
+    /// An end of the link is the name of no node.
+    UnknownNode(u32),
+    /// The node is a station and does not have exactly one link.
+    StationLinks(u32),
+    /// The rate of the link is none that a link may have.
+    BadRate(u32),
+    /// There are over 1024 nodes or 2048 links, or a propagation or processing is over 1,000,000 ns, or a residence over
+    /// 1,000,000,000 ns.
+    Limit,
+    /// Memory ran out.
+    NoMemory,
+}
+
+impl From<AllocError> for TopologyFault {
+    ghost use Rattle.std.specs.Prelude.{◌≡◌};
+    ghost use Rattle.ats_topology.specs.declared.fault.TopologyFault.TheVariants.{NoMemory};
+
+    ghost from_gives = { λ _ e. e ≡ NoMemory };
+
+    fn from(_e: AllocError) -> TopologyFault {
+        TopologyFault::NoMemory
+    }
+}
+
+impl<T: Drop> From<AllocFailed<T>> for TopologyFault {
+    ghost use Rattle.std.specs.Prelude.{◌≡◌};
+    ghost use Rattle.ats_topology.specs.declared.fault.TopologyFault.TheVariants.{NoMemory};
+
+    ghost from_gives = { λ _ e. e ≡ NoMemory };
+
+    fn from(_e: AllocFailed<T>) -> TopologyFault {
+        TopologyFault::NoMemory
+    }
+}
+
+impl From<OutOfMemory> for TopologyFault {
+    ghost use Rattle.std.specs.Prelude.{◌≡◌};
+    ghost use Rattle.ats_topology.specs.declared.fault.TopologyFault.TheVariants.{NoMemory};
+
+    ghost from_gives = { λ _ e. e ≡ NoMemory };
+
+    fn from(_e: OutOfMemory) -> TopologyFault {
+        TopologyFault::NoMemory
+    }
+}
+
+impl fmt::Display for TopologyFault {
+    fn fmt<W: fmt::Write>(&self, f: &mut fmt::Formatter<W>) -> fmt::Result {
+        match self {
+            TopologyFault::NodeTwice(n) => write!(f, "node-twice {n}"),
+            TopologyFault::LinkTwice(n) => write!(f, "link-twice {n}"),
+            TopologyFault::SelfLink(n) => write!(f, "self-link {n}"),
+            TopologyFault::UnknownNode(n) => write!(f, "unknown-node {n}"),
+            TopologyFault::StationLinks(n) => write!(f, "station-links {n}"),
+            TopologyFault::BadRate(n) => write!(f, "bad-rate {n}"),
+            TopologyFault::Limit => f.write_str("limit"),
+            TopologyFault::NoMemory => f.write_str("no-memory"),
+        }
+    }
+}
+
+impl Error for TopologyFault {}

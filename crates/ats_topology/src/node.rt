@@ -1,0 +1,64 @@
+//! Nodes of a network.
+
+ghost use Rattle.std.specs.Prelude.{◌≡◌};
+ghost use Rattle.ats_topology.specs.Node.{is_station, processing_of};
+
+use ats_num::Name;
+
+/// The most nodes of a network.
+pub const MAX_NODES: usize = 1024;
+
+/// The greatest processing time of a bridge, in nanoseconds.
+pub const MAX_PROCESSING_NS: u32 = 1_000_000;
+
+/// The greatest maximum residence time of a bridge, in nanoseconds.
+pub const MAX_RESIDENCE_NS: u32 = 1_000_000_000;
+
+/// What a node is.
+#[derive(Clone, Copy, Debug, PartialEq, Eq)]
+pub enum Kind {
+    /// An end station, which has exactly one link.
+    Station,
+    /// A bridge (IEEE Std 802.1Q).
+    Bridge {
+        /// The time from the end of a frame's reception to its arrival at the next port, 0 to 1,000,000 ns.
+        processing_ns: u32,
+        /// The maximum residence time, 0 to 1,000,000,000 ns (IEEE Std 802.1Qcr, MaxResidenceTime).
+        residence_ns: u32,
+    },
+}
+
+/// A node of a network, with its name.
+#[derive(Clone, Copy, Debug, PartialEq, Eq)]
+pub struct Node {
+    pub name: Name,
+    pub kind: Kind,
+}
+
+impl Kind {
+    /// Whether this is a station.
+    pub fn is_station(&self) -> bool
+        ensures { result ≡ is_station self.now }
+    {
+        match self {
+            Kind::Station => true,
+            Kind::Bridge {
+                processing_ns: _,
+                residence_ns: _,
+            } => false,
+        }
+    }
+
+    /// The processing time in nanoseconds; a station has none.
+    pub fn processing_ns(&self) -> u32
+        ensures { result ≡ processing_of self.now }
+    {
+        match self {
+            Kind::Station => 0,
+            Kind::Bridge {
+                processing_ns,
+                residence_ns: _,
+            } => *processing_ns,
+        }
+    }
+}

@@ -1,0 +1,61 @@
+//! The ports of links.
+
+ghost use Rattle.std.specs.Prelude.{◌≡◌, ◌≤◌, None, IfOk, IsSome, length};
+ghost use Rattle.ats_names.specs.Places.{place_of};
+ghost use Rattle.ats_topology.specs.Node.{names_of};
+ghost use Rattle.ats_topology.specs.Rates.{ps_per_bit_of};
+ghost use Rattle.ats_topology.specs.Faults.{node_twice, link_twice, self_link, unknown_node, bad_rate};
+ghost use Rattle.ats_topology.specs.PortTable.{node_ports};
+ghost use Rattle.ats_topology.specs.Topology.{port_of, ports_of};
+
+use crate::link::Link;
+use crate::node::Node;
+use crate::port::Port;
+use crate::port_table::PortTable;
+use crate::rates::ps_per_bit;
+use ats_names::NameTable;
+use ats_num::time::PS_PER_NS;
+use ats_num::{Name, NoMemory, Ps};
+use std::alloc::Global;
+
+/// The ports of links between nodes, two to a link in their order.
+pub(crate) fn ports_of(
+    alloc: Global,
+    names: &NameTable,
+    nodes: &[Node],
+    links: &[Link],
+) -> Result<PortTable, NoMemory>
+    requires names { names.now ≡ names_of nodes.now }
+    requires apart { node_twice nodes.now ≡ None }
+    requires joined { link_twice links.now ≡ None }
+    requires open { self_link links.now ≡ None }
+    requires known { unknown_node nodes.now links.now ≡ None }
+    requires rated { bad_rate links.now ≡ None }
+    requires few { length links.now ≤ 2048 }
+    ensures { IfOk result (λ table. table ≡ node_ports (length nodes.now) (ports_of nodes.now links.now)) }
+{
+    let mut table = PortTable::new(alloc, nodes.len())?;
+    for link in links {
+        table.push(port_of(names, nodes, link, &link.a, &link.b))?;
+        table.push(port_of(names, nodes, link, &link.b, &link.a))?;
+    }
+    Ok(table)
+}
+
+// The port of a link from the node of one name to that of another.
+fn port_of(names: &NameTable, nodes: &[Node], link: &Link, from: &Name, to: &Name) -> Port
+    requires names { names.now ≡ names_of nodes.now }
+    requires from { IsSome (place_of from.now names.now) }
+    requires to { IsSome (place_of to.now names.now) }
+    requires rate { IsSome (ps_per_bit_of link.now.mbps) }
+    ensures { result ≡ port_of nodes.now link.now from.now to.now }
+{
+    let to = names.place(to).unwrap();
+    let processing_ns = nodes[to as usize].kind.processing_ns();
+    Port {
+        from: names.place(from).unwrap(),
+        to,
+        ps_per_bit: ps_per_bit(link.mbps).unwrap(),
+        latency: Ps(PS_PER_NS * (u64::from(link.propagation_ns) + u64::from(processing_ns))),
+    }
+}

@@ -1,0 +1,140 @@
+//! The nodes, links and ports of a network.
+
+ghost use Rattle.std.specs.Prelude.{◌≡◌, ◌<◌, None, IfOk, IfErr, IfSome, IfNone, OnOk, length};
+ghost use Rattle.ats_names.specs.Places.{place_of};
+ghost use Rattle.ats_topology.specs.Node.{names_of};
+ghost use Rattle.ats_topology.specs.Port.{port_between, GoesBetween};
+ghost use Rattle.ats_topology.specs.Faults.{IsDue, topology_fault};
+ghost use Rattle.ats_topology.specs.Topology.{topology_of, IsTopology};
+ghost use Rattle.ats_topology.specs.Walks.{IsLeastWalk, NoWalk, ArePorts};
+
+use crate::checks::{bad_rate, check_joined, limit, named, self_link, unknown_node};
+use crate::fault::TopologyFault;
+use crate::link::Link;
+use crate::node::Node;
+use crate::numbering::ports_of;
+use crate::port::Port;
+use crate::port_table::PortTable;
+use crate::stations::check_stations;
+use crate::walks::least_walk;
+use ats_names::NameTable;
+use ats_num::{Name, NoMemory};
+use std::alloc::Global;
+use std::marker::Model;
+
+/// Nodes and the links between them, with the ports of the links. Nodes, links and ports are numbered from 0 in their
+/// order. Contracts see the three lists.
+#[derive(Drop)]
+pub struct Topology {
+    node_list: Vec<Node>,
+    link_list: Vec<Link>,
+    names: NameTable,
+    table: PortTable,
+}
+
+impl Model for Topology {
+    ghost use Rattle.ats_topology.specs.Topology.{DeclaredTopology};
+    ghost use Rattle.ats_topology.specs.Kept.{AreKept};
+
+    ghost Value = { DeclaredTopology };
+
+    ghost view = { λ t. record { nodes = t.node_list.items; links = t.link_list.items; ports = t.table.ports } };
+
+    ghost invariant = { λ t. AreKept t.node_list.items t.link_list.items t.names t.table };
+}
+
+impl Topology {
+    /// The topology of these nodes and links. Link `i` from `a` to `b` has port `2 * i` from `a` to `b` and port
+    /// `2 * i + 1` from `b` to `a`.
+    ///
+    /// # Errors
+    ///
+    /// The first fault of nodes and links, or `NoMemory` in its place where memory runs out.
+    pub fn new(alloc: Global, nodes: Vec<Node>, links: Vec<Link>) -> Result<Self, TopologyFault>
+        requires few_nodes { length nodes.items < 4294967295 }
+        requires few_links { length links.items < 4294967295 }
+        ensures value { IfOk result (λ topology. topology ≡ topology_of nodes.items links.items) }
+        ensures sound { OnOk result (topology_fault nodes.items links.items ≡ None) }
+        ensures fault { IfErr result (λ fault. IsDue fault (topology_fault nodes.items links.items)) }
+    {
+        let names = named(alloc, &nodes)?;
+        check_joined(alloc, &links)?;
+        if let Some(fault) = self_link(&links) {
+            return Err(fault);
+        }
+        if let Some(fault) = unknown_node(&names, &nodes, &links) {
+            return Err(fault);
+        }
+        check_stations(alloc, &names, &nodes, &links)?;
+        if let Some(fault) = bad_rate(&links) {
+            return Err(fault);
+        }
+        if let Some(fault) = limit(&nodes, &links) {
+            return Err(fault);
+        }
+        let table = ports_of(alloc, &names, &nodes, &links)?;
+        Ok(Topology {
+            node_list: nodes,
+            link_list: links,
+            names,
+            table,
+        })
+    }
+
+    /// The nodes.
+    pub fn nodes(&self) -> &[Node]
+        ensures value { result.now ≡ self.now.nodes }
+        ensures rules { IsTopology self.now }
+    {
+        self.node_list.as_slice()
+    }
+
+    /// The links.
+    pub fn links(&self) -> &[Link]
+        ensures value { result.now ≡ self.now.links }
+        ensures rules { IsTopology self.now }
+    {
+        self.link_list.as_slice()
+    }
+
+    /// The ports.
+    pub fn ports(&self) -> &[Port]
+        ensures value { result.now ≡ self.now.ports }
+        ensures rules { IsTopology self.now }
+    {
+        self.table.ports()
+    }
+
+    /// The number of the node with this name; `None` exactly where no node has it.
+    pub fn node_named(&self, name: &Name) -> Option<u32>
+        ensures number { result ≡ place_of name.now (names_of self.now.nodes) }
+        ensures within { IfSome result (λ n. n < length self.now.nodes) }
+    {
+        self.names.place(name)
+    }
+
+    /// The number of the port from node `a` to node `b`; `None` exactly where no link joins them.
+    pub fn port_between(&self, a: u32, b: u32) -> Option<u32>
+        ensures number { result ≡ port_between a b self.now.ports }
+        ensures goes { IfSome result (GoesBetween self.now.ports a b) }
+    {
+        self.table.between(a, b)
+    }
+
+    /// The ports of a walk from node `a` to node `b`: of all such walks one of fewest ports, and of those the one whose
+    /// list of port numbers is first in lexicographic order. `None` exactly where no walk leads there. From a node to
+    /// itself the walk is empty. The search is breadth first, and looks at each port once.
+    ///
+    /// # Errors
+    ///
+    /// `NoMemory` where memory runs out.
+    pub fn shortest(&self, alloc: Global, a: u32, b: u32) -> Result<Option<Vec<u32>>, NoMemory>
+        requires a { a < length self.now.nodes }
+        requires b { b < length self.now.nodes }
+        ensures walk { IfOk result (λ found. IfSome found (λ walk. IsLeastWalk self.now.ports a b walk.items)) }
+        ensures ports { IfOk result (λ found. IfSome found (λ walk. ArePorts self.now.ports walk.items)) }
+        ensures none { IfOk result (λ found. IfNone found (NoWalk self.now.ports a b)) }
+    {
+        least_walk(alloc, &self.table, a, b)
+    }
+}
