@@ -119,6 +119,6 @@ pub badly_linked : (nodes : List Node) (links : List Link) (counts : List ℕ) (
     → bad ≡ (is_station node.kind && not (get_or counts i 0 == 1)) → is_badly_linked links (get_or nodes i node) ≡ bad
 badly_linked nodes links counts i node bad within read counted is =
     let count : get_or counts i 0 ≡ count_by (ends_at node.name) links =
-        ap (λ (t : List ℕ). get_or t i 0) counted ∙ count_at (names_of nodes) links i (omega (arith, length-names_of nodes))
-        ∙ ap (λ (name : List ℕ). count_by (ends_at name) links) (name_at nodes i node within read) in
+    ap (λ (t : List ℕ). get_or t i 0) counted ∙ count_at (names_of nodes) links i (omega (arith, length-names_of nodes))
+    ∙ ap (λ (name : List ℕ). count_by (ends_at name) links) (name_at nodes i node within read) in
     ap (is_badly_linked links) (sym read) ∙ sym (is ∙ ap (λ (n : ℕ). is_station node.kind && not (n == 1)) count)

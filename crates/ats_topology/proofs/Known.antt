@@ -56,10 +56,11 @@ name_there names name i at =
 -- a name has the number n where it is the name with that number
 pub number_is : (names : List (List ℕ)) → AreApart names → (name : List ℕ) (i n : ℕ) → place_of name names ≡ Some i → n < length names → eqb i n ≡ bytes_eq name (get_or names n [])
 number_is names separate name i n at within =
-    same_from_decides (eqb i n) (bytes_eq name (get_or names n [])) (Decides-eqb i n)
-    (λ h. let same : name ≡ get_or names n [] = (bytes_eq-Decides name (get_or names n [])).0 h in
-      some_is i n (sym at ∙ ap (λ (x : List ℕ). place_of x names) same ∙ separate n within),
-     λ h. (bytes_eq-Decides name (get_or names n [])).1 ((name_there names name i at).1 ∙ ap (λ (k : ℕ). get_or names k []) h))
+    same_from_decides (eqb i n) (bytes_eq name (get_or names n [])) (Decides-eqb i n) (
+      λ h. let same : name ≡ get_or names n [] = (bytes_eq-Decides name (get_or names n [])).0 h in
+          some_is i n (sym at ∙ ap (λ (x : List ℕ). place_of x names) same ∙ separate n within),
+      λ h. (bytes_eq-Decides name (get_or names n [])).1 ((name_there names name i at).1 ∙ ap (λ (k : ℕ). get_or names k []) h),
+    )
 
 -- both ends of a link are names, and they differ
 pub record IsOpen (names : List (List ℕ)) (link : Link) : Type 0 where
@@ -80,7 +81,7 @@ is_open names link known self =
       a_at = a.1;
       b_at = b.1;
       differ = λ same. false≢true (sym self ∙ (bytes_eq-Decides link.a link.b).1
-        ((name_there names link.a a.0 a.1).1 ∙ ap (λ (n : ℕ). get_or names n []) same ∙ sym (name_there names link.b b.0 b.1).1));
+          ((name_there names link.a a.0 a.1).1 ∙ ap (λ (n : ℕ). get_or names n []) same ∙ sym (name_there names link.b b.0 b.1).1));
     }
 
 -- so are those of each link, where none is unknown and none leads to itself

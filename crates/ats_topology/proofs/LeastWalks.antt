@@ -110,7 +110,7 @@ least_step ports to distances at far p rest d is apart found l = record {
         let low : p ≤ q = f.least q walk.0 passes in
         ⊎_elim
         (λ same. same_first p q rest others same
-          (l.first others (subst (λ (n : ℕ). IsWalk ports (port_at ports n).to to others) (sym same) walk.1) (omega (arith, as_long))))
+        (l.first others (subst (λ (n : ℕ). IsWalk ports (port_at ports n).to to others) (sym same) walk.1) (omega (arith, as_long))))
         (λ differ. less_first p q rest others (omega arith)) (cases_eq p q)
 
 -- no port is a least walk from a node to itself

@@ -53,13 +53,13 @@ pub joined_more : (links : List Link) (i : ℕ) (link : Link) (set mid new : BTr
 joined_more links i link set mid new within read joined there back a b =
     let forth : Bool = bytes_eq link.a a && bytes_eq link.b b in
     let more : list_any (joins a b) (take (i + 1) links) ≡ (list_any (joins a b) (take i links) || joins a b link) =
-        ap (list_any (joins a b)) (take_more links i link within ∙ ap (λ (l : Link). take i links ++ l ∷ []) (sym read))
-        ∙ list_any-append (joins a b) (take i links) (link ∷ [])
-        ∙ ap (λ (t : Bool). list_any (joins a b) (take i links) || t) (list_any-one (joins a b) link) in
+    ap (list_any (joins a b)) (take_more links i link within ∙ ap (λ (l : Link). take i links ++ l ∷ []) (sym read))
+    ∙ list_any-append (joins a b) (take i links) (link ∷ [])
+    ∙ ap (λ (t : Bool). list_any (joins a b) (take i links) || t) (list_any-one (joins a b) link) in
     back.0 (a, b)
     ∙ ap (λ (t : Bool). cond t true (contains name_pair_cmp mid (a, b))) (is_eq-name_pair_cmp (link.b, link.a) (a, b) ∙ and_comm (bytes_eq link.b a) (bytes_eq link.a b))
     ∙ ap (λ (t : Bool). cond (bytes_eq link.a b && bytes_eq link.b a) true t) (there.0 (a, b)
-      ∙ ap (λ (t : Bool). cond t true (contains name_pair_cmp set (a, b))) (is_eq-name_pair_cmp (link.a, link.b) (a, b)))
+    ∙ ap (λ (t : Bool). cond t true (contains name_pair_cmp set (a, b))) (is_eq-name_pair_cmp (link.a, link.b) (a, b)))
     ∙ ap (λ (t : Bool). cond (bytes_eq link.a b && bytes_eq link.b a) true (cond forth true t)) (joined a b)
     ∙ either (bytes_eq link.a b && bytes_eq link.b a) forth (list_any (joins a b) (take i links))
     ∙ sym more

@@ -50,12 +50,12 @@ no_port_between nodes separate x y m n at_x at_y k (link ∷ links) opens none =
     let parts : (joins x y link ≡ false) × (list_any (joins x y) links ≡ false) = or_parts (joins x y link) (list_any (joins x y) links) none in
     let ways : ((bytes_eq link.a x && bytes_eq link.b y) ≡ false) × ((bytes_eq link.a y && bytes_eq link.b x) ≡ false) = or_parts (bytes_eq link.a x && bytes_eq link.b y) (bytes_eq link.a y && bytes_eq link.b x) parts.0 in
     let there : goes m n (port_of nodes link link.a link.b) ≡ false =
-        ap (λ (t : Bool). t && eqb (node_number nodes link.b) n) (same_number nodes separate link.a x o.a m o.a_at at_x)
-        ∙ ap (λ (t : Bool). bytes_eq link.a x && t) (same_number nodes separate link.b y o.b n o.b_at at_y) ∙ ways.0 in
+    ap (λ (t : Bool). t && eqb (node_number nodes link.b) n) (same_number nodes separate link.a x o.a m o.a_at at_x)
+    ∙ ap (λ (t : Bool). bytes_eq link.a x && t) (same_number nodes separate link.b y o.b n o.b_at at_y) ∙ ways.0 in
     let back : goes m n (port_of nodes link link.b link.a) ≡ false =
-        ap (λ (t : Bool). t && eqb (node_number nodes link.a) n) (same_number nodes separate link.b x o.b m o.b_at at_x)
-        ∙ ap (λ (t : Bool). bytes_eq link.b x && t) (same_number nodes separate link.a y o.a n o.a_at at_y)
-        ∙ and_comm (bytes_eq link.b x) (bytes_eq link.a y) ∙ ways.1 in
+    ap (λ (t : Bool). t && eqb (node_number nodes link.a) n) (same_number nodes separate link.b x o.b m o.b_at at_x)
+    ∙ ap (λ (t : Bool). bytes_eq link.b x && t) (same_number nodes separate link.a y o.a n o.a_at at_y)
+    ∙ and_comm (bytes_eq link.b x) (bytes_eq link.a y) ∙ ways.1 in
     let rest = no_port_between nodes separate x y m n at_x at_y ((k + 1) + 1) links (All-tail (IsOpen (names_of nodes)) link links opens) parts.1 in
     passed_over (goes m n (port_of nodes link link.a link.b)) k _ there (passed_over (goes m n (port_of nodes link link.b link.a)) (k + 1) _ back rest)
 
@@ -115,12 +115,12 @@ second_absent nodes separate links opens none i link within read o =
     let there : Port = port_of nodes link link.a link.b in
     let test : Port → Bool = goes (node_number nodes link.b) (node_number nodes link.a) in
     let absent : position_from test 0 before ≡ None =
-        ap (λ (n : ℕ). port_between n (node_number nodes link.a) before) (node_number_is nodes link.b o.b o.b_at)
-        ∙ ap (λ (n : ℕ). port_between o.b n before) (node_number_is nodes link.a o.a o.a_at)
-        ∙ no_port_between nodes separate link.b link.a o.b o.a o.b_at o.a_at 0 (take i links) (All-take (IsOpen (names_of nodes)) i links opens)
-          (joins_comm link.b link.a (take i links) ∙ not_again links none i link within read) in
+    ap (λ (n : ℕ). port_between n (node_number nodes link.a) before) (node_number_is nodes link.b o.b o.b_at)
+    ∙ ap (λ (n : ℕ). port_between o.b n before) (node_number_is nodes link.a o.a o.a_at)
+    ∙ no_port_between nodes separate link.b link.a o.b o.a o.b_at o.a_at 0 (take i links) (All-take (IsOpen (names_of nodes)) i links opens)
+    (joins_comm link.b link.a (take i links) ∙ not_again links none i link within read) in
     let apart : eqb (node_number nodes link.a) (node_number nodes link.b) ≡ false =
-        ne_eqb (node_number nodes link.a) (node_number nodes link.b) (λ e. o.differ (sym (node_number_is nodes link.a o.a o.a_at) ∙ e ∙ node_number_is nodes link.b o.b o.b_at)) in
+    ne_eqb (node_number nodes link.a) (node_number nodes link.b) (λ e. o.differ (sym (node_number_is nodes link.a o.a o.a_at) ∙ e ∙ node_number_is nodes link.b o.b o.b_at)) in
     let fails : test there ≡ false = and_left (eqb (node_number nodes link.a) (node_number nodes link.b)) (eqb (node_number nodes link.b) (node_number nodes link.a)) apart in
     position_from-push test 0 before there
     ∙ ap (λ (q : Option ℕ). cond (is_some q) q (cond (test there) (Some (0 + length before)) None)) absent

@@ -83,7 +83,7 @@ record IsWithinLimits (nodes : List Node) (links : List Link) : Type 0 where
 is_node : (node : Node) → is_node_over node ≡ false → IsNode node
 is_node node h =
     let parts : (nat_lt MAX_PROCESSING_NS (processing_of node.kind) ≡ false) × (nat_lt MAX_RESIDENCE_NS (residence_of node.kind) ≡ false) =
-        or_parts (nat_lt MAX_PROCESSING_NS (processing_of node.kind)) (nat_lt MAX_RESIDENCE_NS (residence_of node.kind)) h in
+    or_parts (nat_lt MAX_PROCESSING_NS (processing_of node.kind)) (nat_lt MAX_RESIDENCE_NS (residence_of node.kind)) h in
     record {
       processing = ltb-false MAX_PROCESSING_NS (processing_of node.kind) parts.0;
       residence = ltb-false MAX_RESIDENCE_NS (residence_of node.kind) parts.1;
@@ -138,9 +138,22 @@ value_of P t (row ∷ rows) v each h = by (t row.0) h (value_of P t rows v each.
     by false g more = more g
 
 tabled : AllByRecursion (λ (row : ℕ × ℕ). IsPsPerBit row.1) link_rates
-tabled =
-    (row 100000 refl (omega arith) (omega arith), (row 10000 refl (omega arith) (omega arith), (row 1000 refl (omega arith) (omega arith), (row 400 refl (omega arith) (omega arith), (row 200 refl (omega arith) (omega arith), 
-    (row 100 refl (omega arith) (omega arith), (row 40 refl (omega arith) (omega arith), (row 25 refl (omega arith) (omega arith), (row 20 refl (omega arith) (omega arith), (row 10 refl (omega arith) (omega arith), tt))))))))))
+tabled = (
+  row 100000 refl (omega arith) (omega arith),
+  (
+    row 10000 refl (omega arith) (omega arith),
+    (
+      row 1000 refl (omega arith) (omega arith),
+      (
+        row 400 refl (omega arith) (omega arith),
+        (
+          row 200 refl (omega arith) (omega arith),
+          (row 100 refl (omega arith) (omega arith), (row 40 refl (omega arith) (omega arith), (row 25 refl (omega arith) (omega arith), (row 20 refl (omega arith) (omega arith), (row 10 refl (omega arith) (omega arith), tt))))),
+        ),
+      ),
+    ),
+  ),
+)
   where
     row : (ps : ℕ) → IsTrue (list_any (λ (r : ℕ × ℕ). r.1 == ps) link_rates) → 10 ≤ ps → ps ≤ 100000 → IsPsPerBit ps
     row ps in_table least most = record { tabled = in_table; least = least; most = most }
@@ -238,11 +251,28 @@ count_ports nodes separate n within (link ∷ links) opens =
     let b : leaves n back ≡ bytes_eq link.b name = number_test nodes separate link.b o.b n o.b_at within in
     let one = one_of (bytes_eq link.a name) (bytes_eq link.b name) (not_both names link o name) in
     let as_leaving : (one_if (leaves n there) ≡ one_if (bytes_eq link.a name)) × (one_if (leaves n back) ≡ one_if (bytes_eq link.b name)) = (ap one_if a, ap one_if b) in
-    let as_leading : (one_if (leads_to n there) ≡ one_if (bytes_eq link.b name)) × (one_if (leads_to n back) ≡ one_if (bytes_eq link.a name)) = (ap one_if b, ap one_if a) in
-    (omega (arith, rest.0, one, as_leaving.0, as_leaving.1,
-      sum_by-cons (λ (p : Port). one_if (leaves n p)) there (back ∷ ports_of nodes links), sum_by-cons (λ (p : Port). one_if (leaves n p)) back (ports_of nodes links), sum_by-cons (λ (l : Link). one_if (ends_at name l)) link links),
-     omega (arith, rest.1, one, as_leading.0, as_leading.1,
-      sum_by-cons (λ (p : Port). one_if (leads_to n p)) there (back ∷ ports_of nodes links), sum_by-cons (λ (p : Port). one_if (leads_to n p)) back (ports_of nodes links), sum_by-cons (λ (l : Link). one_if (ends_at name l)) link links))
+    let as_leading : (one_if (leads_to n there) ≡ one_if (bytes_eq link.b name)) × (one_if (leads_to n back) ≡ one_if (bytes_eq link.a name)) = (ap one_if b, ap one_if a) in (
+      omega (
+        arith,
+        rest.0,
+        one,
+        as_leaving.0,
+        as_leaving.1,
+        sum_by-cons (λ (p : Port). one_if (leaves n p)) there (back ∷ ports_of nodes links),
+        sum_by-cons (λ (p : Port). one_if (leaves n p)) back (ports_of nodes links),
+        sum_by-cons (λ (l : Link). one_if (ends_at name l)) link links,
+      ),
+      omega (
+        arith,
+        rest.1,
+        one,
+        as_leading.0,
+        as_leading.1,
+        sum_by-cons (λ (p : Port). one_if (leads_to n p)) there (back ∷ ports_of nodes links),
+        sum_by-cons (λ (p : Port). one_if (leads_to n p)) back (ports_of nodes links),
+        sum_by-cons (λ (l : Link). one_if (ends_at name l)) link links,
+      ),
+    )
 
 one_link : (links : List Link) (node : Node) → is_badly_linked links node ≡ false → is_station node.kind ≡ true → count_by (ends_at node.name) links ≡ 1
 one_link links node fine station =

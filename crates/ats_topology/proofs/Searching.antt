@@ -116,7 +116,7 @@ after ports to old new head node rest queue longer paired t s = record {
   near = near;
   in_level = All-weaker (λ n. distance old n ≡ Some t.far) (λ n. distance new n ≡ Some t.far) (λ n h. s.kept n t.far h) t.level t.in_level;
   in_next = All-append (λ n. distance new n ≡ Some (t.far + 1)) t.next s.added
-    (All-weaker (λ n. distance old n ≡ Some (t.far + 1)) (λ n. distance new n ≡ Some (t.far + 1)) (λ n h. s.kept n (t.far + 1) h) t.next t.in_next) s.alike;
+      (All-weaker (λ n. distance old n ≡ Some (t.far + 1)) (λ n. distance new n ≡ Some (t.far + 1)) (λ n h. s.kept n (t.far + 1) h) t.next t.in_next) s.alike;
   settled = λ other e h. ⊎_elim (λ was. old_one other e was) (λ more. inr (Contains-append_right rest s.added other more.1.there)) (s.others other e h);
   slow = omega (arith, t.slow);
 }
@@ -136,11 +136,11 @@ after ports to old new head node rest queue longer paired t s = record {
 
     old_one : (other e : ℕ) → distance old other ≡ Some e → IsSettled ports new other e ⊎ Contains (rest ++ s.added) other
     old_one other e h = ⊎_elim (λ ok. inl (λ p from. still_within old new s.kept (port_at ports p).to (e + 1) (ok p from)))
-      (λ waits. ⊎_elim
+        (λ waits. ⊎_elim
         (λ same. let is : t.far ≡ e = some_is t.far e (sym t.at ∙ ap (distance old) (sym same) ∙ h) in
-          inl (subst (λ (n : ℕ). IsSettled ports new n e) (sym same) (subst (IsSettled ports new node) is here_settled)))
+        inl (subst (λ (n : ℕ). IsSettled ports new n e) (sym same) (subst (IsSettled ports new node) is here_settled)))
         (λ later. inr (Contains-append_left rest s.added other later)) (contains_cases node rest other waits))
-      (t.settled other e h)
+        (t.settled other e h)
 
 -- at the end each distance is that of a shortest walk
 pub found_all : (ports : List Port) (to : ℕ) (distances : List (Option ℕ)) (head : ℕ) → ArePaired ports → IsSearch ports to distances head [] → AreDistances ports to distances
@@ -196,7 +196,7 @@ search_start ports nodes to within = record {
 
     only : (node e : ℕ) → distance first node ≡ Some e → (node ≡ to) × (e ≡ 0)
     only node e h = ⊎_elim (λ same. (same, some_is e 0 (sym h ∙ ap (distance first) same ∙ here)))
-      (λ apart. absurd (no_some e (sym (get_or-set_other blank to node (Some 0) None apart ∙ nowhere node) ∙ h))) (cases_eq node to)
+        (λ apart. absurd (no_some e (sym (get_or-set_other blank to node (Some 0) None apart ∙ nowhere node) ∙ h))) (cases_eq node to)
 
 -- the node at the head of the queue
 pub turn_at : (ports : List Port) (to : ℕ) (distances : List (Option ℕ)) (head node : ℕ) (queue : List ℕ) → head < length queue → node ≡ get_or queue head node → IsSearch ports to distances head (drop head queue) → IsTurn ports to distances head node (drop (head + 1) queue)

@@ -68,10 +68,10 @@ spreads_to ports list far p node old new queue longer s to within none = record 
   queued = ap (λ (t : List ℕ). t ++ node ∷ []) s.queued ∙ append_assoc queue s.added (node ∷ []);
   kept = λ other e h. stays other e (s.kept other e h);
   alike = All-push (λ n. distance later n ≡ Some far) s.added node
-    (All-weaker (λ n. distance new n ≡ Some far) (λ n. distance later n ≡ Some far) (λ n h. stays n far h) s.added s.alike) here;
+      (All-weaker (λ n. distance new n ≡ Some far) (λ n. distance later n ≡ Some far) (λ n h. stays n far h) s.added s.alike) here;
   others = others;
   done = λ q h. ⊎_elim (λ before. let f = s.done q before in (f.0, stays (port_at ports q).to f.0 f.1))
-    (λ same. (far, ap (λ (n : ℕ). distance later (port_at ports n).to) (sym same) ∙ ap (distance later) to ∙ here)) (Contains-push_cases list p q h);
+      (λ same. (far, ap (λ (n : ℕ). distance later (port_at ports n).to) (sym same) ∙ ap (distance later) to ∙ here)) (Contains-push_cases list p q h);
   count = omega (arith, unreached-set new node far within none, length-append longer (node ∷ []), s.count);
 }
   where
@@ -87,18 +87,21 @@ spreads_to ports list far p node old new queue longer s to within none = record 
         get_or-set_other new node other (Some far) None apart ∙ h
 
     new_one : (other e : ℕ) → distance later other ≡ Some e → other ≡ node → (distance old other ≡ Some e) ⊎ ((e ≡ far) × IsAdded ports (list ++ p ∷ []) (s.added ++ node ∷ []) other)
-    new_one other e h same = inr (some_is e far (sym h ∙ ap (distance later) same ∙ here), record {
-      port = p;
-      listed = Contains-push list p;
-      to = to ∙ sym same;
-      there = subst (Contains (s.added ++ node ∷ [])) (sym same) (Contains-push s.added node);
-    })
+    new_one other e h same = inr (
+      some_is e far (sym h ∙ ap (distance later) same ∙ here),
+      record {
+        port = p;
+        listed = Contains-push list p;
+        to = to ∙ sym same;
+        there = subst (Contains (s.added ++ node ∷ [])) (sym same) (Contains-push s.added node);
+      },
+    )
 
     old_one : (other e : ℕ) → distance later other ≡ Some e → (other ≡ node → ⊥) → (distance old other ≡ Some e) ⊎ ((e ≡ far) × IsAdded ports (list ++ p ∷ []) (s.added ++ node ∷ []) other)
     old_one other e h apart = ⊎_elim (λ was. inl was)
-      (λ more. let a = more_added ports list p s.added other more.1 in
+        (λ more. let a = more_added ports list p s.added other more.1 in
         inr (more.0, record { port = a.port; listed = a.listed; to = a.to; there = Contains-append_left s.added (node ∷ []) other a.there }))
-      (s.others other e (sym (get_or-set_other new node other (Some far) None apart) ∙ h))
+        (s.others other e (sym (get_or-set_other new node other (Some far) None apart) ∙ h))
 
     others : (other e : ℕ) → distance later other ≡ Some e → (distance old other ≡ Some e) ⊎ ((e ≡ far) × IsAdded ports (list ++ p ∷ []) (s.added ++ node ∷ []) other)
     others other e h = ⊎_elim (new_one other e h) (old_one other e h) (cases_eq other node)
@@ -127,7 +130,7 @@ step_over node far i all ports items old new queue longer read same is within in
     let p : ℕ = get_or items i 0 in
     let value : (e : ℕ) × (read ≡ Some e) = some_value read some in
     let at : distance new (port_at all p).to ≡ Some value.0 =
-        ap (λ (ps : List Port). distance new (port_at ps p).to) (sym same) ∙ read_is new (port_at ports p).to read inside reads ∙ value.1 in
+    ap (λ (ps : List Port). distance new (port_at ps p).to) (sym same) ∙ read_is new (port_at ports p).to read inside reads ∙ value.1 in
     subst (λ (xs : List ℕ). Spreads all xs far old new queue longer) (list_more node all items i is within)
     (spreads_over all (take i (leaving node all)) far p value.0 old new queue longer s at)
 

@@ -44,7 +44,7 @@ found_push ports port old new found absent updates a b = by (goes a b port) refl
     by true e =
         let parts : (eqb port.from a ≡ true) × (eqb port.to b ≡ true) = and_parts (eqb port.from a) (eqb port.to b) e in
         let here : port_between a b ports ≡ None =
-            ap (λ (n : ℕ). port_between n b ports) (sym (eqb-true port.from a parts.0)) ∙ ap (λ (n : ℕ). port_between port.from n ports) (sym (eqb-true port.to b parts.1)) ∙ absent in
+        ap (λ (n : ℕ). port_between n b ports) (sym (eqb-true port.from a parts.0)) ∙ ap (λ (n : ℕ). port_between port.from n ports) (sym (eqb-true port.to b parts.1)) ∙ absent in
         updates.0 (a, b) ∙ ap (λ (t : Bool). cond t (Some (length ports)) (get pair_cmp old (a, b))) (is_eq-pair_cmp (port.from, port.to) (a, b) ∙ e)
         ∙ sym (position_from-push (goes a b) 0 ports port ∙ ap (λ (o : Option ℕ). cond (is_some o) o (cond (goes a b port) (Some (0 + length ports)) None)) here
         ∙ ap (λ (t : Bool). cond t (Some (0 + length ports)) None) e ∙ ap Some (omega arith))

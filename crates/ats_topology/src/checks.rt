@@ -67,7 +67,11 @@ fn self_place(links: &[Link]) -> Option<usize>
 }
 
 /// The first link with an end that is the name of no node.
-pub(crate) fn unknown_node(names: &NameTable, nodes: &[Node], links: &[Link]) -> Option<TopologyFault>
+pub(crate) fn unknown_node(
+    names: &NameTable,
+    nodes: &[Node],
+    links: &[Link],
+) -> Option<TopologyFault>
     requires few { length links.now < 4294967295 }
     requires names { names.now ≡ names_of nodes.now }
     ensures { result ≡ unknown_node nodes.now links.now }

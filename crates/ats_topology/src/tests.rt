@@ -49,11 +49,7 @@ fn fault(
     bridges: &[&str],
     ends: &[(&str, &str, u32)],
 ) -> Result<Option<TopologyFault>, Fail> {
-    let made = Topology::new(
-        alloc,
-        nodes(alloc, stations, bridges)?,
-        links(alloc, ends)?,
-    );
+    let made = Topology::new(alloc, nodes(alloc, stations, bridges)?, links(alloc, ends)?);
     Ok(made.err())
 }
 
@@ -65,7 +61,12 @@ fn a_line_of_two_links(rt: HostRuntime) -> Result<(), Fail> {
         nodes(alloc, &["s1", "s2"], &["b1"])?,
         links(alloc, &[("s1", "b1", 1000), ("b1", "s2", 1000)])?,
     )?;
-    let want = [(0, 2, 1_500_000), (2, 0, 500_000), (2, 1, 500_000), (1, 2, 1_500_000)];
+    let want = [
+        (0, 2, 1_500_000),
+        (2, 0, 500_000),
+        (2, 1, 500_000),
+        (1, 2, 1_500_000),
+    ];
     assert_eq!(rt; made.ports().len(), want.len());
     for (port, (from, to, latency)) in made.ports().iter().zip(want) {
         let like = Port {
@@ -95,7 +96,12 @@ fn walks_of_a_line(rt: HostRuntime) -> Result<(), Fail> {
         nodes(alloc, &["s1", "s2", "s3", "s4"], &["b1", "b2"])?,
         links(
             alloc,
-            &[("s1", "b1", 1000), ("b1", "s2", 1000), ("s3", "b2", 10), ("b2", "s4", 100_000)],
+            &[
+                ("s1", "b1", 1000),
+                ("b1", "s2", 1000),
+                ("s3", "b2", 10),
+                ("b2", "s4", 100_000),
+            ],
         )?,
     )?;
     for (a, b, want) in [
@@ -107,7 +113,11 @@ fn walks_of_a_line(rt: HostRuntime) -> Result<(), Fail> {
         (5, 4, None),
     ] {
         let walk = made.shortest(alloc, a, b)?;
-        assert_eq!(rt; walk.as_ref().map(|walk| walk.as_slice()), want, "{a} to {b}");
+        assert_eq!(rt;
+            walk.as_ref().map(|walk| walk.as_slice()),
+            want,
+            "{a} to {b}"
+        );
     }
     Ok(())
 }
@@ -138,7 +148,11 @@ fn walks_of_a_ring(rt: HostRuntime) -> Result<(), Fail> {
         (1, 4, [7].as_slice()),
     ] {
         let walk = made.shortest(alloc, a, b)?;
-        assert_eq!(rt; walk.as_ref().map(|walk| walk.as_slice()), Some(want), "{a} to {b}");
+        assert_eq!(rt;
+            walk.as_ref().map(|walk| walk.as_slice()),
+            Some(want),
+            "{a} to {b}"
+        );
     }
     Ok(())
 }
@@ -177,18 +191,39 @@ fn each_fault_alone(rt: HostRuntime) -> Result<(), Fail> {
     let alloc = rt.alloc();
     let joined = [("s", "b", 10), ("b", "c", 10)];
     assert_eq!(rt; fault(alloc, &["s"], &["b", "c"], &joined)?, None);
-    assert_eq!(rt; fault(alloc, &[], &["b", "c", "b", "c"], &[])?, Some(TopologyFault::NodeTwice(3)));
+    assert_eq!(rt;
+        fault(alloc, &[], &["b", "c", "b", "c"], &[])?,
+        Some(TopologyFault::NodeTwice(3))
+    );
     let back = [("b", "c", 10), ("c", "d", 10), ("c", "b", 10)];
-    assert_eq!(rt; fault(alloc, &[], &["b", "c", "d"], &back)?, Some(TopologyFault::LinkTwice(3)));
+    assert_eq!(rt;
+        fault(alloc, &[], &["b", "c", "d"], &back)?,
+        Some(TopologyFault::LinkTwice(3))
+    );
     let own = [("b", "c", 10), ("c", "c", 10)];
-    assert_eq!(rt; fault(alloc, &[], &["b", "c"], &own)?, Some(TopologyFault::SelfLink(2)));
+    assert_eq!(rt;
+        fault(alloc, &[], &["b", "c"], &own)?,
+        Some(TopologyFault::SelfLink(2))
+    );
     let far = [("b", "c", 10), ("c", "x", 10)];
-    assert_eq!(rt; fault(alloc, &[], &["b", "c"], &far)?, Some(TopologyFault::UnknownNode(2)));
-    assert_eq!(rt; fault(alloc, &["s", "t"], &["b", "c"], &joined)?, Some(TopologyFault::StationLinks(2)));
+    assert_eq!(rt;
+        fault(alloc, &[], &["b", "c"], &far)?,
+        Some(TopologyFault::UnknownNode(2))
+    );
+    assert_eq!(rt;
+        fault(alloc, &["s", "t"], &["b", "c"], &joined)?,
+        Some(TopologyFault::StationLinks(2))
+    );
     let two = [("s", "b", 10), ("c", "s", 10)];
-    assert_eq!(rt; fault(alloc, &["s"], &["b", "c"], &two)?, Some(TopologyFault::StationLinks(1)));
+    assert_eq!(rt;
+        fault(alloc, &["s"], &["b", "c"], &two)?,
+        Some(TopologyFault::StationLinks(1))
+    );
     let slow = [("s", "b", 10), ("b", "c", 300)];
-    assert_eq!(rt; fault(alloc, &["s"], &["b", "c"], &slow)?, Some(TopologyFault::BadRate(2)));
+    assert_eq!(rt;
+        fault(alloc, &["s"], &["b", "c"], &slow)?,
+        Some(TopologyFault::BadRate(2))
+    );
     Ok(())
 }
 

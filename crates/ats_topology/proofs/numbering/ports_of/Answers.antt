@@ -35,7 +35,7 @@ push-requires-clause-absent c =
     ap (λ (p : Port). port_between p.from p.to c.loop-link.table.ports) c.port_of.ensures
     ∙ ap (λ (v : NodePorts). port_between (node_number c.args.nodes.now c.link-item.result.a) (node_number c.args.nodes.now c.link-item.result.b) v.ports) c.loop-link.invariant
     ∙ first_absent c.args.nodes.now (apart c.args.nodes.now c.requires.apart) c.args.links.now (all_open c.args.nodes.now c.args.links.now c.requires.known c.requires.open) c.requires.joined
-      c.loop-link.link-index c.link-item.result c.loop-link-test.true c.link-item.is o
+    c.loop-link.link-index c.link-item.result c.loop-link-test.true c.link-item.is o
 
 pub push-requires-clause-room : goal.push-requires-clause-room
 push-requires-clause-room c =
@@ -72,7 +72,7 @@ push-requires-in-loop-link-clause-absent c =
     ∙ ap (λ (v : NodePorts). port_between b a (v.ports ++ c.port_of.result ∷ [])) c.loop-link.invariant
     ∙ ap (λ (p : Port). port_between b a (ports_of c.args.nodes.now (take c.loop-link.link-index c.args.links.now) ++ p ∷ [])) c.port_of.ensures
     ∙ second_absent c.args.nodes.now (apart c.args.nodes.now c.requires.apart) c.args.links.now (all_open c.args.nodes.now c.args.links.now c.requires.known c.requires.open) c.requires.joined
-      c.loop-link.link-index c.link-item.result c.loop-link-test.true c.link-item.is o
+    c.loop-link.link-index c.link-item.result c.loop-link-test.true c.link-item.is o
 
 pub push-requires-in-loop-link-clause-room : goal.push-requires-in-loop-link-clause-room
 push-requires-in-loop-link-clause-room c =

@@ -25,7 +25,7 @@ overflow_add-index_mut c =
     let counts = c.loop-link.counts.items in
     let inside = number_within c.args.names.now (take c.loop-link.link-index c.args.links.now) counts c.place.result c.unwrap-a.result c.loop-link.invariant c.place.ensures.within c.unwrap-a.ensures in
     let small = count_small c.args.names.now c.args.links.now c.loop-link.link-index counts c.unwrap-a.result c.index_mut.result.now c.loop-link.invariant c.loop-link-test.true inside
-      (c.index_mut.ensures.value ∙ get_or_default counts c.unwrap-a.result _ 0 inside) in
+    (c.index_mut.ensures.value ∙ get_or_default counts c.unwrap-a.result _ 0 inside) in
     omega (arith, small)
 
 pub overflow_add-index_mut-in-loop-link : goal.overflow_add-index_mut-in-loop-link
@@ -37,7 +37,7 @@ overflow_add-index_mut-in-loop-link c =
     let inside = number_within c.args.names.now (take c.loop-link.link-index c.args.links.now) counts c.place-in-loop-link.result c.unwrap-b.result c.loop-link.invariant c.place-in-loop-link.ensures.within c.unwrap-b.ensures in
     let differ : c.unwrap-b.result ≡ c.unwrap-a.result → ⊥ = λ same. o.differ (sym a ∙ sym same ∙ b) in
     let small = count_small c.args.names.now c.args.links.now c.loop-link.link-index counts c.unwrap-b.result c.index_mut-in-loop-link.result.now c.loop-link.invariant c.loop-link-test.true inside
-      (c.index_mut-in-loop-link.ensures.value ∙ get_or-set_other counts c.unwrap-a.result c.unwrap-b.result (c.index_mut.result.now + 1) _ differ ∙ get_or_default counts c.unwrap-b.result _ 0 inside) in
+    (c.index_mut-in-loop-link.ensures.value ∙ get_or-set_other counts c.unwrap-a.result c.unwrap-b.result (c.index_mut.result.now + 1) _ differ ∙ get_or_default counts c.unwrap-b.result _ 0 inside) in
     omega (arith, small)
 
 pub loop-link-preserved : goal.loop-link-preserved

@@ -33,8 +33,8 @@ loop-at-preserved c =
     let end = nearer_end c.args.table.now.ports c.args.distances.now c.loop-at.at (c.unwrap-far.result - 1) c.unwrap-port.result found in
     record {
       least = λ rest l. least_so_far c.args.table.now.ports c.args.from c.args.to c.args.distances.now c.loop-at.at c.unwrap-far.result c.unwrap-port.result c.loop-at.walk.items c.push.new.self.items
-        c.requires.exact c.unwrap-far.ensures c.loop-at-test.true found c.in_ok-push.ensures.items c.loop-at.invariant.least rest
-        (subst (λ (n : ℕ). IsLeastWalk c.args.table.now.ports n c.args.to rest) to l);
+          c.requires.exact c.unwrap-far.ensures c.loop-at-test.true found c.in_ok-push.ensures.items c.loop-at.invariant.least rest
+          (subst (λ (n : ℕ). IsLeastWalk c.args.table.now.ports n c.args.to rest) to l);
       reached = some_there (distance c.args.distances.now (port_at c.ports.result.now c.unwrap-port.result).to) (c.unwrap-far.result - 1) (ap (distance c.args.distances.now) to ∙ end);
     }
 

@@ -63,7 +63,7 @@ loop-head-preserved c =
       count = spread.count ∙ c.loop-head.invariant.count;
       within = omega (arith, inside, ap (λ (q : List ℕ). length q) spread.queued, length-append queue spread.added);
       search = search_on c.args.table.now.ports c.args.to c.loop-head.distances.items c.spread.new.distances.items c.loop-head.head c.index-node.result.now c.unwrap-far.result queue c.spread.new.queue.items
-        c.requires.paired inside c.index-node.ensures c.loop-head.invariant.search is spread;
+          c.requires.paired inside c.index-node.ensures c.loop-head.invariant.search is spread;
     }
 
 pub returns-clause-exact : goal.returns-clause-exact

@@ -19,7 +19,7 @@ returns-then-eq c =
     let test : ℕ → Bool = λ p. is_at c.args.far (distance c.args.distances.now (port_at ports p).to) in
     let p = get_or items c.loop-port.port-index 0 in
     let passes = ap (λ (ps : List Port). is_at c.args.far (distance c.args.distances.now (port_at ps p).to)) (sym c.ports-ports.ensures)
-      ∙ is_at_eq c.args.far (distance c.args.distances.now (port_at c.ports-ports.result.now p).to) ∙ sym c.eq.ensures ∙ c.if-eq.true in
+    ∙ is_at_eq c.args.far (distance c.args.distances.now (port_at c.ports-ports.result.now p).to) ∙ sym c.eq.ensures ∙ c.if-eq.true in
     let none = ap (λ (xs : List ℕ). find test (take c.loop-port.port-index xs)) c.leaving-port-items.ensures ∙ c.loop-port.invariant in
     sym (ap (find test) (sym c.leaving-port-items.ensures) ∙ find-here test items c.loop-port.port-index 0 none c.loop-port-test.true passes)
 
@@ -30,6 +30,6 @@ loop-port-preserved c =
     let test : ℕ → Bool = λ p. is_at c.args.far (distance c.args.distances.now (port_at ports p).to) in
     let p = get_or items c.loop-port.port-index 0 in
     let fails = ap (λ (ps : List Port). is_at c.args.far (distance c.args.distances.now (port_at ps p).to)) (sym c.ports-ports.ensures)
-      ∙ is_at_eq c.args.far (distance c.args.distances.now (port_at c.ports-ports.result.now p).to) ∙ sym c.eq.ensures ∙ c.if-eq.false in
+    ∙ is_at_eq c.args.far (distance c.args.distances.now (port_at c.ports-ports.result.now p).to) ∙ sym c.eq.ensures ∙ c.if-eq.false in
     let none = ap (λ (xs : List ℕ). find test (take c.loop-port.port-index xs)) c.leaving-port-items.ensures ∙ c.loop-port.invariant in
     ap (λ (xs : List ℕ). find test (take (c.loop-port.port-index + 1) xs)) (sym c.leaving-port-items.ensures) ∙ find-over test items c.loop-port.port-index 0 none c.loop-port-test.true fails
