@@ -14,7 +14,7 @@ pub record IsAhead (x y : Transmission) : Type 0 where
 abbrev pub StartsAfterGap : List Transmission → Transmission → Type 0
 StartsAfterGap sent x = All (λ (z : Transmission). z.end ≢ x.start) sent
 
--- what a port does that sends one frame at a time, without a break, as soon as a frame is eligible, and then the highest
+-- what a port does that sends one frame after another, each to its end, as soon as one is eligible, and then the highest
 -- class first and in each class the frame that became eligible first
 pub record KeepsPortRule (ps_per_bit : ℕ) (sent : List Transmission) : Type 0 where
   -- no frame starts before it is eligible

@@ -8,7 +8,7 @@ use Rattle.ats_transmit.specs.declared.pick.Pick.TheVariants.{Start, Busy, Idle}
 use Rattle.ats_transmit.specs.Sending.{begun, sent_at, last_end}
 use Rattle.ats_transmit.specs.Standing.{Standing}
 
--- at this time the port is free and holds an eligible frame
+-- the port can start a frame at this time: it is free, and some frame that it holds is eligible
 pub record MaySend (held : List Offer) (sent : List Sent) (time : ℕ) : Type 0 where
   pub free : last_end sent ≤ time
   pub eligible : Any (λ (o : Offer). o.eligible.0 ≤ time) held

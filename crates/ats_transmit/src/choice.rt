@@ -11,7 +11,7 @@ use crate::sent::Sent;
 use ats_num::{Ps, Tie};
 use ats_queue::ClassQueue;
 
-/// The last offer of a frame. Offers that still wait stand near the end.
+/// The last offer of a frame, found from the end.
 pub(crate) fn offer_of(offers: &[Offer], frame: u32) -> Offer
     ensures { result ≡ offer_of offers.now frame }
 {

@@ -96,8 +96,8 @@ impl<T: Tie> Port<T> {
         self.queues[class as usize].insert(frame, sender, eligible);
     }
 
-    /// The first time at which the port is free and holds an eligible frame. `None` exactly where it holds nothing. It
-    /// takes no memory.
+    /// When the port can next start a frame: it is free then, and some frame that it holds is eligible. `None` where it
+    /// holds none. It takes no memory.
     pub fn due(&self) -> Option<Ps>
         ensures { MatchOption result (self.now.held ≡ []) (λ time. IsDue self.now.held self.now.sent time.0) }
     {
