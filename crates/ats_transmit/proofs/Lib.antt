@@ -2,6 +2,7 @@ pub mod Anys
 pub mod Due
 pub mod Kept
 pub mod Lawful
+pub mod Numbered
 pub mod Offered
 pub mod Offers
 pub mod Queues

@@ -13,3 +13,6 @@ pub use offer::Offer;
 pub use pick::Pick;
 pub use port::Port;
 pub use sent::Sent;
+
+#[cfg(test)]
+mod tests;
