@@ -3,8 +3,10 @@
 mod changes;
 mod limits;
 
-use crate::{DocumentFault, Route, read_document, write_fault};
-use ats_num::{Name, NoMemory};
+use crate::{
+    Document, DocumentFault, FlowEntry, LinkEntry, Route, StreamEntry, read_document, write_fault,
+};
+use ats_num::NoMemory;
 use std::alloc::Global;
 use std::test::Fail;
 
@@ -66,43 +68,68 @@ fn told(alloc: Global, text: &[u8]) -> Result<Vec<u8>, NoMemory> {
     Ok(out)
 }
 
+fn are_nodes(document: &Document) -> bool {
+    let stations = document.stations();
+    let bridges = document.bridges();
+    if stations.len() != 2 || bridges.len() != 1 {
+        return false;
+    }
+    stations[0].name.bytes() == b"s1".as_slice()
+        && stations[1].name.bytes() == b"s2".as_slice()
+        && bridges[0].name.bytes() == b"b1".as_slice()
+        && bridges[0].processing_ns == 1000
+        && bridges[0].residence_ns == 1_000_000
+}
+
+fn is_link(link: &LinkEntry) -> bool {
+    link.a.bytes() == b"b1".as_slice()
+        && link.b.bytes() == b"s2".as_slice()
+        && link.mbps == 1000
+        && link.propagation_ns == 500
+}
+
+fn is_stream(stream: &StreamEntry) -> bool {
+    stream.name.bytes() == b"a".as_slice()
+        && is_path(&stream.route)
+        && stream.class == 6
+        && stream.rate_bps == 100_000_000
+        && stream.burst_bits == 12336
+        && stream.min_octets == 64
+        && stream.max_octets == 1522
+        && stream.deadline_ns == 1_000_000
+        && stream.identity == Some((0x0200_0000_0001, 1))
+}
+
+fn is_path(route: &Route) -> bool {
+    match route {
+        Route::Path(names) => {
+            names.len() == 3
+                && names[0].bytes() == b"s1".as_slice()
+                && names[1].bytes() == b"b1".as_slice()
+                && names[2].bytes() == b"s2".as_slice()
+        }
+        Route::Ends(_, _) => false,
+    }
+}
+
+fn is_flow(flow: &FlowEntry) -> bool {
+    let ends = match &flow.route {
+        Route::Path(_) => false,
+        Route::Ends(from, to) => {
+            from.bytes() == b"s1".as_slice() && to.bytes() == b"s2".as_slice()
+        }
+    };
+    ends && flow.name.bytes() == b"f".as_slice() && flow.max_octets == 1518
+}
+
 #[test]
 fn reads_the_network(rt: HostRuntime) -> Result<(), Fail> {
     let document = read_document(rt.alloc(), NETWORK.as_bytes()).map_err(|_| "a network")?;
-    let names = [
-        Name::new(b"s1"),
-        Name::new(b"s2"),
-        Name::new(b"b1"),
-        Name::new(b"a"),
-    ];
+    assert!(rt; are_nodes(&document));
     let parts = document.into_parts();
-    assert_eq!(rt; parts.stations.len(), 2);
-    assert!(rt; Some(parts.stations[0].name) == names[0]);
-    assert!(rt; Some(parts.stations[1].name) == names[1]);
-    assert_eq!(rt; parts.bridges.len(), 1);
-    assert!(rt; Some(parts.bridges[0].name) == names[2]);
-    assert_eq!(rt; parts.bridges[0].processing_ns, 1000);
-    assert_eq!(rt; parts.bridges[0].residence_ns, 1_000_000);
-    assert_eq!(rt; parts.links.len(), 2);
-    assert!(rt; Some(parts.links[1].a) == names[2]);
-    assert!(rt; Some(parts.links[1].b) == names[1]);
-    assert_eq!(rt; parts.links[1].mbps, 1000);
-    assert_eq!(rt; parts.links[1].propagation_ns, 500);
     assert!(rt; parts.flows.is_empty());
-    assert_eq!(rt; parts.streams.len(), 1);
-    let stream = &parts.streams[0];
-    assert!(rt; Some(stream.name) == names[3]);
-    match &stream.route {
-        Route::Path(path) => assert_eq!(rt; path.len(), 3),
-        Route::Ends(_, _) => return Err("a path".into()),
-    }
-    assert_eq!(rt; stream.class, 6);
-    assert_eq!(rt; stream.rate_bps, 100_000_000);
-    assert_eq!(rt; stream.burst_bits, 12336);
-    assert_eq!(rt; stream.min_octets, 64);
-    assert_eq!(rt; stream.max_octets, 1522);
-    assert_eq!(rt; stream.deadline_ns, 1_000_000);
-    assert!(rt; stream.identity == Some((0x0200_0000_0001, 1)));
+    assert!(rt; parts.links.len() == 2 && is_link(&parts.links[1]));
+    assert!(rt; parts.streams.len() == 1 && is_stream(&parts.streams[0]));
     Ok(())
 }
 
@@ -112,20 +139,10 @@ fn reads_a_flow(rt: HostRuntime) -> Result<(), Fail> {
     text.extend_from_slice(b"format = 1\n")?;
     text.extend_from_slice(FLOW.as_bytes())?;
     let document = read_document(rt.alloc(), &text).map_err(|_| "a flow")?;
-    assert!(rt; document.stations().is_empty());
-    assert!(rt; document.bridges().is_empty());
     assert!(rt; document.links().is_empty());
     assert!(rt; document.streams().is_empty());
-    assert_eq!(rt; document.flows().len(), 1);
-    let flow = &document.flows()[0];
-    assert_eq!(rt; flow.max_octets, 1518);
-    match &flow.route {
-        Route::Path(_) => return Err("two ends".into()),
-        Route::Ends(from, to) => {
-            assert!(rt; Some(*from) == Name::new(b"s1"));
-            assert!(rt; Some(*to) == Name::new(b"s2"));
-        }
-    }
+    let flows = document.flows();
+    assert!(rt; flows.len() == 1 && is_flow(&flows[0]));
     Ok(())
 }
 
