@@ -9,9 +9,9 @@ use std::fmt;
 /// one of the earliest entry. Nodes and links are counted from 1.
 #[derive(Clone, Copy, Debug, PartialEq, Eq)]
 pub enum TopologyFault {
-    /// An earlier node has the name of this one.
+    /// The node's name stands at a node before it.
     NodeTwice(u32),
-    /// An earlier link joins the same two names as this one, in either direction.
+    /// A link before it has these two ends, in this order or turned round.
     LinkTwice(u32),
     /// The link has one name at both ends.
     SelfLink(u32),

@@ -43,24 +43,44 @@ fn links(alloc: Global, ends: &[(&str, &str, u32)]) -> Result<Vec<Link>, Fail> {
     Ok(made)
 }
 
+fn topology(
+    alloc: Global,
+    nodes: Vec<Node>,
+    links: Vec<Link>,
+) -> Result<Result<Topology, TopologyFault>, Fail> {
+    if nodes.len() > 5000 || links.len() > 5000 {
+        return Err("more than a test has".into());
+    }
+    Ok(Topology::new(alloc, nodes, links))
+}
+
 fn fault(
     alloc: Global,
     stations: &[&str],
     bridges: &[&str],
     ends: &[(&str, &str, u32)],
 ) -> Result<Option<TopologyFault>, Fail> {
-    let made = Topology::new(alloc, nodes(alloc, stations, bridges)?, links(alloc, ends)?);
-    Ok(made.err())
+    let nodes = nodes(alloc, stations, bridges)?;
+    let links = links(alloc, ends)?;
+    Ok(topology(alloc, nodes, links)?.err())
+}
+
+fn walk(alloc: Global, made: &Topology, a: u32, b: u32) -> Result<Option<Vec<u32>>, Fail> {
+    let count = made.nodes().len();
+    if a as usize >= count || b as usize >= count {
+        return Err("a node".into());
+    }
+    Ok(made.shortest(alloc, a, b)?)
 }
 
 #[test]
 fn a_line_of_two_links(rt: HostRuntime) -> Result<(), Fail> {
     let alloc = rt.alloc();
-    let made = Topology::new(
+    let made = topology(
         alloc,
         nodes(alloc, &["s1", "s2"], &["b1"])?,
         links(alloc, &[("s1", "b1", 1000), ("b1", "s2", 1000)])?,
-    )?;
+    )??;
     let want = [
         (0, 2, 1_500_000),
         (2, 0, 500_000),
@@ -91,7 +111,7 @@ fn a_line_of_two_links(rt: HostRuntime) -> Result<(), Fail> {
 #[test]
 fn walks_of_a_line(rt: HostRuntime) -> Result<(), Fail> {
     let alloc = rt.alloc();
-    let made = Topology::new(
+    let made = topology(
         alloc,
         nodes(alloc, &["s1", "s2", "s3", "s4"], &["b1", "b2"])?,
         links(
@@ -103,7 +123,7 @@ fn walks_of_a_line(rt: HostRuntime) -> Result<(), Fail> {
                 ("b2", "s4", 100_000),
             ],
         )?,
-    )?;
+    )??;
     for (a, b, want) in [
         (0, 1, Some([0, 2].as_slice())),
         (1, 0, Some([3, 1].as_slice())),
@@ -112,7 +132,7 @@ fn walks_of_a_line(rt: HostRuntime) -> Result<(), Fail> {
         (0, 2, None),
         (5, 4, None),
     ] {
-        let walk = made.shortest(alloc, a, b)?;
+        let walk = walk(alloc, &made, a, b)?;
         assert_eq!(rt;
             walk.as_ref().map(|walk| walk.as_slice()),
             want,
@@ -123,9 +143,41 @@ fn walks_of_a_line(rt: HostRuntime) -> Result<(), Fail> {
 }
 
 #[test]
+fn walks_of_a_tree(rt: HostRuntime) -> Result<(), Fail> {
+    let alloc = rt.alloc();
+    let made = topology(
+        alloc,
+        nodes(alloc, &["s1", "s2", "s3"], &["b0", "b1", "b2"])?,
+        links(
+            alloc,
+            &[
+                ("b0", "b1", 1000),
+                ("b0", "b2", 1000),
+                ("s1", "b1", 1000),
+                ("s2", "b1", 1000),
+                ("s3", "b2", 1000),
+            ],
+        )?,
+    )??;
+    for (a, b, want) in [
+        (0, 2, [4, 1, 2, 9].as_slice()),
+        (2, 1, [8, 3, 0, 7].as_slice()),
+        (0, 1, [4, 7].as_slice()),
+    ] {
+        let walk = walk(alloc, &made, a, b)?;
+        assert_eq!(rt;
+            walk.as_ref().map(|walk| walk.as_slice()),
+            Some(want),
+            "{a} to {b}"
+        );
+    }
+    Ok(())
+}
+
+#[test]
 fn walks_of_a_ring(rt: HostRuntime) -> Result<(), Fail> {
     let alloc = rt.alloc();
-    let made = Topology::new(
+    let made = topology(
         alloc,
         nodes(alloc, &["s"], &["b0", "b1", "b2", "b3"])?,
         links(
@@ -138,7 +190,7 @@ fn walks_of_a_ring(rt: HostRuntime) -> Result<(), Fail> {
                 ("s", "b2", 100),
             ],
         )?,
-    )?;
+    )??;
     for (a, b, want) in [
         (1, 3, [0, 2].as_slice()),
         (3, 1, [3, 1].as_slice()),
@@ -147,7 +199,7 @@ fn walks_of_a_ring(rt: HostRuntime) -> Result<(), Fail> {
         (0, 1, [8, 3, 1].as_slice()),
         (1, 4, [7].as_slice()),
     ] {
-        let walk = made.shortest(alloc, a, b)?;
+        let walk = walk(alloc, &made, a, b)?;
         assert_eq!(rt;
             walk.as_ref().map(|walk| walk.as_slice()),
             Some(want),
@@ -289,7 +341,7 @@ fn limits(rt: HostRuntime) -> Result<(), Fail> {
         joined.propagation_ns = propagation_ns;
         let mut links = Vec::new(alloc);
         links.push(joined)?;
-        let made = Topology::new(alloc, nodes, links);
+        let made = topology(alloc, nodes, links)?;
         assert_eq!(rt; made.err(), want);
     }
     Ok(())
@@ -304,8 +356,27 @@ fn too_many_nodes(rt: HostRuntime) -> Result<(), Fail> {
             let name = format!(in alloc; "b{n}")?;
             nodes.push(node(name.as_str(), BRIDGE)?)?;
         }
-        let made = Topology::new(alloc, nodes, Vec::new(alloc));
+        let made = topology(alloc, nodes, Vec::new(alloc))?;
         assert_eq!(rt; made.err(), want);
+    }
+    Ok(())
+}
+
+#[test]
+fn words_of_a_fault(rt: HostRuntime) -> Result<(), Fail> {
+    let alloc = rt.alloc();
+    for (fault, want) in [
+        (TopologyFault::NodeTwice(2), "node-twice 2"),
+        (TopologyFault::LinkTwice(3), "link-twice 3"),
+        (TopologyFault::SelfLink(4), "self-link 4"),
+        (TopologyFault::UnknownNode(5), "unknown-node 5"),
+        (TopologyFault::StationLinks(6), "station-links 6"),
+        (TopologyFault::BadRate(7), "bad-rate 7"),
+        (TopologyFault::Limit, "limit"),
+        (TopologyFault::NoMemory, "no-memory"),
+    ] {
+        let text = format!(in alloc; "{fault}")?;
+        assert_eq!(rt; text.as_str(), want);
     }
     Ok(())
 }

@@ -44,8 +44,8 @@ impl Model for Topology {
 }
 
 impl Topology {
-    /// The topology of these nodes and links. Link `i` from `a` to `b` has port `2 * i` from `a` to `b` and port
-    /// `2 * i + 1` from `b` to `a`.
+    /// The topology of these nodes and links, of each fewer than 4,294,967,295. Each link makes two ports, numbered one
+    /// after the other: from its first end to its second, then back.
     ///
     /// # Errors
     ///
@@ -113,7 +113,7 @@ impl Topology {
         self.names.place(name)
     }
 
-    /// The number of the port from node `a` to node `b`; `None` exactly where no link joins them.
+    /// The number of the port from node `a` to node `b`; `None` for two nodes without a link, and for no others.
     pub fn port_between(&self, a: u32, b: u32) -> Option<u32>
         ensures number { result ≡ port_between a b self.now.ports }
         ensures goes { IfSome result (GoesBetween self.now.ports a b) }
@@ -121,9 +121,9 @@ impl Topology {
         self.table.between(a, b)
     }
 
-    /// The ports of a walk from node `a` to node `b`: of all such walks one of fewest ports, and of those the one whose
-    /// list of port numbers is first in lexicographic order. `None` exactly where no walk leads there. From a node to
-    /// itself the walk is empty. The search is breadth first, and looks at each port once.
+    /// The ports of a walk from node `a` to node `b`, which are node numbers: of all such walks one of fewest ports, and of
+    /// those the one whose list of port numbers is first in lexicographic order. `None` where no walk leads there, and
+    /// nowhere else; no ports where `a` is `b`. The search is breadth first, and looks at each port once.
     ///
     /// # Errors
     ///
