@@ -1,6 +1,7 @@
 pub mod Node
 pub mod Rates
 pub mod Link
+pub mod FaultText
 pub mod Faults
 pub mod Port
 pub mod PortTable

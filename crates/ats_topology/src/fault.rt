@@ -62,6 +62,11 @@ impl From<OutOfMemory> for TopologyFault {
 }
 
 impl fmt::Display for TopologyFault {
+    ghost use Rattle.std.specs.Prelude.{Some};
+    ghost use Rattle.ats_topology.specs.FaultText.{fault_text};
+
+    ghost output = { λ fault. Some (fault_text fault) };
+
     fn fmt<W: fmt::Write>(&self, f: &mut fmt::Formatter<W>) -> fmt::Result {
         match self {
             TopologyFault::NodeTwice(n) => write!(f, "node-twice {n}"),
