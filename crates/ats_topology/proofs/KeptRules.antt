@@ -1,11 +1,11 @@
-use Rattle.std.proofs.Common.{◌≡◌, ℕ, ◌<◌, ◌^◌, List, length, sym, ap, ◌∙◌, subst, arith, Option, Some, None, IfSome, true}
+use Rattle.std.proofs.Common.{◌≡◌, ℕ, List, length, sym, ap, ◌∙◌, subst, arith, Option, Some, None, IfSome, true}
 use Rattle.std.specs.Prelude.{◌==◌}
 use Rattle.std.proofs.lemmas.Bool.{eqb-true, and_parts}
 use Rattle.std.specs.List.{All}
 use Rattle.std.proofs.lemmas.List.Elements.{All-weaker}
 use Rattle.ats_topology.specs.Port.{IsBetween, ArePaired, GoesBetween, port_between, port_at, goes, no_port}
-use Rattle.ats_topology.specs.PortTable.{NodePorts, node_ports}
-use Rattle.ats_topology.specs.Topology.{DeclaredTopology, ports_of, topology_of, IsPort, IsTopology}
+use Rattle.ats_topology.specs.PortTable.{NodePorts}
+use Rattle.ats_topology.specs.Topology.{DeclaredTopology, ports_of, IsPort, IsTopology}
 use Rattle.ats_topology.specs.Kept.{AreKept}
 use Rattle.ats_topology.specs.declared.node.Node.{Node}
 use Rattle.ats_topology.specs.declared.link.Link.{Link}

@@ -1,8 +1,6 @@
-use Rattle.std.proofs.Common.{◌≡◌, ℕ, ◌+◌, ◌<◌, Bool, true, false, cond, ◌||◌, List, [], ◌∷◌, length, get_or, take, Option, Some, None, refl, sym, ap, ◌∙◌, arith, eqb, subst}
+use Rattle.std.proofs.Common.{◌≡◌, ℕ, ◌+◌, ◌<◌, Bool, false, ◌||◌, List, [], length, get_or, take, Option, Some, None, refl, sym, ap, ◌∙◌, arith, eqb, subst}
 use Rattle.std.specs.Prelude.{is_some, is_none, IsSome}
-use Rattle.std.specs.Bool.{Decides}
-use Rattle.std.specs.List.{position_from, All}
-use Rattle.std.specs.Option.{option_map}
+use Rattle.std.specs.List.{All}
 use Rattle.std.specs.Str.{bytes_eq}
 use Rattle.std.proofs.lemmas.Bool.{false≢true, or_parts}
 use Rattle.std.proofs.lemmas.Bool.Decides.{same_from_decides, Decides-eqb}
@@ -10,7 +8,7 @@ use Rattle.std.proofs.lemmas.Slice.Eq.{bytes_eq-Decides}
 use Rattle.ats_names.specs.Places.{place_of}
 use Rattle.ats_topology.specs.Node.{names_of, AreApart}
 use Rattle.ats_topology.specs.Link.{is_self_link, ends_at}
-use Rattle.ats_topology.specs.Faults.{node_twice, unknown_node, self_link, is_name_again, first_below, fault_at, has_unknown_end}
+use Rattle.ats_topology.specs.Faults.{node_twice, unknown_node, self_link, is_name_again, fault_at, has_unknown_end}
 use Rattle.ats_topology.specs.declared.fault.TopologyFault.{TopologyFault}
 use Rattle.ats_topology.specs.declared.fault.TopologyFault.TheVariants.{NodeTwice, UnknownNode, SelfLink}
 use Rattle.ats_topology.specs.declared.node.Node.{Node}

@@ -1,16 +1,16 @@
-use Rattle.std.proofs.Common.{◌≡◌, ℕ, ◌+◌, ◌*◌, ◌<◌, ◌≤◌, Bool, true, false, cond, ◌&&◌, ◌||◌, List, [], ◌∷◌, ◌++◌, length, get_or, take, Option, Some, None, refl, sym, ap, ◌∙◌, arith, eqb, subst, IsSome, length-append, append_assoc}
+use Rattle.std.proofs.Common.{◌≡◌, ℕ, ◌+◌, ◌*◌, ◌<◌, Bool, true, false, cond, ◌&&◌, ◌||◌, List, [], ◌∷◌, ◌++◌, length, get_or, take, Option, Some, None, refl, sym, ap, ◌∙◌, arith, eqb, subst, IsSome, append_assoc}
 use Rattle.std.specs.Prelude.{is_some, is_none, unwrap_or}
-use Rattle.std.specs.List.{position_from, list_any, All, flat_map}
+use Rattle.std.specs.List.{position_from, list_any, All}
 use Rattle.std.specs.Str.{bytes_eq}
 use Rattle.std.proofs.lemmas.Bool.{ne_eqb, and_left, or_parts}
-use Rattle.std.proofs.lemmas.List.{take_more, flat_map_more, length-take-le}
+use Rattle.std.proofs.lemmas.List.{take_more, flat_map_more}
 use Rattle.std.proofs.lemmas.List.Elements.{All-head, All-tail, All-take}
 use Rattle.ats_names.specs.Places.{place_of}
 use Rattle.ats_topology.specs.Node.{names_of, AreApart}
 use Rattle.ats_topology.specs.Link.{joins}
 use Rattle.ats_topology.specs.Rates.{ps_per_bit_of}
 use Rattle.ats_topology.specs.Port.{goes, port_between}
-use Rattle.ats_topology.specs.Faults.{link_twice, bad_rate, has_bad_rate, is_link_again, no_link}
+use Rattle.ats_topology.specs.Faults.{link_twice, bad_rate, has_bad_rate, is_link_again}
 use Rattle.ats_topology.specs.Topology.{node_number, port_of, link_ports, ports_of}
 use Rattle.ats_topology.specs.declared.fault.TopologyFault.TheVariants.{LinkTwice, BadRate}
 use Rattle.ats_topology.specs.declared.node.Node.{Node}

@@ -1,23 +1,23 @@
-use Rattle.std.proofs.Common.{◌≡◌, ℕ, zero, suc, ◌+◌, ◌*◌, ◌<◌, ◌≤◌, Bool, true, false, cond, not, ◌&&◌, ◌||◌, List, [], ◌∷◌, ◌++◌, length, get_or, Option, Some, None, refl, sym, ap, ◌∙◌, arith, eqb, subst, ⊎_elim, IsSome, IsTrue}
-use Rattle.std.specs.Prelude.{is_some, is_none, unwrap_or, ◌==◌, nat_lt}
-use Rattle.std.specs.List.{All, list_any, count_by, position_from, AllByRecursion}
+use Rattle.std.proofs.Common.{◌≡◌, ℕ, zero, suc, ◌+◌, ◌*◌, ◌<◌, ◌≤◌, Bool, true, false, cond, not, ◌||◌, List, [], ◌∷◌, length, get_or, Option, Some, None, refl, sym, ap, ◌∙◌, arith, eqb, subst, ⊎_elim, IsSome, IsTrue}
+use Rattle.std.specs.Prelude.{unwrap_or, ◌==◌, nat_lt}
+use Rattle.std.specs.List.{All, list_any, count_by, AllByRecursion}
 use Rattle.std.specs.Map.{lookup}
 use Rattle.std.specs.Option.{option_or}
 use Rattle.std.specs.Str.{bytes_eq}
-use Rattle.std.proofs.lemmas.Bool.{cases_lt, cases_Bool, false≢true, true≢false, or_parts, eqb-true, ltb-false, not-false, and_cases}
+use Rattle.std.proofs.lemmas.Bool.{cases_lt, false≢true, true≢false, or_parts, eqb-true, ltb-false, not-false, and_cases}
 use Rattle.std.proofs.lemmas.List.{get_or_past, get_or_default}
 use Rattle.std.proofs.lemmas.List.Sums.{sum_by-cons}
-use Rattle.std.proofs.lemmas.List.Elements.{All-nil, All-cons, All-head, All-tail, All-weaker, All-append}
+use Rattle.std.proofs.lemmas.List.Elements.{All-nil, All-cons, All-head, All-tail, All-weaker}
 use Rattle.std.proofs.lemmas.Slice.Eq.{bytes_eq-Decides}
 use Rattle.ats_names.specs.Places.{place_of}
 use Rattle.ats_topology.specs.Node.{names_of, is_station, processing_of, residence_of, AreApart}
 use Rattle.ats_topology.specs.Link.{ends_at, is_self_link}
 use Rattle.ats_topology.specs.Rates.{ps_per_bit_of, link_rates, IsPsPerBit}
-use Rattle.ats_topology.specs.Port.{port_at, leaves, leads_to, IsBetween, HasBack, ArePaired}
-use Rattle.ats_topology.specs.Faults.{topology_fault, node_twice, link_twice, self_link, unknown_node, station_links, bad_rate, limit, is_over, is_node_over, is_kind_over, is_link_over, is_badly_linked, has_bad_rate}
-use Rattle.ats_topology.specs.Topology.{no_node, node_at, node_number, link_at, port_of, link_ports, ports_of, topology_of, IsNode, IsLink, IsPort, HasPorts, HasOnePort, IsTopology}
+use Rattle.ats_topology.specs.Port.{port_at, leaves, leads_to, HasBack, ArePaired}
+use Rattle.ats_topology.specs.Faults.{topology_fault, node_twice, link_twice, self_link, unknown_node, station_links, bad_rate, is_over, is_node_over, is_link_over, is_badly_linked}
+use Rattle.ats_topology.specs.Topology.{no_node, node_at, node_number, link_at, port_of, ports_of, topology_of, IsNode, IsLink, IsPort, HasOnePort, IsTopology}
 use Rattle.ats_topology.specs.declared.fault.TopologyFault.{TopologyFault}
-use Rattle.ats_topology.specs.declared.fault.TopologyFault.TheVariants.{StationLinks, BadRate, SelfLink, Limit}
+use Rattle.ats_topology.specs.declared.fault.TopologyFault.TheVariants.{StationLinks, SelfLink, Limit}
 use Rattle.ats_topology.specs.declared.node.Node.{Node}
 use Rattle.ats_topology.specs.declared.link.Link.{Link}
 use Rattle.ats_topology.specs.declared.port.Port.{Port}

@@ -1,10 +1,10 @@
-use Rattle.std.proofs.Common.{◌≡◌, ℕ, zero, suc, ◌+◌, ◌<◌, ◌≤◌, Bool, true, false, cond, List, [], ◌∷◌, ◌++◌, length, get_or, set, replicate, take, Option, Some, None, refl, sym, ap, ◌∙◌, arith, eqb, subst, append_assoc, length-append, length-set, get_or-set_same, get_or-set_other, ⊎_elim, inl, inr, ◌⊎◌}
+use Rattle.std.proofs.Common.{◌≡◌, ℕ, zero, suc, ◌+◌, ◌<◌, true, false, cond, List, [], ◌∷◌, ◌++◌, length, get_or, set, take, Option, Some, None, refl, sym, ap, ◌∙◌, arith, subst, append_assoc, length-append, length-set, get_or-set_same, get_or-set_other, ⊎_elim, inl, inr, ◌⊎◌}
 use Rattle.std.specs.Prelude.{is_none, is_some}
-use Rattle.std.specs.List.{All, Contains, count_by}
+use Rattle.std.specs.List.{All, Contains}
 use Rattle.std.proofs.lemmas.Bool.{cases_eq, cases_lt, true≢false}
 use Rattle.std.proofs.lemmas.List.{append-nil, get_or_past, get_or_default, take_more}
 use Rattle.std.proofs.lemmas.List.Sums.{sum_by-cons}
-use Rattle.std.proofs.lemmas.List.Elements.{All-nil, All-push, All-weaker, Contains-append_left, Contains-append_right, Contains-push, Contains-push_cases}
+use Rattle.std.proofs.lemmas.List.Elements.{All-nil, All-push, All-weaker, Contains-append_left, Contains-push, Contains-push_cases}
 use Rattle.ats_topology.specs.Port.{port_at, leaving, no_port, IsBetween}
 use Rattle.ats_topology.specs.Search.{distance, unreached, Spreads, IsAdded}
 use Rattle.ats_topology.specs.declared.port.Port.{Port}

@@ -1,4 +1,4 @@
-use Rattle.std.specs.Prelude.{◌≡◌, ℕ, ◌+◌, ◌<◌, ◌≤◌, Bool, false, ◌==◌, ◌++◌, ◌⊎◌, List, length, slice_index_or, Option, Some, None, is_none, count_by, All, Contains}
+use Rattle.std.specs.Prelude.{◌≡◌, ℕ, ◌+◌, ◌≤◌, Bool, false, ◌==◌, ◌++◌, ◌⊎◌, List, length, slice_index_or, Option, Some, None, is_none, count_by, All, Contains}
 use Rattle.ats_topology.specs.Port.{port_at}
 use Rattle.ats_topology.specs.Walks.{IsWalk}
 use Rattle.ats_topology.specs.declared.port.Port.{Port}

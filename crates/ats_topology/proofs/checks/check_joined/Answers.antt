@@ -1,4 +1,4 @@
-use Rattle.std.proofs.Common.{◌≡◌, length, sym, ap, ◌∙◌, arith, Some, None}
+use Rattle.std.proofs.Common.{length, sym, ap, ◌∙◌, arith}
 use Rattle.ats_topology.specs.Faults.{is_link_again, fault_at}
 use Rattle.ats_topology.specs.declared.fault.TopologyFault.TheVariants.{LinkTwice}
 use Rattle.ats_topology.proofs.FirstBelow.{first_below-some, first_below-none}

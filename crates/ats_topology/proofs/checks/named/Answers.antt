@@ -1,4 +1,4 @@
-use Rattle.std.proofs.Common.{◌≡◌, length, sym, ap, ◌∙◌, arith, Some, None}
+use Rattle.std.proofs.Common.{length, sym, ap, ◌∙◌, arith}
 use Rattle.ats_topology.specs.Node.{names_of}
 use Rattle.ats_topology.specs.Faults.{is_name_again, fault_at}
 use Rattle.ats_topology.specs.declared.fault.TopologyFault.TheVariants.{NodeTwice}

@@ -1,11 +1,10 @@
-use Rattle.std.proofs.Common.{◌≡◌, ◌+◌, ◌*◌, ◌<◌, ◌≤◌, ◌^◌, ℕ, List, [], ◌∷◌, ◌++◌, length, take, refl, sym, ap, ◌∙◌, arith, Some, None, subst, length-append, length-take-le}
-use Rattle.std.specs.List.{All}
+use Rattle.std.proofs.Common.{◌≡◌, [], ◌∷◌, ◌++◌, length, take, refl, ap, ◌∙◌, arith, length-append, length-take-le}
 use Rattle.ats_topology.specs.Node.{names_of}
 use Rattle.ats_topology.specs.Port.{port_between}
 use Rattle.ats_topology.specs.PortTable.{NodePorts, node_ports}
 use Rattle.ats_topology.specs.Topology.{port_of, ports_of, node_number}
 use Rattle.ats_topology.specs.declared.port.Port.{Port}
-use Rattle.ats_topology.proofs.Known.{IsOpen, apart, all_open, table_open, is_there}
+use Rattle.ats_topology.proofs.Known.{apart, all_open, table_open, is_there}
 use Rattle.ats_topology.proofs.Numbered.{node_number_within, has_rate, length-ports_of, more_ports, first_absent, second_absent}
 use Rattle.ats_topology.proofs.numbering.ports_of.Goals as goal
 

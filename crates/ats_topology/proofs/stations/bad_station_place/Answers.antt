@@ -1,4 +1,4 @@
-use Rattle.std.proofs.Common.{◌≡◌, ℕ, ◌+◌, length, get_or, sym, ap, ◌∙◌, arith, Some}
+use Rattle.std.proofs.Common.{sym, ap, ◌∙◌, arith, Some}
 use Rattle.ats_topology.specs.Faults.{is_badly_linked}
 use Rattle.ats_topology.proofs.PositionLemmas.{position_from-some, position_from-none}
 use Rattle.ats_topology.proofs.CountLemmas.{badly_linked}

@@ -1,7 +1,7 @@
-use Rattle.std.proofs.Common.{◌≡◌, ℕ, List, take, replicate, ◌+◌, ◌<◌, ◌≤◌, length, get_or, set, sym, ap, ◌∙◌, arith, get_or-set_other, length-set}
+use Rattle.std.proofs.Common.{◌≡◌, ℕ, List, take, replicate, ◌+◌, ◌<◌, length, set, sym, ap, ◌∙◌, arith, get_or-set_other, length-set}
 use Rattle.ats_topology.proofs.NameLemmas.{length-names_of}
 use Rattle.std.proofs.lemmas.List.{get_or_default}
-use Rattle.ats_topology.proofs.Known.{IsOpen, table_apart, table_open, is_there, is_number}
+use Rattle.ats_topology.proofs.Known.{table_apart, table_open, is_there, is_number}
 use Rattle.ats_topology.proofs.CountLemmas.{counts_more, counts_none, count_small, number_within}
 use Rattle.ats_topology.proofs.stations.link_counts.Goals as goal
 

@@ -1,4 +1,4 @@
-use Rattle.std.proofs.Common.{◌≡◌, ◌++◌, ◌<◌, ℕ, List, IsSome}
+use Rattle.std.proofs.Common.{◌++◌, ℕ, List, IsSome}
 use Rattle.std.specs.Prelude.{unwrap_or}
 use Rattle.ats_topology.specs.Walks.{IsLeastWalk}
 use Rattle.ats_topology.specs.Search.{distance}

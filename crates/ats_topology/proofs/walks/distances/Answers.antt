@@ -1,8 +1,7 @@
-use Rattle.std.proofs.Common.{◌≡◌, ℕ, ◌+◌, ◌-◌, ◌<◌, ◌≤◌, List, [], ◌∷◌, ◌++◌, length, get_or, set, replicate, drop, sym, ap, ◌∙◌, arith, rules, Option, Some, None, subst, length-set, length-append}
+use Rattle.std.proofs.Common.{◌≡◌, ℕ, ◌<◌, ◌≤◌, List, length, replicate, sym, ap, ◌∙◌, arith, rules, Option, Some, None, subst, length-set, length-append}
 use Rattle.std.proofs.lemmas.List.{length-replicate, drop_all}
-use Rattle.ats_topology.specs.Search.{distance, unreached, Spreads, AreDistances}
 use Rattle.ats_topology.proofs.Spreading.{distance_within, read_is, some_is}
-use Rattle.ats_topology.proofs.Searching.{IsSearch, IsTurn, turn_at, turn_small, search_on, search_start, found_all, unreached_start}
+use Rattle.ats_topology.proofs.Searching.{IsSearch, turn_at, turn_small, search_on, search_start, found_all, unreached_start}
 use Rattle.ats_topology.proofs.LeastWalks.{some_there}
 use Rattle.ats_topology.proofs.walks.distances.Goals as goal
 

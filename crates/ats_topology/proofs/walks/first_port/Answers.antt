@@ -1,7 +1,7 @@
-use Rattle.std.proofs.Common.{◌≡◌, ℕ, ◌+◌, ◌<◌, Bool, true, false, List, length, get_or, take, sym, ap, ◌∙◌, arith, Some, None}
+use Rattle.std.proofs.Common.{ℕ, ◌+◌, Bool, List, length, get_or, take, sym, ap, ◌∙◌, arith}
 use Rattle.std.specs.List.{find}
 use Rattle.ats_topology.specs.declared.port.Port.{Port}
-use Rattle.ats_topology.specs.Port.{port_at, leaving}
+use Rattle.ats_topology.specs.Port.{port_at}
 use Rattle.ats_topology.specs.Search.{distance, is_at}
 use Rattle.ats_topology.proofs.Leaving.{leaving_at, find-here, find-over}
 use Rattle.ats_topology.proofs.LeastWalks.{is_at_eq}

@@ -1,7 +1,5 @@
-use Rattle.std.proofs.Common.{◌≡◌, ℕ, ◌<◌, List, length, get_or, sym, ap, ◌∙◌, arith}
-use Rattle.std.specs.List.{All}
+use Rattle.std.proofs.Common.{◌≡◌, List, length, get_or, sym, ap, ◌∙◌, arith}
 use Rattle.ats_topology.specs.declared.port.Port.{Port}
-use Rattle.ats_topology.specs.Port.{port_at}
 use Rattle.ats_topology.proofs.Leaving.{leaving_at}
 use Rattle.ats_topology.proofs.Spreading.{step_over, step_to, to_within}
 use Rattle.ats_topology.proofs.walks.spread.Goals as goal

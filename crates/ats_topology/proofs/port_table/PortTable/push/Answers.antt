@@ -1,4 +1,4 @@
-use Rattle.std.proofs.Common.{◌≡◌, ◌+◌, ◌<◌, ◌^◌, ℕ, List, [], ◌∷◌, ◌++◌, length, sym, ap, ◌∙◌, arith, None, get_or-set_same}
+use Rattle.std.proofs.Common.{◌≡◌, ◌+◌, ◌<◌, ◌^◌, ℕ, List, [], ◌∷◌, ◌++◌, length, ap, ◌∙◌, arith, None, get_or-set_same}
 use Rattle.std.specs.Global.{Vec}
 use Rattle.ats_topology.specs.Port.{port_between}
 use Rattle.ats_topology.specs.PortTable.{NodePorts}
