@@ -1,0 +1,46 @@
+use Rattle.std.specs.Prelude.{◌≡◌, ℕ, ◌≤◌, List, ◌++◌, length, map, Some, All, AllPairs}
+use Rattle.ats_topology.specs.Node.{AreApart}
+use Rattle.ats_topology.specs.Topology.{DeclaredTopology, IsTopology}
+use Rattle.ats_streams.specs.Stream.{DeclaredStream, IsStream}
+use Rattle.ats_streams.specs.Flow.{DeclaredFlow, IsFlow}
+use Rattle.ats_network.specs.Sender.{Sender, stream_sender, flow_sender}
+use Rattle.ats_network.specs.Path.{IsValidPath}
+use Rattle.ats_network.specs.declared.network.TheConstants.{MAX_STREAMS, MAX_FLOWS}
+
+-- a network: nodes, links and ports, and the streams and flows that are declared over them
+pub record DeclaredNetwork : Type 0 where
+  pub topology : DeclaredTopology
+  pub streams : List DeclaredStream
+  pub flows : List DeclaredFlow
+
+-- these as one network
+abbrev pub declared_network : DeclaredTopology → List DeclaredStream → List DeclaredFlow → DeclaredNetwork
+declared_network topology streams flows = record { topology = topology; streams = streams; flows = flows }
+
+-- the senders, numbered from 0: the streams in their order, then the flows in theirs
+abbrev pub senders_of : DeclaredNetwork → List Sender
+senders_of network = map stream_sender network.streams ++ map flow_sender network.flows
+
+-- the senders' names
+abbrev pub names_of : List Sender → List (List ℕ)
+names_of senders = map (λ (s : Sender). s.name) senders
+
+-- both streams have this destination address and VLAN identifier
+pub record Share (s t : DeclaredStream) (identity : ℕ × ℕ) : Type 0 where
+  pub one : s.identity ≡ Some identity
+  pub other : t.identity ≡ Some identity
+
+-- no two streams have one identity
+abbrev pub AreIdentified : List DeclaredStream → Type 0
+AreIdentified streams = AllPairs (λ (s t : DeclaredStream). (identity : ℕ × ℕ) → ¬ Share s t identity) streams
+
+-- what each network keeps
+pub record IsNetwork (network : DeclaredNetwork) : Type 0 where
+  pub topology : IsTopology network.topology
+  pub streams : All IsStream network.streams
+  pub flows : All IsFlow network.flows
+  pub paths : All (λ (s : Sender). IsValidPath network.topology s.path) (senders_of network)
+  pub names : AreApart (names_of (senders_of network))
+  pub identities : AreIdentified network.streams
+  pub few_streams : length network.streams ≤ MAX_STREAMS
+  pub few_flows : length network.flows ≤ MAX_FLOWS
