@@ -1,0 +1,3 @@
+pub mod PortSums
+pub mod Certificate
+pub mod Least

@@ -1,0 +1,26 @@
+//! Rows of a certificate.
+
+/// What a certificate says of a port and a class: what the declared streams and flows make of them, and the bound of each
+/// frame of that class.
+#[derive(Clone, Copy, Debug, PartialEq, Eq)]
+pub struct Row {
+    /// The number of the port.
+    pub port: u32,
+    /// The class, 1 to 7.
+    pub class: u8,
+    /// The part of a second, in picoseconds, that the rates of the higher classes take of each second.
+    pub higher: u128,
+    /// The same of the rates of this class.
+    pub equal: u128,
+    /// The bursts of this class and the higher ones together, in bits.
+    pub bursts: u128,
+    /// The wire bits of the longest frame of a lower class, flows included; 0 where there is none.
+    pub lower: u64,
+    /// The wire bits of the shortest frame of this class.
+    pub least: u64,
+    /// How long a frame may wait, in picoseconds.
+    pub wait: u128,
+    /// The bound, in picoseconds, on the time from a frame's eligibility at the port to its arrival behind it: the wait, the
+    /// transmission of the shortest frame, and the latency.
+    pub bound: u128,
+}
