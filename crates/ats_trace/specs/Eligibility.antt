@@ -1,0 +1,46 @@
+use Rattle.std.specs.Prelude.{◌≡◌, ℕ, List, map, All, IsPermutation, if◌then◌else◌}
+use Rattle.std.specs.List.Sorted.{IsNonDecreasing}
+use Rattle.ats_topology.specs.Node.{residence_of}
+use Rattle.ats_topology.specs.Port.{port_at}
+use Rattle.ats_topology.specs.Topology.{node_at}
+use Rattle.ats_network.specs.Sender.{Sender}
+use Rattle.ats_network.specs.Network.{DeclaredNetwork}
+use Rattle.ats_group.specs.Group.{Offer, first, verdicts_of, is_declared_size}
+use Rattle.ats_group.specs.declared.member.Declared.{Declared}
+use Rattle.ats_group.specs.declared.verdict.Verdict.{Verdict}
+use Rattle.ats_group.specs.declared.verdict.Verdict.TheVariants.{Eligible, Size}
+use Rattle.ats_trace.specs.Journey.{Travel, sender_at, later_hops}
+use Rattle.ats_trace.specs.Projections.{Handed, handed_by}
+use Rattle.ats_trace.specs.declared.journey.HopRecord.{HopRecord}
+
+-- what a sender declares of its rate, burst and sizes
+abbrev pub declared_of : Sender → Declared
+declared_of s = record { rate = s.rate; burst_bits = s.burst_bits; min_octets = s.min_octets; max_octets = s.max_octets }
+
+-- the same of the sender with a number, by which its scheduler in each group is known
+abbrev pub declared_by : DeclaredNetwork → ℕ → Declared
+declared_by network i = declared_of (sender_at network i)
+
+-- a frame as it comes to the group behind a port
+abbrev pub offer_of : Handed → Offer
+offer_of h = record { member = h.hop.sent.sender; arrival = h.arrival; octets = h.octets }
+
+-- frames of one port and class get their verdicts from one group of schedulers, which takes them in order of their arrivals
+pub record IsJudged (network : DeclaredNetwork) (residence_ns : ℕ) (handed : List Handed) : Type 0 where
+  pub arrivals : List Handed
+  pub same : IsPermutation handed arrivals
+  pub in_order : IsNonDecreasing (map (λ (h : Handed). h.arrival) arrivals)
+  pub verdicts : map (λ (h : Handed). h.verdict) arrivals ≡ verdicts_of (declared_by network) residence_ns (first (declared_by network)) (map offer_of arrivals)
+
+-- the maximum residence time of the node that a port leads to, in nanoseconds
+abbrev pub residence_behind : DeclaredNetwork → ℕ → ℕ
+residence_behind network port = residence_of (node_at network.topology.nodes (port_at network.topology.ports port).to).kind
+
+-- a flow's frame behind a port: eligible at once, where it has a declared size
+pub record IsPassed (flow : Sender) (octets : ℕ) (hop : HopRecord) : Type 0 where
+  pub verdict : hop.verdict ≡ (if is_declared_size (declared_of flow) octets then Eligible hop.arrival else Size)
+
+-- the records of a flow's frame behind its first port
+abbrev pub IsFlowJourney : DeclaredNetwork → Travel → Type 0
+IsFlowJourney network j =
+    (sender_at network j.release.sender).class ≡ 0 → All (IsPassed (sender_at network j.release.sender) j.release.octets) (later_hops j.hops)

@@ -1,0 +1,90 @@
+use Rattle.std.specs.Prelude.{ℕ, ◌+◌, ◌&&◌, ◌==◌, List, [], ◌∷◌, ◌++◌, map, filter, Option, Some, None}
+use Rattle.ats_num.specs.declared.time.Ps.{Ps}
+use Rattle.ats_num.specs.Wire.{bits_of}
+use Rattle.ats_network.specs.Sender.{Sender}
+use Rattle.ats_network.specs.Network.{DeclaredNetwork}
+use Rattle.ats_group.specs.declared.verdict.Verdict.{Verdict}
+use Rattle.ats_group.specs.declared.verdict.Verdict.TheVariants.{Eligible}
+use Rattle.ats_transmission.specs.Transmission.{Transmission}
+use Rattle.ats_trace.specs.Journey.{Travel, sender_at, class_at}
+use Rattle.ats_trace.specs.declared.journey.Release.{Release}
+use Rattle.ats_trace.specs.declared.journey.HopRecord.{HopRecord}
+
+-- a transmission, and the port that made it
+pub record Hop : Type 0 where
+  pub port : ℕ
+  pub sent : Transmission
+
+-- a frame that a port sent, with its octets, and its arrival and verdict behind that port
+pub record Handed : Type 0 where
+  pub hop : Hop
+  pub octets : ℕ
+  pub arrival : ℕ
+  pub verdict : Verdict
+
+-- the transmission of a frame with this release, in this class, by its verdict and the times of its start and end
+abbrev pub transmission_by : ℕ → Release → ℕ → Verdict → Option (Ps × Ps) → Option Transmission
+transmission_by frame release class (Eligible e) (Some times) = Some (record {
+  frame = frame;
+  sender = release.sender;
+  class = class;
+  bits = bits_of release.octets;
+  eligible = e.0;
+  start = times.0.0;
+  end = times.1.0;
+})
+transmission_by frame release class verdict times = None
+
+-- the transmission that a hop record tells of, if the frame was sent there
+abbrev pub transmission_of : ℕ → Release → ℕ → HopRecord → Option Transmission
+transmission_of frame release class hop = transmission_by frame release class hop.verdict hop.sent
+
+-- that transmission with its port
+abbrev pub hop_at : ℕ → Option Transmission → List Hop
+hop_at port None = []
+hop_at port (Some sent) = record { port = port; sent = sent } ∷ []
+
+-- and with what the next record tells
+abbrev pub handed_at : ℕ → ℕ → Option Transmission → List HopRecord → List Handed
+handed_at octets port None next = []
+handed_at octets port (Some sent) [] = []
+handed_at octets port (Some sent) (next ∷ hops) =
+    record { hop = record { port = port; sent = sent }; octets = octets; arrival = next.arrival.0; verdict = next.verdict } ∷ []
+
+-- the transmissions of a frame from a hop on, along what is left of its path
+abbrev pub hops_along : ℕ → Release → Sender → ℕ → List ℕ → List HopRecord → List Hop
+hops_along frame release sender k [] hops = []
+hops_along frame release sender k (p ∷ path) [] = []
+hops_along frame release sender k (p ∷ path) (hop ∷ hops) =
+    hop_at p (transmission_of frame release (class_at sender k) hop) ++ hops_along frame release sender (k + 1) path hops
+
+-- the same, each with what became of the frame behind the port
+abbrev pub handed_along : ℕ → Release → Sender → ℕ → List ℕ → List HopRecord → List Handed
+handed_along frame release sender k [] hops = []
+handed_along frame release sender k (p ∷ path) [] = []
+handed_along frame release sender k (p ∷ path) (hop ∷ hops) =
+    handed_at release.octets p (transmission_of frame release (class_at sender k) hop) hops ++ handed_along frame release sender (k + 1) path hops
+
+-- of the journey with this number
+abbrev pub journey_hops : DeclaredNetwork → ℕ → Travel → List Hop
+journey_hops network frame j = hops_along frame j.release (sender_at network j.release.sender) 0 (sender_at network j.release.sender).path j.hops
+
+abbrev pub journey_handed : DeclaredNetwork → ℕ → Travel → List Handed
+journey_handed network frame j = handed_along frame j.release (sender_at network j.release.sender) 0 (sender_at network j.release.sender).path j.hops
+
+-- of journeys that are numbered from this number on
+abbrev pub hops_from : DeclaredNetwork → ℕ → List Travel → List Hop
+hops_from network frame [] = []
+hops_from network frame (j ∷ run) = journey_hops network frame j ++ hops_from network (frame + 1) run
+
+abbrev pub handed_from : DeclaredNetwork → ℕ → List Travel → List Handed
+handed_from network frame [] = []
+handed_from network frame (j ∷ run) = journey_handed network frame j ++ handed_from network (frame + 1) run
+
+-- the transmissions of a port in a run
+abbrev pub sent_by : DeclaredNetwork → List Travel → ℕ → List Transmission
+sent_by network run port = map (λ (h : Hop). h.sent) (filter (λ (h : Hop). h.port == port) (hops_from network 0 run))
+
+-- the frames of a class that a port has handed on in a run
+abbrev pub handed_by : DeclaredNetwork → List Travel → ℕ → ℕ → List Handed
+handed_by network run port class = filter (λ (h : Handed). h.hop.port == port && h.hop.sent.class == class) (handed_from network 0 run)

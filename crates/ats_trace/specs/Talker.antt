@@ -1,0 +1,38 @@
+use Rattle.std.specs.Prelude.{◌≡◌, ℕ, ◌<◌, ◌==◌, IsTrue, List, [], ◌∷◌, length, map, filter, All}
+use Rattle.ats_num.specs.Wire.{bits_of}
+use Rattle.ats_topology.specs.Port.{port_at}
+use Rattle.ats_topology.specs.declared.port.Port.{Port}
+use Rattle.ats_network.specs.Network.{DeclaredNetwork}
+use Rattle.ats_bucket.specs.Conforming.{Frame, Conforms}
+use Rattle.ats_group.specs.Group.{is_declared_size}
+use Rattle.ats_trace.specs.Journey.{sender_at}
+use Rattle.ats_trace.specs.Eligibility.{declared_by}
+use Rattle.ats_trace.specs.declared.journey.Release.{Release}
+
+-- the node at which a path begins
+abbrev pub node_before : List Port → List ℕ → ℕ
+node_before ports [] = 0
+node_before ports (p ∷ path) = (port_at ports p).from
+
+-- the station of a sender
+abbrev pub talker_of : DeclaredNetwork → ℕ → ℕ
+talker_of network i = node_before network.topology.ports (sender_at network i).path
+
+-- a release as a token bucket counts it
+abbrev pub frame_of : Release → Frame
+frame_of r = record { at = r.at.0; bits = bits_of r.octets }
+
+-- the releases of a sender as a token bucket counts them, in order
+abbrev pub frames_of : ℕ → List Release → List Frame
+frames_of i releases = map frame_of (filter (λ (r : Release). r.sender == i) releases)
+
+-- a release has a size that its sender declares
+abbrev pub IsDeclaredSize : DeclaredNetwork → Release → Type 0
+IsDeclaredSize network r = IsTrue (is_declared_size (declared_by network r.sender) r.octets)
+
+-- a station keeps its buckets: the releases of each stream that begins there conform to the stream's rate and burst, and
+-- each release of a stream or flow that begins there has a declared size
+pub record KeepsBuckets (network : DeclaredNetwork) (releases : List Release) (station : ℕ) : Type 0 where
+  pub streams : (i : ℕ) → i < length network.streams → talker_of network i ≡ station
+    → Conforms (sender_at network i).rate (sender_at network i).burst_bits (frames_of i releases)
+  pub sizes : All (λ (r : Release). talker_of network r.sender ≡ station → IsDeclaredSize network r) releases

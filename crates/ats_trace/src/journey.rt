@@ -1,0 +1,35 @@
+//! What happens to one frame.
+
+use ats_group::Verdict;
+use ats_num::Ps;
+
+/// A frame that a talker releases.
+#[derive(Clone, Copy, Debug, PartialEq, Eq)]
+pub struct Release {
+    /// When the frame is released.
+    pub at: Ps,
+    /// The number of its sender.
+    pub sender: u32,
+    /// Its octets, counted with the frame check sequence, 64 to 2000.
+    pub octets: u32,
+}
+
+/// What happened to a frame at one port of its path.
+#[derive(Clone, Copy, Debug, PartialEq, Eq)]
+pub struct HopRecord {
+    /// When it came to the node that the port leaves; at the first hop its release.
+    pub arrival: Ps,
+    /// What the node decided on it.
+    pub verdict: Verdict,
+    /// When its transmission started and ended; `None` exactly where the verdict is not `Eligible`.
+    pub sent: Option<(Ps, Ps)>,
+}
+
+/// How a frame's journey ended.
+#[derive(Clone, Copy, Debug, PartialEq, Eq)]
+pub enum Ending {
+    /// It arrived at its listener at this time.
+    Sink(Ps),
+    /// A bridge discarded it.
+    Discard,
+}
