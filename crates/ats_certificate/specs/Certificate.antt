@@ -61,12 +61,17 @@ IsLoaded row = row.higher + row.equal ≤ PS_PER_SECOND
 abbrev pub IsEnough : Port → Row → Type 0
 IsEnough port row = PS_PER_SECOND * (port.ps_per_bit * (row.lower + row.bursts - row.least)) ≤ row.wait * (PS_PER_SECOND - row.higher)
 
--- what a row keeps
-pub record RowHolds (network : DeclaredNetwork) (row : Row) : Type 0 where
+-- a row covers its port and class: it says what the senders make of them, does not overload the link, waits long enough,
+-- and gives the bound that follows
+pub record Covers (network : DeclaredNetwork) (row : Row) : Type 0 where
   pub sums : HasSums row (port_sums network row.port row.class)
   pub bound : row.bound ≡ bound_of (port_at network.topology.ports row.port) row.wait row.least
   pub load : IsLoaded row
   pub wait : IsEnough (port_at network.topology.ports row.port) row
+
+-- what each row of a certificate keeps
+pub record RowHolds (network : DeclaredNetwork) (row : Row) : Type 0 where
+  pub covers : Covers network row
   pub residence : MayWait (kind_after network.topology row.port) row.wait
 
 -- a stream's bounds are within its deadline

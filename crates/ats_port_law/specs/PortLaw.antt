@@ -1,0 +1,49 @@
+use Rattle.std.specs.Prelude.{◌≡◌, ℕ, ◌+◌, ◌<◌, ◌≤◌, ◌==◌, IsTrue, List, length, map, filter, All, IsPermutation}
+use Rattle.ats_topology.specs.Port.{port_at}
+use Rattle.ats_network.specs.Sender.{Sender}
+use Rattle.ats_network.specs.Network.{DeclaredNetwork, IsNetwork, senders_of}
+use Rattle.ats_certificate.specs.PortSums.{uses, longest, shortest}
+use Rattle.ats_certificate.specs.Certificate.{Covers}
+use Rattle.ats_certificate.specs.declared.row.Row.{Row}
+use Rattle.ats_bucket.specs.Conforming.{Frame, Conforms}
+use Rattle.ats_transmission.specs.Transmission.{Transmission}
+use Rattle.ats_transmission.specs.PortRule.{KeepsPortRule}
+use Rattle.ats_trace.specs.Journey.{sender_at}
+
+-- a transmission of a frame that a sender of the port may send: of its class, with a size that it declares
+pub record IsDeclared (network : DeclaredNetwork) (port : ℕ) (x : Transmission) : Type 0 where
+  pub exists : x.sender < length (senders_of network)
+  pub uses : IsTrue (uses port (sender_at network x.sender))
+  pub class : x.class ≡ (sender_at network x.sender).class
+  pub least : shortest (sender_at network x.sender) ≤ x.bits
+  pub most : x.bits ≤ longest (sender_at network x.sender)
+
+-- a transmission as a token bucket counts it, by its eligibility time
+abbrev pub frame_of : Transmission → Frame
+frame_of x = record { at = x.eligible; bits = x.bits }
+
+-- the frames of a sender among transmissions
+abbrev pub frames_by : ℕ → List Transmission → List Frame
+frames_by i sent = map frame_of (filter (λ (x : Transmission). x.sender == i) sent)
+
+-- frames conform when they are put in the order of their times
+pub record ConformsInOrder (rate burst : ℕ) (frames : List Frame) : Type 0 where
+  pub order : List Frame
+  pub same : IsPermutation frames order
+  pub conforms : Conforms rate burst order
+
+-- transmissions that a port may be asked to make: each of a declared size, and those of each stream conform
+pub record IsOffered (network : DeclaredNetwork) (port : ℕ) (sent : List Transmission) : Type 0 where
+  pub each : All (IsDeclared network port) sent
+  pub streams : (i : ℕ) → i < length network.streams → ConformsInOrder (sender_at network i).rate (sender_at network i).burst_bits (frames_by i sent)
+
+-- a frame of the class arrives behind the port within the bound of its eligibility
+abbrev pub IsWithinBound : DeclaredNetwork → Row → Transmission → Type 0
+IsWithinBound network row x = x.class ≡ row.class → x.end + (port_at network.topology.ports row.port).latency.0 ≤ x.eligible + row.bound
+
+-- where a row covers its port, and the port keeps the port rule with what it may be asked to send, each frame of the row's
+-- class is within the row's bound, whatever lawful order the port takes
+abbrev pub PortLaw : Type 0
+PortLaw = (network : DeclaredNetwork) (row : Row) (sent : List Transmission) → IsNetwork network → row.port < length network.topology.ports
+    → Covers network row → KeepsPortRule (port_at network.topology.ports row.port).ps_per_bit sent → IsOffered network row.port sent
+    → All (IsWithinBound network row) sent

@@ -1,0 +1,3 @@
+//! The port law: at one port, each frame of a class is within the bound of the row that covers it.
+#![tactic(auto)]
+

@@ -1,0 +1,3 @@
+//! What an accepted certificate promises of each legal run of its network.
+#![tactic(auto)]
+
