@@ -1,0 +1,4 @@
+pub mod Steps
+pub mod Routes
+pub mod Reading
+pub mod FaultText

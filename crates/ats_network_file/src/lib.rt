@@ -1,0 +1,6 @@
+//! Network files: the network that a text declares, or its first fault.
+#![tactic(auto)]
+
+pub mod fault;
+
+pub use fault::NetFault;
