@@ -1,3 +1,12 @@
 pub mod Sender
 pub mod Path
 pub mod Network
+pub mod FaultText
+pub mod Bridges
+pub mod Senders
+pub mod Residence
+pub mod Pushes
+pub mod Tables
+pub mod PathSteps
+pub mod Shortest
+pub mod Laws

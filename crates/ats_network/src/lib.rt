@@ -1,4 +1,18 @@
 //! Networks: nodes, links and ports, and the streams and flows that are declared over them.
 #![tactic(auto)]
 
+pub mod fault;
+mod flow_table;
+pub mod laws;
 pub mod network;
+pub mod paths;
+pub mod routes;
+mod stream_table;
+
+pub use fault::PushFault;
+pub use network::Network;
+pub use paths::is_valid_path;
+pub use routes::shortest;
+
+#[cfg(test)]
+mod tests;

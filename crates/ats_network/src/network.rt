@@ -1,10 +1,24 @@
 //! Networks.
 
-ghost use Rattle.std.specs.Prelude.{◌≡◌};
-ghost use Rattle.ats_network.specs.Network.{declared_network};
+ghost use Rattle.std.specs.Prelude.{◌≡◌, ◌↔◌, ◌<◌, ◌≤◌, [], length, None, IsTrue, IsNone, IfSome, IfErr, OnOk, OnErr};
+ghost use Rattle.ats_names.specs.Places.{place_of};
+ghost use Rattle.ats_topology.specs.Node.{is_station};
+ghost use Rattle.ats_topology.specs.Port.{port_at};
+ghost use Rattle.ats_topology.specs.Topology.{node_at};
+ghost use Rattle.ats_network.specs.Network.{IsNetwork, declared_network, senders_of, names_of};
+ghost use Rattle.ats_network.specs.Path.{IsValidPath};
+ghost use Rattle.ats_network.specs.Senders.{sender_at};
+ghost use Rattle.ats_network.specs.Residence.{residence_after};
+ghost use Rattle.ats_network.specs.Pushes.{with_stream, with_flow, place_identified, is_identity_taken, stream_push_fault, flow_push_fault, IsDue};
 
+use crate::fault::PushFault;
+use crate::flow_table::FlowTable;
+use crate::paths::is_valid_path;
+use crate::stream_table::StreamTable;
+use ats_num::Name;
 use ats_streams::{Flow, Stream};
-use ats_topology::Topology;
+use ats_topology::{Kind, Topology};
+use std::alloc::Global;
 use std::marker::Model;
 
 /// The most streams of a network.
@@ -13,12 +27,15 @@ pub const MAX_STREAMS: usize = 4096;
 /// The most flows of a network.
 pub const MAX_FLOWS: usize = 1024;
 
-/// A network.
+/// A network: nodes and links with their ports, and the streams and flows that are declared over them. Each stream and flow
+/// has a valid path and a name of its own, and no two streams declare one destination address and VLAN identifier. The
+/// streams in their order and then the flows in theirs are the senders, numbered from 0. Contracts see the topology and the
+/// two lists.
 #[derive(Drop)]
 pub struct Network {
     shape: Topology,
-    stream_list: Vec<Stream>,
-    flow_list: Vec<Flow>,
+    stream_table: StreamTable,
+    flow_table: FlowTable,
 }
 
 impl Model for Network {
@@ -26,20 +43,38 @@ impl Model for Network {
 
     ghost Value = { DeclaredNetwork };
 
-    ghost view = { λ n. declared_network n.shape n.stream_list.items n.flow_list.items };
+    ghost view = { λ n. declared_network n.shape n.stream_table n.flow_table };
 
-    ghost invariant = { λ n. IsNetwork (declared_network n.shape n.stream_list.items n.flow_list.items) };
+    ghost invariant = { λ n. IsNetwork (declared_network n.shape n.stream_table n.flow_table) };
 }
 
 impl Network {
-    ghost use Rattle.ats_network.specs.Network.{IsNetwork};
+    /// The network of these nodes and links, without streams and flows.
+    pub fn new(alloc: Global, topology: Topology) -> Self
+        ensures { result ≡ declared_network topology [] [] }
+    {
+        let _ports = topology.ports();
+        Network {
+            shape: topology,
+            stream_table: StreamTable::new(alloc),
+            flow_table: FlowTable::new(alloc),
+        }
+    }
+
+    /// The nodes, links and ports.
+    pub fn topology(&self) -> &Topology
+        ensures value { result.now ≡ self.now.topology }
+        ensures rules { IsNetwork self.now }
+    {
+        &self.shape
+    }
 
     /// The streams, in order.
     pub fn streams(&self) -> &[Stream]
         ensures value { result.now ≡ self.now.streams }
         ensures rules { IsNetwork self.now }
     {
-        &self.stream_list
+        self.stream_table.as_slice()
     }
 
     /// The flows, in order.
@@ -47,6 +82,165 @@ impl Network {
         ensures value { result.now ≡ self.now.flows }
         ensures rules { IsNetwork self.now }
     {
-        &self.flow_list
+        self.flow_table.as_slice()
+    }
+
+    /// The number of senders: of streams and flows.
+    pub fn senders(&self) -> u32
+        ensures value { result ≡ length (senders_of self.now) }
+        ensures rules { IsNetwork self.now }
+    {
+        (self.stream_table.as_slice().len() + self.flow_table.as_slice().len()) as u32
+    }
+
+    /// The number of the sender with this name; `None` exactly where no stream and no flow has it.
+    pub fn sender_named(&self, name: &Name) -> Option<u32>
+        ensures number { result ≡ place_of name.now (names_of (senders_of self.now)) }
+        ensures within { IfSome result (λ n. n < length (senders_of self.now)) }
+        ensures rules { IsNetwork self.now }
+    {
+        if let Some(stream) = self.stream_table.place(name) {
+            return Some(stream);
+        }
+        let flow = self.flow_table.place(name)?;
+        Some(self.stream_table.as_slice().len() as u32 + flow)
+    }
+
+    /// The number of the stream with this destination address and VLAN identifier; `None` exactly where no stream declares
+    /// them.
+    pub fn stream_identified(&self, address: u64, vlan: u16) -> Option<u32>
+        ensures number { result ≡ place_identified (address, vlan) self.now.streams }
+        ensures rules { IsNetwork self.now }
+    {
+        self.stream_table.identified(address, vlan)
+    }
+
+    /// The numbers of the ports of a sender's path, in order.
+    pub fn sender_path(&self, sender: u32) -> &[u32]
+        requires { sender < length (senders_of self.now) }
+        ensures value { result.now ≡ (sender_at self.now sender).path }
+        ensures rules { IsNetwork self.now }
+    {
+        let streams = self.stream_table.as_slice();
+        let place = sender as usize;
+        if place < streams.len() {
+            return streams[place].path();
+        }
+        self.flow_table.as_slice()[place - streams.len()].path()
+    }
+
+    /// A sender's class: 1 to 7 for a stream, 0 for a flow.
+    pub fn sender_class(&self, sender: u32) -> u8
+        requires { sender < length (senders_of self.now) }
+        ensures value { result ≡ (sender_at self.now sender).class }
+        ensures rules { IsNetwork self.now }
+    {
+        match self.stream_table.as_slice().get(sender as usize) {
+            Some(stream) => stream.class(),
+            None => 0,
+        }
+    }
+
+    /// A sender's name.
+    pub fn sender_name(&self, sender: u32) -> Name
+        requires { sender < length (senders_of self.now) }
+        ensures value { result ≡ (sender_at self.now sender).name }
+        ensures rules { IsNetwork self.now }
+    {
+        let streams = self.stream_table.as_slice();
+        let place = sender as usize;
+        if place < streams.len() {
+            return streams[place].name();
+        }
+        self.flow_table.as_slice()[place - streams.len()].name()
+    }
+
+    /// Whether a stream or a flow of this network may have these ports as its path: each exists and leaves the node to
+    /// which the one before leads, the path begins and ends at different stations, and no node occurs twice. A path may be
+    /// of any length here. It takes no memory.
+    pub fn valid_path(&self, path: &[u32]) -> bool
+        ensures valid { IsTrue result ↔ IsValidPath self.now.topology path.now }
+        ensures rules { IsNetwork self.now }
+    {
+        is_valid_path(&self.shape, path)
+    }
+
+    /// The maximum residence time, in nanoseconds, of the bridge that a port leads to: 0 to 1,000,000,000. `None` exactly
+    /// where the port leads to a station.
+    pub fn residence(&self, port: u32) -> Option<u32>
+        requires { port < length self.now.topology.ports }
+        ensures value { result ≡ residence_after self.now.topology port }
+        ensures none { IsNone result ↔ IsTrue (is_station (node_at self.now.topology.nodes (port_at self.now.topology.ports port).to).kind) }
+        ensures most { IfSome result (λ ns. ns ≤ 1000000000) }
+        ensures rules { IsNetwork self.now }
+    {
+        let node = self.shape.ports()[port as usize].to;
+        match self.shape.nodes()[node as usize].kind {
+            Kind::Station => None,
+            Kind::Bridge {
+                processing_ns: _,
+                residence_ns,
+            } => Some(residence_ns),
+        }
+    }
+
+    /// Adds a stream with a valid path as the last of the streams, of which there may be 4096. All else stays.
+    ///
+    /// # Errors
+    ///
+    /// The network stays as it was. The first of these, in this order: `NameTaken` exactly where a stream or a flow has the
+    /// name; `IdentityTaken` exactly where a stream has the same destination address and VLAN identifier; `Limit` exactly
+    /// where 4096 streams are there; `NoMemory` where memory runs out.
+    pub fn push_stream(&mut self, stream: Stream) -> Result<(), PushFault>
+        requires { IsValidPath self.old.topology stream.path }
+        ensures ok { OnOk result (self.new ≡ with_stream self.old stream) }
+        ensures sound { OnOk result (stream_push_fault self.old stream ≡ None) }
+        ensures fault { IfErr result (λ fault. IsDue fault (stream_push_fault self.old stream)) }
+        ensures err { OnErr result (self.new ≡ self.old) }
+    {
+        if self.sender_named(&stream.name()).is_some() {
+            return Err(PushFault::NameTaken);
+        }
+        if self.is_identity_taken(stream.identity()) {
+            return Err(PushFault::IdentityTaken);
+        }
+        if self.streams().len() >= MAX_STREAMS {
+            return Err(PushFault::Limit);
+        }
+        self.stream_table.push(stream)?;
+        Ok(())
+    }
+
+    /// Adds a flow with a valid path as the last of the flows, of which there may be 1024. All else stays.
+    ///
+    /// # Errors
+    ///
+    /// The network stays as it was. The first of these, in this order: `NameTaken` exactly where a stream or a flow has the
+    /// name; `Limit` exactly where 1024 flows are there; `NoMemory` where memory runs out.
+    pub fn push_flow(&mut self, flow: Flow) -> Result<(), PushFault>
+        requires { IsValidPath self.old.topology flow.path }
+        ensures ok { OnOk result (self.new ≡ with_flow self.old flow) }
+        ensures sound { OnOk result (flow_push_fault self.old flow ≡ None) }
+        ensures fault { IfErr result (λ fault. IsDue fault (flow_push_fault self.old flow)) }
+        ensures err { OnErr result (self.new ≡ self.old) }
+    {
+        if self.sender_named(&flow.name()).is_some() {
+            return Err(PushFault::NameTaken);
+        }
+        if self.flows().len() >= MAX_FLOWS {
+            return Err(PushFault::Limit);
+        }
+        self.flow_table.push(flow)?;
+        Ok(())
+    }
+
+    // Whether an identity is given, and one of the streams has it.
+    fn is_identity_taken(&self, identity: Option<(u64, u16)>) -> bool
+        ensures { result ≡ is_identity_taken self.now.streams identity }
+    {
+        match identity {
+            Some((address, vlan)) => self.stream_identified(address, vlan).is_some(),
+            None => false,
+        }
     }
 }

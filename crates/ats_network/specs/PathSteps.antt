@@ -1,0 +1,18 @@
+use Rattle.std.specs.Prelude.{ℕ, Bool, true, ◌&&◌, ◌==◌, nat_lt, not, if◌then◌else◌, List, [], ◌∷◌, length, Option, Some, None}
+use Rattle.std.specs.List.{list_any}
+use Rattle.ats_topology.specs.Port.{port_at, leads_to}
+use Rattle.ats_topology.specs.declared.port.Port.{Port}
+
+-- the node to which a walk from a node along these ports leads, if they make one
+abbrev pub walk_end : List Port → ℕ → List ℕ → Option ℕ
+walk_end ports a [] = Some a
+walk_end ports a (p ∷ path) = if nat_lt p (length ports) && (port_at ports p).from == a then walk_end ports (port_at ports p).to path else None
+
+-- one of the ports leads to this node
+abbrev pub comes_to : List Port → ℕ → List ℕ → Bool
+comes_to ports node path = list_any (λ p. leads_to node (port_at ports p)) path
+
+-- no two of the ports lead to the same node
+abbrev pub part_ways : List Port → List ℕ → Bool
+part_ways ports [] = true
+part_ways ports (p ∷ path) = not (comes_to ports (port_at ports p).to path) && part_ways ports path

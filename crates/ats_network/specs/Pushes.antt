@@ -1,0 +1,61 @@
+use Rattle.std.specs.Prelude.{◌≡◌, ℕ, Bool, false, ◌&&◌, ◌==◌, nat_le, if◌then◌else◌, List, [], ◌∷◌, ◌++◌, length, Option, Some, None, is_some}
+use Rattle.std.specs.List.{position_from}
+use Rattle.ats_names.specs.Places.{place_of}
+use Rattle.ats_streams.specs.Stream.{DeclaredStream}
+use Rattle.ats_streams.specs.Flow.{DeclaredFlow}
+use Rattle.ats_network.specs.Network.{DeclaredNetwork, declared_network, senders_of, names_of}
+use Rattle.ats_network.specs.declared.network.TheConstants.{MAX_STREAMS, MAX_FLOWS}
+use Rattle.ats_network.specs.declared.fault.PushFault.{PushFault}
+use Rattle.ats_network.specs.declared.fault.PushFault.TheVariants.{NameTaken, IdentityTaken, Limit, NoMemory}
+
+-- the network with one stream more, the last of them
+abbrev pub with_stream : DeclaredNetwork → DeclaredStream → DeclaredNetwork
+with_stream network stream = declared_network network.topology (network.streams ++ stream ∷ []) network.flows
+
+-- the network with one flow more, the last of them
+abbrev pub with_flow : DeclaredNetwork → DeclaredFlow → DeclaredNetwork
+with_flow network flow = declared_network network.topology network.streams (network.flows ++ flow ∷ [])
+
+-- a sender of the network has this name
+abbrev pub is_name_taken : DeclaredNetwork → List ℕ → Bool
+is_name_taken network name = is_some (place_of name (names_of (senders_of network)))
+
+-- what a stream may declare is this destination address and VLAN identifier
+abbrev pub is_identity : ℕ × ℕ → Option (ℕ × ℕ) → Bool
+is_identity identity None = false
+is_identity identity (Some declared) = declared.0 == identity.0 && declared.1 == identity.1
+
+-- the stream declares them
+abbrev pub has_identity : ℕ × ℕ → DeclaredStream → Bool
+has_identity identity stream = is_identity identity stream.identity
+
+-- the number of the stream that declares them, if there is one
+abbrev pub place_identified : ℕ × ℕ → List DeclaredStream → Option ℕ
+place_identified identity streams = position_from (has_identity identity) 0 streams
+
+-- an identity is given, and one of the streams has it
+abbrev pub is_identity_taken : List DeclaredStream → Option (ℕ × ℕ) → Bool
+is_identity_taken streams None = false
+is_identity_taken streams (Some identity) = is_some (place_identified identity streams)
+
+-- why a stream can't be added, if it can't: its name is taken, then its identity, then as many streams as may be are there
+abbrev pub stream_push_fault : DeclaredNetwork → DeclaredStream → Option PushFault
+stream_push_fault network stream =
+    if is_name_taken network stream.name then Some NameTaken
+    else if is_identity_taken network.streams stream.identity then Some IdentityTaken
+    else if nat_le MAX_STREAMS (length network.streams) then Some Limit
+    else None
+
+-- why a flow can't be added, if it can't: its name is taken, then as many flows as may be are there
+abbrev pub flow_push_fault : DeclaredNetwork → DeclaredFlow → Option PushFault
+flow_push_fault network flow =
+    if is_name_taken network flow.name then Some NameTaken
+    else if nat_le MAX_FLOWS (length network.flows) then Some Limit
+    else None
+
+-- a call answered this fault: it is the one that is due, or memory ran out where none is due
+abbrev pub IsDue : PushFault → Option PushFault → Type 0
+IsDue NameTaken due = due ≡ Some NameTaken
+IsDue IdentityTaken due = due ≡ Some IdentityTaken
+IsDue Limit due = due ≡ Some Limit
+IsDue NoMemory due = due ≡ None

@@ -1,0 +1,14 @@
+use Rattle.std.specs.Prelude.{ℕ, Option, Some, None}
+use Rattle.ats_topology.specs.Port.{port_at}
+use Rattle.ats_topology.specs.Topology.{DeclaredTopology, node_at}
+use Rattle.ats_topology.specs.declared.node.Kind.{Kind}
+use Rattle.ats_topology.specs.declared.node.Kind.TheVariants.{Station, Bridge}
+
+-- the maximum residence time of a bridge in nanoseconds; a station has none
+abbrev pub residence_at : Kind → Option ℕ
+residence_at Station = None
+residence_at (Bridge processing_ns residence_ns) = Some residence_ns
+
+-- the maximum residence time, in nanoseconds, of the bridge that a port leads to
+abbrev pub residence_after : DeclaredTopology → ℕ → Option ℕ
+residence_after topology p = residence_at (node_at topology.nodes (port_at topology.ports p).to).kind

@@ -1,0 +1,47 @@
+use Rattle.std.specs.Prelude.{◌≡◌, ◌≢◌, ℕ, ◌≤◌, List, [], ◌∷◌, AllPairs, slice_index_or}
+use Rattle.ats_num.specs.Rate.{IsRate}
+use Rattle.ats_num.specs.declared.wire.TheConstants.{MIN_OCTETS}
+use Rattle.ats_model.specs.Rules.{AreSizes, KeepsRules}
+use Rattle.ats_streams.specs.Path.{IsPath}
+use Rattle.ats_streams.specs.declared.stream.TheConstants.{MAX_CLASS}
+use Rattle.ats_topology.specs.Port.{port_at}
+use Rattle.ats_topology.specs.Topology.{DeclaredTopology}
+use Rattle.ats_topology.specs.Walks.{ArePorts}
+use Rattle.ats_network.specs.Sender.{Sender}
+use Rattle.ats_network.specs.Path.{IsValidPath}
+use Rattle.ats_network.specs.Bridges.{MeetAtBridge}
+use Rattle.ats_network.specs.Network.{DeclaredNetwork, senders_of}
+
+-- for numbers past the last sender
+abbrev pub no_sender : Sender
+no_sender = record {
+  name = [];
+  path = [];
+  class = 0;
+  rate = 0;
+  burst_bits = 0;
+  min_octets = MIN_OCTETS;
+  max_octets = MIN_OCTETS;
+}
+
+-- the sender with a number
+abbrev pub sender_at : DeclaredNetwork → ℕ → Sender
+sender_at network n = slice_index_or (senders_of network) n no_sender
+
+-- a relation holds of each element of a list and the one after it
+abbrev pub AllNeighbours : (ℕ → ℕ → Type 0) → List ℕ → Type 0
+AllNeighbours R [] = Unit {0}
+AllNeighbours R (p ∷ []) = Unit {0}
+AllNeighbours R (p ∷ q ∷ path) = R p q × AllNeighbours R (q ∷ path)
+
+-- what each sender of a network keeps: a valid path of 1 to 16 different ports of the topology that meet at bridges, a class of
+-- at most 7, and sizes of frames; and, where its class is not 0, a rate and a burst as a declared stream has them
+pub record IsSender (topology : DeclaredTopology) (sender : Sender) : Type 0 where
+  pub path : IsPath sender.path
+  pub valid : IsValidPath topology sender.path
+  pub ports : ArePorts topology.ports sender.path
+  pub apart : AllPairs (λ p q. p ≢ q) sender.path
+  pub bridges : AllNeighbours (MeetAtBridge topology) sender.path
+  pub class : sender.class ≤ MAX_CLASS
+  pub sizes : AreSizes sender.min_octets sender.max_octets
+  pub shaped : 1 ≤ sender.class → KeepsRules sender.rate sender.burst_bits sender.min_octets sender.max_octets

@@ -1,0 +1,78 @@
+//! Paths along the ports of a topology.
+
+ghost use Rattle.std.specs.Prelude.{◌≡◌, ◌↔◌, ◌<◌, IsTrue, IfSome, All, length};
+ghost use Rattle.ats_topology.specs.Port.{IsBetween};
+ghost use Rattle.ats_topology.specs.Topology.{IsTopology};
+ghost use Rattle.ats_topology.specs.Walks.{ArePorts};
+ghost use Rattle.ats_network.specs.Path.{IsValidPath, IsStationAt};
+ghost use Rattle.ats_network.specs.PathSteps.{walk_end, comes_to, part_ways};
+
+use ats_topology::{Port, Topology};
+
+/// Whether these are the numbers of the ports of a valid path: each exists and leaves the node to which the one before
+/// leads, the path begins and ends at different stations, and no node occurs twice. It takes no memory, and compares each
+/// two ports of the path at most once.
+pub fn is_valid_path(topology: &Topology, path: &[u32]) -> bool
+    ensures { IsTrue result ↔ IsValidPath topology.now path.now }
+{
+    let ports = topology.ports();
+    let Some(first) = path.first() else {
+        return false;
+    };
+    let Some(port) = ports.get(*first as usize) else {
+        return false;
+    };
+    let Some(listener) = walk_end(ports, port.from, path) else {
+        return false;
+    };
+    if !is_station_at(topology, port.from) || !is_station_at(topology, listener) {
+        return false;
+    }
+    !comes_to(ports, port.from, path) && part_ways(ports, path)
+}
+
+// Whether this is the number of a station.
+fn is_station_at(topology: &Topology, node: u32) -> bool
+    ensures { IsTrue result ↔ IsStationAt topology.now node }
+{
+    match topology.nodes().get(node as usize) {
+        Some(node) => node.kind.is_station(),
+        None => false,
+    }
+}
+
+// The node to which a walk from a node along these ports leads, if they make one.
+fn walk_end(ports: &[Port], from: u32, path: &[u32]) -> Option<u32>
+    ensures { result ≡ walk_end ports.now from path.now }
+{
+    let mut at = from;
+    for p in path {
+        let port = ports.get(*p as usize)?;
+        if port.from != at {
+            return None;
+        }
+        at = port.to;
+    }
+    Some(at)
+}
+
+// Whether one of the ports leads to this node.
+fn comes_to(ports: &[Port], node: u32, path: &[u32]) -> bool
+    requires { ArePorts ports.now path.now }
+    ensures { result ≡ comes_to ports.now node path.now }
+{
+    path.iter().any(|p| ports[*p as usize].to == node)
+}
+
+// Whether no two of the ports lead to the same node.
+fn part_ways(ports: &[Port], path: &[u32]) -> bool
+    requires { ArePorts ports.now path.now }
+    ensures { result ≡ part_ways ports.now path.now }
+{
+    for (i, p) in path.iter().enumerate() {
+        if comes_to(ports, ports[*p as usize].to, &path[i + 1..]) {
+            return false;
+        }
+    }
+    true
+}
