@@ -7,7 +7,7 @@ use Rattle.ats_topology.specs.Topology.{DeclaredTopology, node_at}
 use Rattle.ats_topology.specs.declared.port.Port.{Port}
 use Rattle.ats_network.specs.Path.{nodes_along}
 use Rattle.ats_network.specs.Shortest.{shortest_of}
-use Rattle.ats_document.specs.Document.{DeclaredRoute, path, ends}
+use Rattle.ats_document.specs.Document as file
 
 -- what stands in front of a list
 abbrev pub in_front : {A : Type 0} → Option A → Option (List A) → Option (List A)
@@ -31,9 +31,9 @@ ports_along ports [] = None
 ports_along ports (a ∷ nodes) = ports_through ports a nodes
 
 -- the ports of a route: through the nodes that it names, or by the least walk between its ends
-abbrev pub ports_of : DeclaredTopology → DeclaredRoute → Option (List ℕ)
-ports_of topology (path names) = option_and_then (ports_along topology.ports) (nodes_named topology names)
-ports_of topology (ends from to) =
+abbrev pub ports_of : DeclaredTopology → file.DeclaredRoute → Option (List ℕ)
+ports_of topology (file.path names) = option_and_then (ports_along topology.ports) (nodes_named topology names)
+ports_of topology (file.ends from to) =
     option_and_then (λ a. option_and_then (λ b. shortest_of topology a b) (place_of to (names_of topology.nodes))) (place_of from (names_of topology.nodes))
 
 -- each port exists and leaves the node to which the one before leads; the first leaves this node
