@@ -8,7 +8,7 @@ use Rattle.ats_certificate.specs.declared.row.Row.{Row}
 use Rattle.ats_bucket.specs.Conforming.{Frame, Conforms}
 use Rattle.ats_transmission.specs.Transmission.{Transmission}
 use Rattle.ats_transmission.specs.PortRule.{KeepsPortRule}
-use Rattle.ats_trace.specs.Journey.{sender_at}
+use Rattle.ats_network.specs.Senders.{sender_at}
 
 -- a transmission of a frame that a sender of the port may send: of its class, with a size that it declares
 pub record IsDeclared (network : DeclaredNetwork) (port : ℕ) (x : Transmission) : Type 0 where

@@ -1,11 +1,12 @@
 use Rattle.std.specs.Prelude.{◌≡◌, ℕ, ◌+◌, ◌≤◌, ◌<◌, List, [], ◌∷◌, sum_by, Contains}
 use Rattle.ats_network.specs.Sender.{Sender}
 use Rattle.ats_network.specs.Network.{DeclaredNetwork}
+use Rattle.ats_network.specs.Senders.{sender_at}
 use Rattle.ats_certificate.specs.Certificate.{bound_at}
 use Rattle.ats_certificate.specs.declared.row.Row.{Row}
 use Rattle.ats_group.specs.declared.verdict.Verdict.{Verdict}
 use Rattle.ats_group.specs.declared.verdict.Verdict.TheVariants.{Eligible, Late, Size}
-use Rattle.ats_trace.specs.Journey.{Travel, sender_at, class_at, later_hops}
+use Rattle.ats_trace.specs.Journey.{Travel, later_hops}
 use Rattle.ats_trace.specs.Run.{IsLegal, releases_of}
 use Rattle.ats_trace.specs.Talker.{talker_of, KeepsBuckets}
 use Rattle.ats_trace.specs.declared.journey.HopRecord.{HopRecord}

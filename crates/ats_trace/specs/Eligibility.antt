@@ -5,11 +5,12 @@ use Rattle.ats_topology.specs.Port.{port_at}
 use Rattle.ats_topology.specs.Topology.{node_at}
 use Rattle.ats_network.specs.Sender.{Sender}
 use Rattle.ats_network.specs.Network.{DeclaredNetwork}
+use Rattle.ats_network.specs.Senders.{sender_at}
 use Rattle.ats_group.specs.Group.{Offer, first, verdicts_of, is_declared_size}
 use Rattle.ats_group.specs.declared.member.Declared.{Declared}
 use Rattle.ats_group.specs.declared.verdict.Verdict.{Verdict}
 use Rattle.ats_group.specs.declared.verdict.Verdict.TheVariants.{Eligible, Size}
-use Rattle.ats_trace.specs.Journey.{Travel, sender_at, later_hops}
+use Rattle.ats_trace.specs.Journey.{Travel, later_hops}
 use Rattle.ats_trace.specs.Projections.{Handed, handed_by}
 use Rattle.ats_trace.specs.declared.journey.HopRecord.{HopRecord}
 

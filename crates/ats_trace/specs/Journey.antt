@@ -1,10 +1,11 @@
-use Rattle.std.specs.Prelude.{◌≡◌, ℕ, ◌+◌, ◌<◌, List, [], ◌∷◌, length, slice_index_or, Option, Some, None}
+use Rattle.std.specs.Prelude.{◌≡◌, ℕ, ◌+◌, ◌<◌, List, [], ◌∷◌, length, Option, Some, None}
 use Rattle.ats_num.specs.declared.time.Ps.{Ps}
 use Rattle.ats_num.specs.Wire.{IsFrameSize}
 use Rattle.ats_topology.specs.Port.{port_at}
 use Rattle.ats_topology.specs.declared.port.Port.{Port}
 use Rattle.ats_network.specs.Sender.{Sender}
 use Rattle.ats_network.specs.Network.{DeclaredNetwork, senders_of}
+use Rattle.ats_network.specs.Senders.{sender_at}
 use Rattle.ats_group.specs.declared.verdict.Verdict.{Verdict}
 use Rattle.ats_group.specs.declared.verdict.Verdict.TheVariants.{Eligible, Late, Size}
 use Rattle.ats_trace.specs.declared.journey.Release.{Release}
@@ -17,14 +18,6 @@ pub record Travel : Type 0 where
   pub release : Release
   pub hops : List HopRecord
   pub ending : Ending
-
--- for numbers past the end of a list of senders
-abbrev pub no_sender : Sender
-no_sender = record { name = []; path = []; class = 0; rate = 0; burst_bits = 0; min_octets = 0; max_octets = 0 }
-
--- the sender with a number
-abbrev pub sender_at : DeclaredNetwork → ℕ → Sender
-sender_at network i = slice_index_or (senders_of network) i no_sender
 
 -- the class of a sender's frames at a hop, counted from 0: the same at each
 abbrev pub class_at : Sender → ℕ → ℕ

@@ -5,7 +5,7 @@ use Rattle.ats_topology.specs.declared.port.Port.{Port}
 use Rattle.ats_network.specs.Network.{DeclaredNetwork}
 use Rattle.ats_bucket.specs.Conforming.{Frame, Conforms}
 use Rattle.ats_group.specs.Group.{is_declared_size}
-use Rattle.ats_trace.specs.Journey.{sender_at}
+use Rattle.ats_network.specs.Senders.{sender_at}
 use Rattle.ats_trace.specs.Eligibility.{declared_by}
 use Rattle.ats_trace.specs.declared.journey.Release.{Release}
 
