@@ -6,7 +6,7 @@ use Rattle.ats_certificate.specs.Certificate.{bound_at}
 use Rattle.ats_certificate.specs.declared.row.Row.{Row}
 use Rattle.ats_group.specs.declared.verdict.Verdict.{Verdict}
 use Rattle.ats_group.specs.declared.verdict.Verdict.TheVariants.{Eligible, Late, Size}
-use Rattle.ats_trace.specs.Journey.{Travel, later_hops}
+use Rattle.ats_trace.specs.Journey.{Travel, class_at}
 use Rattle.ats_trace.specs.Run.{IsLegal, releases_of}
 use Rattle.ats_trace.specs.Talker.{talker_of, KeepsBuckets}
 use Rattle.ats_trace.specs.declared.journey.HopRecord.{HopRecord}
@@ -35,7 +35,7 @@ ArrivesBy limit Discard = ⊥
 
 -- the bounds of the ports of a sender's path, by the rows of a certificate
 abbrev pub bounds_of : List Row → Sender → ℕ → ℕ
-bounds_of rows sender port = bound_at rows port sender.class
+bounds_of rows sender port = bound_at rows port (class_at sender port)
 
 -- a frame is never discarded, is eligible at each next hop within the bound of the hop before, and arrives within the sum
 pub record IsServed (rows : List Row) (sender : Sender) (journey : Travel) : Type 0 where
@@ -58,6 +58,11 @@ IsPromptOnce bound (p ∷ path) (hop ∷ hops) ending = OnEligible hop.verdict (
 abbrev pub later_ports : List ℕ → List ℕ
 later_ports [] = []
 later_ports (p ∷ path) = path
+
+-- the records after the first
+abbrev pub later_hops : List HopRecord → List HopRecord
+later_hops [] = []
+later_hops (hop ∷ hops) = hops
 
 -- whatever its own talker does, a frame that the first bridge lets through is prompt from there on
 abbrev pub IsContained : List Row → Sender → Travel → Type 0

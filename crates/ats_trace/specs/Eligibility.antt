@@ -1,4 +1,4 @@
-use Rattle.std.specs.Prelude.{◌≡◌, ℕ, List, map, All, IsPermutation, if◌then◌else◌}
+use Rattle.std.specs.Prelude.{◌≡◌, ℕ, List, map, IsPermutation, if◌then◌else◌}
 use Rattle.std.specs.List.Sorted.{IsNonDecreasing}
 use Rattle.ats_topology.specs.Node.{residence_of}
 use Rattle.ats_topology.specs.Port.{port_at}
@@ -10,9 +10,7 @@ use Rattle.ats_group.specs.Group.{Offer, first, verdicts_of, is_declared_size}
 use Rattle.ats_group.specs.declared.member.Declared.{Declared}
 use Rattle.ats_group.specs.declared.verdict.Verdict.{Verdict}
 use Rattle.ats_group.specs.declared.verdict.Verdict.TheVariants.{Eligible, Size}
-use Rattle.ats_trace.specs.Journey.{Travel, later_hops}
-use Rattle.ats_trace.specs.Projections.{Handed, handed_by}
-use Rattle.ats_trace.specs.declared.journey.HopRecord.{HopRecord}
+use Rattle.ats_trace.specs.Projections.{Handed}
 
 -- what a sender declares of its rate, burst and sizes
 abbrev pub declared_of : Sender → Declared
@@ -37,11 +35,7 @@ pub record IsJudged (network : DeclaredNetwork) (residence_ns : ℕ) (handed : L
 abbrev pub residence_behind : DeclaredNetwork → ℕ → ℕ
 residence_behind network port = residence_of (node_at network.topology.nodes (port_at network.topology.ports port).to).kind
 
--- a flow's frame behind a port: eligible at once, where it has a declared size
-pub record IsPassed (flow : Sender) (octets : ℕ) (hop : HopRecord) : Type 0 where
-  pub verdict : hop.verdict ≡ (if is_declared_size (declared_of flow) octets then Eligible hop.arrival else Size)
-
--- the records of a flow's frame behind its first port
-abbrev pub IsFlowJourney : DeclaredNetwork → Travel → Type 0
-IsFlowJourney network j =
-    (sender_at network j.release.sender).class ≡ 0 → All (IsPassed (sender_at network j.release.sender) j.release.octets) (later_hops j.hops)
+-- a flow's frame behind a port: eligible at its arrival where it has a declared size, else discarded for its size
+abbrev pub IsPassed : DeclaredNetwork → Handed → Type 0
+IsPassed network h =
+    h.verdict ≡ (if is_declared_size (declared_by network h.hop.sent.sender) h.octets then Eligible (record { 0 = h.arrival }) else Size)

@@ -19,9 +19,9 @@ pub record Travel : Type 0 where
   pub hops : List HopRecord
   pub ending : Ending
 
--- the class of a sender's frames at a hop, counted from 0: the same at each
+-- the class of a sender's frames at a port: the same at each
 abbrev pub class_at : Sender → ℕ → ℕ
-class_at sender hop = sender.class
+class_at sender port = sender.class
 
 -- when a frame arrives behind a port that has sent it until this time
 abbrev pub arrival_after : Port → ℕ → ℕ
@@ -32,10 +32,8 @@ arrival_after port end = end + port.latency.0
 abbrev pub GoesOn : (ℕ → Type 0) → Port → Verdict → Option (Ps × Ps) → List HopRecord → Ending → Type 0
 GoesOn onward port (Eligible e) (Some times) hops ending = onward (arrival_after port times.1.0)
 GoesOn onward port (Eligible e) None hops ending = ⊥
-GoesOn onward port (Late e) (Some times) hops ending = ⊥
-GoesOn onward port (Late e) None hops ending = (hops ≡ []) × (ending ≡ Discard)
-GoesOn onward port Size (Some times) hops ending = ⊥
-GoesOn onward port Size None hops ending = (hops ≡ []) × (ending ≡ Discard)
+GoesOn onward port verdict (Some times) hops ending = ⊥
+GoesOn onward port verdict None hops ending = (hops ≡ []) × (ending ≡ Discard)
 
 -- the way of a frame that comes at this time to the first port of what is left of its path, with the records from there on:
 -- one for each port that it comes to, and after the last port the listener's arrival
@@ -51,11 +49,6 @@ IsWay ports due (p ∷ path) (hop ∷ hops) ending =
 abbrev pub IsReleased : Release → List HopRecord → Type 0
 IsReleased release [] = ⊥
 IsReleased release (hop ∷ hops) = hop.verdict ≡ Eligible release.at
-
--- the hops after the first
-abbrev pub later_hops : List HopRecord → List HopRecord
-later_hops [] = []
-later_hops (hop ∷ hops) = hops
 
 -- one frame's journey over its sender's path
 pub record IsJourney (network : DeclaredNetwork) (journey : Travel) : Type 0 where

@@ -52,26 +52,26 @@ handed_at octets port (Some sent) [] = []
 handed_at octets port (Some sent) (next ∷ hops) =
     record { hop = record { port = port; sent = sent }; octets = octets; arrival = next.arrival.0; verdict = next.verdict } ∷ []
 
--- the transmissions of a frame from a hop on, along what is left of its path
-abbrev pub hops_along : ℕ → Release → Sender → ℕ → List ℕ → List HopRecord → List Hop
-hops_along frame release sender k [] hops = []
-hops_along frame release sender k (p ∷ path) [] = []
-hops_along frame release sender k (p ∷ path) (hop ∷ hops) =
-    hop_at p (transmission_of frame release (class_at sender k) hop) ++ hops_along frame release sender (k + 1) path hops
+-- the transmissions of a frame along what is left of its path
+abbrev pub hops_along : ℕ → Release → Sender → List ℕ → List HopRecord → List Hop
+hops_along frame release sender [] hops = []
+hops_along frame release sender (p ∷ path) [] = []
+hops_along frame release sender (p ∷ path) (hop ∷ hops) =
+    hop_at p (transmission_of frame release (class_at sender p) hop) ++ hops_along frame release sender path hops
 
 -- the same, each with what became of the frame behind the port
-abbrev pub handed_along : ℕ → Release → Sender → ℕ → List ℕ → List HopRecord → List Handed
-handed_along frame release sender k [] hops = []
-handed_along frame release sender k (p ∷ path) [] = []
-handed_along frame release sender k (p ∷ path) (hop ∷ hops) =
-    handed_at release.octets p (transmission_of frame release (class_at sender k) hop) hops ++ handed_along frame release sender (k + 1) path hops
+abbrev pub handed_along : ℕ → Release → Sender → List ℕ → List HopRecord → List Handed
+handed_along frame release sender [] hops = []
+handed_along frame release sender (p ∷ path) [] = []
+handed_along frame release sender (p ∷ path) (hop ∷ hops) =
+    handed_at release.octets p (transmission_of frame release (class_at sender p) hop) hops ++ handed_along frame release sender path hops
 
 -- of the journey with this number
 abbrev pub journey_hops : DeclaredNetwork → ℕ → Travel → List Hop
-journey_hops network frame j = hops_along frame j.release (sender_at network j.release.sender) 0 (sender_at network j.release.sender).path j.hops
+journey_hops network frame j = hops_along frame j.release (sender_at network j.release.sender) (sender_at network j.release.sender).path j.hops
 
 abbrev pub journey_handed : DeclaredNetwork → ℕ → Travel → List Handed
-journey_handed network frame j = handed_along frame j.release (sender_at network j.release.sender) 0 (sender_at network j.release.sender).path j.hops
+journey_handed network frame j = handed_along frame j.release (sender_at network j.release.sender) (sender_at network j.release.sender).path j.hops
 
 -- of journeys that are numbered from this number on
 abbrev pub hops_from : DeclaredNetwork → ℕ → List Travel → List Hop

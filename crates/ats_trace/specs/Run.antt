@@ -5,7 +5,7 @@ use Rattle.ats_network.specs.Network.{DeclaredNetwork}
 use Rattle.ats_transmission.specs.PortRule.{KeepsPortRule, KeepsTie}
 use Rattle.ats_trace.specs.Journey.{Travel, IsJourney}
 use Rattle.ats_trace.specs.Projections.{sent_by, handed_by}
-use Rattle.ats_trace.specs.Eligibility.{IsJudged, residence_behind, IsFlowJourney}
+use Rattle.ats_trace.specs.Eligibility.{IsJudged, IsPassed, residence_behind}
 use Rattle.ats_trace.specs.declared.journey.Release.{Release}
 
 -- the releases of a run, by frame number
@@ -13,15 +13,16 @@ abbrev pub releases_of : List Travel → List Release
 releases_of run = map (λ (j : Travel). j.release) run
 
 -- a run of a network in which nothing happens that its rules forbid: the frames are numbered in the order of their
--- releases, each makes a journey, each port keeps the port rule, and behind each port the groups judge what arrives
+-- releases, each makes a journey, each port keeps the port rule, and behind each port a group of schedulers judges the
+-- streams' frames of each class, and the flows' frames are judged by their size alone
 pub record IsLegal (network : DeclaredNetwork) (run : List Travel) : Type 0 where
   pub in_order : IsNonDecreasing (map (λ (r : Release). r.at.0) (releases_of run))
   pub journeys : All (IsJourney network) run
-  pub flows : All (IsFlowJourney network) run
   pub ports : (port : ℕ) → port < length network.topology.ports
     → KeepsPortRule (port_at network.topology.ports port).ps_per_bit (sent_by network run port)
   pub groups : (port class : ℕ) → port < length network.topology.ports → 1 ≤ class
     → IsJudged network (residence_behind network port) (handed_by network run port class)
+  pub flows : (port : ℕ) → port < length network.topology.ports → All (IsPassed network) (handed_by network run port 0)
 
 -- a run in which each port breaks each tie by this key
 pub record IsRunBy (key : ℕ → ℕ → ℕ) (network : DeclaredNetwork) (run : List Travel) : Type 0 where

@@ -2,7 +2,7 @@ use Rattle.std.specs.Prelude.{◌≡◌, ℕ, ◌<◌, ◌==◌, IsTrue, List, [
 use Rattle.ats_num.specs.Wire.{bits_of}
 use Rattle.ats_topology.specs.Port.{port_at}
 use Rattle.ats_topology.specs.declared.port.Port.{Port}
-use Rattle.ats_network.specs.Network.{DeclaredNetwork}
+use Rattle.ats_network.specs.Network.{DeclaredNetwork, senders_of}
 use Rattle.ats_bucket.specs.Conforming.{Frame, Conforms}
 use Rattle.ats_group.specs.Group.{is_declared_size}
 use Rattle.ats_network.specs.Senders.{sender_at}
@@ -10,13 +10,13 @@ use Rattle.ats_trace.specs.Eligibility.{declared_by}
 use Rattle.ats_trace.specs.declared.journey.Release.{Release}
 
 -- the node at which a path begins
-abbrev pub node_before : List Port → List ℕ → ℕ
-node_before ports [] = 0
-node_before ports (p ∷ path) = (port_at ports p).from
+abbrev pub start_of : List Port → List ℕ → ℕ
+start_of ports [] = 0
+start_of ports (p ∷ path) = (port_at ports p).from
 
 -- the station of a sender
 abbrev pub talker_of : DeclaredNetwork → ℕ → ℕ
-talker_of network i = node_before network.topology.ports (sender_at network i).path
+talker_of network i = start_of network.topology.ports (sender_at network i).path
 
 -- a release as a token bucket counts it
 abbrev pub frame_of : Release → Frame
@@ -35,4 +35,4 @@ IsDeclaredSize network r = IsTrue (is_declared_size (declared_by network r.sende
 pub record KeepsBuckets (network : DeclaredNetwork) (releases : List Release) (station : ℕ) : Type 0 where
   pub streams : (i : ℕ) → i < length network.streams → talker_of network i ≡ station
     → Conforms (sender_at network i).rate (sender_at network i).burst_bits (frames_of i releases)
-  pub sizes : All (λ (r : Release). talker_of network r.sender ≡ station → IsDeclaredSize network r) releases
+  pub sizes : All (λ (r : Release). r.sender < length (senders_of network) → talker_of network r.sender ≡ station → IsDeclaredSize network r) releases

@@ -21,7 +21,7 @@ pub struct HopRecord {
     pub arrival: Ps,
     /// What the node decided on it.
     pub verdict: Verdict,
-    /// When its transmission started and ended; `None` exactly where the verdict is not `Eligible`.
+    /// When its transmission started and ended; in a finished run `None` exactly where the verdict is not `Eligible`.
     pub sent: Option<(Ps, Ps)>,
 }
 
