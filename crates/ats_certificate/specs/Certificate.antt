@@ -1,13 +1,11 @@
 use Rattle.std.specs.Prelude.{◌≡◌, ℕ, ◌+◌, ◌-◌, ◌*◌, ◌<◌, ◌≤◌, Bool, ◌&&◌, ◌==◌, ◌⊎◌, IsTrue, IsSome, List, find, sum_by, All, AllPairs, Option, unwrap_or}
-use Rattle.std.specs.Option.{option_map}
-use Rattle.ats_num.specs.declared.time.TheConstants.{PS_PER_SECOND}
+use Rattle.std.specs.Option.{option_map, ForSome}
+use Rattle.ats_num.specs.declared.time.TheConstants.{PS_PER_SECOND, PS_PER_NS}
 use Rattle.ats_topology.specs.Port.{port_at}
-use Rattle.ats_topology.specs.Topology.{DeclaredTopology, node_at}
-use Rattle.ats_topology.specs.declared.node.Kind.{Kind}
-use Rattle.ats_topology.specs.declared.node.Kind.TheVariants.{Station, Bridge}
 use Rattle.ats_topology.specs.declared.port.Port.{Port}
 use Rattle.ats_streams.specs.Stream.{DeclaredStream}
 use Rattle.ats_network.specs.Network.{DeclaredNetwork}
+use Rattle.ats_network.specs.Residence.{residence_after}
 use Rattle.ats_certificate.specs.PortSums.{PortSums, port_sums, is_used}
 use Rattle.ats_certificate.specs.declared.row.Row.{Row}
 
@@ -31,15 +29,6 @@ bound_along rows stream = sum_by (λ port. bound_at rows port stream.class) stre
 abbrev pub IsBefore : Row → Row → Type 0
 IsBefore a b = (a.port < b.port) ⊎ ((a.port ≡ b.port) × (a.class < b.class))
 
--- a frame may wait so many picoseconds for its eligibility at the groups of a node: at a bridge, at most the residence time
-abbrev pub MayWait : Kind → ℕ → Type 0
-MayWait Station wait = Unit {0}
-MayWait (Bridge processing_ns residence_ns) wait = wait ≤ 1000 * residence_ns
-
--- the kind of the node that a port leads to
-abbrev pub kind_after : DeclaredTopology → ℕ → Kind
-kind_after topology port = (node_at topology.nodes (port_at topology.ports port).to).kind
-
 -- a row says what the senders make of its port and class
 pub record HasSums (row : Row) (sums : PortSums) : Type 0 where
   pub higher : row.higher ≡ sums.higher
@@ -48,41 +37,48 @@ pub record HasSums (row : Row) (sums : PortSums) : Type 0 where
   pub lower : row.lower ≡ sums.lower
   pub least : row.least ≡ sums.least
 
--- the longest time from eligibility at a port until the arrival behind it, for a wait: the shortest frame takes the rest
+-- a bound: the wait, the transmission of the shortest frame, and the latency
 abbrev pub bound_of : Port → ℕ → ℕ → ℕ
 bound_of port wait least = wait + port.ps_per_bit * least + port.latency.0
 
--- the rates of the class and of those above it fill at most the whole of the link
-abbrev pub IsLoaded : Row → Type 0
-IsLoaded row = row.higher + row.equal ≤ PS_PER_SECOND
+-- the rates of the class and of those above it fit the link
+abbrev pub FitsLink : Row → Type 0
+FitsLink row = row.higher + row.equal ≤ PS_PER_SECOND
 
--- the wait is long enough: at the rate that the higher classes leave, the longest lower frame and all bursts but the
--- shortest frame itself are sent in it
+-- the wait is long enough: at the rate that the higher classes leave, the link sends in it the longest lower frame and all
+-- bursts, less the shortest frame of the class
 abbrev pub IsEnough : Port → Row → Type 0
 IsEnough port row = PS_PER_SECOND * (port.ps_per_bit * (row.lower + row.bursts - row.least)) ≤ row.wait * (PS_PER_SECOND - row.higher)
 
--- a row covers its port and class: it says what the senders make of them, does not overload the link, waits long enough,
--- and gives the bound that follows
+-- a row covers its port and class: it says what the senders make of them, which fits the link, waits long enough, and
+-- gives the bound that follows
 pub record Covers (network : DeclaredNetwork) (row : Row) : Type 0 where
   pub sums : HasSums row (port_sums network row.port row.class)
   pub bound : row.bound ≡ bound_of (port_at network.topology.ports row.port) row.wait row.least
-  pub load : IsLoaded row
+  pub load : FitsLink row
   pub wait : IsEnough (port_at network.topology.ports row.port) row
+
+-- where a port leads to a bridge, a wait at the port is at most the maximum residence time there
+abbrev pub MayStay : DeclaredNetwork → ℕ → ℕ → Type 0
+MayStay network port wait = ForSome (residence_after network.topology port) (λ ns. wait ≤ PS_PER_NS * ns)
 
 -- what each row of a certificate keeps
 pub record RowHolds (network : DeclaredNetwork) (row : Row) : Type 0 where
   pub covers : Covers network row
-  pub residence : MayWait (kind_after network.topology row.port) row.wait
+  pub residence : MayStay network row.port row.wait
 
 -- a stream's bounds are within its deadline
 abbrev pub IsInTime : List Row → DeclaredStream → Type 0
-IsInTime rows stream = bound_along rows stream ≤ 1000 * stream.deadline_ns
+IsInTime rows stream = bound_along rows stream ≤ PS_PER_NS * stream.deadline_ns
 
--- a certificate holds for a network: there is one row for each port and class that some stream uses, in ascending order of
--- ports and then classes, and no other row; each row keeps what it must; and each stream is in time
-pub record Holds (network : DeclaredNetwork) (rows : List Row) : Type 0 where
+-- there is one row for each port and class that some stream uses, in ascending order of ports and then classes, and no other
+pub record HasRows (network : DeclaredNetwork) (rows : List Row) : Type 0 where
   pub complete : (port class : ℕ) → IsTrue (is_used network port class) → IsSome (row_of rows port class)
   pub used : All (λ (row : Row). IsTrue (is_used network row.port row.class)) rows
   pub ordered : AllPairs IsBefore rows
+
+-- a certificate holds for a network: it has the rows of the network, each row keeps what it must, and each stream is in time
+pub record Holds (network : DeclaredNetwork) (rows : List Row) : Type 0 where
+  pub rows_of : HasRows network rows
   pub each : All (RowHolds network) rows
   pub deadlines : All (IsInTime rows) network.streams

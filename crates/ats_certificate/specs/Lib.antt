@@ -1,3 +1,4 @@
 pub mod PortSums
 pub mod Certificate
 pub mod Least
+pub mod Used

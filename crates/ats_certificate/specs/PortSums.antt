@@ -1,4 +1,4 @@
-use Rattle.std.specs.Prelude.{ℕ, ◌+◌, ◌*◌, Bool, ◌||◌, ◌==◌, nat_lt, min, max, List, [], ◌∷◌, map, filter, fold, sum_by}
+use Rattle.std.specs.Prelude.{ℕ, ◌*◌, Bool, ◌||◌, ◌==◌, nat_lt, min, max, List, [], ◌∷◌, map, filter, fold, sum_by}
 use Rattle.std.specs.List.{list_any}
 use Rattle.ats_num.specs.Wire.{bits_of}
 use Rattle.ats_topology.specs.Port.{port_at}
@@ -47,8 +47,9 @@ least_where test amount senders = least_of (map amount (filter test senders))
 abbrev pub senders_at : ℕ → List Sender → List Sender
 senders_at port senders = filter (uses port) senders
 
--- of rates: those of higher classes and of this class, each times the port's picoseconds per bit, so in parts of a second;
--- the bursts of both; the longest frame of a lower class, flows included; the shortest frame of this class
+-- what the senders at a port make of a class. higher: the picoseconds of each second that the rates of the higher classes
+-- take; equal: the same of the class itself; bursts: the bursts of both, in bits; lower: the wire bits of the longest frame
+-- of a lower class or a flow, 0 where there is none; least: the wire bits of the shortest frame of the class
 pub record PortSums : Type 0 where
   pub higher : ℕ
   pub equal : ℕ

@@ -18,7 +18,7 @@ pub struct Row {
     pub lower: u64,
     /// The wire bits of the shortest frame of this class.
     pub least: u64,
-    /// How long a frame may wait, in picoseconds.
+    /// How long a frame may wait at the port from its eligibility, in picoseconds.
     pub wait: u128,
     /// The bound, in picoseconds, on the time from a frame's eligibility at the port to its arrival behind it: the wait, the
     /// transmission of the shortest frame, and the latency.

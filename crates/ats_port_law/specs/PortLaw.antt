@@ -2,7 +2,7 @@ use Rattle.std.specs.Prelude.{◌≡◌, ℕ, ◌+◌, ◌<◌, ◌≤◌, ◌==
 use Rattle.ats_topology.specs.Port.{port_at}
 use Rattle.ats_network.specs.Sender.{Sender}
 use Rattle.ats_network.specs.Network.{DeclaredNetwork, IsNetwork, senders_of}
-use Rattle.ats_certificate.specs.PortSums.{uses, longest, shortest}
+use Rattle.ats_certificate.specs.PortSums.{uses, longest, shortest, is_used}
 use Rattle.ats_certificate.specs.Certificate.{Covers}
 use Rattle.ats_certificate.specs.declared.row.Row.{Row}
 use Rattle.ats_bucket.specs.Conforming.{Frame, Conforms}
@@ -44,6 +44,6 @@ IsWithinBound network row x = x.class ≡ row.class → x.end + (port_at network
 -- where a row covers its port, and the port keeps the port rule with what it may be asked to send, each frame of the row's
 -- class is within the row's bound, whatever lawful order the port takes
 abbrev pub PortLaw : Type 0
-PortLaw = (network : DeclaredNetwork) (row : Row) (sent : List Transmission) → IsNetwork network → row.port < length network.topology.ports
+PortLaw = (network : DeclaredNetwork) (row : Row) (sent : List Transmission) → IsNetwork network → IsTrue (is_used network row.port row.class)
     → Covers network row → KeepsPortRule (port_at network.topology.ports row.port).ps_per_bit sent → IsOffered network row.port sent
     → All (IsWithinBound network row) sent

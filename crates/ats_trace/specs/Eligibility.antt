@@ -1,11 +1,9 @@
-use Rattle.std.specs.Prelude.{◌≡◌, ℕ, List, map, IsPermutation, if◌then◌else◌}
+use Rattle.std.specs.Prelude.{◌≡◌, ℕ, List, map, IsPermutation, unwrap_or, if◌then◌else◌}
 use Rattle.std.specs.List.Sorted.{IsNonDecreasing}
-use Rattle.ats_topology.specs.Node.{residence_of}
-use Rattle.ats_topology.specs.Port.{port_at}
-use Rattle.ats_topology.specs.Topology.{node_at}
 use Rattle.ats_network.specs.Sender.{Sender}
 use Rattle.ats_network.specs.Network.{DeclaredNetwork}
 use Rattle.ats_network.specs.Senders.{sender_at}
+use Rattle.ats_network.specs.Residence.{residence_after}
 use Rattle.ats_group.specs.Group.{Offer, first, verdicts_of, is_declared_size}
 use Rattle.ats_group.specs.declared.member.Declared.{Declared}
 use Rattle.ats_group.specs.declared.verdict.Verdict.{Verdict}
@@ -31,9 +29,9 @@ pub record IsJudged (network : DeclaredNetwork) (residence_ns : ℕ) (handed : L
   pub in_order : IsNonDecreasing (map (λ (h : Handed). h.arrival) arrivals)
   pub verdicts : map (λ (h : Handed). h.verdict) arrivals ≡ verdicts_of (declared_by network) residence_ns (first (declared_by network)) (map offer_of arrivals)
 
--- the maximum residence time of the node that a port leads to, in nanoseconds
+-- the maximum residence time behind a port, in nanoseconds; 0 behind a port to a station
 abbrev pub residence_behind : DeclaredNetwork → ℕ → ℕ
-residence_behind network port = residence_of (node_at network.topology.nodes (port_at network.topology.ports port).to).kind
+residence_behind network port = unwrap_or (residence_after network.topology port) 0
 
 -- a flow's frame behind a port: eligible at its arrival where it has a declared size, else discarded for its size
 abbrev pub IsPassed : DeclaredNetwork → Handed → Type 0

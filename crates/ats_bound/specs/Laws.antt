@@ -1,0 +1,20 @@
+use Rattle.std.specs.Prelude.{◌≡◌, List, Some, None}
+use Rattle.ats_network.specs.Network.{DeclaredNetwork, IsNetwork}
+use Rattle.ats_certificate.specs.Certificate.{Holds}
+use Rattle.ats_certificate.specs.Least.{IsLeastCertificate}
+use Rattle.ats_certificate.specs.declared.row.Row.{Row}
+use Rattle.ats_bound.specs.Least.{least_certificate}
+use Rattle.ats_bound.specs.Reason.{reason_of}
+use Rattle.ats_bound.specs.declared.reason.Reason.{Reason}
+
+-- where a network has no reason against it, its least certificate is one, and holds
+pub record IsAnswered (network : DeclaredNetwork) : Type 0 where
+  pub least : IsLeastCertificate network (least_certificate network)
+  pub holds : Holds network (least_certificate network)
+
+abbrev pub LeastCertificateHolds : Type 0
+LeastCertificateHolds = (network : DeclaredNetwork) → IsNetwork network → reason_of network ≡ None → IsAnswered network
+
+-- where it has one, no certificate holds for it
+abbrev pub ReasonLeavesNone : Type 0
+ReasonLeavesNone = (network : DeclaredNetwork) (reason : Reason) (rows : List Row) → IsNetwork network → reason_of network ≡ Some reason → ¬ Holds network rows

@@ -1,0 +1,3 @@
+pub mod Least
+pub mod Reason
+pub mod Laws

@@ -1,0 +1,9 @@
+use Rattle.std.specs.Prelude.{◌≡◌, ◌↔◌, List, AllPairs, None}
+use Rattle.ats_network.specs.Network.{DeclaredNetwork, IsNetwork}
+use Rattle.ats_certificate.specs.Certificate.{Holds, IsBefore}
+use Rattle.ats_certificate.specs.declared.row.Row.{Row}
+use Rattle.ats_checker.specs.Refusal.{refusal_of}
+
+-- rows in order are refused exactly where they do not hold
+abbrev pub RefusedUnlessHolding : Type 0
+RefusedUnlessHolding = (network : DeclaredNetwork) (rows : List Row) → IsNetwork network → AllPairs IsBefore rows → refusal_of network rows ≡ None ↔ Holds network rows

@@ -1,0 +1,6 @@
+//! The judgement of a certificate.
+#![tactic(auto)]
+
+pub mod refusal;
+
+pub use refusal::{Field, Refusal};

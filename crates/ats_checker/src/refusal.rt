@@ -1,0 +1,87 @@
+//! Why a certificate does not hold for a network.
+
+use ats_num::Name;
+
+/// A column of a certificate that follows from the network, or from the network and the wait.
+#[derive(Clone, Copy, Debug, PartialEq, Eq)]
+pub enum Field {
+    /// The load of the higher classes.
+    Higher,
+    /// The load of the class itself.
+    Equal,
+    /// The bursts of both.
+    Bursts,
+    /// The longest frame of a lower class.
+    Lower,
+    /// The shortest frame of the class.
+    Least,
+    /// The bound.
+    Bound,
+}
+
+/// Why a certificate does not hold: the first clause that fails, in the order of the variants, and there the first row in
+/// the order of ports and classes, the first field or the first stream.
+#[derive(Clone, Copy, Debug)]
+pub enum Refusal {
+    /// Some stream of the class uses the port, and there is no row for them.
+    RowMissing {
+        /// The number of the port.
+        port: u32,
+        /// The class.
+        class: u8,
+    },
+    /// There is a row for a port and a class, and no stream of the class uses the port.
+    RowStray {
+        /// The number of the port.
+        port: u32,
+        /// The class.
+        class: u8,
+    },
+    /// A field does not have the value that the network, or for the bound the row's wait, gives it.
+    FieldWrong {
+        /// The number of the port.
+        port: u32,
+        /// The class.
+        class: u8,
+        /// The field.
+        field: Field,
+        /// The right value.
+        right: u128,
+    },
+    /// The rates of the class and those above it are more than the link can carry.
+    Overloaded {
+        /// The number of the port.
+        port: u32,
+        /// The class.
+        class: u8,
+        /// The part of a second that they take, in picoseconds.
+        load: u128,
+    },
+    /// The wait is too short.
+    WaitTooSmall {
+        /// The number of the port.
+        port: u32,
+        /// The class.
+        class: u8,
+        /// The least wait that is enough, in picoseconds.
+        least_wait: u128,
+    },
+    /// The wait is longer than the maximum residence time of the bridge behind the port.
+    Residence {
+        /// The number of the port.
+        port: u32,
+        /// The class.
+        class: u8,
+        /// The wait, in picoseconds.
+        need: u128,
+    },
+    /// The bounds along a stream's path are together over its deadline.
+    Deadline {
+        /// The stream's name.
+        stream: Name,
+        /// Their sum, in picoseconds.
+        sum: u128,
+    },
+    /// Memory ran out.
+    NoMemory,
+}
