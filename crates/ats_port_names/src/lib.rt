@@ -1,0 +1,3 @@
+//! Ports as they are written in files and texts.
+#![tactic(auto)]
+

@@ -1,0 +1,3 @@
+//! What is printed of a network.
+#![tactic(auto)]
+
