@@ -59,7 +59,7 @@ ascending-pop {O} {E} before old new entry entries joined ready pops ascending =
     record {
       pairs = AllPairs-cons (λ (x y : Moment × E). before x.0 y.0) entry entries later ascending.pairs;
       after = λ m e. All-cons (λ (x : Moment × E). before m x.0) entry entries (first m e)
-      (λ k d h. joined m entry.0 _ (ready.last m e) range (ascending.in_range k d h) (first m e) (later k d h));
+          (λ k d h. joined m entry.0 _ (ready.last m e) range (ascending.in_range k d h) (first m e) (later k d h));
       in_range = All-cons (λ (x : Moment × E). IsInRange x.0) entry entries range ascending.in_range;
     }
 

@@ -37,7 +37,7 @@ by_rank_transitive x y joined a b c ha hb hc ab bc =
       time = omega arith;
       phase = λ e. (let p = phases e in omega (arith, p.0, p.1));
       rank = λ e f. (let p = phases e in
-        joined a.id b.id c.id (ab.rank (omega arith) (omega (arith, p.0, p.1))) (bc.rank (omega arith) (omega (arith, p.0, p.1))));
+          joined a.id b.id c.id (ab.rank (omega arith) (omega (arith, p.0, p.1))) (bc.rank (omega arith) (omega (arith, p.0, p.1))));
     }
 
 -- two moments with the same numbers are one

@@ -1,5 +1,7 @@
 //! What is proved of the definitions, for all lists of calls.
 
+ghost use Rattle.std.specs.Prelude.{◌≡◌};
+ghost use Rattle.ats_events.specs.declared.phase.TheConstants.{TRANSMISSION_END, ARRIVAL, ELIGIBLE, SELECTION};
 ghost use Rattle.ats_events.specs.Laws.{PopsAscend, EntriesAreTheRest};
 
 use crate::order::TimeOrder;
@@ -14,4 +16,12 @@ pub fn pops_ascend<O: TimeOrder, E: Copy>()
 /// were popped and those that it still has.
 pub fn entries_are_the_rest<O: TimeOrder, E: Copy>()
     ensures { EntriesAreTheRest O E O.before }
+{}
+
+/// Of what happens at one time, transmissions end first, then frames arrive, then they become eligible, then ports select.
+pub fn phases_are()
+    ensures transmission_end { TRANSMISSION_END ≡ 0 }
+    ensures arrival { ARRIVAL ≡ 1 }
+    ensures eligible { ELIGIBLE ≡ 2 }
+    ensures selection { SELECTION ≡ 3 }
 {}

@@ -14,3 +14,5 @@ pub use agenda::Agenda;
 pub use moment::Moment;
 pub use order::{Down, Scrambled, TimeOrder, Up};
 
+#[cfg(test)]
+mod tests;

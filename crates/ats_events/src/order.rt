@@ -107,7 +107,7 @@ fn is_before_by_rank(a: &Moment, b: &Moment, x: u32, y: u32) -> bool
     x < y
 }
 
-/// Whether `a` is before `b`, where the order is told of different moments that the other one is before.
+/// Whether `a` is before `b`. Where it is not and they differ, `b` is before `a`.
 pub(crate) fn is_before<O: TimeOrder>(order: O, a: Moment, b: Moment) -> bool
     ensures before { OnTrue result (O.before order a b) }
     ensures after { OnFalse result (a ≢ b → O.before order b a) }

@@ -8,7 +8,7 @@ invariant-loop-entry g l = record {
   follows : g.A.Actor.follows l.actor l.initial.actor;
   left : g.A.Actor.left l.actor ≤ g.A.Actor.left l.initial.actor;
   capacity : l.agenda.capacity ≡ l.initial.agenda.capacity;
-  order : l.agenda.order ≡ l.initial.agenda.order
+  order : l.agenda.order ≡ l.initial.agenda.order;
 }
 
 -- what the actor has left
