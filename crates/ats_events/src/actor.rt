@@ -9,6 +9,7 @@ use crate::order::TimeOrder;
 
 /// Something that handles events and may put new ones into the agenda.
 pub trait Actor<O: TimeOrder> {
+    /// What is to be done at a moment.
     type Event: Copy;
 
     /// A number that falls with each handled event, so that an end comes.
@@ -20,7 +21,9 @@ pub trait Actor<O: TimeOrder> {
     /// The first actor is a later state of the second.
     ghost follows: { Self → Self → Type 0 };
 
-    /// Handles an event, whose entry was just popped. It may insert others.
+    /// Handles an event whose entry was just popped, and may insert others. Before the call, what holds does so with this
+    /// entry put back, and its moment is the last popped one and is before those of all entries. After it, less is left,
+    /// what holds does so again, the actor follows the one that it was, and the agenda has its capacity and order still.
     fn handle(&mut self, moment: Moment, event: Self::Event, agenda: &mut Agenda<O, Self::Event>)
         requires holds { holds self.old ((moment, event) ∷ agenda.old.entries) agenda.old.capacity agenda.old.order }
         requires last { agenda.old.last ≡ Some moment }
