@@ -1,0 +1,4 @@
+pub mod Appended
+pub mod NameLemmas
+pub mod IdentityLemmas
+pub mod Pushed
