@@ -6,3 +6,6 @@ pub mod PathLemmas
 pub mod CountLemmas
 pub mod BridgeLemmas
 pub mod SenderLemmas
+pub mod FirstLemmas
+pub mod SimpleWalks
+pub mod RouteLemmas
