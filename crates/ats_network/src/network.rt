@@ -135,10 +135,12 @@ impl Network {
         ensures value { result ≡ (sender_at self.now sender).class }
         ensures rules { IsNetwork self.now }
     {
-        match self.stream_table.as_slice().get(sender as usize) {
-            Some(stream) => stream.class(),
-            None => 0,
+        let streams = self.stream_table.as_slice();
+        let place = sender as usize;
+        if place < streams.len() {
+            return streams[place].class();
         }
+        0
     }
 
     /// A sender's name.

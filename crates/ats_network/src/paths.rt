@@ -1,11 +1,9 @@
 //! Paths along the ports of a topology.
 
-ghost use Rattle.std.specs.Prelude.{◌≡◌, ◌↔◌, ◌<◌, IsTrue, IfSome, All, length};
-ghost use Rattle.ats_topology.specs.Port.{IsBetween};
-ghost use Rattle.ats_topology.specs.Topology.{IsTopology};
+ghost use Rattle.std.specs.Prelude.{◌≡◌, ◌↔◌, IsTrue};
 ghost use Rattle.ats_topology.specs.Walks.{ArePorts};
 ghost use Rattle.ats_network.specs.Path.{IsValidPath, IsStationAt};
-ghost use Rattle.ats_network.specs.PathSteps.{walk_end, comes_to, part_ways};
+ghost use Rattle.ats_network.specs.PathSteps.{walk_end, ends_of, comes_to, part_ways};
 
 use ats_topology::{Port, Topology};
 
@@ -16,19 +14,29 @@ pub fn is_valid_path(topology: &Topology, path: &[u32]) -> bool
     ensures { IsTrue result ↔ IsValidPath topology.now path.now }
 {
     let ports = topology.ports();
-    let Some(first) = path.first() else {
+    let Some((talker, listener)) = ends(ports, path) else {
         return false;
     };
-    let Some(port) = ports.get(*first as usize) else {
-        return false;
-    };
-    let Some(listener) = walk_end(ports, port.from, path) else {
-        return false;
-    };
-    if !is_station_at(topology, port.from) || !is_station_at(topology, listener) {
+    if !is_station_at(topology, talker) {
         return false;
     }
-    !comes_to(ports, port.from, path) && part_ways(ports, path)
+    if !is_station_at(topology, listener) {
+        return false;
+    }
+    if comes_to(ports, talker, path) {
+        return false;
+    }
+    part_ways(ports, path)
+}
+
+// The nodes between which these ports make a walk, if they are any ports and make one.
+fn ends(ports: &[Port], path: &[u32]) -> Option<(u32, u32)>
+    ensures { result ≡ ends_of ports.now path.now }
+{
+    let first = path.first()?;
+    let from = ports.get(*first as usize)?.from;
+    let to = walk_end(ports, from, path)?;
+    Some((from, to))
 }
 
 // Whether this is the number of a station.

@@ -1,9 +1,9 @@
 //! Streams, found by their names and by the addresses of their frames.
 
-ghost use Rattle.std.specs.Prelude.{◌≡◌, ◌<◌, ℕ, [], ◌∷◌, ◌++◌, length, None, false, IfSome, OnOk, OnErr};
+ghost use Rattle.std.specs.Prelude.{◌≡◌, ◌<◌, ◌^◌, [], ◌∷◌, ◌++◌, length, None, false, IfSome, OnOk, OnErr};
 ghost use Rattle.ats_names.specs.Places.{place_of};
 ghost use Rattle.ats_network.specs.Pushes.{place_identified, is_identity_taken};
-ghost use Rattle.ats_network.specs.Tables.{stream_names};
+ghost use Rattle.ats_network.specs.Tables.{stream_names, IsUnidentified, Identifies, FindsSame};
 
 use crate::network::MAX_STREAMS;
 use ats_names::NameTable;
@@ -84,14 +84,22 @@ impl StreamTable {
     }
 }
 
-// Gives this number to a stream's name, which is the next of the names, and to its identity. `NoMemory` leaves both tables
-// as they were.
+// Gives this number to a stream's identity, where it has one, and adds its name to the names. `NoMemory` leaves both
+// tables as they were.
 fn number(
     names: &mut NameTable,
     identities: &mut BTreeMap<(u64, u16), u32>,
     stream: &Stream,
     place: u32,
-) -> Result<(), NoMemory> {
+) -> Result<(), NoMemory>
+    requires absent { place_of stream.now.name names.old ≡ None }
+    requires other { IsUnidentified identities.old stream.now.identity }
+    requires room { length names.old < 2 ^ 32 }
+    ensures names { OnOk result (names.new ≡ names.old ++ stream.now.name ∷ []) }
+    ensures identities { OnOk result (Identifies identities.old identities.new stream.now.identity place) }
+    ensures same_names { OnErr result (names.new ≡ names.old) }
+    ensures same_identities { OnErr result (FindsSame identities.old identities.new) }
+{
     let Some(identity) = stream.identity() else {
         return names.push(stream.name());
     };
