@@ -1,0 +1,5 @@
+pub mod Order
+pub mod WindowBits
+pub mod WindowParts
+pub mod WindowPieces
+pub mod WindowPlaces
