@@ -1,4 +1,13 @@
+pub mod AcceptedParts
+pub mod FullFold
+pub mod FullStep
+pub mod FullTime
 pub mod Order
+pub mod Output
+pub mod OutputLaws
+pub mod Push
+pub mod Tracked
+pub mod VerdictParts
 pub mod WindowBits
 pub mod WindowParts
 pub mod WindowPieces

@@ -1,2 +1,4 @@
+pub mod Accepted
+pub mod Full
 pub mod Laws
 pub mod Windows
