@@ -2,10 +2,12 @@ pub mod AcceptedParts
 pub mod FullFold
 pub mod FullStep
 pub mod FullTime
+pub mod GroupsOutput
 pub mod Order
 pub mod Output
 pub mod OutputLaws
 pub mod Push
+pub mod RowProofs
 pub mod Tracked
 pub mod VerdictParts
 pub mod WindowBits

@@ -1,4 +1,6 @@
 pub mod Accepted
 pub mod Full
+pub mod GroupsLaws
 pub mod Laws
+pub mod Rows
 pub mod Windows

@@ -1,6 +1,8 @@
 //! What is proved of the definitions, for all lists of frames and of offers.
 
 ghost use Rattle.ats_regulator.specs.Laws.{ConformingByWindows, EligibilityIsLeast, LateTimeIsLeast, GroupTimeIsLast, OutputConforms, OutputConformsByWindows, OutputAscends, FoldIsFullFold};
+ghost use Rattle.ats_regulator.specs.GroupsLaws.{GroupsOutputConforms, GroupsOutputAscends, GroupsEligibilityIsLeast};
+ghost use Rattle.ats_regulator.specs.Rows.{BucketEmptied, RoundedUp};
 
 /// Frames conform to a token bucket from each place to each later one exactly where their times do not descend and no
 /// window of time holds more bits than the rate gives in it and the burst.
@@ -44,4 +46,28 @@ pub fn output_ascends()
 /// The verdicts of a group and its state also come from bucket-full times, which are never negative.
 pub fn fold_is_full_fold()
     ensures { FoldIsFullFold }
+{}
+
+/// Whatever frames the members of `ats_group`'s groups offer, in any order and at any times, what its group accepts of
+/// each member conforms to its rate and burst.
+pub fn groups_output_conforms()
+    ensures { GroupsOutputConforms }
+{}
+
+/// The eligibility times of all frames that each of the groups accepts do not descend.
+pub fn groups_output_ascends()
+    ensures { GroupsOutputAscends }
+{}
+
+/// Where one of the groups accepts a frame, its eligibility time is the least with which all that the group accepted of
+/// the member conforms.
+pub fn groups_eligibility_is_least()
+    ensures { GroupsEligibilityIsLeast }
+{}
+
+/// The laws at two lists of frames: a bucket that is just emptied, and a rate at which eligibility times are rounded up.
+/// Frames that were a picosecond earlier would not conform.
+pub fn worked_rows()
+    ensures bucket_emptied { BucketEmptied }
+    ensures rounded_up { RoundedUp }
 {}
