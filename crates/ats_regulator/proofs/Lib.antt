@@ -8,6 +8,8 @@ pub mod Output
 pub mod OutputLaws
 pub mod Push
 pub mod RowProofs
+pub mod ShapingFree
+pub mod ShapingStep
 pub mod Tracked
 pub mod VerdictParts
 pub mod WindowBits

@@ -2,6 +2,7 @@
 
 ghost use Rattle.ats_regulator.specs.Laws.{ConformingByWindows, EligibilityIsLeast, LateTimeIsLeast, GroupTimeIsLast, OutputConforms, OutputConformsByWindows, OutputAscends, FoldIsFullFold};
 ghost use Rattle.ats_regulator.specs.GroupsLaws.{GroupsOutputConforms, GroupsOutputAscends, GroupsEligibilityIsLeast};
+ghost use Rattle.ats_regulator.specs.Shaping.{ShapingIsFree};
 ghost use Rattle.ats_regulator.specs.Rows.{BucketEmptied, RoundedUp};
 
 /// Frames conform to a token bucket from each place to each later one exactly where their times do not descend and no
@@ -63,6 +64,12 @@ pub fn groups_output_ascends()
 /// the member conforms.
 pub fn groups_eligibility_is_least()
     ensures { GroupsEligibilityIsLeast }
+{}
+
+/// A group adds nothing to the greatest delay: where frames come to it that conformed at the hop before, in the order in
+/// which they were eligible there and within a bound of that time, each is eligible again within the same bound.
+pub fn shaping_is_free()
+    ensures { ShapingIsFree }
 {}
 
 /// The laws at two lists of frames: a bucket that is just emptied, and a rate at which eligibility times are rounded up.
