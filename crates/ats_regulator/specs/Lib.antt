@@ -1,0 +1,7 @@
+pub mod Accepted
+pub mod Full
+pub mod GroupsLaws
+pub mod Laws
+pub mod Rows
+pub mod Shaping
+pub mod Windows
