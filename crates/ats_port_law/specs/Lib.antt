@@ -1,1 +1,2 @@
 pub mod PortLaw
+pub mod Rows

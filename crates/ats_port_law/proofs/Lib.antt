@@ -1,0 +1,10 @@
+mod Law
+mod Numbers
+mod Pairs
+mod RowProofs
+mod Senders
+mod Sums
+mod Totals
+mod UsedClass
+mod Walk
+mod Window
