@@ -10,6 +10,7 @@ pub mod Push
 pub mod RowProofs
 pub mod ShapingFree
 pub mod ShapingStep
+pub mod ShapingUse
 pub mod Tracked
 pub mod VerdictParts
 pub mod WindowBits
