@@ -1,13 +1,11 @@
-use Rattle.std.proofs.Common.{◌≡◌, ◌≢◌, ℕ, zero, suc, ◌+◌, ◌<◌, Bool, true, false, List, [], ◌∷◌, map, length, get_or, refl, sym, ap, subst, ◌∙◌, arith}
+use Rattle.std.proofs.Common.{◌≡◌, ◌≢◌, ℕ, ◌<◌, Bool, true, false, List, [], ◌∷◌, length, refl, sym, ap, subst, ◌∙◌, arith}
 use Rattle.std.proofs.lemmas.Bool.{eq-eqb}
 use Rattle.std.specs.List.{All, AllPairs}
-use Rattle.std.proofs.lemmas.List.Elements.{All-head, All-tail}
 use Rattle.ats_topology.specs.Node.{is_station}
 use Rattle.ats_topology.specs.Port.{port_at, no_port, leaves, HasBack}
-use Rattle.ats_topology.specs.Topology.{DeclaredTopology, IsTopology, IsPort, HasOnePort, node_at}
+use Rattle.ats_topology.specs.Topology.{DeclaredTopology, IsTopology, HasOnePort, node_at}
 use Rattle.ats_topology.specs.Walks.{IsWalk}
 use Rattle.ats_topology.specs.declared.port.Port.{Port}
-use Rattle.ats_network.specs.Path.{IsValidPath}
 use Rattle.ats_network.specs.Bridges.{MeetAtBridge}
 use Rattle.ats_network.specs.Senders.{AllNeighbours}
 use Rattle.ats_network.specs.Laws.{PathsMeetAtBridges}
@@ -54,9 +52,10 @@ meet_along topology a (p ∷ []) b is walk apart = tt
 meet_along topology a (p ∷ q ∷ path) b is walk apart =
     let ports : List Port = topology.ports in
     let others : All (λ n. a ≢ n) (nodes_to ports (p ∷ q ∷ path)) = pairs_head (λ m n. m ≢ n) a (nodes_to ports (p ∷ q ∷ path)) apart in
-    let further : a ≢ (port_at ports q).to = others 1 0 (omega arith) in
-    (meet topology p q is walk.0.within walk.1.0.within walk.1.0.from (λ e. further (sym walk.0.from ∙ e)),
-    meet_along topology (port_at ports p).to (q ∷ path) b is walk.1 (pairs_tail (λ m n. m ≢ n) a (nodes_to ports (p ∷ q ∷ path)) apart))
+    let further : a ≢ (port_at ports q).to = others 1 0 (omega arith) in (
+      meet topology p q is walk.0.within walk.1.0.within walk.1.0.from (λ e. further (sym walk.0.from ∙ e)),
+      meet_along topology (port_at ports p).to (q ∷ path) b is walk.1 (pairs_tail (λ m n. m ≢ n) a (nodes_to ports (p ∷ q ∷ path)) apart),
+    )
 
 pub meet_at_bridges : PathsMeetAtBridges
 meet_at_bridges topology [] is valid = tt

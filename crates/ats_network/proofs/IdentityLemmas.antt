@@ -1,7 +1,6 @@
 use Rattle.std.proofs.Common.{◌≡◌, ℕ, ◌+◌, Bool, true, false, cond, ◌&&◌, List, [], ◌∷◌, ◌++◌, length, Option, Some, None, refl, sym, ap, ◌∙◌, ◌<◌, arith, eqb, length-append}
-use Rattle.std.specs.Prelude.{is_some, IsTrue}
-use Rattle.std.specs.List.{All, AllPairs, position_from}
-use Rattle.std.specs.BTreeMap.{BTreeMap, get, Updates}
+use Rattle.std.specs.Prelude.{is_some}
+use Rattle.std.specs.BTreeMap.{BTreeMap, Updates}
 use Rattle.std.proofs.lemmas.Bool.{eqb-true, and_parts}
 use Rattle.std.proofs.lemmas.List.{map-append}
 use Rattle.std.proofs.lemmas.List.Quantifiers.{all_pairs_push}
@@ -97,9 +96,9 @@ pub share_push : (streams : List DeclaredStream) (stream : DeclaredStream) → A
 share_push streams stream apart free =
     all_pairs_push (λ (s t : DeclaredStream). (identity : ℕ × ℕ) → ¬ Share s t identity) streams stream apart
     (λ k d below identity shared.
-      let none : place_identified identity streams ≡ None =
-      absent_identity streams stream.identity free identity.0 identity.1 (ap (is_identity identity) shared.other ∙ same_identity identity) in
-      no_true (sym (all_fail (has_identity identity) 0 streams none k d below) ∙ (ap (is_identity identity) shared.one ∙ same_identity identity)))
+    let none : place_identified identity streams ≡ None =
+    absent_identity streams stream.identity free identity.0 identity.1 (ap (is_identity identity) shared.other ∙ same_identity identity) in
+    no_true (sym (all_fail (has_identity identity) 0 streams none k d below) ∙ (ap (is_identity identity) shared.one ∙ same_identity identity)))
 
 -- a table of streams with the same numbers
 pub same_table : (streams : List DeclaredStream) (names names' : List (List ℕ)) (old new : BTreeMap (ℕ × ℕ) ℕ) → AreStreams streams names old → names' ≡ names → FindsSame old new → AreStreams streams names' new

@@ -3,18 +3,16 @@ use Rattle.std.specs.List.{All, AllPairs, position_from}
 use Rattle.std.specs.Option.{option_or, option_map}
 use Rattle.std.specs.Str.{bytes_eq}
 use Rattle.std.proofs.lemmas.List.{map-append, get_or_default, length-map}
-use Rattle.std.proofs.lemmas.List.Elements.{All-get_or, All-nil, All-cons, All-weaker}
-use Rattle.std.proofs.lemmas.List.Kept.{AllPairs-cons}
+use Rattle.std.proofs.lemmas.List.Elements.{All-weaker}
 use Rattle.std.proofs.lemmas.Slice.Eq.{bytes_eq-Decides}
 use Rattle.ats_names.specs.Places.{place_of}
 use Rattle.ats_topology.specs.Node.{AreApart}
 use Rattle.ats_topology.proofs.PositionLemmas.{all_fail}
 use Rattle.ats_streams.specs.Stream.{DeclaredStream}
-use Rattle.ats_streams.specs.Flow.{DeclaredFlow}
 use Rattle.ats_network.specs.Sender.{Sender, stream_sender, flow_sender}
-use Rattle.ats_network.specs.Network.{DeclaredNetwork, declared_network, senders_of, names_of}
+use Rattle.ats_network.specs.Network.{DeclaredNetwork, senders_of, names_of}
 use Rattle.ats_network.specs.Tables.{stream_names, flow_names}
-use Rattle.ats_network.proofs.Appended.{position_from-append, position_from-later, position_from-fails, pairs_head, pairs_tail, pairs_insert, all_left, all_right}
+use Rattle.ats_network.proofs.Appended.{position_from-append, position_from-later, pairs_head, pairs_tail, pairs_insert, all_left, all_right}
 
 map-map : {X Y Z : Type 0} (f : X → Y) (g : Y → Z) (xs : List X) → map g (map f xs) ≡ map (λ x. g (f x)) xs
 map-map f g [] = refl

@@ -1,6 +1,5 @@
-use Rattle.std.proofs.Common.{◌≡◌, ◌≢◌, ℕ, zero, suc, ◌+◌, ◌<◌, Bool, true, false, cond, not, ◌&&◌, ◌||◌, List, [], ◌∷◌, map, length, Option, Some, None, refl, sym, ap, subst, ◌∙◌, arith, eqb, ltb}
-use Rattle.std.specs.Prelude.{IsTrue}
-use Rattle.std.specs.List.{All, AllPairs, list_any}
+use Rattle.std.proofs.Common.{◌≡◌, ◌≢◌, ℕ, ◌<◌, Bool, true, false, cond, not, ◌&&◌, ◌||◌, List, [], ◌∷◌, map, length, Option, Some, None, refl, sym, ap, subst, ◌∙◌, arith, eqb, ltb}
+use Rattle.std.specs.List.{All, AllPairs}
 use Rattle.std.specs.Option.{option_map}
 use Rattle.std.proofs.lemmas.Bool.{eqb-true, eq-eqb, ne_eqb, and_parts}
 use Rattle.std.proofs.lemmas.Bool.Decides.{nat_tests}
@@ -8,9 +7,9 @@ use Rattle.std.proofs.lemmas.List.Elements.{All-nil, All-cons, All-head, All-tai
 use Rattle.std.proofs.lemmas.List.Kept.{AllPairs-cons}
 use Rattle.ats_topology.specs.Port.{port_at}
 use Rattle.ats_topology.specs.Topology.{DeclaredTopology}
-use Rattle.ats_topology.specs.Walks.{IsWalk, IsPortFrom, ArePorts}
+use Rattle.ats_topology.specs.Walks.{IsWalk, ArePorts}
 use Rattle.ats_topology.specs.declared.port.Port.{Port}
-use Rattle.ats_network.specs.Path.{IsValidPath, IsStationAt, nodes_along}
+use Rattle.ats_network.specs.Path.{IsValidPath, IsStationAt}
 use Rattle.ats_network.specs.PathSteps.{walk_end, ends_of, comes_to, part_ways}
 use Rattle.ats_network.proofs.Appended.{pairs_head, pairs_tail}
 
@@ -162,9 +161,9 @@ valid_from_parts topology (p ∷ path) a b h begins ends back part =
       ends = ends;
       differ = λ same. true_false (sym (comes_to_end topology.ports a p path b e.walk) ∙ ap (λ (n : ℕ). comes_to topology.ports n (p ∷ path)) (sym same) ∙ back);
       apart =
-        AllPairs-cons (λ a b. a ≢ b) (port_at topology.ports p).from (nodes_to topology.ports (p ∷ path))
-        (away topology.ports (port_at topology.ports p).from (p ∷ path) (ap (λ (n : ℕ). comes_to topology.ports n (p ∷ path)) from ∙ back))
-        (pairs_from_parting topology.ports (p ∷ path) part);
+          AllPairs-cons (λ a b. a ≢ b) (port_at topology.ports p).from (nodes_to topology.ports (p ∷ path))
+          (away topology.ports (port_at topology.ports p).from (p ∷ path) (ap (λ (n : ℕ). comes_to topology.ports n (p ∷ path)) from ∙ back))
+          (pairs_from_parting topology.ports (p ∷ path) part);
     }
 
 -- a valid path's ports part ways, none of them back to its first node

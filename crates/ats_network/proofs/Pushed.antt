@@ -1,6 +1,5 @@
-use Rattle.std.proofs.Common.{◌≡◌, ℕ, ◌<◌, false, List, [], ◌∷◌, ◌++◌, map, length, Option, Some, None, sym, ap, ◌∙◌, arith, append_assoc, length-append}
+use Rattle.std.proofs.Common.{◌≡◌, ℕ, ◌<◌, false, List, [], ◌∷◌, ◌++◌, map, length, Option, Some, None, sym, arith, append_assoc, length-append}
 use Rattle.std.specs.Prelude.{is_some}
-use Rattle.std.specs.List.{All}
 use Rattle.std.proofs.lemmas.List.{map-append, append-nil}
 use Rattle.std.proofs.lemmas.List.Elements.{All-append, All-push}
 use Rattle.ats_names.specs.Places.{place_of}
@@ -31,8 +30,8 @@ pushed_stream network stream is keeps valid absent free room = record {
   streams = All-push IsStream network.streams stream is.streams keeps;
   flows = is.flows;
   paths =
-    rw (map-append stream_sender network.streams (stream ∷ []))
-    (All-append Goes (streams ++ stream_sender stream ∷ []) flows (All-push Goes streams (stream_sender stream) (all_left Goes streams flows is.paths) valid) (all_right Goes streams flows is.paths));
+      rw (map-append stream_sender network.streams (stream ∷ []))
+      (All-append Goes (streams ++ stream_sender stream ∷ []) flows (All-push Goes streams (stream_sender stream) (all_left Goes streams flows is.paths) valid) (all_right Goes streams flows is.paths));
   names = rw (names_of-senders (with_stream network stream), stream_names-push network.streams stream) (apart_insert (stream_names network.streams) (flow_names network.flows) stream.name (rw (names_of-senders network) at is.names) (rw (names_of-senders network) at absent));
   identities = share_push network.streams stream is.identities free;
   few_streams = omega (arith, length-append network.streams (stream ∷ []));
@@ -56,8 +55,8 @@ pushed_flow network flow is keeps valid absent room = record {
   streams = is.streams;
   flows = All-push IsFlow network.flows flow is.flows keeps;
   paths =
-    rw (map-append flow_sender network.flows (flow ∷ []))
-    (All-append Goes streams (flows ++ flow_sender flow ∷ []) (all_left Goes streams flows is.paths) (All-push Goes flows (flow_sender flow) (all_right Goes streams flows is.paths) valid));
+      rw (map-append flow_sender network.flows (flow ∷ []))
+      (All-append Goes streams (flows ++ flow_sender flow ∷ []) (all_left Goes streams flows is.paths) (All-push Goes flows (flow_sender flow) (all_right Goes streams flows is.paths) valid));
   names = rw (names_of-senders (with_flow network flow), flow_names-push network.flows flow) apart;
   identities = is.identities;
   few_streams = is.few_streams;

@@ -1,7 +1,6 @@
-use Rattle.std.proofs.Common.{◌≡◌, ℕ, zero, suc, ◌+◌, ◌<◌, ◌≤◌, Bool, true, false, cond, List, [], ◌∷◌, length, Option, Some, None, refl, sym, ap, subst, ◌∙◌, arith, eqb, inl, inr, ◌⊎◌, ⊎_elim}
+use Rattle.std.proofs.Common.{◌≡◌, ℕ, zero, suc, ◌<◌, ◌≤◌, Bool, true, false, cond, List, [], ◌∷◌, length, Option, Some, None, refl, sym, ap, subst, ◌∙◌, arith, eqb, ⊎_elim}
 use Rattle.std.specs.Prelude.{is_some, IsTrue, IfSome, IfNone, IfOk, Result, Ok, Err}
 use Rattle.std.specs.Global.{Vec}
-use Rattle.std.specs.List.{find}
 use Rattle.std.specs.Option.{option_map}
 use Rattle.std.specs.Ordering.{nat_cmp, is_le, ordering_then}
 use Rattle.std.specs.Cmp.Lexicographic.{slice_cmp}
@@ -12,12 +11,12 @@ use Rattle.std.proofs.lemmas.Bool.Decides.{nat_tests}
 use Rattle.ats_num.specs.declared.memory.NoMemory.{NoMemory}
 use Rattle.ats_topology.specs.Port.{port_at, leaving}
 use Rattle.ats_topology.specs.Topology.{DeclaredTopology, IsTopology}
-use Rattle.ats_topology.specs.Walks.{IsWalk, IsPortFrom, IsLeastWalk, NoWalk}
+use Rattle.ats_topology.specs.Walks.{IsWalk, IsLeastWalk, NoWalk}
 use Rattle.ats_topology.specs.declared.port.Port.{Port}
 use Rattle.ats_topology.proofs.Leaving.{IsLeastPort, find-leaving, find-leaving_some}
 use Rattle.ats_topology.proofs.LawLemmas.{walk_is_one}
-use Rattle.ats_network.specs.Shortest.{first_along, first_of, first_walk, shortest_of}
-use Rattle.ats_network.specs.Laws.{IsShortest, ShortestIsLeast}
+use Rattle.ats_network.specs.Shortest.{first_walk, shortest_of}
+use Rattle.ats_network.specs.Laws.{ShortestIsLeast}
 use Rattle.ats_network.proofs.FirstLemmas.{IsFirst, first_along-some, first_along-none, IsLeastOf, first_of-some, first_of-none}
 use Rattle.ats_network.proofs.SimpleWalks.{SimpleWalk, simple_walk, simple_short}
 
@@ -117,16 +116,16 @@ computed_least topology a b walk h =
   where
     least : (l : IsLeastOf (by_length topology a b) (length topology.nodes) walk) → length walk ≡ l.number → (other : List ℕ) → IsWalk topology.ports a b other → length walk ≤ length other
     least l long other is = ⊎_elim
-      (λ below. absurd (walk_found (length other) topology.ports a b other is refl (l.before (length other) below)))
-      (λ above. omega arith)
-      (cases_lt (length other) l.number)
+        (λ below. absurd (walk_found (length other) topology.ports a b other is refl (l.before (length other) below)))
+        (λ above. omega arith)
+        (cases_lt (length other) l.number)
 
 pub shortest_least : ShortestIsLeast
 shortest_least topology a b is in_a in_b = record {
   least = computed_least topology a b;
   none = λ none walk goes.
-    let s : SimpleWalk topology.ports a b = simple_walk topology.ports a walk b goes in
-    walk_found (length s.walk) topology.ports a b s.walk s.is refl (first_of-none (by_length topology a b) (length topology.nodes) none (length s.walk) (simple_short topology a b is in_a s));
+      let s : SimpleWalk topology.ports a b = simple_walk topology.ports a walk b goes in
+      walk_found (length s.walk) topology.ports a b s.walk s.is refl (first_of-none (by_length topology a b) (length topology.nodes) none (length s.walk) (simple_short topology a b is in_a s));
 }
 
 -- so what a search found is what is computed

@@ -1,7 +1,7 @@
-use Rattle.std.proofs.Common.{◌≡◌, ◌≢◌, ℕ, ◌-◌, ◌<◌, ◌≤◌, List, [], ◌∷◌, map, length, get_or, sym, ap, subst, ◌∙◌, arith, length-append}
+use Rattle.std.proofs.Common.{◌≡◌, ◌≢◌, ℕ, ◌-◌, ◌<◌, ◌≤◌, List, [], ◌∷◌, map, length, sym, ap, ◌∙◌, arith, length-append}
 use Rattle.std.specs.List.{All, AllPairs}
 use Rattle.std.proofs.lemmas.List.{get_or-append_right, get_or-map, length-map}
-use Rattle.std.proofs.lemmas.List.Elements.{All-nil, All-cons, All-head, All-tail, All-append, All-map}
+use Rattle.std.proofs.lemmas.List.Elements.{All-nil, All-cons, All-head, All-tail, All-append}
 use Rattle.ats_model.specs.Rules.{AreSizes, KeepsRules}
 use Rattle.ats_streams.specs.Path.{IsPath}
 use Rattle.ats_streams.specs.Stream.{DeclaredStream, IsStream}
@@ -11,7 +11,7 @@ use Rattle.ats_topology.specs.Port.{port_at}
 use Rattle.ats_topology.specs.Topology.{DeclaredTopology, IsTopology}
 use Rattle.ats_network.specs.Sender.{Sender, stream_sender, flow_sender}
 use Rattle.ats_network.specs.Path.{IsValidPath}
-use Rattle.ats_network.specs.Network.{DeclaredNetwork, IsNetwork, senders_of}
+use Rattle.ats_network.specs.Network.{DeclaredNetwork, senders_of}
 use Rattle.ats_network.specs.Senders.{IsSender, sender_at, no_sender}
 use Rattle.ats_network.specs.Laws.{EachIsSender}
 use Rattle.ats_network.proofs.Appended.{all_left, all_right, pairs_tail}

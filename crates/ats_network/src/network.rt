@@ -2,13 +2,10 @@
 
 ghost use Rattle.std.specs.Prelude.{◌≡◌, ◌↔◌, ◌<◌, ◌≤◌, [], length, None, IsTrue, IsNone, IfSome, IfErr, OnOk, OnErr};
 ghost use Rattle.ats_names.specs.Places.{place_of};
-ghost use Rattle.ats_topology.specs.Node.{is_station};
-ghost use Rattle.ats_topology.specs.Port.{port_at};
-ghost use Rattle.ats_topology.specs.Topology.{node_at};
 ghost use Rattle.ats_network.specs.Network.{IsNetwork, declared_network, senders_of, names_of};
 ghost use Rattle.ats_network.specs.Path.{IsValidPath};
 ghost use Rattle.ats_network.specs.Senders.{sender_at};
-ghost use Rattle.ats_network.specs.Residence.{residence_after};
+ghost use Rattle.ats_network.specs.Residence.{residence_after, leads_to_station};
 ghost use Rattle.ats_network.specs.Pushes.{with_stream, with_flow, place_identified, is_identity_taken, stream_push_fault, flow_push_fault, IsDue};
 
 use crate::fault::PushFault;
@@ -53,7 +50,7 @@ impl Network {
     pub fn new(alloc: Global, topology: Topology) -> Self
         ensures { result ≡ declared_network topology [] [] }
     {
-        let _ports = topology.ports();
+        let _ports = topology.ports(); // for what a topology keeps
         Network {
             shape: topology,
             stream_table: StreamTable::new(alloc),
@@ -172,7 +169,7 @@ impl Network {
     pub fn residence(&self, port: u32) -> Option<u32>
         requires { port < length self.now.topology.ports }
         ensures value { result ≡ residence_after self.now.topology port }
-        ensures none { IsNone result ↔ IsTrue (is_station (node_at self.now.topology.nodes (port_at self.now.topology.ports port).to).kind) }
+        ensures none { IsNone result ↔ IsTrue (leads_to_station self.now.topology port) }
         ensures most { IfSome result (λ ns. ns ≤ 1000000000) }
         ensures rules { IsNetwork self.now }
     {

@@ -1,9 +1,8 @@
 //! Routes between nodes, as the definitions compute them.
 
-ghost use Rattle.std.specs.Prelude.{◌≡◌, ◌<◌, IfOk, length};
-ghost use Rattle.std.specs.Option.{option_map};
+ghost use Rattle.std.specs.Prelude.{◌≡◌, ◌<◌, ℕ, IfOk, length};
 ghost use Rattle.std.specs.Global.{Vec};
-ghost use Rattle.std.specs.Prelude.{ℕ};
+ghost use Rattle.std.specs.Option.{option_map};
 ghost use Rattle.ats_network.specs.Shortest.{shortest_of};
 
 use ats_num::NoMemory;
@@ -27,6 +26,6 @@ pub fn shortest(
     requires b { b < length topology.now.nodes }
     ensures { IfOk result (λ found. option_map (λ (walk : Vec ℕ). walk.items) found ≡ shortest_of topology.now a b) }
 {
-    let _nodes = topology.nodes();
+    let _nodes = topology.nodes(); // for what a topology keeps
     topology.shortest(alloc, a, b)
 }

@@ -1,8 +1,8 @@
-use Rattle.std.proofs.Common.{◌≡◌, ◌<◌, false, None, List, length, sym, ap, subst, ◌∙◌, arith}
+use Rattle.std.proofs.Common.{◌≡◌, ◌<◌, false, None, length, sym, ap, subst, ◌∙◌, arith}
 use Rattle.ats_names.specs.Places.{place_of}
-use Rattle.ats_streams.specs.Stream.{DeclaredStream, IsStream}
+use Rattle.ats_streams.specs.Stream.{IsStream}
 use Rattle.ats_network.specs.Path.{IsValidPath}
-use Rattle.ats_network.specs.Network.{DeclaredNetwork, IsNetwork, declared_network, names_of, senders_of}
+use Rattle.ats_network.specs.Network.{DeclaredNetwork, declared_network, names_of, senders_of}
 use Rattle.ats_network.specs.Pushes.{is_identity_taken}
 use Rattle.ats_network.specs.declared.network.TheConstants.{MAX_STREAMS}
 use Rattle.ats_network.proofs.NameLemmas.{none_first}

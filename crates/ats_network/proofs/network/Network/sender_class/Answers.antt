@@ -1,4 +1,4 @@
-use Rattle.std.proofs.Common.{◌<◌, ◌≤◌, length, sym, ap, subst, ◌∙◌, arith}
+use Rattle.std.proofs.Common.{◌<◌, ◌≤◌, length, sym, ap, subst, ◌∙◌}
 use Rattle.ats_network.specs.Network.{DeclaredNetwork, declared_network, senders_of}
 use Rattle.ats_network.specs.Senders.{sender_at}
 use Rattle.ats_network.proofs.SenderLemmas.{flow_class}

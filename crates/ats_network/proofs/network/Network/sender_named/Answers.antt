@@ -1,4 +1,4 @@
-use Rattle.std.proofs.Common.{◌+◌, sym, ap, ◌∙◌, Some}
+use Rattle.std.proofs.Common.{sym, ap, ◌∙◌, Some}
 use Rattle.ats_names.specs.Places.{place_of}
 use Rattle.ats_network.specs.Network.{DeclaredNetwork, declared_network, names_of, senders_of}
 use Rattle.ats_network.proofs.NameLemmas.{found_first, found_second}

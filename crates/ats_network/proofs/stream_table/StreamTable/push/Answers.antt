@@ -1,4 +1,4 @@
-use Rattle.std.proofs.Common.{◌≡◌, ◌<◌, false, List, length, ap, ◌∙◌, arith, length-append}
+use Rattle.std.proofs.Common.{◌≡◌, ◌<◌, false, List, length, ap, ◌∙◌, arith}
 use Rattle.ats_streams.specs.Stream.{DeclaredStream}
 use Rattle.ats_network.specs.Pushes.{is_identity_taken}
 use Rattle.ats_network.specs.declared.network.TheConstants.{MAX_STREAMS}
