@@ -4,6 +4,8 @@ use Rattle.ats_topology.specs.Topology.{DeclaredTopology, topology_of}
 use Rattle.ats_topology.specs.declared.node.Kind.TheVariants.{Station, Bridge}
 use Rattle.ats_topology.specs.declared.node.Node.{Node}
 use Rattle.ats_topology.specs.declared.link.Link.{Link}
+use Rattle.ats_topology.specs.declared.fault.TopologyFault.{TopologyFault}
+use Rattle.ats_topology.specs.declared.fault.TopologyFault.TheVariants as topology
 use Rattle.ats_streams.specs.Stream.{DeclaredStream, declared_stream, stream_fault}
 use Rattle.ats_streams.specs.Flow.{DeclaredFlow, declared_flow, flow_fault}
 use Rattle.ats_network.specs.Network.{DeclaredNetwork, declared_network}
@@ -30,6 +32,11 @@ form_fault (form.Unknown t n) = Unknown t n
 form_fault (form.WrongKind t n k) = WrongKind t n k
 form_fault (form.Limit t) = Limit t
 form_fault form.NoMemory = NoMemory
+
+-- a fault of nodes and links as a fault of the file
+abbrev pub topology_failed : TopologyFault → NetFault
+topology_failed topology.NoMemory = NoMemory
+topology_failed fault = Topology fault
 
 -- what the text declares in its tables, or its first fault of form
 abbrev pub tables_of : Result file.DeclaredDocument DocumentFault → Result file.DeclaredDocument NetFault

@@ -2,5 +2,6 @@
 #![tactic(auto)]
 
 pub mod fault;
+mod nodes;
 
 pub use fault::NetFault;
