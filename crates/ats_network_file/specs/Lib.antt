@@ -2,3 +2,4 @@ pub mod Steps
 pub mod Routes
 pub mod Reading
 pub mod FaultText
+pub mod Laws

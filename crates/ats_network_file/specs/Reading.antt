@@ -4,6 +4,8 @@ use Rattle.ats_topology.specs.Topology.{DeclaredTopology, topology_of}
 use Rattle.ats_topology.specs.declared.node.Kind.TheVariants.{Station, Bridge}
 use Rattle.ats_topology.specs.declared.node.Node.{Node}
 use Rattle.ats_topology.specs.declared.link.Link.{Link}
+use Rattle.ats_topology.specs.declared.fault.TopologyFault.{TopologyFault}
+use Rattle.ats_topology.specs.declared.fault.TopologyFault.TheVariants as topology
 use Rattle.ats_streams.specs.Stream.{DeclaredStream, declared_stream, stream_fault}
 use Rattle.ats_streams.specs.Flow.{DeclaredFlow, declared_flow, flow_fault}
 use Rattle.ats_network.specs.Network.{DeclaredNetwork, declared_network}
@@ -30,6 +32,11 @@ form_fault (form.Unknown t n) = Unknown t n
 form_fault (form.WrongKind t n k) = WrongKind t n k
 form_fault (form.Limit t) = Limit t
 form_fault form.NoMemory = NoMemory
+
+-- a fault of nodes and links as a fault of the file
+abbrev pub topology_failed : TopologyFault → NetFault
+topology_failed topology.NoMemory = NoMemory
+topology_failed fault = Topology fault
 
 -- what the text declares in its tables, or its first fault of form
 abbrev pub tables_of : Result file.DeclaredDocument DocumentFault → Result file.DeclaredDocument NetFault
@@ -71,22 +78,39 @@ stream_over path e = declared_stream e.name path e.class e.rate_bps e.burst_bits
 abbrev pub flow_over : List ℕ → file.DeclaredFlow → DeclaredFlow
 flow_over path e = declared_flow e.name path e.max_octets
 
+-- a stream or flow that keeps the rules, or the first rule that it breaks
+abbrev pub stream_made : ℕ → DeclaredStream → Result DeclaredStream NetFault
+stream_made n stream = unless (Sender table.Stream n) (stream_fault stream) stream
+
+abbrev pub flow_made : ℕ → DeclaredFlow → Result DeclaredFlow NetFault
+flow_made n flow = unless (Sender table.Flow n) (flow_fault flow) flow
+
+-- the network with a stream more: no earlier sender has its name, and then, no earlier stream its identity
+abbrev pub stream_pushed : DeclaredNetwork → ℕ → DeclaredStream → Result DeclaredNetwork NetFault
+stream_pushed network n stream = do
+  named ← ok_where (not (is_name_taken network stream.name)) (SenderTwice table.Stream n) stream
+  identified ← ok_where (not (is_identity_taken network.streams named.identity)) (IdentityTwice n) named
+  Ok (with_stream network identified)
+
+-- the network with a flow more
+abbrev pub flow_pushed : DeclaredNetwork → ℕ → DeclaredFlow → Result DeclaredNetwork NetFault
+flow_pushed network n flow = do
+  named ← ok_where (not (is_name_taken network flow.name)) (SenderTwice table.Flow n) flow
+  Ok (with_flow network named)
+
 -- the network with the stream of an entry, in view of what was declared before it
 abbrev pub stream_added : DeclaredNetwork → ℕ → file.DeclaredStream → Result DeclaredNetwork NetFault
 stream_added network n e = do
   path ← path_in network.topology table.Stream n e.route
-  stream ← unless (Sender table.Stream n) (stream_fault (stream_over path e)) (stream_over path e)
-  named ← ok_where (not (is_name_taken network stream.name)) (SenderTwice table.Stream n) stream
-  identified ← ok_where (not (is_identity_taken network.streams named.identity)) (IdentityTwice n) named
-  Ok (with_stream network identified)
+  stream ← stream_made n (stream_over path e)
+  stream_pushed network n stream
 
 -- the network with the flow of an entry
 abbrev pub flow_added : DeclaredNetwork → ℕ → file.DeclaredFlow → Result DeclaredNetwork NetFault
 flow_added network n e = do
   path ← path_in network.topology table.Flow n e.route
-  flow ← unless (Sender table.Flow n) (flow_fault (flow_over path e)) (flow_over path e)
-  named ← ok_where (not (is_name_taken network flow.name)) (SenderTwice table.Flow n) flow
-  Ok (with_flow network named)
+  flow ← flow_made n (flow_over path e)
+  flow_pushed network n flow
 
 -- the entries of an array, the first of which has this number, one after another
 abbrev pub all_added : {E : Type 0} → (DeclaredNetwork → ℕ → E → Result DeclaredNetwork NetFault) → DeclaredNetwork → ℕ → List E → Result DeclaredNetwork NetFault

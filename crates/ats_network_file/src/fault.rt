@@ -1,8 +1,12 @@
 //! Why a text declares no network.
 
-use ats_document::{Key, Table};
+ghost use Rattle.std.specs.Prelude.{◌≡◌};
+
+use ats_document::{DocumentFault, Key, Table};
+use ats_num::NoMemory as OutOfMemory;
 use ats_streams::StreamFault;
 use ats_topology::TopologyFault;
+use std::alloc::{AllocError, AllocFailed};
 
 /// The first fault of a text that declares no network. The entries of an array are counted from 1; the top table's entry
 /// is 0.
@@ -73,4 +77,71 @@ pub enum NetFault {
     },
     /// Memory ran out.
     NoMemory,
+}
+
+impl From<AllocError> for NetFault {
+    ghost use Rattle.std.specs.Prelude.{◌≡◌};
+    ghost use Rattle.ats_network_file.specs.declared.fault.NetFault.TheVariants.{NoMemory};
+
+    ghost from_gives = { λ _ e. e ≡ NoMemory };
+
+    fn from(_e: AllocError) -> NetFault {
+        NetFault::NoMemory
+    }
+}
+
+impl<T: Drop> From<AllocFailed<T>> for NetFault {
+    ghost use Rattle.std.specs.Prelude.{◌≡◌};
+    ghost use Rattle.ats_network_file.specs.declared.fault.NetFault.TheVariants.{NoMemory};
+
+    ghost from_gives = { λ _ e. e ≡ NoMemory };
+
+    fn from(_e: AllocFailed<T>) -> NetFault {
+        NetFault::NoMemory
+    }
+}
+
+impl From<OutOfMemory> for NetFault {
+    ghost use Rattle.std.specs.Prelude.{◌≡◌};
+    ghost use Rattle.ats_network_file.specs.declared.fault.NetFault.TheVariants.{NoMemory};
+
+    ghost from_gives = { λ _ e. e ≡ NoMemory };
+
+    fn from(_e: OutOfMemory) -> NetFault {
+        NetFault::NoMemory
+    }
+}
+
+impl From<DocumentFault> for NetFault {
+    ghost use Rattle.std.specs.Prelude.{◌≡◌};
+    ghost use Rattle.ats_network_file.specs.Reading.{form_fault};
+
+    ghost from_gives = { λ fault e. e ≡ form_fault fault };
+
+    fn from(fault: DocumentFault) -> NetFault {
+        match fault {
+            DocumentFault::NotToml => NetFault::NotToml,
+            DocumentFault::Missing { table, entry, key } => NetFault::Missing { table, entry, key },
+            DocumentFault::Unknown { table, entry } => NetFault::Unknown { table, entry },
+            DocumentFault::WrongKind { table, entry, key } => {
+                NetFault::WrongKind { table, entry, key }
+            }
+            DocumentFault::Limit { table } => NetFault::Limit { table },
+            DocumentFault::NoMemory => NetFault::NoMemory,
+        }
+    }
+}
+
+impl From<TopologyFault> for NetFault {
+    ghost use Rattle.std.specs.Prelude.{◌≡◌};
+    ghost use Rattle.ats_network_file.specs.Reading.{topology_failed};
+
+    ghost from_gives = { λ fault e. e ≡ topology_failed fault };
+
+    fn from(fault: TopologyFault) -> NetFault {
+        match fault {
+            TopologyFault::NoMemory => NetFault::NoMemory,
+            fault => NetFault::Topology(fault),
+        }
+    }
 }

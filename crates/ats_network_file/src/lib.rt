@@ -2,5 +2,12 @@
 #![tactic(auto)]
 
 pub mod fault;
+mod flows;
+pub mod laws;
+mod nodes;
+pub mod reading;
+mod routes;
+mod streams;
 
 pub use fault::NetFault;
+pub use reading::read_network;

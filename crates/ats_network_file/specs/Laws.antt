@@ -1,0 +1,8 @@
+use Rattle.std.specs.Prelude.{ℕ, List, IsTrue, ◌↔◌}
+use Rattle.ats_topology.specs.Topology.{DeclaredTopology}
+use Rattle.ats_network.specs.Path.{IsValidPath}
+use Rattle.ats_network_file.specs.Routes.{is_valid}
+
+-- the test of a path passes exactly the valid paths
+abbrev pub PassesValidPaths : Type 0
+PassesValidPaths = (topology : DeclaredTopology) (path : List ℕ) → IsTrue (is_valid topology path) ↔ IsValidPath topology path

@@ -1,0 +1,8 @@
+//! Laws of the definitions.
+
+ghost use Rattle.ats_network_file.specs.Laws.{PassesValidPaths};
+
+/// A law: the test of a path passes exactly the valid paths.
+pub fn passes_valid_paths()
+    ensures { PassesValidPaths }
+{}

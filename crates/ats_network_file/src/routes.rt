@@ -1,0 +1,130 @@
+//! Routes of streams and flows through a topology.
+
+ghost use Rattle.std.specs.Prelude.{◌≡◌, ◌↔◌, ℕ, IsTrue, IfOk};
+ghost use Rattle.std.specs.Global.{Vec};
+ghost use Rattle.std.specs.Option.{option_map};
+ghost use Rattle.ats_network.specs.Path.{IsValidPath};
+ghost use Rattle.ats_document.specs.Seen.{route_seen};
+ghost use Rattle.ats_document.specs.Document as file;
+ghost use Rattle.ats_network_file.specs.Steps.{GivesSeen};
+ghost use Rattle.ats_network_file.specs.Routes.{nodes_named, ports_along, ports_of, is_valid};
+ghost use Rattle.ats_network_file.specs.Reading.{path_in};
+
+use crate::fault::NetFault;
+use ats_document::{Route, Table};
+use ats_network::{is_valid_path, shortest};
+use ats_num::{Name, NoMemory};
+use ats_topology::{Port, Topology};
+use std::alloc::Global;
+
+/// The ports of the route of an entry of a table, or `BadPath` where they make no valid path.
+pub(crate) fn path_in(
+    alloc: Global,
+    topology: &Topology,
+    table: Table,
+    entry: u32,
+    route: &Route,
+) -> Result<Vec<u32>, NetFault>
+    ensures value { GivesSeen (λ path. path.items) result (path_in topology.now table entry (route_seen route.now)) }
+    ensures valid { IfOk result (λ path. IsValidPath topology.now path.items) }
+{
+    let fault = NetFault::BadPath { table, entry };
+    let Some(path) = ports_of(alloc, topology, route)? else {
+        return Err(fault);
+    };
+    if !is_valid(topology, &path) {
+        return Err(fault);
+    }
+    Ok(path)
+}
+
+// Whether these ports make a valid path.
+fn is_valid(topology: &Topology, path: &[u32]) -> bool
+    ensures test { result ≡ is_valid topology.now path.now }
+    ensures valid { IsTrue result ↔ IsValidPath topology.now path.now }
+{
+    is_valid_path(topology, path)
+}
+
+// The ports of a route: through the nodes that it names, or by the least walk between its ends.
+fn ports_of(alloc: Global, topology: &Topology, route: &Route) -> Result<Option<Vec<u32>>, NoMemory>
+    ensures { IfOk result (λ found. option_map (λ (path : Vec ℕ). path.items) found ≡ ports_of topology.now (route_seen route.now)) }
+{
+    match route {
+        Route::Path(names) => ports_through(alloc, topology, names),
+        Route::Ends(from, to) => ports_between(alloc, topology, from, to),
+    }
+}
+
+// The ports from one named node to the next.
+fn ports_through(
+    alloc: Global,
+    topology: &Topology,
+    names: &[Name],
+) -> Result<Option<Vec<u32>>, NoMemory>
+    ensures { IfOk result (λ found. option_map (λ (path : Vec ℕ). path.items) found ≡ ports_of topology.now (file.path names.now)) }
+{
+    match nodes_named(alloc, topology, names)? {
+        Some(nodes) => ports_along(alloc, topology, &nodes),
+        None => Ok(None),
+    }
+}
+
+// The ports of the least walk between two named nodes.
+fn ports_between(
+    alloc: Global,
+    topology: &Topology,
+    from: &Name,
+    to: &Name,
+) -> Result<Option<Vec<u32>>, NoMemory>
+    ensures { IfOk result (λ found. option_map (λ (path : Vec ℕ). path.items) found ≡ ports_of topology.now (file.ends from.now to.now)) }
+{
+    let Some(a) = topology.node_named(from) else {
+        return Ok(None);
+    };
+    let Some(b) = topology.node_named(to) else {
+        return Ok(None);
+    };
+    shortest(alloc, topology, a, b)
+}
+
+// The numbers of the nodes with these names, where each is known.
+fn nodes_named(
+    alloc: Global,
+    topology: &Topology,
+    names: &[Name],
+) -> Result<Option<Vec<u32>>, NoMemory>
+    ensures { IfOk result (λ found. option_map (λ (nodes : Vec ℕ). nodes.items) found ≡ nodes_named topology.now names.now) }
+{
+    let mut nodes = Vec::new(alloc);
+    for name in names {
+        let Some(node) = topology.node_named(name) else {
+            return Ok(None);
+        };
+        nodes.push(node)?;
+    }
+    Ok(Some(nodes))
+}
+
+// The ports from one of these nodes to the next, where links join them.
+fn ports_along(
+    alloc: Global,
+    topology: &Topology,
+    nodes: &[u32],
+) -> Result<Option<Vec<u32>>, NoMemory>
+    ensures { IfOk result (λ found. option_map (λ (path : Vec ℕ). path.items) found ≡ ports_along topology.now.ports nodes.now) }
+{
+    let Some((first, rest)) = nodes.split_first() else {
+        return Ok(None);
+    };
+    let mut at = *first;
+    let mut path = Vec::new(alloc);
+    for node in rest {
+        let Some(port) = topology.port_between(at, *node) else {
+            return Ok(None);
+        };
+        path.push(port)?;
+        at = *node;
+    }
+    Ok(Some(path))
+}
