@@ -2,3 +2,4 @@ pub mod PortSums
 pub mod Certificate
 pub mod Least
 pub mod Used
+pub mod Form

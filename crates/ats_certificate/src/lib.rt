@@ -1,6 +1,11 @@
 //! Certificates of delay bounds: what their rows say, and when a certificate holds for a network.
 #![tactic(auto)]
 
+pub mod certificate;
 pub mod row;
 
+pub use certificate::Certificate;
 pub use row::Row;
+
+#[cfg(test)]
+mod tests;

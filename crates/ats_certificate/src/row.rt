@@ -1,5 +1,8 @@
 //! Rows of a certificate.
 
+ghost use Rattle.std.specs.Prelude.{◌↔◌, IsTrue};
+ghost use Rattle.ats_certificate.specs.Certificate.{IsBefore};
+
 /// What a certificate says of a port and a class: what the declared streams and flows make of them, and the bound of each
 /// frame of that class.
 #[derive(Clone, Copy, Debug, PartialEq, Eq)]
@@ -23,4 +26,17 @@ pub struct Row {
     /// The bound, in picoseconds, on the time from a frame's eligibility at the port to its arrival behind it: the wait, the
     /// transmission of the shortest frame, and the latency.
     pub bound: u128,
+}
+
+impl Row {
+    /// Whether this row comes before another: its port is lower, or the port is the same and its class is lower.
+    pub fn is_before(&self, other: &Row) -> bool
+        ensures { IsTrue result ↔ IsBefore self.now other.now }
+    {
+        if self.port == other.port {
+            self.class < other.class
+        } else {
+            self.port < other.port
+        }
+    }
 }

@@ -1,27 +1,26 @@
-use Rattle.std.proofs.Common.{◌≡◌, ℕ, ◌+◌, ◌-◌, ◌*◌, ◌<◌, ◌≤◌, List, length, get_or, sum_by, All, sym, ap, ◌∙◌, inl, inr, arith}
+use Rattle.std.proofs.Common.{◌≡◌, ℕ, ◌+◌, ◌-◌, ◌*◌, ◌<◌, ◌≤◌, List, length, get_or, All, sym, ◌∙◌, inl, inr, arith}
 use Rattle.std.proofs.Math.Nat.{mul-le-mul_left, mul-le-mul_right}
-use Rattle.std.proofs.lemmas.Bool.{cases_Bool, cases_lt, cond-false, and_parts, leb-true, lt-ltb, eq-eqb}
+use Rattle.std.proofs.lemmas.Bool.{cases_Bool, cases_lt, cond-false, lt-ltb, eq-eqb}
 use Rattle.std.proofs.lemmas.List.Elements.{All-from_get_or}
 use Rattle.std.proofs.lemmas.List.Sums.{get_or-le-sum_by}
 use Rattle.ats_num.specs.declared.time.TheConstants.{PS_PER_SECOND}
 use Rattle.ats_topology.specs.Port.{port_at}
-use Rattle.ats_topology.specs.declared.port.Port.{Port}
 use Rattle.ats_network.specs.Sender.{Sender}
 use Rattle.ats_network.specs.Network.{DeclaredNetwork, IsNetwork, senders_of}
 use Rattle.ats_network.specs.Senders.{sender_at, no_sender}
-use Rattle.ats_certificate.specs.PortSums.{PortSums, port_sums, is_above, is_of, is_below, longest, shortest, sum_where, senders_at}
+use Rattle.ats_certificate.specs.PortSums.{is_above, is_of, is_below, longest, shortest, sum_where, senders_at}
 use Rattle.ats_certificate.specs.Certificate.{Covers}
 use Rattle.ats_certificate.specs.declared.row.Row.{Row}
 use Rattle.ats_transmission.specs.Transmission.{Transmission}
 use Rattle.ats_transmission.specs.PortRule.{KeepsPortRule}
 use Rattle.ats_regulator.proofs.WindowBits.{bits_in-inside}
-use Rattle.ats_port_law.specs.PortLaw.{frame_of, IsDeclared, IsOffered, IsWithinBound, PortLaw}
+use Rattle.ats_port_law.specs.PortLaw.{frame_of, IsOffered, IsWithinBound, PortLaw}
 use Rattle.ats_port_law.proofs.Numbers.{Walk, ends_within}
 use Rattle.ats_port_law.proofs.Pairs.{TakesTime, eligible_no_later}
 use Rattle.ats_port_law.proofs.Sums.{sum_by-le-all}
 use Rattle.ats_port_law.proofs.Walk.{bits_in_walk, walk_bits, is_in_walk, in_walk, in_walk-parts, Head, Walked, walk}
 use Rattle.ats_port_law.proofs.Window.{eligible_bits}
-use Rattle.ats_port_law.proofs.Totals.{share, shares_total, greatest_reaches, least_reaches, sum_reaches}
+use Rattle.ats_port_law.proofs.Totals.{shares_total, greatest_reaches, least_reaches, sum_reaches}
 use Rattle.ats_port_law.proofs.Senders.{has_rate, counted, counted-above, counted-of, all_shares}
 
 -- a port with a class that a row covers, which keeps the port rule with what it may be asked to send
@@ -49,7 +48,7 @@ lower_frames network row sent c k d h below =
     let y : Transmission = get_or sent k d in
     let declared = c.offered.each k d h in
     let reaches = greatest_reaches row.port (is_below row.class) longest (senders_of network) y.sender no_sender declared.exists declared.uses
-        (lt-ltb (sender_at network y.sender).class row.class (omega (arith, declared.class, below))) in
+    (lt-ltb (sender_at network y.sender).class row.class (omega (arith, declared.class, below))) in
     omega (arith, declared.most, reaches, c.covers.sums.lower)
 
 -- a frame of the class is no shorter than the row says
@@ -58,7 +57,7 @@ least_frame network row sent c k d h class =
     let x : Transmission = get_or sent k d in
     let declared = c.offered.each k d h in
     let reaches = least_reaches row.port (is_of row.class) shortest (senders_of network) x.sender no_sender declared.exists declared.uses
-        (eq-eqb (sender_at network x.sender).class row.class (sym declared.class ∙ class)) in
+    (eq-eqb (sender_at network x.sender).class row.class (sym declared.class ∙ class)) in
     omega (arith, declared.least, reaches, c.covers.sums.least)
 
 -- where there is one, the class has a rate
@@ -130,17 +129,17 @@ walk_counts network row sent c k d h class w j hj =
 walk_numbers : (network : DeclaredNetwork) (row : Row) (sent : List Transmission) → (c : Case network row sent) → (k : ℕ) (d : Transmission) → k < length sent → (get_or sent k d).class ≡ row.class
     → (w : Walked (port_at network.topology.ports row.port).ps_per_bit row.class row.lower sent (get_or sent k d))
     → Walk PS_PER_SECOND (port_at network.topology.ports row.port).ps_per_bit w.since (get_or sent k d).eligible (get_or sent k d).start (get_or sent k d).end
-        (walk_bits row.class w.first (get_or sent k d).start sent)
-        (sum_where (is_above row.class) (λ (s : Sender). s.rate) (senders_at row.port (senders_of network)))
-        (sum_where (is_of row.class) (λ (s : Sender). s.rate) (senders_at row.port (senders_of network)))
-        (get_or sent k d).bits row.higher row.equal row.bursts row.lower row.least row.wait
+    (walk_bits row.class w.first (get_or sent k d).start sent)
+    (sum_where (is_above row.class) (λ (s : Sender). s.rate) (senders_at row.port (senders_of network)))
+    (sum_where (is_of row.class) (λ (s : Sender). s.rate) (senders_at row.port (senders_of network)))
+    (get_or sent k d).bits row.higher row.equal row.bursts row.lower row.least row.wait
 walk_numbers network row sent c k d h class w =
     let x : Transmission = get_or sent k d in
     let eligible : w.since ≤ x.eligible = w.late k d h (omega (arith, class)) w.reaches in
     let waits : x.eligible ≤ x.start = c.rule.waits k d h in
     let counted_bits : Transmission → ℕ = counted row.class w.since x.eligible x.start in
     let counts = sum_by-le-all (bits_in_walk row.class w.first x.start) counted_bits sent
-        (All-from_get_or (λ (y : Transmission). bits_in_walk row.class w.first x.start y ≤ counted_bits y) sent d (walk_counts network row sent c k d h class w)) in
+    (All-from_get_or (λ (y : Transmission). bits_in_walk row.class w.first x.start y ≤ counted_bits y) sent d (walk_counts network row sent c k d h class w)) in
     let shares = all_shares network row.port row.class w.since x.eligible x.start sent c.offered c.some eligible (omega (arith, eligible, waits)) in
     let total = shares_total PS_PER_SECOND row.port row.class (x.start - w.since) (x.eligible - w.since) (senders_of network) in
     record {

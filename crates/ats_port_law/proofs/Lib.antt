@@ -1,10 +1,10 @@
-mod Law
-mod Numbers
-mod Pairs
-mod RowProofs
-mod Senders
-mod Sums
-mod Totals
-mod UsedClass
-mod Walk
-mod Window
+pub mod Law
+pub mod Numbers
+pub mod Pairs
+pub mod RowProofs
+pub mod Senders
+pub mod Sums
+pub mod Totals
+pub mod UsedClass
+pub mod Walk
+pub mod Window

@@ -1,9 +1,9 @@
-use Rattle.std.proofs.Common.{◌≡◌, ℕ, suc, ◌+◌, ◌*◌, ◌<◌, ◌≤◌, List, [], ◌∷◌, length, get_or, All, subst, ap, inl, inr, arith}
-use Rattle.std.specs.Prelude.{AllPairs, ◌≢◌, ◌⊎◌}
+use Rattle.std.proofs.Common.{◌≡◌, ℕ, suc, ◌+◌, ◌*◌, ◌<◌, ◌≤◌, List, [], ◌∷◌, length, get_or, All, subst, inl, inr, arith}
+use Rattle.std.specs.Prelude.{◌≢◌, ◌⊎◌}
 use Rattle.std.proofs.lemmas.Bool.{cases_order, cases_eq, cases_lt}
 use Rattle.std.proofs.lemmas.List.Elements.{All-cons}
 use Rattle.ats_transmission.specs.Transmission.{Transmission}
-use Rattle.ats_transmission.specs.PortRule.{AreApart, KeepsPortRule, StartsAfterGap}
+use Rattle.ats_transmission.specs.PortRule.{AreApart, KeepsPortRule}
 
 -- a transmission takes some time
 abbrev pub TakesTime : ℕ → List Transmission → Type 0

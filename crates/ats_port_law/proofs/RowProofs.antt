@@ -1,4 +1,4 @@
-use Rattle.std.proofs.Common.{◌≡◌, ℕ, zero, suc, ◌+◌, ◌*◌, ◌<◌, ◌≤◌, List, [], ◌∷◌, All, refl, inl, inr, arith}
+use Rattle.std.proofs.Common.{◌≡◌, ℕ, zero, suc, ◌+◌, ◌*◌, ◌<◌, ◌≤◌, List, [], ◌∷◌, length, All, refl, inl, arith}
 use Rattle.std.specs.Prelude.{AllPairs}
 use Rattle.std.specs.List.Sorted.{IsNonDecreasing}
 use Rattle.std.proofs.lemmas.List.Elements.{All-nil, All-cons}
@@ -6,10 +6,9 @@ use Rattle.std.proofs.lemmas.List.Sorted.{IsPermutation-refl}
 use Rattle.ats_num.specs.declared.time.TheConstants.{PS_PER_SECOND}
 use Rattle.ats_bucket.specs.Conforming.{Frame, times_of, bits_between, time_between, Conforms}
 use Rattle.ats_network.specs.Senders.{sender_at}
-use Rattle.ats_certificate.specs.Certificate.{Covers}
 use Rattle.ats_transmission.specs.Transmission.{Transmission}
 use Rattle.ats_transmission.specs.PortRule.{KeepsPortRule, AreApart, IsAhead, StartsAfterGap}
-use Rattle.ats_port_law.specs.PortLaw.{IsDeclared, IsOffered, IsWithinBound, ConformsInOrder, frames_by}
+use Rattle.ats_port_law.specs.PortLaw.{IsDeclared, IsWithinBound, ConformsInOrder, frames_by}
 use Rattle.ats_port_law.specs.Rows.{with_flow, row_with_flow, sent_behind_flow, BehindFlow, with_two, row_with_two, sent_in_turn, InTurn}
 
 -- of two elements
@@ -58,6 +57,10 @@ rule_of_two ps x y wx wy tx ty next lx ly chosen px py =
           (λ gap order. px) (λ gap order. py) (λ gap order. absurd (omega arith)) (λ gap order. absurd (gap 0 x (omega arith) next));
     }
 
+flow_streams : (i : ℕ) → i < length with_flow.streams → ConformsInOrder (sender_at with_flow i).rate (sender_at with_flow i).burst_bits (frames_by i sent_behind_flow)
+flow_streams zero h = one_in_order 100000000 12336 (record { at = 1; bits = 12336 }) (omega arith)
+flow_streams (suc i) h = absurd (omega arith)
+
 pub behind_flow : BehindFlow
 behind_flow = record {
   covers = record {
@@ -71,10 +74,34 @@ behind_flow = record {
     each = all_two (IsDeclared with_flow 0) _ _
         (record { exists = omega arith; uses = refl; class = refl; least = omega arith; most = omega arith })
         (record { exists = omega arith; uses = refl; class = refl; least = omega arith; most = omega arith });
-    streams = λ i h. ?;
+    streams = flow_streams;
   };
   within = all_two (IsWithinBound with_flow row_with_flow) _ _ (λ class. absurd (cc)) (λ class. omega arith);
 }
 
+two_streams : (i : ℕ) → i < length with_two.streams → ConformsInOrder (sender_at with_two i).rate (sender_at with_two i).burst_bits (frames_by i sent_in_turn)
+two_streams zero h = one_in_order 100000000 12336 (record { at = 13836000; bits = 12336 }) (omega arith)
+two_streams (suc zero) h = one_in_order 100000000 12336 (record { at = 13836000; bits = 12336 }) (omega arith)
+two_streams (suc (suc i)) h = absurd (omega arith)
+
 pub in_turn : InTurn
-in_turn = ?
+in_turn = record {
+  worked = record {
+    covers = record {
+      sums = record { higher = refl; equal = refl; bursts = refl; lower = refl; least = refl };
+      bound = refl;
+      load = omega arith;
+      wait = omega arith;
+    };
+    rule = rule_of_two 1000 _ _ (omega arith) (omega arith) refl refl refl (omega arith) (omega arith)
+        (λ order known. record { class = omega arith; eligible = λ same. omega arith }) (omega arith) (omega arith);
+    offered = record {
+      each = all_two (IsDeclared with_two 2) _ _
+          (record { exists = omega arith; uses = refl; class = refl; least = omega arith; most = omega arith })
+          (record { exists = omega arith; uses = refl; class = refl; least = omega arith; most = omega arith });
+      streams = two_streams;
+    };
+    within = all_two (IsWithinBound with_two row_with_two) _ _ (λ class. omega arith) (λ class. omega arith);
+  };
+  whole = refl;
+}

@@ -1,4 +1,4 @@
-use Rattle.std.proofs.Common.{◌≡◌, ℕ, ◌+◌, ◌-◌, ◌*◌, ◌<◌, ◌≤◌, Bool, true, false, cond, List, [], ◌++◌, length, length-append, get_or, map, sum_by, All, None, subst, sym, ap, ◌∙◌, inl, inr, arith}
+use Rattle.std.proofs.Common.{◌≡◌, ℕ, ◌+◌, ◌-◌, ◌*◌, ◌<◌, ◌≤◌, Bool, true, false, cond, List, [], length, length-append, get_or, map, sum_by, All, None, subst, sym, ap, ◌∙◌, inl, inr, arith}
 use Rattle.std.specs.Prelude.{◌==◌, nat_lt}
 use Rattle.std.proofs.lemmas.Bool.{cases_Bool, cases_lt, cases_order, cond-true, cond-false, eqb-true, eq-eqb, ne_eqb, lt-ltb, le-ltb, true≢false}
 use Rattle.std.proofs.lemmas.List.{get_or-map, length-map, get_or_append_left, get_or-append_right}
@@ -10,7 +10,7 @@ use Rattle.ats_network.specs.Sender.{Sender, stream_sender, flow_sender}
 use Rattle.ats_network.specs.Network.{DeclaredNetwork, IsNetwork, senders_of}
 use Rattle.ats_network.specs.Senders.{sender_at, no_sender}
 use Rattle.ats_certificate.specs.PortSums.{uses, is_above, is_of}
-use Rattle.ats_port_law.specs.PortLaw.{IsDeclared, IsOffered, frames_by}
+use Rattle.ats_port_law.specs.PortLaw.{IsDeclared, IsOffered}
 use Rattle.ats_port_law.proofs.Sums.{sum_by-le-all, sum_by-none, sum_by-keys}
 use Rattle.ats_port_law.proofs.Totals.{share}
 use Rattle.ats_port_law.proofs.Window.{eligible_bits, sender_window}
@@ -34,7 +34,7 @@ flow_at network i h past =
     let streams : List Sender = map stream_sender network.streams in
     let flows : List Sender = map flow_sender network.flows in
     let some : i - length network.streams < length network.flows =
-        omega (arith, h, past, length-append streams flows, length-map network.streams stream_sender, length-map network.flows flow_sender) in
+    omega (arith, h, past, length-append streams flows, length-map network.streams stream_sender, length-map network.flows flow_sender) in
     ap (λ (s : Sender). s.class)
     (get_or-append_right streams flows (length network.streams) i no_sender (length-map network.streams stream_sender) past
     ∙ get_or-map flow_sender network.flows (i - length network.streams) no_flow no_sender some)
@@ -102,7 +102,7 @@ within_window : (network : DeclaredNetwork) (port i : ℕ) (sent : List Transmis
 within_window network port i sent f from to o h order each =
     let window = sender_window (sender_at network i).rate (sender_at network i).burst_bits i sent from to order (o.streams i h) in
     let fewer = sum_by-le-all (λ (y : Transmission). cond (y.sender == i) (f y) 0) (λ (y : Transmission). cond (y.sender == i) (eligible_bits from to y) 0) sent
-        (of_one_sender network port i sent f (eligible_bits from to) o.each each) in
+    (of_one_sender network port i sent f (eligible_bits from to) o.each each) in
     omega (arith, window, fewer)
 
 cond_zero : (b : Bool) → cond b 0 0 ≤ 0
@@ -115,9 +115,9 @@ of_nothing : (network : DeclaredNetwork) (port i : ℕ) (sent : List Transmissio
 of_nothing network port i sent f o each =
     sum_by-none (λ (y : Transmission). cond (y.sender == i) (f y) 0) sent
     (λ k d h. (
-        let y : Transmission = get_or sent k d in
-        let le = of_one_sender network port i sent f (λ (y : Transmission). 0) o.each each k d h in
-        omega (arith, le, cond_zero (y.sender == i))))
+    let y : Transmission = get_or sent k d in
+    let le = of_one_sender network port i sent f (λ (y : Transmission). 0) o.each each k d h in
+    omega (arith, le, cond_zero (y.sender == i))))
 
 share-above : (m port class above of : ℕ) (s : Sender) → uses port s ≡ true → class < s.class → share m port class above of s ≡ s.rate * above + m * s.burst_bits
 share-above m port class above of s used h =
@@ -145,12 +145,12 @@ one_share network port class since early late sent o some before_early before_la
       | inl used ↦ elim (cases_order class s.class) as (λ _. Goal) [
         | inl same ↦ (
             let window = within_window network port i sent part since early o (is_stream network i h (omega (arith, some, same))) before_early
-                (λ y d. (let e = counted-of class since early late y (d.ranked ∙ sym same) in omega (arith, e))) in
+            (λ y d. (let e = counted-of class since early late y (d.ranked ∙ sym same) in omega (arith, e))) in
             omega (arith, window, share-of PS_PER_SECOND port class (late - since) (early - since) s used (sym same)))
         | inr differ ↦ elim differ as (λ _. Goal) [
           | inl above ↦ (
               let window = within_window network port i sent part since late o (is_stream network i h (omega (arith, some, above))) before_late
-                  (λ y d. (let e = counted-above class since early late y (omega (arith, d.ranked, above)) in omega (arith, e))) in
+              (λ y d. (let e = counted-above class since early late y (omega (arith, d.ranked, above)) in omega (arith, e))) in
               omega (arith, window, share-above PS_PER_SECOND port class (late - since) (early - since) s used above))
           | inr below ↦ (
               let none = of_nothing network port i sent part o (λ y d. (let e = counted-below class since early late y (omega (arith, d.ranked, below)) in omega (arith, e))) in

@@ -79,5 +79,5 @@ pub sum_by-keys : {X A : Type 0} (m : ℕ) (amount key : X → ℕ) (xs : List X
 sum_by-keys {X} m amount key xs share ss d known each =
     let upto = sum_by-keys_upto m amount key xs share ss d each (length ss) (omega arith) in
     let all = sum_by-le-all amount (λ (x : X). cond (nat_lt (key x) (length ss)) (amount x) 0) xs
-        (λ i e h. (let k = known i e h in omega (arith, cond-true (nat_lt (key (get_or xs i e)) (length ss)) (amount (get_or xs i e)) 0 (lt-ltb (key (get_or xs i e)) (length ss) k)))) in
+    (λ i e h. (let k = known i e h in omega (arith, cond-true (nat_lt (key (get_or xs i e)) (length ss)) (amount (get_or xs i e)) 0 (lt-ltb (key (get_or xs i e)) (length ss) k)))) in
     omega (arith, upto, mul-le-mul_left m all, sum_by-take-le share ss (length ss))

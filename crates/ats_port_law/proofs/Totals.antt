@@ -1,4 +1,4 @@
-use Rattle.std.proofs.Common.{◌≡◌, ℕ, ◌+◌, ◌-◌, ◌*◌, ◌<◌, ◌≤◌, Bool, true, false, cond, List, [], ◌∷◌, length, get_or, map, filter, sum_by, All, subst, sym, ap, ◌∙◌, inl, inr, arith}
+use Rattle.std.proofs.Common.{◌≡◌, ℕ, ◌+◌, ◌*◌, ◌<◌, ◌≤◌, Bool, true, false, cond, List, [], ◌∷◌, length, get_or, map, filter, sum_by, All, subst, sym, ap, ◌∙◌, inl, inr, arith}
 use Rattle.std.specs.Prelude.{fold, min, max, ◌||◌}
 use Rattle.std.proofs.lemmas.Bool.{cases_Bool, true≢false}
 use Rattle.std.proofs.lemmas.List.Elements.{All-nil, All-cons, All-head, All-tail}
@@ -95,9 +95,9 @@ shares_total m port class above of senders =
     let rates_of = sum_where-all port (is_of class) (λ (s : Sender). s.rate) senders in
     let bursts = sum_where-all port (λ (s : Sender). is_above class s || is_of class s) (λ (s : Sender). s.burst_bits) senders in
     let total = sum_by-three
-        (λ (s : Sender). cond (uses port s) (cond (is_above class s) s.rate 0) 0)
-        (λ (s : Sender). cond (uses port s) (cond (is_of class s) s.rate 0) 0)
-        (λ (s : Sender). cond (uses port s) (cond (is_above class s || is_of class s) s.burst_bits 0) 0)
-        (share m port class above of) above of m senders
-        (λ (s : Sender). share_le (uses port s) (is_above class s) (is_of class s) m s.rate above of s.burst_bits) in
+    (λ (s : Sender). cond (uses port s) (cond (is_above class s) s.rate 0) 0)
+    (λ (s : Sender). cond (uses port s) (cond (is_of class s) s.rate 0) 0)
+    (λ (s : Sender). cond (uses port s) (cond (is_above class s || is_of class s) s.burst_bits 0) 0)
+    (share m port class above of) above of m senders
+    (λ (s : Sender). share_le (uses port s) (is_above class s) (is_of class s) m s.rate above of s.burst_bits) in
     omega (arith, total, ap (λ (n : ℕ). n * above) rates_above, ap (λ (n : ℕ). n * of) rates_of, ap (λ (n : ℕ). m * n) bursts)

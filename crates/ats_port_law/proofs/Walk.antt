@@ -1,5 +1,5 @@
-use Rattle.std.proofs.Common.{◌≡◌, ℕ, zero, suc, ◌+◌, ◌*◌, ◌<◌, ◌≤◌, Bool, true, false, cond, List, length, get_or, sum_by, All, ap, inl, inr, arith}
-use Rattle.std.specs.Prelude.{◌&&◌, nat_le, ◌⊎◌}
+use Rattle.std.proofs.Common.{◌≡◌, ℕ, zero, suc, ◌+◌, ◌*◌, ◌<◌, ◌≤◌, Bool, true, cond, List, length, get_or, sum_by, All, inl, inr, arith}
+use Rattle.std.specs.Prelude.{◌&&◌, nat_le}
 use Rattle.std.proofs.Math.Nat.{mul-le-mul_left}
 use Rattle.std.proofs.lemmas.Bool.{cases_Bool, cases_lt, and_parts, and_from, and_right, and_left, leb-true, le-leb, lt-leb, cond-true, cond-false}
 use Rattle.ats_transmission.specs.Transmission.{Transmission}
@@ -75,7 +75,7 @@ further : (class first last : ℕ) (sent : List Transmission) (i : ℕ) (d : Tra
 further class first last sent i d h c before order =
     let z : Transmission = get_or sent i d in
     let more = sum_by-one_more (bits_in_walk class first last) (bits_in_walk class z.start last) sent i d h
-        (λ (y : Transmission). longer_walk class first last z.start y (omega (arith, before))) (not_in_walk class first last z before) in
+    (λ (y : Transmission). longer_walk class first last z.start y (omega (arith, before))) (not_in_walk class first last z before) in
     omega (arith, more, in_walk class z.start last z c (omega arith) (omega (arith, before, order)))
 
 -- after a gap the walk ends

@@ -1,6 +1,5 @@
 use Rattle.std.specs.Prelude.{◌≡◌, ℕ, ◌+◌, ◌<◌, ◌≤◌, ◌==◌, IsTrue, List, length, map, filter, All, IsPermutation}
 use Rattle.ats_topology.specs.Port.{port_at}
-use Rattle.ats_network.specs.Sender.{Sender}
 use Rattle.ats_network.specs.Network.{DeclaredNetwork, IsNetwork, senders_of}
 use Rattle.ats_certificate.specs.PortSums.{uses, longest, shortest, is_used}
 use Rattle.ats_certificate.specs.Certificate.{Covers}

@@ -2,11 +2,9 @@ use Rattle.std.specs.Prelude.{◌≡◌, ℕ, ◌+◌, List, [], ◌∷◌, code
 use Rattle.ats_topology.specs.Port.{port_at}
 use Rattle.ats_topology.specs.Topology.{topology_of}
 use Rattle.ats_topology.specs.declared.node.Node.{Node}
-use Rattle.ats_topology.specs.declared.node.Kind.{Kind}
 use Rattle.ats_topology.specs.declared.node.Kind.TheVariants.{Station, Bridge}
 use Rattle.ats_topology.specs.declared.link.Link.{Link}
 use Rattle.ats_streams.specs.Stream.{DeclaredStream}
-use Rattle.ats_streams.specs.Flow.{DeclaredFlow}
 use Rattle.ats_network.specs.Network.{DeclaredNetwork, declared_network}
 use Rattle.ats_certificate.specs.Certificate.{Covers}
 use Rattle.ats_certificate.specs.declared.row.Row.{Row}

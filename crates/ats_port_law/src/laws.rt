@@ -24,32 +24,80 @@ pub fn worked_rows()
 
 #[cfg(test)]
 mod tests {
+    use super::*;
     use ats_certificate::Row;
 
-    /// What a port made of one frame, in picoseconds.
-    struct Sent {
+    /// A frame of a row's class behind its port, in picoseconds.
+    #[derive(Clone, Copy)]
+    struct Passed {
         eligible: u128,
-        start: u128,
         end: u128,
+        latency: u128,
     }
 
-    /// From eligibility until arrival behind a port with this latency.
-    fn delay(sent: &Sent, latency: u128) -> u128 {
-        (sent.end + latency).saturating_sub(sent.eligible)
+    /// How much of the row's bound a frame left over, where it kept it.
+    fn left(row: &Row, passed: &Passed) -> Option<u128> {
+        (passed.eligible.checked_add(row.bound)?).checked_sub(
+            passed.end.checked_add(passed.latency)?,
+        )
     }
 
-    /// A row of class 6 with one stream or two at 100 Mb/s on a link of 1000 Mb/s.
-    fn row(port: u32, equal: u128, bursts: u128, lower: u64, bound: u128) -> Row {
-        Row {
-            port,
-            class: 6,
-            higher: 0,
-            equal,
-            bursts,
-            lower,
-            least: 672,
-            wait: 24_000_000,
-            bound,
-        }
+    /// The row of a class with one stream at 100 Mb/s on a link of 1000 Mb/s, beside a flow.
+    const BESIDE_FLOW: Row = Row {
+        port: 0,
+        class: 6,
+        higher: 0,
+        equal: 100_000_000_000,
+        bursts: 12336,
+        lower: 12336,
+        least: 672,
+        wait: 24_000_000,
+        bound: 26_172_000,
+    };
+
+    /// The row of a class with two such streams.
+    const OF_TWO: Row = Row {
+        port: 2,
+        class: 6,
+        higher: 0,
+        equal: 200_000_000_000,
+        bursts: 24672,
+        lower: 0,
+        least: 672,
+        wait: 24_000_000,
+        bound: 25_172_000,
+    };
+
+    #[test]
+    fn laws_are_calls_without_effect(_rt: HostRuntime) {
+        port_law();
+        used_class();
+        worked_rows();
+    }
+
+    #[test]
+    fn a_frame_behind_a_flow_keeps_its_bound(rt: HostRuntime) {
+        let first = Passed {
+            eligible: 1,
+            end: 24_672_000,
+            latency: 1_500_000,
+        };
+        assert_eq!(rt; left(&BESIDE_FLOW, &first), Some(1));
+    }
+
+    #[test]
+    fn of_two_equal_frames_the_second_takes_its_whole_bound(rt: HostRuntime) {
+        let first = Passed {
+            eligible: 13_836_000,
+            end: 26_172_000,
+            latency: 500_000,
+        };
+        let second = Passed {
+            eligible: 13_836_000,
+            end: 38_508_000,
+            latency: 500_000,
+        };
+        assert_eq!(rt; left(&OF_TWO, &first), Some(12_336_000));
+        assert_eq!(rt; left(&OF_TWO, &second), Some(0));
     }
 }

@@ -1,0 +1,4 @@
+pub mod Inside
+pub mod Laws
+pub mod Plain
+pub mod Reading
