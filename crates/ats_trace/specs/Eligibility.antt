@@ -6,7 +6,6 @@ use Rattle.ats_network.specs.Senders.{sender_at}
 use Rattle.ats_network.specs.Residence.{residence_after}
 use Rattle.ats_group.specs.Group.{Offer, first, verdicts_of, is_declared_size}
 use Rattle.ats_group.specs.declared.member.Declared.{Declared}
-use Rattle.ats_group.specs.declared.verdict.Verdict.{Verdict}
 use Rattle.ats_group.specs.declared.verdict.Verdict.TheVariants.{Eligible, Size}
 use Rattle.ats_trace.specs.Projections.{Handed}
 

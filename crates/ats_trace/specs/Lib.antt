@@ -2,4 +2,10 @@ pub mod Journey
 pub mod Projections
 pub mod Eligibility
 pub mod Run
+pub mod Stored
 pub mod Talker
+pub mod Examples
+pub mod LegalExamples
+pub mod Changes
+pub mod Parts
+pub mod TalkerExamples

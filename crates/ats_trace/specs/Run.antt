@@ -19,9 +19,9 @@ pub record IsLegal (network : DeclaredNetwork) (run : List Travel) : Type 0 wher
   pub in_order : IsNonDecreasing (map (λ (r : Release). r.at.0) (releases_of run))
   pub journeys : All (IsJourney network) run
   pub ports : (port : ℕ) → port < length network.topology.ports
-    → KeepsPortRule (port_at network.topology.ports port).ps_per_bit (sent_by network run port)
+      → KeepsPortRule (port_at network.topology.ports port).ps_per_bit (sent_by network run port)
   pub groups : (port class : ℕ) → port < length network.topology.ports → 1 ≤ class
-    → IsJudged network (residence_behind network port) (handed_by network run port class)
+      → IsJudged network (residence_behind network port) (handed_by network run port class)
   pub flows : (port : ℕ) → port < length network.topology.ports → All (IsPassed network) (handed_by network run port 0)
 
 -- a run in which each port breaks each tie by this key

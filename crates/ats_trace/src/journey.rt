@@ -33,3 +33,16 @@ pub enum Ending {
     /// A bridge discarded it.
     Discard,
 }
+
+/// The row of one frame in a run.
+#[derive(Clone, Copy, Debug, PartialEq, Eq)]
+pub struct Journey {
+    /// Its release.
+    pub release: Release,
+    /// The place of its first hop record among those of the run.
+    pub first: u32,
+    /// How many hop records it has: one for each port of its path that it came to.
+    pub count: u32,
+    /// How it ended.
+    pub ending: Ending,
+}

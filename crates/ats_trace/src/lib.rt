@@ -2,5 +2,8 @@
 #![tactic(auto)]
 
 pub mod journey;
+pub mod laws;
+pub mod run;
 
-pub use journey::{Ending, HopRecord, Release};
+pub use journey::{Ending, HopRecord, Journey, Release};
+pub use run::Run;

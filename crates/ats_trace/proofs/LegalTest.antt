@@ -1,0 +1,158 @@
+use Rattle.std.proofs.Common.{◌≡◌, ◌≢◌, ℕ, ◌<◌, ◌≤◌, Bool, true, false, ◌&&◌, ◌||◌, List, [], ◌∷◌, length, map, filter, get_or, All, refl, sym, ap, subst, ◌∙◌, arith, inl, inr}
+use Rattle.std.specs.Prelude.{nat_le, ◌==◌, if◌then◌else◌, AllPairs}
+use Rattle.std.specs.List.{list_all}
+use Rattle.std.specs.List.Sorted.{IsNonDecreasing}
+use Rattle.std.proofs.lemmas.Bool.{and_parts, false≢true, cases_eq}
+use Rattle.std.proofs.lemmas.Bool.Decides.{nat_tests}
+use Rattle.std.proofs.lemmas.List.Sorted.{IsPermutation-refl}
+use Rattle.ats_topology.specs.Port.{port_at}
+use Rattle.ats_network.specs.Network.{DeclaredNetwork}
+use Rattle.ats_transmission.specs.Transmission.{Transmission}
+use Rattle.ats_transmission.specs.PortRule.{KeepsPortRule, KeepsTie}
+use Rattle.ats_group.specs.Group.{first, verdicts_of, is_declared_size}
+use Rattle.ats_group.specs.declared.verdict.Verdict.{Verdict}
+use Rattle.ats_group.specs.declared.verdict.Verdict.TheVariants.{Eligible, Late, Size}
+use Rattle.ats_trace.specs.Journey.{Travel}
+use Rattle.ats_trace.specs.Parts.{EachPort}
+use Rattle.ats_trace.specs.Projections.{Handed, sent_by, handed_by, handed_from}
+use Rattle.ats_trace.specs.Eligibility.{declared_by, offer_of, residence_behind, IsJudged, IsPassed}
+use Rattle.ats_trace.proofs.Tests.{le_of, eq_of, either, all_by, pairs_pass, pairs_by, each_below, below_by}
+use Rattle.ats_trace.proofs.PortTest.{keeps_port_rule, port_rule_by, of_each, tie_agrees, keeps_tie_by}
+
+-- Tests of the parts of a legal run on closed networks and runs.
+
+ne_of : (a b : ℕ) → a ≢ b → (a == b) ≡ false
+ne_of a b h = grind (arith, nat_tests)
+
+pub ascending_by : (xs : List ℕ) → pairs_pass nat_le xs ≡ true → IsNonDecreasing xs
+ascending_by xs passed i j d before within =
+    let pairs : AllPairs (λ (a b : ℕ). a ≤ b) xs = pairs_by (λ (a b : ℕ). a ≤ b) nat_le le_of xs passed in
+    elim (cases_eq i j) [
+      | inl same ↦ subst (λ (k : ℕ). get_or xs i d ≤ get_or xs k d) same (omega arith)
+      | inr other ↦ pairs i j d (omega arith) within
+    ]
+
+-- the transmissions of each port pass a test
+abbrev pub each_port_passes : (ℕ → List Transmission → Bool) → DeclaredNetwork → List Travel → Bool
+each_port_passes test network run = each_below (λ p. test (port_at network.topology.ports p).ps_per_bit (sent_by network run p)) (length network.topology.ports)
+
+pub each_port_by : (Rule : ℕ → List Transmission → Type 0) (test : ℕ → List Transmission → Bool) → ((ps : ℕ) (sent : List Transmission) → test ps sent ≡ true → Rule ps sent) → (network : DeclaredNetwork) (run : List Travel) → each_port_passes test network run ≡ true → EachPort Rule network run
+each_port_by Rule test shows network run passed port within =
+    shows (port_at network.topology.ports port).ps_per_bit (sent_by network run port)
+    (below_by (λ p. test (port_at network.topology.ports p).ps_per_bit (sent_by network run p)) (length network.topology.ports) passed port within)
+
+-- each port keeps the port rule
+abbrev pub ports_pass : DeclaredNetwork → List Travel → Bool
+ports_pass = each_port_passes keeps_port_rule
+
+pub ports_by : (network : DeclaredNetwork) (run : List Travel) → ports_pass network run ≡ true → (port : ℕ) → port < length network.topology.ports → KeepsPortRule (port_at network.topology.ports port).ps_per_bit (sent_by network run port)
+ports_by = each_port_by KeepsPortRule keeps_port_rule port_rule_by
+
+-- each port breaks its ties by the key
+abbrev pub ties_pass : (ℕ → ℕ → ℕ) → DeclaredNetwork → List Travel → Bool
+ties_pass key = each_port_passes (λ ps sent. of_each (tie_agrees key) sent)
+
+pub ties_by : (key : ℕ → ℕ → ℕ) (network : DeclaredNetwork) (run : List Travel) → ties_pass key network run ≡ true → (port : ℕ) → port < length network.topology.ports → KeepsTie key (sent_by network run port)
+ties_by key = each_port_by (λ ps sent. KeepsTie key sent) (λ ps sent. of_each (tie_agrees key) sent) (λ ps sent. keeps_tie_by key sent)
+
+abbrev pub same_verdict : Verdict → Verdict → Bool
+same_verdict (Eligible a) (Eligible b) = a.0 == b.0
+same_verdict (Late a) (Late b) = a.0 == b.0
+same_verdict Size Size = true
+same_verdict v w = false
+
+pub verdict_is : (v w : Verdict) → same_verdict v w ≡ true → v ≡ w
+verdict_is (Eligible a) (Eligible b) h = ap (λ (t : ℕ). Eligible (record { 0 = t })) (eq_of a.0 b.0 h)
+verdict_is (Eligible a) (Late b) h = absurd (false≢true h)
+verdict_is (Eligible a) Size h = absurd (false≢true h)
+verdict_is (Late a) (Eligible b) h = absurd (false≢true h)
+verdict_is (Late a) (Late b) h = ap (λ (t : ℕ). Late (record { 0 = t })) (eq_of a.0 b.0 h)
+verdict_is (Late a) Size h = absurd (false≢true h)
+verdict_is Size (Eligible b) h = absurd (false≢true h)
+verdict_is Size (Late b) h = absurd (false≢true h)
+verdict_is Size Size h = refl
+
+abbrev pub same_verdicts : List Verdict → List Verdict → Bool
+same_verdicts [] [] = true
+same_verdicts (v ∷ vs) (w ∷ ws) = same_verdict v w && same_verdicts vs ws
+same_verdicts vs ws = false
+
+verdicts_are : (vs ws : List Verdict) → same_verdicts vs ws ≡ true → vs ≡ ws
+verdicts_are [] [] h = refl
+verdicts_are [] (w ∷ ws) h = absurd (false≢true h)
+verdicts_are (v ∷ vs) [] h = absurd (false≢true h)
+verdicts_are (v ∷ vs) (w ∷ ws) h =
+    let parts : (same_verdict v w ≡ true) × (same_verdicts vs ws ≡ true) = and_parts (same_verdict v w) (same_verdicts vs ws) h in
+    let head : v ≡ w = verdict_is v w parts.0 in
+    let tail : vs ≡ ws = verdicts_are vs ws parts.1 in
+    cc
+
+-- frames that arrive in the order of their numbers get their group's verdicts
+abbrev pub judged_pass : DeclaredNetwork → ℕ → List Handed → Bool
+judged_pass network residence_ns handed =
+    pairs_pass nat_le (map (λ (h : Handed). h.arrival) handed)
+    && same_verdicts (map (λ (h : Handed). h.verdict) handed) (verdicts_of (declared_by network) residence_ns (first (declared_by network)) (map offer_of handed))
+
+pub judged_by : (network : DeclaredNetwork) (residence_ns : ℕ) (handed : List Handed) → judged_pass network residence_ns handed ≡ true → IsJudged network residence_ns handed
+judged_by network residence_ns handed h =
+    let times : List ℕ = map (λ (h : Handed). h.arrival) handed in
+    let told : List Verdict = map (λ (h : Handed). h.verdict) handed in
+    let due : List Verdict = verdicts_of (declared_by network) residence_ns (first (declared_by network)) (map offer_of handed) in
+    let parts : (pairs_pass nat_le times ≡ true) × (same_verdicts told due ≡ true) = and_parts (pairs_pass nat_le times) (same_verdicts told due) h in
+    record {
+      arrivals = handed;
+      same = IsPermutation-refl handed;
+      in_order = ascending_by times parts.0;
+      verdicts = verdicts_are told due parts.1;
+    }
+
+-- the frame is of class 6, or of class 0
+abbrev pub is_of_six : Handed → Bool
+is_of_six h = h.hop.sent.class == 6 || h.hop.sent.class == 0
+
+no_class : (a b : ℕ) → a ≡ 0 → a ≡ b → 1 ≤ b → ⊥
+no_class a b none same least = omega arith
+
+and_false : (a b : Bool) → b ≡ false → (a && b) ≡ false
+and_false true b h = h
+and_false false b h = refl
+
+-- so there is none of another class
+no_others : (port class : ℕ) → 1 ≤ class → class ≢ 6 → (handed : List Handed) → list_all is_of_six handed ≡ true → filter (λ (h : Handed). h.hop.port == port && h.hop.sent.class == class) handed ≡ []
+no_others port class least other [] passed = refl
+no_others port class least other (h ∷ handed) passed =
+    let parts : (is_of_six h ≡ true) × (list_all is_of_six handed ≡ true) = and_parts (is_of_six h) (list_all is_of_six handed) passed in
+    let rest : filter (λ (k : Handed). k.hop.port == port && k.hop.sent.class == class) handed ≡ [] = no_others port class least other handed parts.1 in
+    let differs : h.hop.sent.class ≢ class = λ same. elim (either (h.hop.sent.class == 6) (h.hop.sent.class == 0) parts.0) [
+      | inl six ↦ other (sym same ∙ eq_of h.hop.sent.class 6 six)
+      | inr none ↦ absurd (no_class h.hop.sent.class class (eq_of h.hop.sent.class 0 none) same least)
+    ] in
+    let fails : (h.hop.sent.class == class) ≡ false = ne_of h.hop.sent.class class differs in
+    let skipped : (h.hop.port == port && h.hop.sent.class == class) ≡ false = and_false (h.hop.port == port) (h.hop.sent.class == class) fails in
+    rw skipped rest
+
+-- each port's group of class 6 judges its frames
+abbrev pub groups_pass : DeclaredNetwork → List Travel → Bool
+groups_pass network run =
+    list_all is_of_six (handed_from network 0 run) && each_below (λ p. judged_pass network (residence_behind network p) (handed_by network run p 6)) (length network.topology.ports)
+
+pub groups_by : (network : DeclaredNetwork) (run : List Travel) → groups_pass network run ≡ true → (port class : ℕ) → port < length network.topology.ports → 1 ≤ class → IsJudged network (residence_behind network port) (handed_by network run port class)
+groups_by network run passed port class within least =
+    let test : ℕ → Bool = λ p. judged_pass network (residence_behind network p) (handed_by network run p 6) in
+    let parts : (list_all is_of_six (handed_from network 0 run) ≡ true) × (each_below test (length network.topology.ports) ≡ true) = and_parts (list_all is_of_six (handed_from network 0 run)) (each_below test (length network.topology.ports)) passed in
+    elim (cases_eq class 6) [
+      | inl same ↦ rw same (judged_by network (residence_behind network port) (handed_by network run port 6) (below_by test (length network.topology.ports) parts.1 port within))
+      | inr other ↦ rw (no_others port class least other (handed_from network 0 run) parts.0) (judged_by network (residence_behind network port) [] refl)
+    ]
+
+-- each flow's frame is judged by its size
+abbrev pub flow_passes : DeclaredNetwork → Handed → Bool
+flow_passes network h = same_verdict h.verdict (if is_declared_size (declared_by network h.hop.sent.sender) h.octets then Eligible (record { 0 = h.arrival }) else Size)
+
+abbrev pub flows_pass : DeclaredNetwork → List Travel → Bool
+flows_pass network run = each_below (λ p. list_all (flow_passes network) (handed_by network run p 0)) (length network.topology.ports)
+
+pub flows_by : (network : DeclaredNetwork) (run : List Travel) → flows_pass network run ≡ true → (port : ℕ) → port < length network.topology.ports → All (IsPassed network) (handed_by network run port 0)
+flows_by network run passed port within =
+    all_by (IsPassed network) (flow_passes network) (λ h. verdict_is h.verdict (if is_declared_size (declared_by network h.hop.sent.sender) h.octets then Eligible (record { 0 = h.arrival }) else Size)) (handed_by network run port 0)
+    (below_by (λ p. list_all (flow_passes network) (handed_by network run p 0)) (length network.topology.ports) passed port within)

@@ -1,0 +1,9 @@
+pub mod RowLemmas
+pub mod Tests
+pub mod PortTest
+pub mod LegalTest
+pub mod LegalProofs
+pub mod ChangeProofs
+pub mod PartTest
+pub mod PartProofs
+pub mod TalkerProofs

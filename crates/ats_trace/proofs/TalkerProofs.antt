@@ -1,0 +1,72 @@
+use Rattle.std.proofs.Common.{◌≡◌, ℕ, suc, ◌+◌, ◌*◌, ◌<◌, ◌≤◌, Bool, true, false, ◌&&◌, List, length, refl, arith, lit<, lit≤}
+use Rattle.std.specs.Prelude.{nat_le}
+use Rattle.std.specs.List.{list_all}
+use Rattle.std.proofs.lemmas.Bool.{and_parts, false≢true}
+use Rattle.ats_num.specs.declared.time.TheConstants.{PS_PER_SECOND}
+use Rattle.ats_network.specs.Network.{DeclaredNetwork, senders_of}
+use Rattle.ats_network.specs.Senders.{sender_at}
+use Rattle.ats_bucket.specs.Conforming.{Frame, times_of, bits_between, time_between, Conforms}
+use Rattle.ats_group.specs.Group.{is_declared_size}
+use Rattle.ats_trace.specs.Run.{releases_of}
+use Rattle.ats_trace.specs.Eligibility.{declared_by}
+use Rattle.ats_trace.specs.Talker.{talker_of, frames_of, IsDeclaredSize, KeepsBuckets}
+use Rattle.ats_trace.specs.Examples.{line, fork, one_frame, long_frame, first_goes_first}
+use Rattle.ats_trace.specs.TalkerExamples.{two_frames, TalkersOfExamples}
+use Rattle.ats_trace.specs.declared.journey.Release.{Release}
+use Rattle.ats_trace.proofs.Tests.{le_of, all_by, pairs_pass, each_below, below_by}
+use Rattle.ats_trace.proofs.LegalTest.{ascending_by}
+
+-- the frames from place i to place j are no more than the bucket gives
+abbrev within : ℕ → ℕ → List Frame → ℕ → ℕ → Bool
+within rate burst frames j i = nat_le (PS_PER_SECOND * bits_between frames i j) (rate * time_between frames i j + PS_PER_SECOND * burst)
+
+abbrev conforms : ℕ → ℕ → List Frame → Bool
+conforms rate burst frames = pairs_pass nat_le (times_of frames) && each_below (λ j. each_below (within rate burst frames j) (suc j)) (length frames)
+
+conforms_by : (rate burst : ℕ) (frames : List Frame) → conforms rate burst frames ≡ true → Conforms rate burst frames
+conforms_by rate burst frames h =
+    let parts : (pairs_pass nat_le (times_of frames) ≡ true) × (each_below (λ j. each_below (within rate burst frames j) (suc j)) (length frames) ≡ true)
+    = and_parts (pairs_pass nat_le (times_of frames)) (each_below (λ j. each_below (within rate burst frames j) (suc j)) (length frames)) h in
+    record {
+      in_order = ascending_by (times_of frames) parts.0;
+      within = λ i j before last. le_of (PS_PER_SECOND * bits_between frames i j) (rate * time_between frames i j + PS_PER_SECOND * burst)
+          (below_by (within rate burst frames j) (suc j) (below_by (λ j. each_below (within rate burst frames j) (suc j)) (length frames) parts.1 j last) i (omega arith));
+    }
+
+-- all streams conform, and all releases have declared sizes
+abbrev stream_conforms : DeclaredNetwork → List Release → ℕ → Bool
+stream_conforms network releases i = conforms (sender_at network i).rate (sender_at network i).burst_bits (frames_of i releases)
+
+abbrev is_sized : DeclaredNetwork → Release → Bool
+is_sized network r = is_declared_size (declared_by network r.sender) r.octets
+
+keeps_by : (network : DeclaredNetwork) (releases : List Release) (station : ℕ) → each_below (stream_conforms network releases) (length network.streams) ≡ true → list_all (is_sized network) releases ≡ true → KeepsBuckets network releases station
+keeps_by network releases station conform sized =
+    record {
+      streams = λ i there begins. conforms_by (sender_at network i).rate (sender_at network i).burst_bits (frames_of i releases)
+          (below_by (stream_conforms network releases) (length network.streams) conform i there);
+      sizes = all_by (λ (r : Release). r.sender < length (senders_of network) → talker_of network r.sender ≡ station → IsDeclaredSize network r) (is_sized network) (λ r h there begins. h) releases sized;
+    }
+
+not_so_soon : ¬ KeepsBuckets line (two_frames 123359999) 0
+not_so_soon h =
+    let over : 1000000000000 * 24672 ≤ 100000000 * 123359999 + 1000000000000 * 12336 = (h.streams 0 (lit< tt) refl).within 0 1 (lit≤ tt) (lit< tt) in
+    absurd (omega arith)
+
+no_release : Release
+no_release = record { at = record { 0 = 0 }; sender = 0; octets = 0 }
+
+not_so_long : ¬ KeepsBuckets line (releases_of long_frame) 0
+not_so_long h =
+    let fits : false ≡ true = h.sizes 0 no_release (lit< tt) (lit< tt) refl in
+    absurd (false≢true fits)
+
+pub talkers_of_examples : TalkersOfExamples
+talkers_of_examples =
+    record {
+      one_frame = keeps_by line (releases_of one_frame) 0 refl refl;
+      another_station = keeps_by fork (releases_of first_goes_first) 0 refl refl;
+      burst_back = keeps_by line (two_frames 123360000) 0 refl refl;
+      too_soon = not_so_soon;
+      too_long = not_so_long;
+    }

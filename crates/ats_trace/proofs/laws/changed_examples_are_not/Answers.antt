@@ -1,0 +1,5 @@
+use Rattle.ats_trace.proofs.ChangeProofs.{changed_are_not}
+use Rattle.ats_trace.proofs.laws.changed_examples_are_not.Goals as goal
+
+pub returns : goal.returns
+returns c = changed_are_not

@@ -1,0 +1,5 @@
+use Rattle.ats_trace.proofs.LegalProofs.{examples_legal}
+use Rattle.ats_trace.proofs.laws.examples_are_legal.Goals as goal
+
+pub returns : goal.returns
+returns c = examples_legal
