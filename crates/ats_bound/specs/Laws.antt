@@ -18,3 +18,7 @@ LeastCertificateHolds = (network : DeclaredNetwork) → IsNetwork network → re
 -- where it has one, no certificate holds for it
 abbrev pub ReasonLeavesNone : Type 0
 ReasonLeavesNone = (network : DeclaredNetwork) (reason : Reason) (rows : List Row) → IsNetwork network → reason_of network ≡ Some reason → ¬ Holds network rows
+
+-- a network has no other least certificate than the one that is computed
+abbrev pub LeastCertificateIsOne : Type 0
+LeastCertificateIsOne = (network : DeclaredNetwork) (rows : List Row) → IsNetwork network → IsLeastCertificate network rows → rows ≡ least_certificate network

@@ -1,3 +1,8 @@
 pub mod Least
 pub mod Reason
 pub mod Laws
+pub mod Row
+pub mod Due
+pub mod Tally
+pub mod Gathered
+pub mod Begun

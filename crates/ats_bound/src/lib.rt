@@ -1,6 +1,10 @@
 //! The certificate with the least waits, or why no certificate holds for a network.
 #![tactic(auto)]
 
+pub mod laws;
 pub mod reason;
+pub mod rows;
+mod tally;
 
 pub use reason::{NoBound, Reason};
+pub use rows::row;

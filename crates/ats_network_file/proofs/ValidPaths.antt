@@ -7,11 +7,13 @@ use Rattle.std.proofs.lemmas.List.Elements.{All-nil, All-cons, All-head, All-tai
 use Rattle.std.proofs.lemmas.List.Kept.{AllPairs-cons}
 use Rattle.ats_topology.specs.Node.{is_station}
 use Rattle.ats_topology.specs.Port.{port_at}
-use Rattle.ats_topology.specs.Topology.{DeclaredTopology, node_at}
+use Rattle.ats_topology.specs.Topology.{DeclaredTopology, IsTopology, node_at}
 use Rattle.ats_topology.specs.Walks.{IsWalk}
 use Rattle.ats_topology.specs.declared.port.Port.{Port}
 use Rattle.ats_network.specs.Path.{IsValidPath, IsStationAt, nodes_along}
 use Rattle.ats_network.proofs.Appended.{pairs_head, pairs_tail}
+use Rattle.ats_network.proofs.PathLemmas.{nodes_to}
+use Rattle.ats_network.proofs.SimpleWalks.{SimpleWalk, simple_short}
 use Rattle.ats_network_file.specs.Routes.{is_walk, last_node, is_station_at, are_apart, is_valid}
 
 true_false : true ≡ false → ⊥
@@ -140,3 +142,14 @@ pub same_test : (a b : Bool) → (a ≡ true → b ≡ true) → (b ≡ true →
 same_test true b f g = sym (f refl)
 same_test false true f g = g refl
 same_test false false f g = refl
+
+-- a valid path of a topology has fewer ports than there are nodes
+pub valid_short : (topology : DeclaredTopology) (path : List ℕ) → IsTopology topology → IsValidPath topology path → length path < length topology.nodes
+valid_short topology [] is valid = absurd (valid.differ valid.walk)
+valid_short topology (p ∷ path) is valid =
+    let walk : SimpleWalk topology.ports valid.talker valid.listener = record {
+      walk = p ∷ path;
+      is = valid.walk;
+      apart = subst (λ (n : ℕ). AllPairs (λ a b. a ≢ b) (n ∷ nodes_to topology.ports (p ∷ path))) valid.walk.0.from valid.apart;
+    } in
+    simple_short topology valid.talker valid.listener is valid.begins.within walk

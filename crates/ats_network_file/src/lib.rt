@@ -5,9 +5,14 @@ pub mod fault;
 mod flows;
 pub mod laws;
 mod nodes;
+pub mod printing;
 pub mod reading;
 mod routes;
 mod streams;
 
 pub use fault::NetFault;
+pub use printing::write_fault;
 pub use reading::read_network;
+
+#[cfg(test)]
+mod tests;

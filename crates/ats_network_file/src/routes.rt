@@ -38,11 +38,15 @@ pub(crate) fn path_in(
     Ok(path)
 }
 
-// Whether these ports make a valid path.
+// Whether these ports make a valid path. Such a path has fewer ports than there are nodes, so that of a longer one no two
+// ports are compared.
 fn is_valid(topology: &Topology, path: &[u32]) -> bool
     ensures test { result ≡ is_valid topology.now path.now }
     ensures valid { IsTrue result ↔ IsValidPath topology.now path.now }
 {
+    if path.len() >= topology.nodes().len() {
+        return false;
+    }
     is_valid_path(topology, path)
 }
 

@@ -18,6 +18,7 @@ use Rattle.ats_port_law.specs.PortLaw.{frame_of, IsOffered, IsWithinBound, PortL
 use Rattle.ats_port_law.proofs.Numbers.{Walk, ends_within}
 use Rattle.ats_port_law.proofs.Pairs.{TakesTime, eligible_no_later}
 use Rattle.ats_port_law.proofs.Sums.{sum_by-le-all}
+use Rattle.ats_port_law.proofs.Used.{used_place}
 use Rattle.ats_port_law.proofs.Walk.{bits_in_walk, walk_bits, is_in_walk, in_walk, in_walk-parts, Head, Walked, walk}
 use Rattle.ats_port_law.proofs.Window.{eligible_bits}
 use Rattle.ats_port_law.proofs.Totals.{shares_total, greatest_reaches, least_reaches, sum_reaches}
@@ -166,5 +167,6 @@ law_at network row sent c k d h class =
     omega (arith, within, c.covers.bound)
 
 pub law : PortLaw
-law network row sent net port some covers rule offered =
-    law_at network row sent (record { net = net; port = port; some = some; covers = covers; rule = rule; offered = offered })
+law network row sent net used covers rule offered =
+    let place = used_place network row.port row.class net used in
+    law_at network row sent (record { net = net; port = place.within; some = place.ranked; covers = covers; rule = rule; offered = offered })

@@ -5,6 +5,6 @@ pub mod RowProofs
 pub mod Senders
 pub mod Sums
 pub mod Totals
-pub mod UsedClass
+pub mod Used
 pub mod Walk
 pub mod Window

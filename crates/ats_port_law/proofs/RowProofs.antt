@@ -63,6 +63,7 @@ flow_streams (suc i) h = absurd (omega arith)
 
 pub behind_flow : BehindFlow
 behind_flow = record {
+  used = refl;
   covers = record {
     sums = record { higher = refl; equal = refl; bursts = refl; lower = refl; least = refl };
     bound = refl;
@@ -87,6 +88,7 @@ two_streams (suc (suc i)) h = absurd (omega arith)
 pub in_turn : InTurn
 in_turn = record {
   worked = record {
+    used = refl;
     covers = record {
       sums = record { higher = refl; equal = refl; bursts = refl; lower = refl; least = refl };
       bound = refl;

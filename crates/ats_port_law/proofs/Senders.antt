@@ -15,14 +15,14 @@ use Rattle.ats_port_law.proofs.Sums.{sum_by-le-all, sum_by-none, sum_by-keys}
 use Rattle.ats_port_law.proofs.Totals.{share}
 use Rattle.ats_port_law.proofs.Window.{eligible_bits, sender_window}
 
-no_stream : DeclaredStream
+pub no_stream : DeclaredStream
 no_stream = record { name = []; path = []; class = 0; rate = 0; burst_bits = 0; min_octets = 0; max_octets = 0; deadline_ns = 0; identity = None }
 
 no_flow : DeclaredFlow
 no_flow = record { name = []; path = []; max_octets = 0 }
 
 -- the first senders are the streams
-stream_at : (network : DeclaredNetwork) (i : ℕ) → i < length network.streams → sender_at network i ≡ stream_sender (get_or network.streams i no_stream)
+pub stream_at : (network : DeclaredNetwork) (i : ℕ) → i < length network.streams → sender_at network i ≡ stream_sender (get_or network.streams i no_stream)
 stream_at network i h =
     let streams : List Sender = map stream_sender network.streams in
     get_or_append_left streams (map flow_sender network.flows) no_sender i (omega (arith, h, length-map network.streams stream_sender))

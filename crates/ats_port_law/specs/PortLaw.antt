@@ -40,13 +40,9 @@ pub record IsOffered (network : DeclaredNetwork) (port : ℕ) (sent : List Trans
 abbrev pub IsWithinBound : DeclaredNetwork → Row → Transmission → Type 0
 IsWithinBound network row x = x.class ≡ row.class → x.end + (port_at network.topology.ports row.port).latency.0 ≤ x.eligible + row.bound
 
--- where a row of a stream's class, so of 1 or more, covers its port, and the port keeps the port rule with what it may be
--- asked to send, each frame of the row's class is within the row's bound, whatever lawful order the port takes
+-- where a row covers its port, and the port keeps the port rule with what it may be asked to send, each frame of the row's
+-- class is within the row's bound, whatever lawful order the port takes
 abbrev pub PortLaw : Type 0
-PortLaw = (network : DeclaredNetwork) (row : Row) (sent : List Transmission) → IsNetwork network → row.port < length network.topology.ports → 1 ≤ row.class
+PortLaw = (network : DeclaredNetwork) (row : Row) (sent : List Transmission) → IsNetwork network → IsTrue (is_used network row.port row.class)
     → Covers network row → KeepsPortRule (port_at network.topology.ports row.port).ps_per_bit sent → IsOffered network row.port sent
     → All (IsWithinBound network row) sent
-
--- what a certificate asks of a row, that some stream of its class uses its port, makes the class 1 or more
-abbrev pub UsedClass : Type 0
-UsedClass = (network : DeclaredNetwork) (port class : ℕ) → IsNetwork network → IsTrue (is_used network port class) → 1 ≤ class

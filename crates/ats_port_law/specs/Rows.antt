@@ -1,4 +1,4 @@
-use Rattle.std.specs.Prelude.{◌≡◌, ℕ, ◌+◌, List, [], ◌∷◌, codes, None, All}
+use Rattle.std.specs.Prelude.{◌≡◌, ℕ, ◌+◌, List, [], ◌∷◌, codes, IsTrue, None, All}
 use Rattle.ats_topology.specs.Port.{port_at}
 use Rattle.ats_topology.specs.Topology.{topology_of}
 use Rattle.ats_topology.specs.declared.node.Node.{Node}
@@ -6,6 +6,7 @@ use Rattle.ats_topology.specs.declared.node.Kind.TheVariants.{Station, Bridge}
 use Rattle.ats_topology.specs.declared.link.Link.{Link}
 use Rattle.ats_streams.specs.Stream.{DeclaredStream}
 use Rattle.ats_network.specs.Network.{DeclaredNetwork, declared_network}
+use Rattle.ats_certificate.specs.PortSums.{is_used}
 use Rattle.ats_certificate.specs.Certificate.{Covers}
 use Rattle.ats_certificate.specs.declared.row.Row.{Row}
 use Rattle.ats_transmission.specs.Transmission.{Transmission}
@@ -70,8 +71,9 @@ sent_in_turn =
     ∷ record { frame = 1; sender = 1; class = 6; bits = 12336; eligible = 13836000; start = 26172000; end = 38508000 }
     ∷ []
 
--- the row covers its port, the port keeps its rule with what it may be asked to send, and each frame is within the bound
+-- some stream uses the row's port and class, the row covers them, the port keeps its rule with what it may be asked to send, and each frame is within the bound
 pub record IsWorked (network : DeclaredNetwork) (row : Row) (sent : List Transmission) : Type 0 where
+  pub used : IsTrue (is_used network row.port row.class)
   pub covers : Covers network row
   pub rule : KeepsPortRule (port_at network.topology.ports row.port).ps_per_bit sent
   pub offered : IsOffered network row.port sent

@@ -1,18 +1,14 @@
 //! What is proved of one port, for all lists of transmissions.
 
-ghost use Rattle.ats_port_law.specs.PortLaw.{PortLaw, UsedClass};
+ghost use Rattle.ats_port_law.specs.PortLaw.{PortLaw};
 ghost use Rattle.ats_port_law.specs.Rows.{BehindFlow, InTurn};
 
-/// Where a row of a certificate covers its port and class, and the port keeps the port rule with transmissions that it may
-/// be asked to make, each frame of the class arrives behind the port within the row's bound of its eligibility. Nothing is
-/// asked of flows and lower classes but their sizes, and nothing of the order in which the port takes equal frames.
+/// Where a row covers a port and a class that some stream uses, as each row of a certificate does, and the port keeps the
+/// port rule with transmissions that it may be asked to make, each frame of the class arrives behind the port within the
+/// row's bound of its eligibility. Nothing is asked of flows and lower classes but their sizes, and nothing of the order in
+/// which the port takes equal frames.
 pub fn port_law()
     ensures { PortLaw }
-{}
-
-/// The law asks that a row's class is 1 or more; that of each row of a certificate is, since some stream uses it.
-pub fn used_class()
-    ensures { UsedClass }
 {}
 
 /// Two worked rows, in which what the law asks holds: a frame behind one of a flow, and the second of two equal frames,
@@ -71,7 +67,6 @@ mod tests {
     #[test]
     fn laws_are_calls_without_effect(_rt: HostRuntime) {
         port_law();
-        used_class();
         worked_rows();
     }
 

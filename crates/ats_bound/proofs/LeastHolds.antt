@@ -1,0 +1,61 @@
+use Rattle.std.proofs.Common.{◌≡◌, ℕ, ◌<◌, ◌≤◌, Bool, true, List, map, length, get_or, None, refl, sym, ap, ◌∙◌}
+use Rattle.std.specs.Prelude.{IsSome, is_some}
+use Rattle.std.specs.List.{All, AllPairs, find, list_any}
+use Rattle.std.proofs.lemmas.List.Elements.{All-map, All-weaker}
+use Rattle.ats_streams.specs.Stream.{DeclaredStream}
+use Rattle.ats_network.specs.Network.{DeclaredNetwork, IsNetwork}
+use Rattle.ats_certificate.specs.PortSums.{is_used}
+use Rattle.ats_certificate.specs.Used.{places_of}
+use Rattle.ats_certificate.specs.Certificate.{Holds, HasRows, RowHolds, IsBefore, IsInTime, MayStay, is_row_of, row_of}
+use Rattle.ats_certificate.specs.Least.{IsLeastRow, IsLeastCertificate}
+use Rattle.ats_certificate.specs.declared.row.Row.{Row}
+use Rattle.ats_bound.specs.Least.{least_row, least_certificate}
+use Rattle.ats_bound.specs.Reason.{reason_of, first_some, overload, overstay, delay}
+use Rattle.ats_bound.specs.Laws.{IsAnswered, LeastCertificateHolds}
+use Rattle.ats_bound.proofs.Lists.{list_any-map, is_some-find, AllPairs-map, none_first, option_or-none}
+use Rattle.ats_bound.proofs.Places.{IsPlace, is_at, is_place, places_used, places_ordered, places_have}
+use Rattle.ats_bound.proofs.Waits.{Fits, least_row-is}
+use Rattle.ats_bound.proofs.Reasons.{fits_from, stays_from, in_time_from}
+
+-- the computed certificate has the rows of its network
+pub least_rows : (network : DeclaredNetwork) → IsNetwork network → HasRows network (least_certificate network)
+least_rows network is = record {
+  complete = λ port class used.
+    is_some-find (is_row_of port class) (least_certificate network)
+    ∙ list_any-map (is_row_of port class) (least_row network) (places_of network)
+    ∙ places_have network port class is used;
+  used = All-map (λ (row : Row). is_used network row.port row.class ≡ true) (least_row network) (places_of network) (places_used network);
+  ordered = AllPairs-map IsBefore (least_row network) (places_of network) (places_ordered network);
+}
+
+-- each place fits its link
+abbrev pub EachFits : DeclaredNetwork → Type 0
+EachFits network = All (λ (at : ℕ × ℕ). Fits network at.0 at.1) (places_of network)
+
+pub each_is_least : (network : DeclaredNetwork) → IsNetwork network → EachFits network → All (IsLeastRow network) (least_certificate network)
+each_is_least network is fits =
+    All-map (IsLeastRow network) (least_row network) (places_of network)
+    (λ k d h. least_row-is network (get_or (places_of network) k d).0 (get_or (places_of network) k d).1
+    (is_place network (get_or (places_of network) k d).0 (get_or (places_of network) k d).1 is (places_used network k d h)) (fits k d h))
+
+pub least_certificate_holds : LeastCertificateHolds
+least_certificate_holds network is none =
+    let first = option_or-none (first_some (overload network) (places_of network)) _ none in
+    let second = option_or-none (first_some (overstay network) (least_certificate network)) _ first.1 in
+    let loads = none_first (overload network) (places_of network) first.0 in
+    let stays = none_first (overstay network) (least_certificate network) second.0 in
+    let times = none_first (delay (least_certificate network)) network.streams second.1 in
+    let fits : EachFits network = λ k d h. fits_from network (get_or (places_of network) k d).0 (get_or (places_of network) k d).1 (loads k d h) in
+    let rows : HasRows network (least_certificate network) = least_rows network is in
+    let each : All (IsLeastRow network) (least_certificate network) = each_is_least network is fits in
+    record {
+      least = record { rows_of = rows; each = each };
+      holds = record {
+        rows_of = rows;
+        each = λ k d h. record {
+          covers = (each k d h).covers;
+          residence = stays_from network (get_or (least_certificate network) k d) (stays k d h);
+        };
+        deadlines = λ k d h. in_time_from (least_certificate network) (get_or network.streams k d) (times k d h);
+      };
+    }

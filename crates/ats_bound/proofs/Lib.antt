@@ -1,0 +1,10 @@
+pub mod Lists
+pub mod Ceiling
+pub mod Places
+pub mod Waits
+pub mod Reasons
+pub mod NoneHolds
+pub mod LeastHolds
+pub mod OneLeast
+pub mod Tallies
+pub mod Network

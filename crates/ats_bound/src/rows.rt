@@ -1,0 +1,103 @@
+//! Rows with the least waits.
+
+ghost use Rattle.std.specs.Prelude.{◌≡◌, ◌-◌, ◌+◌, ◌*◌, ◌<◌, ◌≤◌, length, map, unwrap_or, All, IfOk, IsTrue};
+ghost use Rattle.ats_num.specs.declared.time.TheConstants.{PS_PER_SECOND};
+ghost use Rattle.ats_topology.specs.Rates.{IsPsPerBit};
+ghost use Rattle.ats_network.specs.Network.{senders_of};
+ghost use Rattle.ats_network.specs.Senders.{sender_at};
+ghost use Rattle.ats_certificate.specs.Form.{IsRow};
+ghost use Rattle.ats_certificate.specs.PortSums.{is_used, senders_at};
+ghost use Rattle.ats_bound.specs.Least.{ceiling};
+ghost use Rattle.ats_bound.specs.Row.{row_from, row_or_load};
+ghost use Rattle.ats_bound.specs.Tally.{IsTally, IsWithin, sums_of};
+
+use crate::tally::{MAX_SENDERS, Tally};
+use ats_certificate::Row;
+use ats_network::Network;
+use ats_num::ceil_div;
+use ats_num::time::PS_PER_SECOND;
+use ats_topology::Port;
+
+/// The row of a port and a class that some stream uses there: what the streams and flows make of them, the least wait that
+/// is enough, and its bound. It takes no memory, and looks at each path of the network once.
+///
+/// # Errors
+///
+/// The load, in picoseconds of each second: what the rates of the class and the higher ones take of the link. It comes
+/// exactly where that is more than a second.
+pub fn row(network: &Network, port: u32, class: u8) -> Result<Row, u128>
+    requires { IsTrue (is_used network.now port class) }
+    ensures { result ≡ row_or_load network.now (port, class) }
+{
+    row_of(network, port, class, tally_at(network, port, class))
+}
+
+/// The row of a port and a class, from what the senders at the port make of the class.
+pub(crate) fn row_of(network: &Network, port: u32, class: u8, tally: Tally) -> Result<Row, u128>
+    requires used { IsTrue (is_used network.now port class) }
+    requires tally { IsTally class (senders_at port (senders_of network.now)) tally }
+    ensures row { result ≡ row_or_load network.now (port, class) }
+    ensures form { IfOk result IsRow }
+{
+    let ports = network.topology().ports();
+    row_from(&ports[port as usize], port, class, tally)
+}
+
+// What the senders at a port make of a class.
+fn tally_at(network: &Network, port: u32, class: u8) -> Tally
+    requires { IsTrue (is_used network.now port class) }
+    ensures { IsTally class (senders_at port (senders_of network.now)) result }
+{
+    let mut tally = Tally::new();
+    for sender in 0..network.senders() {
+        if network.sender_path(sender).contains(&port) {
+            tally = tally.with_sender(network, class, sender);
+        }
+    }
+    tally
+}
+
+// The row of a port with this number, where the senders there make so much of a class.
+fn row_from(port: &Port, number: u32, class: u8, tally: Tally) -> Result<Row, u128>
+    requires ps { IsPsPerBit port.now.ps_per_bit }
+    requires latency { port.now.latency.0 ≤ 2000000000 }
+    requires class_least { 1 ≤ class }
+    requires class_most { class ≤ 7 }
+    requires tally { IsWithin MAX_SENDERS tally }
+    requires equal { 1 ≤ tally.equal }
+    ensures row { result ≡ row_from port.now number class (sums_of port.now.ps_per_bit tally) }
+    ensures form { IfOk result IsRow }
+{
+    let ps = u128::from(port.ps_per_bit);
+    let higher = ps * u128::from(tally.above);
+    let equal = ps * u128::from(tally.equal);
+    if higher + equal > u128::from(PS_PER_SECOND) {
+        return Err(higher + equal);
+    }
+    let least = tally.least.unwrap_or(0);
+    let wait = least_wait(ps, higher, tally);
+    Ok(Row {
+        port: number,
+        class,
+        higher,
+        equal,
+        bursts: u128::from(tally.bursts),
+        lower: tally.lower,
+        least,
+        wait,
+        bound: wait + ps * u128::from(least) + u128::from(port.latency.0),
+    })
+}
+
+// The least wait that is enough, where a bit takes so many picoseconds and the higher classes so much of each second.
+fn least_wait(ps: u128, higher: u128, tally: Tally) -> u128
+    requires ps { ps ≤ 100000 }
+    requires higher { higher < PS_PER_SECOND }
+    requires tally { IsWithin MAX_SENDERS tally }
+    ensures wait { result ≡ ceiling (PS_PER_SECOND * (ps * (tally.lower + tally.bursts - unwrap_or tally.least 0))) (PS_PER_SECOND - higher) }
+    ensures most { result ≤ 1000000000000000000000000000000 }
+{
+    let second = u128::from(PS_PER_SECOND);
+    let bits = (tally.lower + tally.bursts).saturating_sub(tally.least.unwrap_or(0));
+    ceil_div(second * (ps * u128::from(bits)), second - higher)
+}

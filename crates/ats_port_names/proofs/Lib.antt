@@ -1,0 +1,4 @@
+pub mod ByBytes
+pub mod Ends
+pub mod Numbering
+pub mod ReadsBack

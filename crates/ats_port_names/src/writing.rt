@@ -1,0 +1,21 @@
+//! The name of a port, written.
+
+ghost use Rattle.std.specs.Prelude.{◌≡◌, ◌++◌, ◌<◌, length, OnOk};
+ghost use Rattle.ats_port_names.specs.PortName.{port_name};
+
+use ats_num::NoMemory;
+use ats_topology::Topology;
+
+/// Appends the name of a port: that of the node that it leaves, `>`, and that of the node that it leads to. After
+/// `NoMemory` nothing is said of `out`.
+pub fn write_port(out: &mut Vec<u8>, topology: &Topology, port: u32) -> Result<(), NoMemory>
+    requires { port < length topology.now.ports }
+    ensures { OnOk result (out.new.items ≡ out.old.items ++ port_name topology.now port) }
+{
+    let ends = topology.ports()[port as usize];
+    let nodes = topology.nodes();
+    out.extend_from_slice(nodes[ends.from as usize].name.bytes())?;
+    out.push(b'>')?;
+    out.extend_from_slice(nodes[ends.to as usize].name.bytes())?;
+    Ok(())
+}
