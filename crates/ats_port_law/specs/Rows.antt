@@ -71,7 +71,8 @@ sent_in_turn =
     ∷ record { frame = 1; sender = 1; class = 6; bits = 12336; eligible = 13836000; start = 26172000; end = 38508000 }
     ∷ []
 
--- some stream uses the row's port and class, the row covers them, the port keeps its rule with what it may be asked to send, and each frame is within the bound
+-- some stream uses the row's port and class, the row covers them, the port keeps its rule with what it may be asked to
+-- send, and each frame is within the bound
 pub record IsWorked (network : DeclaredNetwork) (row : Row) (sent : List Transmission) : Type 0 where
   pub used : IsTrue (is_used network row.port row.class)
   pub covers : Covers network row
