@@ -8,3 +8,6 @@ pub mod LeastHolds
 pub mod OneLeast
 pub mod Tallies
 pub mod Network
+pub mod Gathering
+pub mod UsedLists
+pub mod Beginnings

@@ -1,9 +1,19 @@
-use Rattle.std.specs.Prelude.{◌≡◌, ℕ, List, ◌++◌, map}
+use Rattle.std.specs.Prelude.{◌≡◌, ℕ, List, [], ◌∷◌, ◌++◌, map, Option, None, if◌then◌else◌}
 use Rattle.ats_network.specs.Network.{DeclaredNetwork}
+use Rattle.ats_certificate.specs.PortSums.{is_used}
 use Rattle.ats_certificate.specs.Used.{places_of}
 use Rattle.ats_certificate.specs.declared.row.Row.{Row}
 use Rattle.ats_bound.specs.Least.{least_row, least_certificate}
 use Rattle.ats_bound.specs.Reason.{first_some, overload}
+use Rattle.ats_bound.specs.declared.reason.Reason.{Reason}
+
+-- the least row of a port and a class that some stream uses there; of another none
+abbrev pub rows_at : DeclaredNetwork → ℕ × ℕ → List Row
+rows_at network place = if is_used network place.0 place.1 then least_row network place ∷ [] else []
+
+-- the overload of a port and a class that some stream uses there, if they are overloaded
+abbrev pub overload_at : DeclaredNetwork → ℕ × ℕ → Option Reason
+overload_at network place = if is_used network place.0 place.1 then overload network place else None
 
 -- the first rows of the least certificate, and the places whose rows are to come; no place so far is overloaded
 pub record IsBegun (network : DeclaredNetwork) (rows : List Row) (left : List (ℕ × ℕ)) : Type 0 where

@@ -2,9 +2,11 @@
 #![tactic(auto)]
 
 pub mod laws;
+mod listing;
 pub mod reason;
 pub mod rows;
 mod tally;
+mod users;
 
 pub use reason::{NoBound, Reason};
 pub use rows::row;

@@ -1,6 +1,6 @@
 //! Why no certificate holds for a network.
 
-use ats_num::Name;
+use ats_num::{Name, NoMemory};
 
 /// Why no certificate holds for a network: of several reasons the one that stands first here, and of several of one kind
 /// the first in the order of the rows, or of the streams.
@@ -40,4 +40,15 @@ pub enum NoBound {
     Reason(Reason),
     /// Memory ran out.
     NoMemory,
+}
+
+impl From<NoMemory> for NoBound {
+    ghost use Rattle.std.specs.Prelude.{◌≡◌};
+    ghost use Rattle.ats_bound.specs.declared.reason.NoBound.TheVariants as answer;
+
+    ghost from_gives = { λ _ e. e ≡ answer.NoMemory };
+
+    fn from(_e: NoMemory) -> NoBound {
+        NoBound::NoMemory
+    }
 }

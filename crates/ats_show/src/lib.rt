@@ -1,3 +1,9 @@
 //! What is printed of a network.
 #![tactic(auto)]
 
+pub mod printing;
+
+pub use printing::show;
+
+#[cfg(test)]
+mod tests;

@@ -1,4 +1,4 @@
-use Rattle.std.specs.Prelude.{◌≡◌, ℕ, ◌+◌, ◌≤◌, ◌<◌, List, [], ◌∷◌, sum_by, Contains}
+use Rattle.std.specs.Prelude.{ℕ, ◌+◌, ◌≤◌, ◌<◌, List, [], ◌∷◌, sum_by, Contains}
 use Rattle.ats_network.specs.Sender.{Sender}
 use Rattle.ats_network.specs.Network.{DeclaredNetwork}
 use Rattle.ats_network.specs.Senders.{sender_at}
@@ -72,9 +72,9 @@ IsContained rows sender journey = IsPromptOnce (bounds_of rows sender) (later_po
 -- each frame of any stream is contained
 pub record IsSound (network : DeclaredNetwork) (rows : List Row) : Type 0 where
   pub served : (run : List Travel) → IsLegal network run → (journey : Travel) → Contains run journey
-    → 0 < (sender_at network journey.release.sender).class
-    → KeepsBuckets network (releases_of run) (talker_of network journey.release.sender)
-    → IsServed rows (sender_at network journey.release.sender) journey
+      → 0 < (sender_at network journey.release.sender).class
+      → KeepsBuckets network (releases_of run) (talker_of network journey.release.sender)
+      → IsServed rows (sender_at network journey.release.sender) journey
   pub contained : (run : List Travel) → IsLegal network run → (journey : Travel) → Contains run journey
-    → 0 < (sender_at network journey.release.sender).class
-    → IsContained rows (sender_at network journey.release.sender) journey
+      → 0 < (sender_at network journey.release.sender).class
+      → IsContained rows (sender_at network journey.release.sender) journey

@@ -1,0 +1,39 @@
+//! What is proved of each network, certificate and legal run.
+
+ghost use Rattle.ats_soundness.specs.Laws.{StationIsOffered, BridgeIsOffered, ShapingForFree, PathLaw, Containment, CertificateIsSound};
+
+/// A port that leaves a station that keeps its buckets is asked to send no more than the port law wants: frames of declared
+/// sizes, and those of each stream conform to its rate and burst.
+pub fn station_is_offered()
+    ensures { StationIsOffered }
+{}
+
+/// So is each port that leaves a bridge, whatever any talker does, because all frames there came through the bridge's
+/// schedulers.
+pub fn bridge_is_offered()
+    ensures { BridgeIsOffered }
+{}
+
+/// Shaping is free: behind a port with a row that holds, and that is asked to send no more than the port law wants, each
+/// frame of the row's class is eligible within the row's bound of its eligibility at the port.
+pub fn shaping_for_free()
+    ensures { ShapingForFree }
+{}
+
+/// The path law: where a certificate holds, each frame of a stream whose talker keeps its buckets is never discarded, is
+/// eligible at each next hop within the bound of the hop before, and arrives within the sum of the bounds.
+pub fn path_law()
+    ensures { PathLaw }
+{}
+
+/// Containment: where a certificate holds, each frame of any stream that the first bridge lets through is never discarded
+/// from there on, and is eligible at each next hop within the bound of the hop before.
+pub fn containment()
+    ensures { Containment }
+{}
+
+/// A certificate that holds is sound: in each legal run of the network the path law and containment are kept, whatever other
+/// talkers and flows send and whichever lawful choice each port makes among equals.
+pub fn certificate_is_sound()
+    ensures { CertificateIsSound }
+{}
