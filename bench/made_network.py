@@ -4,6 +4,7 @@ import os
 import resource
 import subprocess
 import sys
+import threading
 import time
 
 ROOT = os.path.dirname(os.path.dirname(os.path.abspath(__file__)))
@@ -51,15 +52,44 @@ def network_file(nodes, streams, flows, by_ends):
     return "\n".join(lines) + "\n"
 
 
+class PeakWatch(threading.Thread):
+    """Reads the peak memory of a process every millisecond for as long as it runs."""
+
+    def __init__(self, number):
+        super().__init__(daemon=True)
+        self.status = f"/proc/{number}/status"
+        self.ended = threading.Event()
+        self.kilobytes = 0
+
+    def run(self):
+        while not self.ended.is_set():
+            try:
+                with open(self.status, encoding="ascii", errors="replace") as file:
+                    for line in file:
+                        if line.startswith("VmHWM:"):
+                            self.kilobytes = int(line.split()[1])
+            except OSError:
+                return
+            self.ended.wait(0.001)
+
+
 def run(program, words, printed):
     """Runs the program with its output to a file. Gives its status, its seconds and its peak memory in MB."""
     with open(printed, "wb") as out:
         began = time.perf_counter()
         child = subprocess.Popen([program] + words, stdout=out)
+        watch = PeakWatch(child.pid)
+        watch.start()
         _, status, used = os.wait4(child.pid, 0)
         seconds = time.perf_counter() - began
+    watch.ended.set()
+    watch.join()
     child.returncode = os.waitstatus_to_exitcode(status)
-    return child.returncode, seconds, used.ru_maxrss / 1024
+    # What the system tells is at least the peak of this script, from which the process was started. Where it is no more than
+    # that, the last reading counts; of a run too short to be read it is an upper bound.
+    own = resource.getrusage(resource.RUSAGE_SELF).ru_maxrss
+    kilobytes = used.ru_maxrss if used.ru_maxrss > own else watch.kilobytes or used.ru_maxrss
+    return child.returncode, seconds, kilobytes / 1024
 
 
 def arguments(usage, counts):
