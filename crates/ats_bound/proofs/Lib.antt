@@ -11,3 +11,4 @@ pub mod Network
 pub mod Gathering
 pub mod UsedLists
 pub mod Beginnings
+pub mod Delaying

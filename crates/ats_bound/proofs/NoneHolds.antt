@@ -102,6 +102,14 @@ in_time_held network rows stream is h late =
     let le = sum_by-le-sum_by (λ port. bound_at (least_certificate network) port stream.class) (λ port. bound_at rows port stream.class) stream.path (λ port. bound_at-le network rows port stream.class is h) in
     omega (arith, le, late)
 
+-- no overload, no overstay and no delay leave no reason
+pub reason_of-none : (network : DeclaredNetwork) → first_some (overload network) (places_of network) ≡ None → first_some (overstay network) (least_certificate network) ≡ None
+    → first_some (delay (least_certificate network)) network.streams ≡ None → reason_of network ≡ None
+reason_of-none network loads stays times =
+    ap (λ (o : Option Reason). option_or o (option_or (first_some (overstay network) (least_certificate network)) (first_some (delay (least_certificate network)) network.streams))) loads
+    ∙ ap (λ (o : Option Reason). option_or o (first_some (delay (least_certificate network)) network.streams)) stays
+    ∙ times
+
 -- a certificate that holds leaves no reason
 pub no_reason_held : (network : DeclaredNetwork) (rows : List Row) → IsNetwork network → Holds network rows → reason_of network ≡ None
 no_reason_held network rows is h =
@@ -116,9 +124,7 @@ no_reason_held network rows is h =
     let times : first_some (delay (least_certificate network)) network.streams ≡ None =
         first_some-none (delay (least_certificate network)) network.streams
         (λ k d within. delay-none (least_certificate network) (get_or network.streams k d) (in_time_held network rows (get_or network.streams k d) is h (h.deadlines k d within))) in
-    ap (λ (o : Option Reason). option_or o (option_or (first_some (overstay network) (least_certificate network)) (first_some (delay (least_certificate network)) network.streams))) loads
-    ∙ ap (λ (o : Option Reason). option_or o (first_some (delay (least_certificate network)) network.streams)) stays
-    ∙ times
+    reason_of-none network loads stays times
 
 none_some : {X : Type 0} (x : X) → None ≡ Some x → ⊥
 none_some x h = cc

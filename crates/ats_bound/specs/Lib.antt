@@ -6,3 +6,4 @@ pub mod Due
 pub mod Tally
 pub mod Gathered
 pub mod Begun
+pub mod Delays

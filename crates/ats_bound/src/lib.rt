@@ -1,12 +1,16 @@
 //! The certificate with the least waits, or why no certificate holds for a network.
 #![tactic(auto)]
 
+mod delays;
 pub mod laws;
+pub mod least;
 mod listing;
 pub mod reason;
 pub mod rows;
+mod stays;
 mod tally;
 mod users;
 
+pub use least::make;
 pub use reason::{NoBound, Reason};
 pub use rows::row;

@@ -1,2 +1,4 @@
 pub mod Numbers
+pub mod PlainRows
+pub mod ReadsBack
 pub mod Texts

@@ -1,2 +1,6 @@
 pub mod Refusal
 pub mod Laws
+pub mod Due
+pub mod Ports
+pub mod Bounds
+pub mod Tallies

@@ -1,4 +1,4 @@
-use Rattle.std.specs.Prelude.{ℕ, Bool, true, false, ◌&&◌, ◌==◌, nat_lt, not, List, [], ◌∷◌, Option, Some, None, option_and_then, length, if◌then◌else◌}
+use Rattle.std.specs.Prelude.{ℕ, Bool, true, false, ◌&&◌, ◌==◌, nat_lt, not, List, [], ◌∷◌, Option, Some, None, option_and_then, length}
 use Rattle.std.specs.List.{list_any}
 use Rattle.ats_names.specs.Places.{place_of}
 use Rattle.ats_topology.specs.Node.{is_station, names_of}

@@ -29,8 +29,8 @@ fn nodes_of(
 {
     let nodes = stations
         .iter()
-        .map(|station| station_of(station))
-        .chain(bridges.iter().map(|bridge| bridge_of(bridge)))
+        .map(station_of)
+        .chain(bridges.iter().map(bridge_of))
         .collect(alloc)?;
     Ok(nodes)
 }
@@ -38,7 +38,7 @@ fn nodes_of(
 fn links_of(alloc: Global, links: &[LinkEntry]) -> Result<Vec<Link>, NoMemory>
     ensures { IfOk result (λ made. made.items ≡ map link_of links.now) }
 {
-    let made = links.iter().map(|link| link_of(link)).collect(alloc)?;
+    let made = links.iter().map(link_of).collect(alloc)?;
     Ok(made)
 }
 

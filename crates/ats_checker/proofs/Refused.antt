@@ -1,0 +1,240 @@
+-- Rows are refused exactly where they do not hold.
+use Rattle.std.proofs.Common.{◌≡◌, ℕ, ◌+◌, ◌-◌, ◌*◌, ◌<◌, ◌≤◌, Bool, true, false, cond, List, length, get_or, Option, Some, None, refl, sym, ap, subst, ◌∙◌, eqb, arith}
+use Rattle.std.specs.Prelude.{◌↔◌, nat_lt, is_some, ◌&&◌}
+use Rattle.std.specs.List.{All, AllPairs}
+use Rattle.std.specs.Option.{option_or, ForSome}
+use Rattle.std.proofs.Math.Nat.{mul-le-mul_right}
+use Rattle.std.proofs.lemmas.Bool.{and_parts, eqb-true, eq-eqb, ltb-false, le-ltb}
+use Rattle.ats_num.specs.declared.time.TheConstants.{PS_PER_SECOND, PS_PER_NS}
+use Rattle.ats_topology.specs.Port.{port_at}
+use Rattle.ats_topology.specs.declared.port.Port.{Port}
+use Rattle.ats_streams.specs.Stream.{DeclaredStream}
+use Rattle.ats_network.specs.Network.{DeclaredNetwork, IsNetwork}
+use Rattle.ats_network.specs.Residence.{residence_after}
+use Rattle.ats_certificate.specs.PortSums.{PortSums, port_sums, is_used}
+use Rattle.ats_certificate.specs.Used.{places_of}
+use Rattle.ats_certificate.specs.Certificate.{Holds, HasRows, HasSums, Covers, RowHolds, FitsLink, IsEnough, MayStay, IsInTime, IsBefore, row_of, bound_of, bound_along}
+use Rattle.ats_certificate.specs.declared.row.Row.{Row}
+use Rattle.ats_bound.specs.Least.{least_wait, least_row, least_certificate}
+use Rattle.ats_bound.specs.Reason.{first_some}
+use Rattle.ats_bound.proofs.Lists.{any_gives, option_or-none, none_first, first_some-none}
+use Rattle.ats_bound.proofs.Places.{IsPlace, is_at, is_place, places_used, places_have}
+use Rattle.ats_bound.proofs.Waits.{Fits, work, work-is, least_wait-is, least_wait-le}
+use Rattle.ats_bound.proofs.LeastHolds.{least_certificate_holds}
+use Rattle.ats_checker.specs.Laws.{RefusedUnlessHolding, LeastIsAccepted}
+use Rattle.ats_checker.specs.Refusal.{missing, stray, wrong, wrong_in, overloaded, short, overstay_by, overstay, late, refusal_of}
+use Rattle.ats_checker.specs.declared.refusal.Field.{Field}
+use Rattle.ats_checker.specs.declared.refusal.Field.TheVariants as field
+use Rattle.ats_checker.specs.declared.refusal.Refusal.{Refusal}
+use Rattle.ats_checker.specs.declared.refusal.Refusal.TheVariants.{RowMissing, RowStray, FieldWrong, Overloaded, WaitTooSmall, Residence, Deadline}
+
+some_none : {X : Type 0} (x : X) → Some x ≡ None → ⊥
+some_none x h = cc
+
+-- a test that gives no refusal where it passes, and one that gives none where it fails
+passes : {X : Type 0} (b : Bool) (x : X) → cond b None (Some x) ≡ None → b ≡ true
+passes true x h = refl
+passes false x h = absurd (some_none x h)
+
+by_pass : {X : Type 0} (b : Bool) (x : X) → b ≡ true → cond b None (Some x) ≡ None
+by_pass b x e = ap (λ (t : Bool). cond t None (Some x)) e
+
+fails : {X : Type 0} (b : Bool) (x : X) → cond b (Some x) None ≡ None → b ≡ false
+fails true x h = absurd (some_none x h)
+fails false x h = refl
+
+by_fail : {X : Type 0} (b : Bool) (x : X) → b ≡ false → cond b (Some x) None ≡ None
+by_fail b x e = ap (λ (t : Bool). cond t (Some x) None) e
+
+both_none : {X : Type 0} (a b : Option X) → a ≡ None → b ≡ None → option_or a b ≡ None
+both_none {X} a b e f = ap (λ (o : Option X). option_or o b) e ∙ f
+
+-- a place has its row
+has_row : (rows : List Row) (port class : ℕ) → missing rows (port, class) ≡ None → is_some (row_of rows port class) ≡ true
+has_row rows port class h = passes (is_some (row_of rows port class)) (RowMissing port class) h
+
+complete_from : (network : DeclaredNetwork) (rows : List Row) → IsNetwork network → first_some (missing rows) (places_of network) ≡ None
+    → (port class : ℕ) → is_used network port class ≡ true → is_some (row_of rows port class) ≡ true
+complete_from network rows is none port class used =
+    let all = none_first (missing rows) (places_of network) none in
+    any_gives (is_at port class) (is_some (row_of rows port class) ≡ true) (places_of network)
+    (λ k d h e. (
+      let at = get_or (places_of network) k d in
+      let parts = and_parts (eqb at.0 port) (eqb at.1 class) e in
+      let there : is_some (row_of rows at.0 at.1) ≡ true = has_row rows at.0 at.1 (all k d h) in
+      ap (λ (n : ℕ). is_some (row_of rows port n)) (sym (eqb-true at.1 class parts.1)) ∙ ap (λ (n : ℕ). is_some (row_of rows n at.1)) (sym (eqb-true at.0 port parts.0)) ∙ there))
+    (places_have network port class is used)
+
+-- a row that says what the senders make of its place
+pub record IsRight (network : DeclaredNetwork) (row : Row) : Type 0 where
+  pub sums : HasSums row (port_sums network row.port row.class)
+  pub bound : row.bound ≡ bound_of (port_at network.topology.ports row.port) row.wait row.least
+
+is_given : (row : Row) (field : Field) (given right : ℕ) → wrong row field given right ≡ None → given ≡ right
+is_given row field given right h = eqb-true given right (passes (eqb given right) (FieldWrong row.port row.class field right) h)
+
+by_given : (row : Row) (field : Field) (given right : ℕ) → given ≡ right → wrong row field given right ≡ None
+by_given row field given right h = by_pass (eqb given right) (FieldWrong row.port row.class field right) (eq-eqb given right h)
+
+pub right_from : (network : DeclaredNetwork) (row : Row) → wrong_in network row ≡ None → IsRight network row
+right_from network row h =
+    let sums : PortSums = port_sums network row.port row.class in
+    let a = option_or-none (wrong row field.Higher row.higher sums.higher) _ h in
+    let b = option_or-none (wrong row field.Equal row.equal sums.equal) _ a.1 in
+    let c = option_or-none (wrong row field.Bursts row.bursts sums.bursts) _ b.1 in
+    let d = option_or-none (wrong row field.Lower row.lower sums.lower) _ c.1 in
+    let e = option_or-none (wrong row field.Least row.least sums.least) _ d.1 in
+    record {
+      sums = record {
+        higher = is_given row field.Higher row.higher sums.higher a.0;
+        equal = is_given row field.Equal row.equal sums.equal b.0;
+        bursts = is_given row field.Bursts row.bursts sums.bursts c.0;
+        lower = is_given row field.Lower row.lower sums.lower d.0;
+        least = is_given row field.Least row.least sums.least e.0;
+      };
+      bound = is_given row field.Bound row.bound (bound_of (port_at network.topology.ports row.port) row.wait row.least) e.1;
+    }
+
+by_right : (network : DeclaredNetwork) (row : Row) → IsRight network row → wrong_in network row ≡ None
+by_right network row h =
+    let sums : PortSums = port_sums network row.port row.class in
+    both_none _ _ (by_given row field.Higher row.higher sums.higher h.sums.higher)
+    (both_none _ _ (by_given row field.Equal row.equal sums.equal h.sums.equal)
+    (both_none _ _ (by_given row field.Bursts row.bursts sums.bursts h.sums.bursts)
+    (both_none _ _ (by_given row field.Lower row.lower sums.lower h.sums.lower)
+    (both_none _ _ (by_given row field.Least row.least sums.least h.sums.least)
+    (by_given row field.Bound row.bound (bound_of (port_at network.topology.ports row.port) row.wait row.least) h.bound)))))
+
+pub fits_from : (row : Row) → overloaded row ≡ None → FitsLink row
+fits_from row h = ltb-false PS_PER_SECOND (row.higher + row.equal) (fails (nat_lt PS_PER_SECOND (row.higher + row.equal)) (Overloaded row.port row.class (row.higher + row.equal)) h)
+
+by_fit : (row : Row) → FitsLink row → overloaded row ≡ None
+by_fit row h = by_fail (nat_lt PS_PER_SECOND (row.higher + row.equal)) (Overloaded row.port row.class (row.higher + row.equal)) (le-ltb PS_PER_SECOND (row.higher + row.equal) h)
+
+-- a right row that fits its link fits the sums of its place
+pub place_fits : (network : DeclaredNetwork) (row : Row) → IsRight network row → FitsLink row → Fits network row.port row.class
+place_fits network row right fits = omega (arith, fits, right.sums.higher, right.sums.equal)
+
+long_from : (network : DeclaredNetwork) (row : Row) → short network row ≡ None → (least_row network (row.port, row.class)).wait ≤ row.wait
+long_from network row h =
+    let least : ℕ = least_wait (port_at network.topology.ports row.port) (port_sums network row.port row.class) in
+    ltb-false row.wait least (fails (nat_lt row.wait least) (WaitTooSmall row.port row.class least) h)
+
+by_long : (network : DeclaredNetwork) (row : Row) → (least_row network (row.port, row.class)).wait ≤ row.wait → short network row ≡ None
+by_long network row h =
+    let least : ℕ = least_wait (port_at network.topology.ports row.port) (port_sums network row.port row.class) in
+    by_fail (nat_lt row.wait least) (WaitTooSmall row.port row.class least) (le-ltb row.wait least h)
+
+enough_from : (network : DeclaredNetwork) (row : Row) → IsPlace network row.port row.class → IsRight network row → FitsLink row
+    → (least_row network (row.port, row.class)).wait ≤ row.wait → IsEnough (port_at network.topology.ports row.port) row
+enough_from network row at right fits long =
+    let port : Port = port_at network.topology.ports row.port in
+    let sums : PortSums = port_sums network row.port row.class in
+    let c = least_wait-is network row.port row.class at (place_fits network row right fits) in
+    let more : least_wait port sums * (PS_PER_SECOND - sums.higher) ≤ row.wait * (PS_PER_SECOND - sums.higher) = mul-le-mul_right (PS_PER_SECOND - sums.higher) long in
+    let sent = work-is network row right.sums in
+    let left : row.wait * (PS_PER_SECOND - row.higher) ≡ row.wait * (PS_PER_SECOND - sums.higher) = ap (λ (n : ℕ). row.wait * (PS_PER_SECOND - n)) right.sums.higher in
+    let reach : work port sums ≤ least_wait port sums * (PS_PER_SECOND - sums.higher) = c.reaches in
+    omega (arith, reach, more, sent, left)
+
+stays_by : (row : Row) (residence : Option ℕ) → overstay_by row residence ≡ None → ForSome residence (λ ns. row.wait ≤ PS_PER_NS * ns)
+stays_by row None h ns is = absurd (let no : None ≡ Some ns = is in cc)
+stays_by row (Some residence_ns) h ns is =
+    let same : residence_ns ≡ ns = cc is in
+    let le = ltb-false (PS_PER_NS * residence_ns) row.wait (fails (nat_lt (PS_PER_NS * residence_ns) row.wait) (Residence row.port row.class row.wait) h) in
+    omega (arith, le, same)
+
+by_stay : (row : Row) (residence : Option ℕ) → ForSome residence (λ ns. row.wait ≤ PS_PER_NS * ns) → overstay_by row residence ≡ None
+by_stay row None h = refl
+by_stay row (Some residence_ns) h = by_fail (nat_lt (PS_PER_NS * residence_ns) row.wait) (Residence row.port row.class row.wait) (le-ltb (PS_PER_NS * residence_ns) row.wait (h residence_ns refl))
+
+in_time_from : (rows : List Row) (stream : DeclaredStream) → late rows stream ≡ None → IsInTime rows stream
+in_time_from rows stream h =
+    ltb-false (PS_PER_NS * stream.deadline_ns) (bound_along rows stream) (fails (nat_lt (PS_PER_NS * stream.deadline_ns) (bound_along rows stream)) (Deadline stream.name (bound_along rows stream)) h)
+
+by_time : (rows : List Row) (stream : DeclaredStream) → IsInTime rows stream → late rows stream ≡ None
+by_time rows stream h =
+    by_fail (nat_lt (PS_PER_NS * stream.deadline_ns) (bound_along rows stream)) (Deadline stream.name (bound_along rows stream)) (le-ltb (PS_PER_NS * stream.deadline_ns) (bound_along rows stream) h)
+
+-- what no refusal says of rows, clause by clause
+pub record AreClear (network : DeclaredNetwork) (rows : List Row) : Type 0 where
+  pub missing : first_some (missing rows) (places_of network) ≡ None
+  pub stray : first_some (stray network) rows ≡ None
+  pub wrong : first_some (wrong_in network) rows ≡ None
+  pub overloaded : first_some overloaded rows ≡ None
+  pub short : first_some (short network) rows ≡ None
+  pub overstay : first_some (overstay network) rows ≡ None
+  pub late : first_some (late rows) network.streams ≡ None
+
+pub clear_none : (network : DeclaredNetwork) (rows : List Row) → AreClear network rows → refusal_of network rows ≡ None
+clear_none network rows clear =
+    both_none _ _ clear.missing (both_none _ _ clear.stray (both_none _ _ clear.wrong
+    (both_none _ _ clear.overloaded (both_none _ _ clear.short (both_none _ _ clear.overstay clear.late)))))
+
+pub none_clear : (network : DeclaredNetwork) (rows : List Row) → refusal_of network rows ≡ None → AreClear network rows
+none_clear network rows none =
+    let a = option_or-none (first_some (missing rows) (places_of network)) _ none in
+    let b = option_or-none (first_some (stray network) rows) _ a.1 in
+    let c = option_or-none (first_some (wrong_in network) rows) _ b.1 in
+    let d = option_or-none (first_some overloaded rows) _ c.1 in
+    let e = option_or-none (first_some (short network) rows) _ d.1 in
+    let f = option_or-none (first_some (overstay network) rows) _ e.1 in
+    record { missing = a.0; stray = b.0; wrong = c.0; overloaded = d.0; short = e.0; overstay = f.0; late = f.1 }
+
+-- where no row is stray, each is used
+pub all_used : (network : DeclaredNetwork) (rows : List Row) → first_some (stray network) rows ≡ None → All (λ (row : Row). is_used network row.port row.class ≡ true) rows
+all_used network rows none =
+    let all = none_first (stray network) rows none in
+    λ k d h. passes (is_used network (get_or rows k d).port (get_or rows k d).class) (RowStray (get_or rows k d).port (get_or rows k d).class) (all k d h)
+
+pub clear_holds : (network : DeclaredNetwork) (rows : List Row) → IsNetwork network → AllPairs IsBefore rows → AreClear network rows → Holds network rows
+clear_holds network rows is ordered clear =
+    let used = all_used network rows clear.stray in
+    let right = none_first (wrong_in network) rows clear.wrong in
+    let fit = none_first overloaded rows clear.overloaded in
+    let long = none_first (short network) rows clear.short in
+    let stay = none_first (overstay network) rows clear.overstay in
+    let time = none_first (late rows) network.streams clear.late in
+    record {
+      rows_of = record { complete = complete_from network rows is clear.missing; used = used; ordered = ordered };
+      each = λ k d h. (
+        let row : Row = get_or rows k d in
+        let rights : IsRight network row = right_from network row (right k d h) in
+        let fits : FitsLink row = fits_from row (fit k d h) in
+        record {
+          covers = record {
+            sums = rights.sums;
+            bound = rights.bound;
+            load = fits;
+            wait = enough_from network row (is_place network row.port row.class is (used k d h)) rights fits (long_from network row (long k d h));
+          };
+          residence = stays_by row (residence_after network.topology row.port) (stay k d h);
+        });
+      deadlines = λ k d h. in_time_from rows (get_or network.streams k d) (time k d h);
+    }
+
+pub holds_clear : (network : DeclaredNetwork) (rows : List Row) → IsNetwork network → Holds network rows → AreClear network rows
+holds_clear network rows is holds =
+    record {
+      missing = first_some-none (missing rows) (places_of network)
+          (λ k d h. (let at = get_or (places_of network) k d in by_pass (is_some (row_of rows at.0 at.1)) (RowMissing at.0 at.1) (holds.rows_of.complete at.0 at.1 (places_used network k d h))));
+      stray = first_some-none (stray network) rows
+          (λ k d h. (let row : Row = get_or rows k d in by_pass (is_used network row.port row.class) (RowStray row.port row.class) (holds.rows_of.used k d h)));
+      wrong = first_some-none (wrong_in network) rows
+          (λ k d h. (let covers = (holds.each k d h).covers in by_right network (get_or rows k d) (record { sums = covers.sums; bound = covers.bound })));
+      overloaded = first_some-none overloaded rows (λ k d h. by_fit (get_or rows k d) (holds.each k d h).covers.load);
+      short = first_some-none (short network) rows
+          (λ k d h. (let row : Row = get_or rows k d in
+          by_long network row (least_wait-le network row (is_place network row.port row.class is (holds.rows_of.used k d h)) (holds.each k d h).covers)));
+      overstay = first_some-none (overstay network) rows
+          (λ k d h. (let row : Row = get_or rows k d in by_stay row (residence_after network.topology row.port) (holds.each k d h).residence));
+      late = first_some-none (late rows) network.streams (λ k d h. by_time rows (get_or network.streams k d) (holds.deadlines k d h));
+    }
+
+pub refused_unless_holding : RefusedUnlessHolding
+refused_unless_holding network rows is ordered =
+    (λ none. clear_holds network rows is ordered (none_clear network rows none), λ holds. clear_none network rows (holds_clear network rows is holds))
+
+pub least_is_accepted : LeastIsAccepted
+least_is_accepted network is none =
+    clear_none network (least_certificate network) (holds_clear network (least_certificate network) is (least_certificate_holds network is none).holds)

@@ -1,0 +1,69 @@
+//! Pieces of lines.
+
+ghost use Rattle.std.specs.Prelude.{◌≡◌, ◌++◌, ◌<◌, codes, decimal, length, OnOk};
+ghost use Rattle.ats_judgement.specs.Text.{place_text};
+
+use ats_num::{Name, NoMemory};
+use ats_port_names::write_port;
+use ats_topology::Topology;
+use itoa::{Buffer, Integer};
+
+// A word, and a number behind it.
+pub(crate) fn write_number<I: Integer + Drop>(
+    out: &mut Vec<u8>,
+    word: &[u8],
+    n: I,
+) -> Result<(), NoMemory>
+    ensures { OnOk result (out.new.items ≡ out.old.items ++ (word.now ++ I.text n)) }
+{
+    let mut buffer = Buffer::new();
+    out.extend_from_slice(word)?;
+    out.extend_from_slice(buffer.format(n).as_bytes())?;
+    Ok(())
+}
+
+// A word, and a port and a class behind it.
+pub(crate) fn write_place(
+    out: &mut Vec<u8>,
+    word: &[u8],
+    topology: &Topology,
+    port: u32,
+    class: u8,
+) -> Result<(), NoMemory>
+    requires { port < length topology.now.ports }
+    ensures { OnOk result (out.new.items ≡ out.old.items ++ (word.now ++ place_text topology.now port class)) }
+{
+    out.extend_from_slice(word)?;
+    write_port(out, topology, port)?;
+    write_number(out, b" ", class)
+}
+
+// A word, a port and a class, and a number.
+pub(crate) fn write_measure(
+    out: &mut Vec<u8>,
+    word: &[u8],
+    topology: &Topology,
+    port: u32,
+    class: u8,
+    n: u128,
+) -> Result<(), NoMemory>
+    requires { port < length topology.now.ports }
+    ensures { OnOk result (out.new.items ≡ out.old.items ++ (word.now ++ place_text topology.now port class ++ codes " " ++ decimal n)) }
+{
+    write_place(out, word, topology, port, class)?;
+    write_number(out, b" ", n)
+}
+
+// A word, a name and a number.
+pub(crate) fn write_named(
+    out: &mut Vec<u8>,
+    word: &[u8],
+    name: &Name,
+    n: u128,
+) -> Result<(), NoMemory>
+    ensures { OnOk result (out.new.items ≡ out.old.items ++ (word.now ++ name.now ++ codes " " ++ decimal n)) }
+{
+    out.extend_from_slice(word)?;
+    out.extend_from_slice(name.bytes())?;
+    write_number(out, b" ", n)
+}
