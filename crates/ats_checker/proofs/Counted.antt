@@ -1,21 +1,18 @@
 -- What senders make of ports and classes, counted one by one.
-use Rattle.std.proofs.Common.{◌≡◌, ◌≢◌, ℕ, ◌+◌, ◌-◌, ◌*◌, ◌<◌, ◌≤◌, Bool, true, false, cond, List, [], ◌∷◌, ◌++◌, length, get_or, set, take, map, filter, replicate, Option, Some, None, refl, sym, ap, subst, ◌∙◌, inl, inr, ◌⊎◌, ⊎_elim, eqb, arith, length-set, get_or-set_same, get_or-set_other}
+use Rattle.std.proofs.Common.{◌≡◌, ◌≢◌, ℕ, ◌+◌, ◌-◌, ◌*◌, ◌<◌, ◌≤◌, Bool, true, false, cond, List, [], ◌∷◌, ◌++◌, length, get_or, set, take, map, filter, replicate, Option, refl, sym, ap, subst, ◌∙◌, inl, inr, ◌⊎◌, ⊎_elim, eqb, arith, length-set, get_or-set_same, get_or-set_other}
 use Rattle.std.specs.Prelude.{is_some, ◌||◌}
 use Rattle.std.specs.List.{All, AllPairs, list_any}
-use Rattle.std.proofs.lemmas.Bool.{cases_Bool, cases_eq, eqb-true, eq-eqb, ne_eqb, or_right}
-use Rattle.std.proofs.lemmas.List.{append-nil, get_or-take, get_or_default, length-take-le, length-replicate, get_or-replicate, take_all}
-use Rattle.std.proofs.lemmas.List.Elements.{All-head, All-tail, All-map, All-filter, filter-append, filter_more}
+use Rattle.std.proofs.lemmas.Bool.{cases_Bool, cases_eq, eq-eqb, ne_eqb, or_right}
+use Rattle.std.proofs.lemmas.List.{append-nil, get_or-take, get_or_default, length-take-le, length-replicate, get_or-replicate}
+use Rattle.std.proofs.lemmas.List.Elements.{All-map, All-filter, filter-append, filter_more}
 use Rattle.std.proofs.lemmas.List.Folds.{list_any_more, list_any_none, list_any-append}
 use Rattle.ats_network.specs.Sender.{Sender, stream_sender, flow_sender}
 use Rattle.ats_network.specs.Network.{DeclaredNetwork, IsNetwork, senders_of}
-use Rattle.ats_network.specs.Senders.{IsSender, sender_at, no_sender}
-use Rattle.ats_network.proofs.SenderLemmas.{each_is_sender}
+use Rattle.ats_network.specs.Senders.{sender_at, no_sender}
 use Rattle.ats_streams.specs.Flow.{DeclaredFlow}
 use Rattle.ats_certificate.specs.PortSums.{uses, is_of, shortest, senders_at, is_used}
-use Rattle.ats_bound.specs.Tally.{no_tally, least_known, tally_with, IsTally, IsWithin}
+use Rattle.ats_bound.specs.Tally.{no_tally, least_known, tally_with, IsTally}
 use Rattle.ats_bound.specs.declared.tally.Tally.{Tally}
-use Rattle.ats_bound.specs.declared.tally.TheConstants.{MAX_SENDERS}
-use Rattle.ats_bound.proofs.Network.{first_within}
 use Rattle.ats_bound.proofs.Places.{IsPlace, is_place}
 use Rattle.ats_bound.proofs.Tallies.{tally_none, tally_more}
 use Rattle.ats_checker.specs.Tallies.{AddsSender, AreTallies}
@@ -69,10 +66,10 @@ not_before : (path : List ℕ) (i : ℕ) → AllPairs (λ p q. p ≢ q) path →
 not_before path i apart h =
     list_any_none (λ p. eqb p (get_or path i 0)) (take i path)
     (λ k d below. (
-      let short = length-take-le i path (omega arith) in
-      let before : k < i = omega (arith, below, short) in
-      let differ : get_or path k 0 ≢ get_or path i 0 = apart k i 0 before h in
-      ne_eqb (get_or (take i path) k d) (get_or path i 0) (λ e. differ (at_zero path k d (omega arith) ∙ sym (get_or-take i path k d before) ∙ e))))
+    let short = length-take-le i path (omega arith) in
+    let before : k < i = omega (arith, below, short) in
+    let differ : get_or path k 0 ≢ get_or path i 0 = apart k i 0 before h in
+    ne_eqb (get_or (take i path) k d) (get_or path i 0) (λ e. differ (at_zero path k d (omega arith) ∙ sym (get_or-take i path k d before) ∙ e))))
   where
     at_zero : (path : List ℕ) (k d : ℕ) → k < length path → get_or path k 0 ≡ get_or path k d
     at_zero path k d h = get_or_default path k 0 d h
@@ -114,11 +111,11 @@ counting_more ports senders s path i old new apart h inside before adds = record
         let was : IsTally class (senders_at at senders) (get_or old (8 * at + class) d) = before_port ports senders s path i old apart h inside before class d least most in
         let class_is : 8 * at + class - 8 * at ≡ class = omega arith in
         let value : get_or new (8 * port + class) d ≡ tally_with class s (get_or old (8 * at + class) d) =
-            ap (λ (n : ℕ). get_or new (8 * n + class) d) same
-            ∙ adds.added (8 * at + class) d (omega arith) (omega arith)
-            ∙ ap (λ (n : ℕ). tally_with n s (get_or old (8 * at + class) d)) class_is in
+        ap (λ (n : ℕ). get_or new (8 * n + class) d) same
+        ∙ adds.added (8 * at + class) d (omega arith) (omega arith)
+        ∙ ap (λ (n : ℕ). tally_with n s (get_or old (8 * at + class) d)) class_is in
         let list : counted_at senders s (take (i + 1) path) port ≡ senders_at at senders ++ s ∷ [] =
-            ap (λ (b : Bool). senders_at port senders ++ cond b (s ∷ []) []) now ∙ ap (λ (n : ℕ). senders_at n senders ++ s ∷ []) same in
+        ap (λ (b : Bool). senders_at port senders ++ cond b (s ∷ []) []) now ∙ ap (λ (n : ℕ). senders_at n senders ++ s ∷ []) same in
         subst (λ (t : Tally). IsTally class (counted_at senders s (take (i + 1) path) port) t) (sym value)
         (subst (λ (l : List Sender). IsTally class l (tally_with class s (get_or old (8 * at + class) d))) (sym list)
         (tally_more class (senders_at at senders) (get_or old (8 * at + class) d) s was))
@@ -126,7 +123,7 @@ counting_more ports senders s path i old new apart h inside before adds = record
     elsewhere : (port class : ℕ) (d : Tally) → port < ports → 1 ≤ class → class ≤ 7 → (port ≡ at → ⊥) → IsTally class (counted_at senders s (take (i + 1) path) port) (get_or new (8 * port + class) d)
     elsewhere port class d within least most other =
         let same : list_any (λ p. eqb p port) (take (i + 1) path) ≡ list_any (λ p. eqb p port) (take i path) =
-            more port ∙ ap (λ (b : Bool). list_any (λ p. eqb p port) (take i path) || b) (ne_eqb at port (λ e. other (sym e))) ∙ or_false (list_any (λ p. eqb p port) (take i path)) in
+        more port ∙ ap (λ (b : Bool). list_any (λ p. eqb p port) (take i path) || b) (ne_eqb at port (λ e. other (sym e))) ∙ or_false (list_any (λ p. eqb p port) (take i path)) in
         let value : get_or new (8 * port + class) d ≡ get_or old (8 * port + class) d = adds.kept (8 * port + class) d (out port class least most other) in
         subst (λ (t : Tally). IsTally class (counted_at senders s (take (i + 1) path) port) t) (sym value)
         (subst (λ (b : Bool). IsTally class (senders_at port senders ++ cond b (s ∷ []) []) (get_or old (8 * port + class) d)) (sym same)
@@ -174,7 +171,7 @@ used_is network port class tally shaped h =
     let streams : List Sender = map stream_sender network.streams in
     let flows : List Sender = map flow_sender network.flows in
     let none : list_any (is_of class) (senders_at port flows) ≡ false =
-        list_any_none (is_of class) (senders_at port flows) (All-filter (uses port) (λ (s : Sender). is_of class s ≡ false) flows (no_flow class network.flows shaped)) in
+    list_any_none (is_of class) (senders_at port flows) (All-filter (uses port) (λ (s : Sender). is_of class s ≡ false) flows (no_flow class network.flows shaped)) in
     ap (λ (o : Option ℕ). is_some o) h.least
     ∙ known_any class (senders_at port (senders_of network))
     ∙ ap (list_any (is_of class)) (filter-append (uses port) streams flows)

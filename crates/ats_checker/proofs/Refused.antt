@@ -1,6 +1,6 @@
 -- Rows are refused exactly where they do not hold.
-use Rattle.std.proofs.Common.{◌≡◌, ℕ, ◌+◌, ◌-◌, ◌*◌, ◌<◌, ◌≤◌, Bool, true, false, cond, List, length, get_or, Option, Some, None, refl, sym, ap, subst, ◌∙◌, eqb, arith}
-use Rattle.std.specs.Prelude.{◌↔◌, nat_lt, is_some, ◌&&◌}
+use Rattle.std.proofs.Common.{◌≡◌, ℕ, ◌+◌, ◌-◌, ◌*◌, ◌≤◌, Bool, true, false, cond, List, get_or, Option, Some, None, refl, sym, ap, ◌∙◌, eqb, arith}
+use Rattle.std.specs.Prelude.{nat_lt, is_some}
 use Rattle.std.specs.List.{All, AllPairs}
 use Rattle.std.specs.Option.{option_or, ForSome}
 use Rattle.std.proofs.Math.Nat.{mul-le-mul_right}
@@ -13,7 +13,7 @@ use Rattle.ats_network.specs.Network.{DeclaredNetwork, IsNetwork}
 use Rattle.ats_network.specs.Residence.{residence_after}
 use Rattle.ats_certificate.specs.PortSums.{PortSums, port_sums, is_used}
 use Rattle.ats_certificate.specs.Used.{places_of}
-use Rattle.ats_certificate.specs.Certificate.{Holds, HasRows, HasSums, Covers, RowHolds, FitsLink, IsEnough, MayStay, IsInTime, IsBefore, row_of, bound_of, bound_along}
+use Rattle.ats_certificate.specs.Certificate.{Holds, HasSums, FitsLink, IsEnough, IsInTime, IsBefore, row_of, bound_of, bound_along}
 use Rattle.ats_certificate.specs.declared.row.Row.{Row}
 use Rattle.ats_bound.specs.Least.{least_wait, least_row, least_certificate}
 use Rattle.ats_bound.specs.Reason.{first_some}
@@ -25,7 +25,6 @@ use Rattle.ats_checker.specs.Laws.{RefusedUnlessHolding, LeastIsAccepted}
 use Rattle.ats_checker.specs.Refusal.{missing, stray, wrong, wrong_in, overloaded, short, overstay_by, overstay, late, refusal_of}
 use Rattle.ats_checker.specs.declared.refusal.Field.{Field}
 use Rattle.ats_checker.specs.declared.refusal.Field.TheVariants as field
-use Rattle.ats_checker.specs.declared.refusal.Refusal.{Refusal}
 use Rattle.ats_checker.specs.declared.refusal.Refusal.TheVariants.{RowMissing, RowStray, FieldWrong, Overloaded, WaitTooSmall, Residence, Deadline}
 
 some_none : {X : Type 0} (x : X) → Some x ≡ None → ⊥
@@ -59,10 +58,10 @@ complete_from network rows is none port class used =
     let all = none_first (missing rows) (places_of network) none in
     any_gives (is_at port class) (is_some (row_of rows port class) ≡ true) (places_of network)
     (λ k d h e. (
-      let at = get_or (places_of network) k d in
-      let parts = and_parts (eqb at.0 port) (eqb at.1 class) e in
-      let there : is_some (row_of rows at.0 at.1) ≡ true = has_row rows at.0 at.1 (all k d h) in
-      ap (λ (n : ℕ). is_some (row_of rows port n)) (sym (eqb-true at.1 class parts.1)) ∙ ap (λ (n : ℕ). is_some (row_of rows n at.1)) (sym (eqb-true at.0 port parts.0)) ∙ there))
+    let at = get_or (places_of network) k d in
+    let parts = and_parts (eqb at.0 port) (eqb at.1 class) e in
+    let there : is_some (row_of rows at.0 at.1) ≡ true = has_row rows at.0 at.1 (all k d h) in
+    ap (λ (n : ℕ). is_some (row_of rows port n)) (sym (eqb-true at.1 class parts.1)) ∙ ap (λ (n : ℕ). is_some (row_of rows n at.1)) (sym (eqb-true at.0 port parts.0)) ∙ there))
     (places_have network port class is used)
 
 -- a row that says what the senders make of its place
@@ -198,18 +197,18 @@ clear_holds network rows is ordered clear =
     record {
       rows_of = record { complete = complete_from network rows is clear.missing; used = used; ordered = ordered };
       each = λ k d h. (
-        let row : Row = get_or rows k d in
-        let rights : IsRight network row = right_from network row (right k d h) in
-        let fits : FitsLink row = fits_from row (fit k d h) in
-        record {
-          covers = record {
-            sums = rights.sums;
-            bound = rights.bound;
-            load = fits;
-            wait = enough_from network row (is_place network row.port row.class is (used k d h)) rights fits (long_from network row (long k d h));
-          };
-          residence = stays_by row (residence_after network.topology row.port) (stay k d h);
-        });
+          let row : Row = get_or rows k d in
+          let rights : IsRight network row = right_from network row (right k d h) in
+          let fits : FitsLink row = fits_from row (fit k d h) in
+          record {
+            covers = record {
+              sums = rights.sums;
+              bound = rights.bound;
+              load = fits;
+              wait = enough_from network row (is_place network row.port row.class is (used k d h)) rights fits (long_from network row (long k d h));
+            };
+            residence = stays_by row (residence_after network.topology row.port) (stay k d h);
+          });
       deadlines = λ k d h. in_time_from rows (get_or network.streams k d) (time k d h);
     }
 

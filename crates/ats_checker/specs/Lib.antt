@@ -4,3 +4,5 @@ pub mod Due
 pub mod Ports
 pub mod Bounds
 pub mod Tallies
+pub mod Sums
+pub mod Rows

@@ -1,4 +1,4 @@
-use Rattle.std.specs.Prelude.{ℕ, ◌<◌, List, length, All}
+use Rattle.std.specs.Prelude.{◌<◌, List, length, All}
 use Rattle.ats_topology.specs.Topology.{DeclaredTopology}
 use Rattle.ats_certificate.specs.declared.row.Row.{Row}
 use Rattle.ats_checker.specs.declared.refusal.Refusal.{Refusal}

@@ -1,4 +1,4 @@
-use Rattle.std.specs.Prelude.{ℕ, ◌+◌, ◌*◌, ◌==◌, nat_lt, List, [], ◌∷◌, Option, Some, None, is_some, if◌then◌else◌}
+use Rattle.std.specs.Prelude.{ℕ, ◌+◌, ◌*◌, ◌==◌, nat_lt, List, Option, Some, None, is_some, if◌then◌else◌}
 use Rattle.std.specs.Option.{option_or}
 use Rattle.ats_num.specs.declared.time.TheConstants.{PS_PER_SECOND, PS_PER_NS}
 use Rattle.ats_topology.specs.Port.{port_at}
@@ -20,6 +20,10 @@ use Rattle.ats_checker.specs.declared.refusal.Refusal.TheVariants.{RowMissing, R
 abbrev pub missing : List Row → ℕ × ℕ → Option Refusal
 missing rows place = if is_some (row_of rows place.0 place.1) then None else Some (RowMissing place.0 place.1)
 
+-- the same, only where some stream of the class uses the port
+abbrev pub missing_at : DeclaredNetwork → List Row → ℕ → ℕ → Option Refusal
+missing_at network rows port class = if is_used network port class then missing rows (port, class) else None
+
 -- a row of a port and a class that no stream uses
 abbrev pub stray : DeclaredNetwork → Row → Option Refusal
 stray network row = if is_used network row.port row.class then None else Some (RowStray row.port row.class)
@@ -28,16 +32,21 @@ stray network row = if is_used network row.port row.class then None else Some (R
 abbrev pub wrong : Row → Field → ℕ → ℕ → Option Refusal
 wrong row field given right = if given == right then None else Some (FieldWrong row.port row.class field right)
 
--- the first field of a row that is wrong
-abbrev pub wrong_in : DeclaredNetwork → Row → Option Refusal
-wrong_in network row =
-    let sums = port_sums network row.port row.class in
+-- the first field of a row that is wrong, where the senders make these sums of its port and class and its bound is to be
+-- this one
+abbrev pub wrong_by : Row → PortSums → ℕ → Option Refusal
+wrong_by row sums bound =
     option_or (wrong row field.Higher row.higher sums.higher)
     (option_or (wrong row field.Equal row.equal sums.equal)
     (option_or (wrong row field.Bursts row.bursts sums.bursts)
     (option_or (wrong row field.Lower row.lower sums.lower)
     (option_or (wrong row field.Least row.least sums.least)
-    (wrong row field.Bound row.bound (bound_of (port_at network.topology.ports row.port) row.wait row.least))))))
+    (wrong row field.Bound row.bound bound)))))
+
+-- the first field of a row that is wrong for a network
+abbrev pub wrong_in : DeclaredNetwork → Row → Option Refusal
+wrong_in network row =
+    wrong_by row (port_sums network row.port row.class) (bound_of (port_at network.topology.ports row.port) row.wait row.least)
 
 -- a row of an overloaded port and class
 abbrev pub overloaded : Row → Option Refusal

@@ -50,6 +50,14 @@ impl<'a> Bounds<'a> {
         })
     }
 
+    /// The certificate's rows.
+    pub fn rows(&self) -> &[Row]
+        ensures value { result.now ≡ self.now.rows }
+        ensures form { AreRows self.now.rows }
+    {
+        self.certificate.rows()
+    }
+
     /// The bound of a port and a class, in picoseconds; `None` exactly where no row is theirs.
     pub fn given(&self, port: u32, class: u8) -> Option<u128>
         requires port { port < self.now.ports }

@@ -1,14 +1,16 @@
 //! What the senders make of each port and class.
 
 ghost use Rattle.std.specs.Prelude.{◌≡◌, ◌+◌, ◌*◌, ◌<◌, ◌≤◌, ℕ, length, take, slice_index_or, IfOk};
-ghost use Rattle.ats_network.specs.Network.{senders_of};
+ghost use Rattle.ats_network.specs.Network.{IsNetwork, senders_of};
 ghost use Rattle.ats_network.specs.Senders.{sender_at};
 ghost use Rattle.ats_bound.specs.Tally.{IsTally, IsWithin};
 ghost use Rattle.ats_bound.specs.declared.tally.Tally.{Tally};
-ghost use Rattle.ats_certificate.specs.PortSums.{is_used, senders_at};
+ghost use Rattle.ats_certificate.specs.PortSums.{is_used, port_sums, senders_at};
+ghost use Rattle.ats_checker.specs.Sums.{port_sums_of};
 ghost use Rattle.ats_checker.specs.Tallies.{AddsSender, AreCounted, AreTallies};
 
 use crate::bounds::place;
+use crate::sums::{ClassSums, sums_of};
 use ats_bound::Tally;
 use ats_bound::tally::MAX_SENDERS;
 use ats_network::Network;
@@ -43,6 +45,14 @@ impl<'a> Tallies<'a> {
         Ok(Tallies { network, table })
     }
 
+    /// The network.
+    pub(crate) fn network(&self) -> &Network
+        ensures value { result.now ≡ self.now }
+        ensures rules { IsNetwork self.now }
+    {
+        self.network
+    }
+
     /// What the senders make of a class at a port.
     pub(crate) fn tally(&self, port: u32, class: u8) -> Tally
         requires port { port < length self.now.topology.ports }
@@ -51,6 +61,16 @@ impl<'a> Tallies<'a> {
         ensures { IsTally class (senders_at port (senders_of self.now)) result }
     {
         self.table[place(port, class)]
+    }
+
+    /// The sums of a port and a class.
+    pub(crate) fn sums(&self, port: u32, class: u8) -> ClassSums
+        requires port { port < length self.now.topology.ports }
+        requires class_least { 1 ≤ class }
+        requires class_most { class ≤ 7 }
+        ensures { port_sums_of result ≡ port_sums self.now port class }
+    {
+        sums_of(self.network, port, class, self.tally(port, class))
     }
 
     /// Whether some stream of the class uses the port, which need not be one of the network's.

@@ -1,14 +1,12 @@
-use Rattle.std.proofs.Common.{◌≡◌, ℕ, ◌<◌, ◌≤◌, ◌*◌, ◌+◌, List, length, take, slice_index_or, ap, sym, subst, ◌∙◌, arith}
+use Rattle.std.proofs.Common.{◌≡◌, ℕ, ◌<◌, ◌*◌, ◌+◌, List, length, take, slice_index_or, ap, sym, subst, arith}
 use Rattle.std.proofs.lemmas.List.{take_all}
 use Rattle.ats_network.specs.Network.{senders_of}
-use Rattle.ats_network.specs.Sender.{Sender}
 use Rattle.ats_network.specs.Senders.{IsSender, sender_at, no_sender}
 use Rattle.ats_network.proofs.SenderLemmas.{each_is_sender}
 use Rattle.ats_bound.specs.Tally.{IsWithin}
-use Rattle.ats_bound.specs.declared.tally.Tally.{Tally}
 use Rattle.ats_bound.specs.declared.tally.TheConstants.{MAX_SENDERS}
 use Rattle.ats_bound.proofs.Network.{first_within}
-use Rattle.ats_checker.specs.Tallies.{AddsSender, AreTallies}
+use Rattle.ats_checker.specs.Tallies.{AddsSender}
 use Rattle.ats_checker.proofs.Counted.{AreCounting, before_port, counted_all, counting_more}
 use Rattle.ats_checker.proofs.tallies.count_sender.Goals as goal
 
@@ -41,7 +39,7 @@ loop-port-preserved c =
     let long : length c.sender_path-port-items.result.now ≡ length path = ap (λ (ports : List ℕ). length ports) c.sender_path-port-items.ensures.value in
     let short : c.loop-port.port-index < length path = omega (arith, long) in
     let adds : AddsSender (sender_at c.args.network.now c.args.sender) (8 * slice_index_or path c.loop-port.port-index 0) 8 c.loop-port.table.items c.count_at.new.table.items =
-        subst (λ (p : ℕ). AddsSender (sender_at c.args.network.now c.args.sender) (8 * p) 8 c.loop-port.table.items c.count_at.new.table.items) here c.count_at.ensures in
+    subst (λ (p : ℕ). AddsSender (sender_at c.args.network.now c.args.sender) (8 * p) 8 c.loop-port.table.items c.count_at.new.table.items) here c.count_at.ensures in
     counting_more (length c.args.network.now.topology.ports) (take c.args.sender (senders_of c.args.network.now)) (sender_at c.args.network.now c.args.sender) path c.loop-port.port-index c.loop-port.table.items c.count_at.new.table.items
     is.apart short (is.ports c.loop-port.port-index 0 short) c.loop-port.invariant adds
 

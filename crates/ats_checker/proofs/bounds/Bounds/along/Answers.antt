@@ -1,4 +1,4 @@
-use Rattle.std.proofs.Common.{◌≡◌, ℕ, ◌<◌, ◌≤◌, ◌+◌, ◌^◌, List, length, Option, sum_by, take, slice_index_or, ap, sym, ◌∙◌, arith}
+use Rattle.std.proofs.Common.{◌≡◌, ℕ, ◌≤◌, ◌+◌, List, length, Option, sum_by, take, slice_index_or, ap, sym, ◌∙◌, arith}
 use Rattle.std.specs.Prelude.{unwrap_or}
 use Rattle.std.proofs.lemmas.List.Sums.{sum_by_more}
 use Rattle.ats_certificate.specs.Certificate.{bound_at}
@@ -22,7 +22,7 @@ loop-port-preserved c =
     let small = bound_most c.args.self.now.rows port c.class.result c.given.ensures.form.each in
     let here : port ≡ slice_index_or c.args.stream.now.path c.loop-port.port-index 0 = ap (λ (ports : List ℕ). slice_index_or ports c.loop-port.port-index 0) c.path-port-items.ensures.value in
     let moved : bound_at c.args.self.now.rows port c.args.stream.now.class ≡ bound_at c.args.self.now.rows (slice_index_or c.args.stream.now.path c.loop-port.port-index 0) c.args.stream.now.class =
-        ap (λ (p : ℕ). bound_at c.args.self.now.rows p c.args.stream.now.class) here in
+    ap (λ (p : ℕ). bound_at c.args.self.now.rows p c.args.stream.now.class) here in
     let long : length c.path-port-items.result.now ≡ length c.args.stream.now.path = ap (λ (ports : List ℕ). length ports) c.path-port-items.ensures.value in
     let so_far : ℕ = sum_by (λ (p : ℕ). bound_at c.args.self.now.rows p c.args.stream.now.class) (take c.loop-port.port-index c.args.stream.now.path) in
     let more = sum_by_more (λ (p : ℕ). bound_at c.args.self.now.rows p c.args.stream.now.class) c.args.stream.now.path c.loop-port.port-index 0 (omega (arith, long)) in

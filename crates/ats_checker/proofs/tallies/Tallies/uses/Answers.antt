@@ -8,8 +8,8 @@ pub returns-then-port-ports : goal.returns-then-port-ports
 returns-then-port-ports c =
     let same : c.self.inside.network.now ≡ c.args.self.now = c.self.view_is in
     let ports : length c.ports.result.now ≡ length c.args.self.now.topology.ports =
-        ap (λ (ports : List Port). length ports) (c.ports.ensures.value ∙ ap (λ t. t.ports) c.topology.ensures.value)
-        ∙ ap (λ (n : DeclaredNetwork). length n.topology.ports) same in
+    ap (λ (ports : List Port). length ports) (c.ports.ensures.value ∙ ap (λ t. t.ports) c.topology.ensures.value)
+    ∙ ap (λ (n : DeclaredNetwork). length n.topology.ports) same in
     let outside : length c.args.self.now.topology.ports ≤ c.args.port = omega (arith, ports) in
     sym (not_used c.args.self.now c.args.port c.args.class (subst IsNetwork same c.self.invariant.rules) outside)
 
