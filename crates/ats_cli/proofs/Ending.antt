@@ -1,21 +1,32 @@
-use Rattle.std.proofs.Common.{◌≡◌, ℕ, List, Option, Some, None, inl, inr, refl, sym}
-use Rattle.std.specs.Prelude.{IsSome, ◌⊎◌, codes}
+use Rattle.std.proofs.Common.{◌≡◌, ℕ, List, [], Option, Some, None, Result, inl, inr, refl, sym, subst, lit<}
+use Rattle.std.specs.Prelude.{IsSome, IfSome, ◌⊎◌, codes, unwrap_or}
+use Rattle.std.specs.Global.{Vec}
 use Rattle.ats_io.specs.Outside.{Rose, TakesPrefix, appended}
-use Rattle.ats_cli.specs.Command.{Command, Shape, Unknown}
-use Rattle.ats_cli.specs.Due.{Answer, HasText, IsDue, IsTold, words_answer, shape_due}
-use Rattle.ats_cli.specs.Calls.{Printed, PrintedPrefix, StatusIsDue}
+use Rattle.ats_cli.specs.Command.{Command, Shape, Show, Unknown}
+use Rattle.ats_cli.specs.Answer.{Answer, HasText, words_answer}
+use Rattle.ats_cli.specs.Due.{IsAnswer, IsDue, IsTold, told_bytes}
+use Rattle.ats_cli.specs.Calls.{Printed, PrintedPrefix, ReadRose, IsCalm, StatusIsDue}
+use Rattle.ats_cli.specs.Outcome.{Answers, Prints, PrintsFront, answer_of}
+use Rattle.ats_cli.specs.declared.outcome.Stop.{Stop}
 use Rattle.ats_cli.specs.declared.status.Status.{Status}
 use Rattle.ats_cli.specs.declared.status.Status.TheVariants.{Done, Words, Input, Refused, ReadFailed, WriteFailed, NoMemory}
 
--- the bytes that are told
-pub some_bytes : (o : Option (List ℕ)) → IsSome o → (bytes : List ℕ) × (o ≡ Some bytes)
-some_bytes None h = cc
-some_bytes (Some bytes) h = (bytes, refl)
+-- the answer that an outcome makes is due, where the files tell their bytes
+made_due : (told : List ℕ → Option (List ℕ)) (command : Command) (outcome : Result (Vec ℕ) Stop) (answer : Answer)
+    → Answers told command outcome → answer_of outcome ≡ Some answer → IsTold told command → IsDue told command answer
+made_due told command outcome answer answers made is_told =
+    record { is_told = is_told; answers = subst (λ (o : Option Answer). IfSome o (IsAnswer (told_bytes told) command)) made (answers is_told) }
 
--- a front of the reply to a file was printed
-pub front_of_reply : (told : List ℕ → Option (List ℕ)) (file : List ℕ) (answer : Answer) (old new : Option (List ℕ))
-    → ((bytes : List ℕ) → told file ≡ Some bytes → answer ≡ shape_due file bytes) → TakesPrefix answer.text old new → PrintedPrefix told (Shape file) old new
-front_of_reply told file answer old new due front = λ is_told. let b : (bytes : List ℕ) × (told file ≡ Some bytes) = some_bytes (told file) is_told in (answer, (b.0, b.1, due b.0 b.1), front)
+-- once the answer that an outcome makes was printed, a due text was
+pub printed_due : (told : List ℕ → Option (List ℕ)) (command : Command) (outcome : Result (Vec ℕ) Stop) (status : Status) (old new : Option (List ℕ))
+    → Answers told command outcome → Prints outcome status old new → Printed told command status old new
+printed_due told command outcome status old new answers prints =
+    (prints.0, prints.1, made_due told command outcome (record { status = status; text = prints.0 }) answers prints.2)
+
+-- the same of a front of it
+pub front_due : (told : List ℕ → Option (List ℕ)) (command : Command) (outcome : Result (Vec ℕ) Stop) (old new : Option (List ℕ))
+    → Answers told command outcome → PrintsFront outcome old new → PrintedPrefix told command old new
+front_due told command outcome old new answers prints = λ is_told. (prints.0, made_due told command outcome prints.0 answers prints.1 is_told, prints.2)
 
 -- a status that is printed where no fault came is due
 pub ends_as_due : (told : List ℕ → Option (List ℕ)) (command : Command) (status : Status) (old new : Option (List ℕ)) (read write : Type 0)
@@ -29,11 +40,18 @@ ends_as_due told command ReadFailed old new read write printed failed cut is_tol
 ends_as_due told command WriteFailed old new read write printed failed cut is_told calm quiet = absurd (quiet (cut refl))
 ends_as_due told command NoMemory old new read write printed failed cut is_told calm quiet = inl refl
 
+-- where no fault came at a file of the command, none came at one that it reads
+pub calm_unread : (told : List ℕ → Option (List ℕ)) (command : Command) (before after : List ℕ → ℕ) → IsCalm command before after → ¬ ReadRose told command before after
+calm_unread told (Shape file) before after calm = λ rose. let At : List ℕ → Type 0 = λ name. Rose (before name) (after name) in calm 0 [] (lit< tt) (subst At rose.1 rose.2)
+calm_unread told (Show net) before after calm = λ rose. let At : List ℕ → Type 0 = λ name. Rose (before name) (after name) in calm 0 [] (lit< tt) (subst At rose.1 rose.2)
+calm_unread told Unknown before after calm = λ rose. rose.1
+
 -- a front of the line for words outside the table was printed
 pub front_of_words : (told : List ℕ → Option (List ℕ)) (old new : Option (List ℕ)) → TakesPrefix (codes "words\n") old new → PrintedPrefix told Unknown old new
-front_of_words told old new front = λ is_told. (words_answer, refl, front)
+front_of_words told old new front = λ is_told. (words_answer, record { is_told = is_told; answers = refl }, front)
 
 -- once the line for words outside the table was printed, its status is due
-pub words_end_as_due : (told : List ℕ → Option (List ℕ)) (status : Status) (write : Type 0) → (status ≡ Words) ⊎ (status ≡ WriteFailed) → (status ≡ WriteFailed → write) → ¬ write → (status ≡ NoMemory) ⊎ StatusIsDue told Unknown status
-words_end_as_due told status write (inl printed) failed quiet = inr (words_answer, refl, sym printed)
-words_end_as_due told status write (inr cut) failed quiet = absurd (quiet (failed cut))
+pub words_end_as_due : (told : List ℕ → Option (List ℕ)) (status : Status) (write : Type 0) → IsTold told Unknown → (status ≡ Words) ⊎ (status ≡ WriteFailed) → (status ≡ WriteFailed → write) → ¬ write
+    → (status ≡ NoMemory) ⊎ StatusIsDue told Unknown status
+words_end_as_due told status write is_told (inl printed) failed quiet = inr (words_answer, record { is_told = is_told; answers = refl }, sym printed)
+words_end_as_due told status write is_told (inr cut) failed quiet = absurd (quiet (failed cut))

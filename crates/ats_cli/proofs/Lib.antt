@@ -1,3 +1,4 @@
+pub mod Steps
 pub mod Ending
 pub mod OneAnswer
 pub mod Surely

@@ -4,16 +4,25 @@ use Rattle.std.specs.Str.{bytes_eq}
 -- a line of the command table, with its words; or words that are not in the table
 pub data Command : Type 0 where
   Shape : List ℕ → Command
+  Show : List ℕ → Command
   Unknown : Command
+
+-- the command of a verb and a file
+abbrev pub command_on : List ℕ → List ℕ → Command
+command_on verb file =
+    if bytes_eq verb (codes "shape") then Shape file
+    else if bytes_eq verb (codes "show") then Show file
+    else Unknown
 
 -- the command that words name
 abbrev pub command_of : List (List ℕ) → Command
 command_of [] = Unknown
 command_of (verb ∷ []) = Unknown
-command_of (verb ∷ file ∷ []) = if bytes_eq verb (codes "shape") then Shape file else Unknown
+command_of (verb ∷ file ∷ []) = command_on verb file
 command_of (verb ∷ file ∷ word ∷ words) = Unknown
 
 -- the words of a command that name files, from left to right
 abbrev pub file_words : Command → List (List ℕ)
 file_words (Shape file) = file ∷ []
+file_words (Show net) = net ∷ []
 file_words Unknown = []

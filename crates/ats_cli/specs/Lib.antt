@@ -1,10 +1,12 @@
 pub mod Words
 pub mod Faults
 pub mod Command
+pub mod Answer
+pub mod Input
 pub mod Due
 pub mod Calls
 pub mod Named
-pub mod Replies
+pub mod Outcome
 pub mod Open
 pub mod Laws
 pub mod Status

@@ -1,8 +1,8 @@
-use Rattle.std.specs.Prelude.{ℕ, List, map, String, string_bytes}
+use Rattle.std.specs.Prelude.{ℕ, List, map, String, string_bytes, Option, Some, None}
 use Rattle.std.specs.declared.alloc.Global.{Global}
 use Rattle.ats_cli.specs.Command as table
 use Rattle.ats_cli.specs.declared.command.Command.{Command}
-use Rattle.ats_cli.specs.declared.command.Command.TheVariants.{Shape, Unknown}
+use Rattle.ats_cli.specs.declared.command.Command.TheVariants.{Shape, Show}
 
 -- the bytes of words
 abbrev pub texts_of : List (String Global) → List (List ℕ)
@@ -11,4 +11,9 @@ texts_of words = map (λ (word : String Global). string_bytes word) words
 -- the command that a value of the program stands for
 abbrev pub view : Command → table.Command
 view (Shape file) = table.Shape file.now
-view Unknown = table.Unknown
+view (Show net) = table.Show net.now
+
+-- the same, where there may be none
+abbrev pub view_of : Option Command → table.Command
+view_of (Some command) = view command
+view_of None = table.Unknown

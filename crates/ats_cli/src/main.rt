@@ -6,13 +6,15 @@ ghost use Rattle.std.specs.Prelude.{◌≡◌, ◌≢◌, ◌⊎◌, IfErr};
 
 mod command;
 mod fault_counts;
+mod input_file;
 mod laws;
+mod outcome;
 mod real_files;
 mod real_sink;
-mod reply;
 #[cfg(test)]
 mod row_tests;
 mod shape_command;
+mod show_command;
 mod status;
 #[cfg(test)]
 mod tests;

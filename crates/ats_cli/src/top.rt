@@ -1,16 +1,19 @@
 //! The program's call.
 
-ghost use Rattle.std.specs.Prelude.{◌≡◌, ◌≤◌, ◌⊎◌, Some};
+ghost use Rattle.std.specs.Prelude.{◌≡◌, ◌≤◌, ◌⊎◌, IsErrOf};
 ghost use Rattle.ats_io.specs.Outside.{Rose, Continues};
 ghost use Rattle.ats_cli.specs.Command.{command_of};
 ghost use Rattle.ats_cli.specs.Command as table;
-ghost use Rattle.ats_cli.specs.Named.{texts_of};
-ghost use Rattle.ats_cli.specs.Due.{HasText, IsTold};
+ghost use Rattle.ats_cli.specs.Named.{texts_of, view};
+ghost use Rattle.ats_cli.specs.Answer.{HasText};
+ghost use Rattle.ats_cli.specs.Due.{IsTold};
+ghost use Rattle.ats_cli.specs.Outcome.{Answers};
 ghost use Rattle.ats_cli.specs.Calls.{Printed, PrintedPrefix, ReadRose, IsCalm, StatusIsDue};
 
 use crate::command::{Command, named_by};
-use crate::reply::{Stop, write_reply};
-use crate::shape_command::shape_reply;
+use crate::outcome::{Stop, finish, print};
+use crate::shape_command::shape;
+use crate::show_command::show;
 use crate::status::Status;
 use ats_io::{Files, Sink};
 use std::alloc::Global;
@@ -41,25 +44,39 @@ pub fn ats<F: Files, O: Sink>(alloc: Global, words: &[String], files: &mut F, ou
     ensures sink { O.faults out.old ≤ O.faults out.new }
 {
     match named_by(words) {
-        Command::Shape(file) => shape(alloc, file, files, out),
-        Command::Unknown => write_reply(out, Status::Words, b"words\n"),
+        Some(command) => carry_out(alloc, &command, files, out),
+        None => print(out, Status::Words, b"words\n"),
     }
 }
 
-// Carries out `shape FILE`.
-fn shape<F: Files, O: Sink>(alloc: Global, file: &str, files: &mut F, out: &mut O) -> Status
-    ensures printed { HasText result → Printed (F.told files.old) (table.Shape file.now) result (O.held out.old) (O.held out.new) }
+// Carries out a command of the table, and prints its text.
+fn carry_out<F: Files, O: Sink>(
+    alloc: Global,
+    command: &Command,
+    files: &mut F,
+    out: &mut O,
+) -> Status
+    ensures printed { HasText result → Printed (F.told files.old) (view command.now) result (O.held out.old) (O.held out.new) }
     ensures no_words { ¬ (result ≡ Status.Words) }
-    ensures read_failed { result ≡ Status.ReadFailed → Rose (F.faults files.old file.now) (F.faults files.new file.now) }
+    ensures read_failed { result ≡ Status.ReadFailed → ReadRose (F.told files.old) (view command.now) (F.faults files.old) (F.faults files.new) }
     ensures write_failed { result ≡ Status.WriteFailed → Rose (O.faults out.old) (O.faults out.new) }
-    ensures cut_short { result ≡ Status.WriteFailed → PrintedPrefix (F.told files.old) (table.Shape file.now) (O.held out.old) (O.held out.new) }
+    ensures cut_short { result ≡ Status.WriteFailed → PrintedPrefix (F.told files.old) (view command.now) (O.held out.old) (O.held out.new) }
     ensures silent { (result ≡ Status.ReadFailed) ⊎ (result ≡ Status.NoMemory) → O.held out.new ≡ O.held out.old }
     ensures files { Continues F.told F.faults files.old files.new }
     ensures sink { O.faults out.old ≤ O.faults out.new }
 {
-    match shape_reply(alloc, file, files) {
-        Ok(reply) => write_reply(out, reply.status, &reply.text),
-        Err(Stop::ReadFailed) => Status::ReadFailed,
-        Err(Stop::NoMemory) => Status::NoMemory,
+    let outcome = outcome_of(alloc, command, files);
+    finish(out, outcome)
+}
+
+// What a command of the table comes to.
+fn outcome_of<F: Files>(alloc: Global, command: &Command, files: &mut F) -> Result<Vec<u8>, Stop>
+    ensures due { Answers (F.told files.old) (view command.now) result }
+    ensures failed { IsErrOf result Stop.ReadFailed → ReadRose (F.told files.old) (view command.now) (F.faults files.old) (F.faults files.new) }
+    ensures continues { Continues F.told F.faults files.old files.new }
+{
+    match *command {
+        Command::Shape(file) => shape(alloc, file, files),
+        Command::Show(net) => show(alloc, net, files),
     }
 }

@@ -1,8 +1,3 @@
-use Rattle.std.proofs.Common.{List, ℕ, All, sym, subst}
-use Rattle.ats_topology.specs.Topology.{DeclaredTopology}
-use Rattle.ats_topology.specs.Walks.{ArePorts}
-use Rattle.ats_streams.specs.Stream.{DeclaredStream}
-use Rattle.ats_streams.specs.Flow.{DeclaredFlow}
 use Rattle.ats_show.proofs.PortsOf.{ports_of_streams, ports_of_flows}
 use Rattle.ats_show.proofs.printing.show.Goals as goal
 
