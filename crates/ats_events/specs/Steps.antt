@@ -13,7 +13,7 @@ pub record Inserts {O E : Type 0} (before : Moment → Moment → Type 0) (old n
   pub capacity : new.capacity ≡ old.capacity
   pub order : new.order ≡ old.order
 
--- an agenda loses this entry, which is before all that stay
+-- an agenda loses this entry, which is before all that stay; its moment is then the one popped last, and nothing else changes
 pub record Pops {O E : Type 0} (before : Moment → Moment → Type 0) (old new : Contents O E) (entry : Moment × E) : Type 0 where
   pub entries : IsPermutation old.entries (entry ∷ new.entries)
   pub first : All (λ other. before entry.0 other.0) new.entries

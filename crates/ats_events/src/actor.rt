@@ -44,8 +44,8 @@ pub trait Actor<O: TimeOrder> {
     ghost permuted: { (actor : Self) (entries other : List (Moment × Self.Event)) (capacity : ℕ) (order : O) → IsPermutation entries other → holds actor entries capacity order → holds actor other capacity order };
 }
 
-/// Gives the actor one event after another, in the order of their moments, until the agenda is empty. It takes no
-/// memory. Which moment is popped last is left open.
+/// Gives the actor one event after another, each time the one whose moment is before those of all others that are in the
+/// agenda then, until the agenda is empty. It takes no memory. Which moment is popped last is left open.
 pub fn drive<O: TimeOrder, A: Actor<O>>(actor: &mut A, agenda: &mut Agenda<O, A::Event>)
     requires { A.holds actor.old agenda.old.entries agenda.old.capacity agenda.old.order }
     ensures empty { agenda.new.entries ≡ [] }

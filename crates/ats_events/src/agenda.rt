@@ -12,7 +12,8 @@ use ats_num::NoMemory;
 use std::alloc::Global;
 use std::marker::Model;
 
-/// The events that are still to happen, each at a moment of its own, all after the moment that was popped last. Contracts see
+/// The events that are still to happen, each at a moment of its own, all after the moment that was popped last: callers see to
+/// that by the conditions of `insert`, and it is not told again. Contracts see
 /// the entries as a list of moments and events, whose order means nothing, the capacity and the order that the agenda was
 /// opened with, and the moment that was popped last, where there is one.
 #[derive(Drop)]

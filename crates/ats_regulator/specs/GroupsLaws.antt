@@ -38,6 +38,7 @@ GroupsOutputConforms = (residences_ns : List ℕ) (members : List Member) (offer
 abbrev pub GroupsOutputAscends : Type 0
 GroupsOutputAscends = (residences_ns : List ℕ) (members : List Member) (offers : List Offer) (group : ℕ) → IsUse residences_ns members offers → IsNonDecreasing (times_of (passed_in residences_ns members offers group))
 
--- an accepted frame's eligibility time is the least with which its member's frames conform
+-- an accepted frame's eligibility time is the least, not before its arrival or the group time, with which what was accepted of
+-- its member, followed by it, conforms
 abbrev pub GroupsEligibilityIsLeast : Type 0
 GroupsEligibilityIsLeast = (residences_ns : List ℕ) (members : List Member) (offers : List Offer) (offer : Offer) (e : Ps) → IsUse residences_ns members offers → offer.member < length members → verdict_at (standing_last (opened residences_ns members) offers) offer ≡ Eligible e → IsLeastConforming (declared_of (opened residences_ns members) offer.member).rate (declared_of (opened residences_ns members) offer.member).burst_bits (passed_of_member residences_ns members offers offer.member) (time_at (standing_last (opened residences_ns members) offers).times (group_among residences_ns members offer.member)) offer.arrival (bits_of offer.octets) e.0

@@ -39,12 +39,13 @@ group_time declared residence_ns offers = (state_after declared residence_ns (fi
 abbrev pub next_verdict : (ℕ → Declared) → ℕ → List Offer → Offer → Verdict
 next_verdict declared residence_ns offers offer = judged declared residence_ns (state_after declared residence_ns (first declared) offers) offer
 
--- this is the least time with which what the group accepted of the member, followed by this offer, conforms
+-- this is the least time, not before the offer's arrival or the group time, with which what the group accepted of the member,
+-- followed by this offer, conforms
 abbrev pub IsLeastFor : (ℕ → Declared) → ℕ → List Offer → Offer → ℕ → Type 0
 IsLeastFor declared residence_ns offers offer eligible =
     IsLeastConforming (declared offer.member).rate (declared offer.member).burst_bits (passed_of declared residence_ns offers offer.member) (group_time declared residence_ns offers) offer.arrival (bits_of offer.octets) eligible
 
--- whatever was offered before, an accepted frame's eligibility time is the least with which its member's frames conform
+-- whatever was offered before, an accepted frame's eligibility time is that least time
 abbrev pub EligibilityIsLeast : Type 0
 EligibilityIsLeast = (declared : ℕ → Declared) (residence_ns : ℕ) (offers : List Offer) (offer : Offer) (e : Ps) → IsRuled (declared offer.member) → next_verdict declared residence_ns offers offer ≡ Eligible e → IsLeastFor declared residence_ns offers offer e.0
 

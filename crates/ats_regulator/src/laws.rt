@@ -18,7 +18,8 @@ pub fn eligibility_is_least()
     ensures { EligibilityIsLeast }
 {}
 
-/// So is the time that the verdict on a late frame tells.
+/// The time that the verdict on a late frame tells is also the least, not before its arrival or the group eligibility time,
+/// with which all that the group accepted of the member, followed by this frame, conforms.
 pub fn late_time_is_least()
     ensures { LateTimeIsLeast }
 {}
@@ -34,7 +35,7 @@ pub fn output_conforms()
     ensures { OutputConforms }
 {}
 
-/// The same, by windows of time.
+/// Whatever is offered to a group, what it accepts of a member keeps each window of time to what its rate gives and its burst.
 pub fn output_conforms_by_windows()
     ensures { OutputConformsByWindows }
 {}
@@ -44,7 +45,8 @@ pub fn output_ascends()
     ensures { OutputAscends }
 {}
 
-/// The verdicts of a group and its state also come from bucket-full times, which are never negative.
+/// The verdicts of a group and its state also come from bucket-full times, which are never negative. Proofs count so; no
+/// meaning rests on it.
 pub fn fold_is_full_fold()
     ensures { FoldIsFullFold }
 {}
@@ -60,8 +62,8 @@ pub fn groups_output_ascends()
     ensures { GroupsOutputAscends }
 {}
 
-/// Where one of the groups accepts a frame, its eligibility time is the least with which all that the group accepted of
-/// the member conforms.
+/// Where one of the groups accepts a frame, its eligibility time is the least, not before its arrival or the group
+/// eligibility time, with which all that the group accepted of the member, followed by this frame, conforms.
 pub fn groups_eligibility_is_least()
     ensures { GroupsEligibilityIsLeast }
 {}
