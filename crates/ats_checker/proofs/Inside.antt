@@ -43,11 +43,11 @@ or_where P None b found first second h = second h
 or_where P (Some x) b found first second h = first h
 
 -- a value that a test gives
-where_passed : {B : Type 0} (P : B → Type 0) (t : Bool) (x found : B) → P x → cond t None (Some x) ≡ Some found → P found
+pub where_passed : {B : Type 0} (P : B → Type 0) (t : Bool) (x found : B) → P x → cond t None (Some x) ≡ Some found → P found
 where_passed P true x found p h = absurd (none_some found h)
 where_passed P false x found p h = subst P (some_is x found h) p
 
-where_failed : {B : Type 0} (P : B → Type 0) (t : Bool) (x found : B) → P x → cond t (Some x) None ≡ Some found → P found
+pub where_failed : {B : Type 0} (P : B → Type 0) (t : Bool) (x found : B) → P x → cond t (Some x) None ≡ Some found → P found
 where_failed P true x found p h = subst P (some_is x found h) p
 where_failed P false x found p h = absurd (none_some found h)
 

@@ -1,4 +1,4 @@
-use Rattle.std.specs.Prelude.{ℕ, ◌<◌, length}
+use Rattle.std.specs.Prelude.{◌<◌, length}
 use Rattle.ats_topology.specs.Topology.{DeclaredTopology}
 use Rattle.ats_bound.specs.declared.reason.Reason.{Reason}
 use Rattle.ats_bound.specs.declared.reason.Reason.TheVariants.{Overloaded, Residence, Deadline}

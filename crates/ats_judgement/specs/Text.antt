@@ -14,12 +14,12 @@ use Rattle.ats_checker.specs.declared.refusal.Refusal.{Refusal}
 use Rattle.ats_checker.specs.declared.refusal.Refusal.TheVariants.{RowMissing, RowStray, FieldWrong, Overloaded, WaitTooSmall, Residence, Deadline, NoMemory}
 
 -- `hop NAME PORT BOUND` for a port of a stream's path
-abbrev pub hop_line : DeclaredTopology → List Row → DeclaredStream → ℕ → List ℕ
+unfoldable pub hop_line : DeclaredTopology → List Row → DeclaredStream → ℕ → List ℕ
 hop_line topology rows s port =
     codes "hop " ++ s.name ++ codes " " ++ port_name topology port ++ codes " " ++ decimal (bound_at rows port s.class) ++ codes "\n"
 
 -- a line for each port of a stream's path, then `sum NAME SUM`
-abbrev pub stream_lines : DeclaredTopology → List Row → DeclaredStream → List ℕ
+unfoldable pub stream_lines : DeclaredTopology → List Row → DeclaredStream → List ℕ
 stream_lines topology rows s =
     flat_map (hop_line topology rows s) s.path ++ codes "sum " ++ s.name ++ codes " " ++ decimal (bound_along rows s) ++ codes "\n"
 

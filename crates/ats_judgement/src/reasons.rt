@@ -11,11 +11,7 @@ use ats_topology::Topology;
 
 /// Appends why no certificate holds for a network: a word for what fails, the port and the class, or the stream, and the
 /// number that is too great. After `NoMemory` nothing is said of `out`.
-pub fn write_reason(
-    out: &mut Vec<u8>,
-    topology: &Topology,
-    reason: &Reason,
-) -> Result<(), NoMemory>
+pub fn write_reason(out: &mut Vec<u8>, topology: &Topology, reason: &Reason) -> Result<(), NoMemory>
     requires { ReasonInside topology.now reason.now }
     ensures { OnOk result (out.new.items ≡ out.old.items ++ reason_text topology.now reason.now) }
 {

@@ -1,0 +1,107 @@
+//! A certificate that holds, written.
+
+ghost use Rattle.std.specs.Prelude.{◌≡◌, ◌++◌, ◌<◌, ◌≤◌, length, All, IfOk, OnOk};
+ghost use Rattle.std.specs.List.{flat_map};
+ghost use Rattle.ats_judgement.specs.Text.{accepted_text, hop_line, stream_lines};
+
+use crate::pieces::write_number;
+use ats_certificate::Certificate;
+use ats_checker::Bounds;
+use ats_network::Network;
+use ats_num::NoMemory;
+use ats_port_names::write_port;
+use ats_streams::Stream;
+use ats_topology::Topology;
+use std::alloc::Global;
+
+/// What is printed of a certificate that holds for a network: for each stream a line for each port of its path with the
+/// bound there, and a line with the sum; then the number of streams. It takes time linear in the numbers of ports and of
+/// rows and the sum of the paths' lengths.
+///
+/// # Errors
+///
+/// `NoMemory` where memory runs out.
+pub fn accepted(
+    alloc: Global,
+    network: &Network,
+    certificate: &Certificate,
+) -> Result<Vec<u8>, NoMemory>
+    ensures { IfOk result (λ text. text.items ≡ accepted_text network.now certificate.now) }
+{
+    let bounds = Bounds::new(alloc, network.topology(), certificate)?;
+    let mut out = Vec::new(alloc);
+    write_streams(&mut out, network, &bounds)?;
+    write_number(&mut out, b"accepted ", network.streams().len())?;
+    out.extend_from_slice(b"\n")?;
+    Ok(out)
+}
+
+// The lines of each stream.
+fn write_streams(out: &mut Vec<u8>, network: &Network, bounds: &Bounds) -> Result<(), NoMemory>
+    requires { bounds.now.ports ≡ length network.now.topology.ports }
+    ensures { OnOk result (out.new.items ≡ out.old.items ++ flat_map (stream_lines network.now.topology bounds.now.rows) network.now.streams) }
+{
+    for stream in network.streams() {
+        write_stream(out, network.topology(), bounds, stream)?;
+    }
+    Ok(())
+}
+
+// The lines of a stream.
+#[tactic(auto, unfolding(crate::specs::Text::stream_lines))]
+fn write_stream(
+    out: &mut Vec<u8>,
+    topology: &Topology,
+    bounds: &Bounds,
+    stream: &Stream,
+) -> Result<(), NoMemory>
+    requires ports { bounds.now.ports ≡ length topology.now.ports }
+    requires inside { All (λ p. p < length topology.now.ports) stream.now.path }
+    ensures { OnOk result (out.new.items ≡ out.old.items ++ stream_lines topology.now bounds.now.rows stream.now) }
+{
+    write_hops(out, topology, bounds, stream)?;
+    out.extend_from_slice(b"sum ")?;
+    out.extend_from_slice(stream.name().bytes())?;
+    write_number(out, b" ", bounds.along(stream))?;
+    out.extend_from_slice(b"\n")?;
+    Ok(())
+}
+
+// A line for each port of a stream's path.
+fn write_hops(
+    out: &mut Vec<u8>,
+    topology: &Topology,
+    bounds: &Bounds,
+    stream: &Stream,
+) -> Result<(), NoMemory>
+    requires ports { bounds.now.ports ≡ length topology.now.ports }
+    requires inside { All (λ p. p < length topology.now.ports) stream.now.path }
+    ensures { OnOk result (out.new.items ≡ out.old.items ++ flat_map (hop_line topology.now bounds.now.rows stream.now) stream.now.path) }
+{
+    for port in stream.path() {
+        write_hop(out, topology, bounds, stream, *port)?;
+    }
+    Ok(())
+}
+
+// The line of a port.
+#[tactic(auto, unfolding(crate::specs::Text::hop_line))]
+fn write_hop(
+    out: &mut Vec<u8>,
+    topology: &Topology,
+    bounds: &Bounds,
+    stream: &Stream,
+    port: u32,
+) -> Result<(), NoMemory>
+    requires ports { bounds.now.ports ≡ length topology.now.ports }
+    requires inside { port < length topology.now.ports }
+    ensures { OnOk result (out.new.items ≡ out.old.items ++ hop_line topology.now bounds.now.rows stream.now port) }
+{
+    out.extend_from_slice(b"hop ")?;
+    out.extend_from_slice(stream.name().bytes())?;
+    out.extend_from_slice(b" ")?;
+    write_port(out, topology, port)?;
+    write_number(out, b" ", bounds.given(port, stream.class()).unwrap_or(0))?;
+    out.extend_from_slice(b"\n")?;
+    Ok(())
+}
