@@ -1,5 +1,5 @@
 -- The fields that a row is written with are plain.
-use Rattle.std.proofs.Common.{◌≡◌, ◌≢◌, ◌∙◌, ℕ, ◌+◌, ◌<◌, ◌≤◌, ◌^◌, Bool, true, false, cond, ◌&&◌, List, [], ◌∷◌, ◌++◌, length, None, Some, refl, sym, ap, subst, arith, lit<}
+use Rattle.std.proofs.Common.{◌≡◌, ◌∙◌, ℕ, ◌<◌, ◌^◌, Bool, true, false, cond, ◌&&◌, List, [], ◌∷◌, ◌++◌, length, None, Some, refl, sym, ap, arith, lit<}
 use Rattle.std.specs.Prelude.{IsTrue, decimal, not, nat_le}
 use Rattle.std.specs.List.{All, list_all}
 use Rattle.std.specs.Char.{is_ascii_digit}
@@ -7,9 +7,9 @@ use Rattle.std.proofs.lemmas.Bool.{and_parts, false≢true}
 use Rattle.std.proofs.lemmas.Bool.Decides.{nat_tests}
 use Rattle.std.proofs.lemmas.List.Elements.{All-append, All-cons, All-nil}
 use Rattle.ats_num.specs.Name.{is_name, is_name_byte}
-use Rattle.ats_num.specs.Number.{has_needless_zero, is_number, number_of, value_of}
+use Rattle.ats_num.specs.Number.{has_needless_zero, is_number, value_of}
 use Rattle.ats_num.proofs.Decimal.{reads_back}
-use Rattle.ats_topology.specs.Topology.{IsTopology, no_node, node_at, ports_of, topology_of}
+use Rattle.ats_topology.specs.Topology.{no_node, node_at, ports_of, topology_of}
 use Rattle.ats_topology.specs.Port.{no_port, port_at}
 use Rattle.ats_topology.specs.declared.node.Node.{Node}
 use Rattle.ats_topology.specs.declared.link.Link.{Link}
@@ -69,7 +69,7 @@ plain_port nodes links sound p within =
     let to = plain_name (node_at nodes port.to).name (sound.names port.to no_node between.to) in
     let sign : IsPlainByte 62 = record { ascii = lit< tt; no_comma = λ e. cc e; no_quote = λ e. cc e; no_return = λ e. cc e; no_feed = λ e. cc e } in
     All-append IsPlainByte ((node_at nodes port.from).name ++ 62 ∷ []) (node_at nodes port.to).name
-        (All-append IsPlainByte (node_at nodes port.from).name (62 ∷ []) from (All-cons IsPlainByte 62 [] sign (All-nil IsPlainByte))) to
+    (All-append IsPlainByte (node_at nodes port.from).name (62 ∷ []) from (All-cons IsPlainByte 62 [] sign (All-nil IsPlainByte))) to
 
 -- and the fields of a row
 pub plain_row : (nodes : List Node) (links : List Link) → AreSound nodes links → (row : Row) → IsRow row → row.port < length (ports_of nodes links)

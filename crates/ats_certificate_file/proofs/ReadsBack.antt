@@ -1,26 +1,24 @@
 -- What is read from the text of a certificate are its rows.
-use Rattle.std.proofs.Common.{◌≡◌, ◌≢◌, ◌∙◌, ℕ, ◌+◌, ◌-◌, ◌<◌, ◌≤◌, ◌^◌, Bool, true, false, cond, ◌&&◌, ◌||◌, List, [], ◌∷◌, ◌++◌, get_or, length, map, Option, None, Some, Ok, Err, Result, refl, sym, ap, subst, append_assoc, append-nil, length-append, arith, ⊎_elim, ◌⊎◌, inl, inr}
-use Rattle.std.specs.Prelude.{decimal, nat_le, nat_lt, ◌==◌, slice_get}
+use Rattle.std.proofs.Common.{◌≡◌, ◌∙◌, ℕ, ◌+◌, ◌-◌, ◌<◌, ◌≤◌, ◌^◌, Bool, true, cond, ◌&&◌, List, [], ◌∷◌, ◌++◌, get_or, length, map, Option, None, Some, Ok, Err, Result, refl, sym, ap, subst, append_assoc, append-nil, length-append, arith, inl, inr}
+use Rattle.std.specs.Prelude.{decimal, nat_le}
 use Rattle.std.specs.List.{All, AllPairs}
 use Rattle.std.proofs.lemmas.Bool.Decides.{nat_tests}
 use Rattle.std.proofs.lemmas.List.{get_or_append_left}
 use Rattle.std.proofs.Math.Seq.{get_or-append_seam}
 use Rattle.std.proofs.lemmas.List.Elements.{All-cons, All-head, All-nil, All-tail}
 use Rattle.std.proofs.lemmas.Option.{get_or_from_slice_get, slice_get_within}
-use Rattle.ats_num.specs.Number.{number_of}
 use Rattle.ats_num.specs.declared.wire.TheConstants.{MAX_WIRE_BITS}
 use Rattle.ats_num.proofs.Decimal.{reads_back}
 use Rattle.ats_topology.specs.Topology.{ports_of, topology_of}
 use Rattle.ats_topology.specs.declared.node.Node.{Node}
 use Rattle.ats_topology.specs.declared.link.Link.{Link}
 use Rattle.ats_port_names.specs.Laws.{AreSound}
-use Rattle.ats_port_names.specs.PortName.{port_name, port_named}
 use Rattle.ats_port_names.proofs.ReadsBack.{port_reads_back}
-use Rattle.ats_records.specs.Plain.{IsPlain, text_of}
-use Rattle.ats_records.specs.Reading.{field_of, records_of, same_fields}
+use Rattle.ats_records.specs.Plain.{IsPlain}
+use Rattle.ats_records.specs.Reading.{same_fields}
 use Rattle.ats_records.proofs.ReadsBack.{plain_reads_back}
 use Rattle.ats_certificate.specs.Certificate.{IsBefore}
-use Rattle.ats_certificate.specs.Form.{AreRows, ComesAfter, IsRow, last_of}
+use Rattle.ats_certificate.specs.Form.{ComesAfter, IsRow, last_of}
 use Rattle.ats_certificate.specs.declared.row.Row.{Row}
 use Rattle.ats_certificate_file.specs.Laws.{CertificateReadsBack}
 use Rattle.ats_certificate_file.specs.Reading.{comes_after, header, is_before, number_in, number_within, row_after, row_in, rows_from, rows_under}
@@ -59,7 +57,7 @@ row_read nodes links sound n row is within =
     let wait = number_read n row.wait is.wait in
     let bound = number_read n row.bound is.bound in
     step _ _ _ _ port (step _ _ _ _ class (step _ _ _ _ higher (step _ _ _ _ equal (step _ _ _ _ bursts (step _ _ _ _ lower (step _ _ _ _ least
-        (step _ _ _ _ wait (step _ _ _ _ bound refl))))))))
+    (step _ _ _ _ wait (step _ _ _ _ bound refl))))))))
 
 -- a row that comes before another passes the test
 passes : (a b : Row) → IsBefore a b → is_before a b ≡ true
@@ -75,7 +73,7 @@ after_last : (before : List Row) (row : Row) (rest : List Row) → AllPairs IsBe
 after_last before row rest ordered last is =
     let within = slice_get_within before (length before - 1) last is in
     let here : get_or (before ++ row ∷ rest) (length before - 1) row ≡ last =
-        get_or_append_left before (row ∷ rest) row (length before - 1) within ∙ get_or_from_slice_get before (length before - 1) last row is in
+    get_or_append_left before (row ∷ rest) row (length before - 1) within ∙ get_or_from_slice_get before (length before - 1) last row is in
     let there : get_or (before ++ row ∷ rest) (length before) row ≡ row = get_or-append_seam before row rest row in
     let pair = ordered (length before - 1) (length before) row (omega arith) (omega (arith, length-append before (row ∷ rest))) in
     subst (λ (r : Row). IsBefore last r) there (subst (λ (l : Row). IsBefore l (get_or (before ++ row ∷ rest) (length before) row)) here pair)
@@ -93,10 +91,10 @@ rows_read nodes links sound before (row ∷ rows) n each ports ordered =
     let read = row_read nodes links sound n row is within in
     let after = comes (last_of before) row (after_last before row rows ordered) in
     let one : row_after topology before n (fields_of topology row) ≡ Ok row =
-        step _ _ _ _ read (ap (λ (b : Bool). ok_where b (RowOrder n) row) after) in
+    step _ _ _ _ read (ap (λ (b : Bool). ok_where b (RowOrder n) row) after) in
     let joined : (before ++ row ∷ []) ++ rows ≡ before ++ row ∷ rows = append_assoc before (row ∷ []) rows in
     let rest = rows_read nodes links sound (before ++ row ∷ []) rows (n + 1) (All-tail IsRow row rows each)
-        (All-tail (λ (r : Row). r.port < length (ports_of nodes links)) row rows ports) (subst (AllPairs IsBefore) (sym joined) ordered) in
+    (All-tail (λ (r : Row). r.port < length (ports_of nodes links)) row rows ports) (subst (AllPairs IsBefore) (sym joined) ordered) in
     step _ _ _ _ one (rest ∙ ap Ok joined)
 
 -- each record that is written is plain
@@ -105,8 +103,8 @@ all_plain : (nodes : List Node) (links : List Link) → AreSound nodes links →
 all_plain nodes links sound [] each ports = All-nil IsPlain
 all_plain nodes links sound (row ∷ rows) each ports =
     All-cons IsPlain (fields_of (topology_of nodes links) row) (map (fields_of (topology_of nodes links)) rows)
-        (plain_row nodes links sound row (All-head IsRow row rows each) (All-head (λ (r : Row). r.port < length (ports_of nodes links)) row rows ports))
-        (all_plain nodes links sound rows (All-tail IsRow row rows each) (All-tail (λ (r : Row). r.port < length (ports_of nodes links)) row rows ports))
+    (plain_row nodes links sound row (All-head IsRow row rows each) (All-head (λ (r : Row). r.port < length (ports_of nodes links)) row rows ports))
+    (all_plain nodes links sound rows (All-tail IsRow row rows each) (All-tail (λ (r : Row). r.port < length (ports_of nodes links)) row rows ports))
 
 header_is : same_fields header header ≡ true
 unfolding header same_fields

@@ -10,3 +10,6 @@ pub mod writing;
 pub use fault::{CertFault, write_fault};
 pub use reading::read_certificate;
 pub use writing::write_certificate;
+
+#[cfg(test)]
+mod tests;

@@ -39,7 +39,9 @@ fn row_in(names: &PortNames, n: u32, records: &Records) -> Result<Row, CertFault
     ensures due { Gives result (row_in names.now n records.now.fields) }
     ensures form { IfOk result IsRow }
 {
-    let port = names.number(records.field(0)).ok_or(CertFault::UnknownPort(n))?;
+    let port = names
+        .number(records.field(0))
+        .ok_or(CertFault::UnknownPort(n))?;
     let class = number_within(n, 1, 7, records.field(1))?;
     let higher = number_in(n, records.field(2))?;
     let equal = number_in(n, records.field(3))?;

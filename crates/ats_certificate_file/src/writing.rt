@@ -3,6 +3,7 @@
 ghost use Rattle.std.specs.Prelude.{◌≡◌, ◌++◌, ◌<◌, length, All, IfOk, OnOk};
 ghost use Rattle.ats_records.specs.Plain.{record_text};
 ghost use Rattle.ats_certificate.specs.declared.row.Row.{Row};
+ghost use Rattle.ats_certificate_file.specs.Reading.{header};
 ghost use Rattle.ats_certificate_file.specs.Text.{certificate_text, fields_of};
 
 use ats_certificate::{Certificate, Row};
@@ -16,7 +17,7 @@ use std::alloc::Global;
 const HEADER_LINE: &[u8] = b"port,class,higher,equal,bursts,lower,least,wait,bound\n";
 
 /// The text of a certificate whose rows are of ports of the topology: the header, and a record for each row.
-#[tactic(auto, using(crate::proofs::Texts::row_more))]
+#[tactic(auto, using(crate::proofs::Texts::row_more, crate::proofs::Texts::no_row))]
 pub fn write_certificate(
     alloc: Global,
     certificate: &Certificate,
@@ -26,11 +27,19 @@ pub fn write_certificate(
     ensures { IfOk result (λ text. text.items ≡ certificate_text topology.now certificate.now) }
 {
     let mut out = Vec::new(alloc);
-    out.extend_from_slice(HEADER_LINE)?;
+    write_header(&mut out)?;
     for row in certificate.rows() {
         write_row(alloc, &mut out, row, topology)?;
     }
     Ok(out)
+}
+
+// Appends the record of the header.
+#[tactic(auto, unfolding(crate::specs::Reading::header))]
+fn write_header(out: &mut Vec<u8>) -> Result<(), NoMemory>
+    ensures { OnOk result (out.new.items ≡ out.old.items ++ record_text header) }
+{
+    Ok(out.extend_from_slice(HEADER_LINE)?)
 }
 
 // Appends the record of a row.
