@@ -8,9 +8,10 @@ mod listing;
 pub mod reason;
 pub mod rows;
 mod stays;
-mod tally;
+pub mod tally;
 mod users;
 
 pub use least::make;
 pub use reason::{NoBound, Reason};
-pub use rows::row;
+pub use rows::{least_wait, row};
+pub use tally::Tally;
