@@ -6,6 +6,7 @@ ghost use Rattle.ats_certificate.specs.Certificate.{Holds, bound_along};
 ghost use Rattle.ats_checker.specs.Due.{IsDue};
 ghost use Rattle.ats_checker.specs.Ports.{RefusalInside, RowsInside};
 ghost use Rattle.ats_checker.specs.Refusal.{refusal_of};
+ghost use Rattle.ats_soundness.specs.Sound.{IsSound};
 
 use crate::bounds::Bounds;
 use crate::deadlines::{check_deadlines, sums_along};
@@ -41,7 +42,9 @@ impl Sums {
     }
 }
 
-/// The sums of a certificate that holds for a network, and only of such a one. It takes time and memory linear in the
+/// The sums of a certificate that holds for a network, and only of such a one. Its bounds are then sound: in each legal run of
+/// the network, each frame of a stream whose talker keeps its buckets is never discarded, is eligible at each next hop within
+/// the bound of the hop before, and arrives within its stream's sum. It takes time and memory linear in the
 /// numbers of ports and of rows and the sum of the paths' lengths.
 ///
 /// # Errors
@@ -52,6 +55,7 @@ impl Sums {
 pub fn check(alloc: Global, network: &Network, certificate: &Certificate) -> Result<Sums, Refusal>
     ensures ok { IfOk result (λ sums. sums ≡ map (bound_along certificate.now) network.now.streams) }
     ensures holds { OnOk result (Holds network.now certificate.now) }
+    ensures sound { OnOk result (IsSound network.now certificate.now) }
     ensures refused { IfErr result (λ refusal. IsDue refusal (refusal_of network.now certificate.now)) }
     ensures inside { RowsInside network.now.topology certificate.now → IfErr result (RefusalInside network.now.topology) }
 {

@@ -7,6 +7,7 @@ use Rattle.ats_checker.specs.Bounds.{RowsAt}
 use Rattle.ats_checker.specs.Refusal.{refusal_of}
 use Rattle.ats_checker.proofs.Refused.{refused_unless_holding}
 use Rattle.ats_checker.proofs.Inside.{refusal_inside}
+use Rattle.ats_soundness.proofs.Soundness.{certificate_is_sound}
 use Rattle.ats_checker.proofs.judgement.check.Goals as goal
 
 pub returns-in_err-judge-clause-inside : goal.returns-in_err-judge-clause-inside
@@ -27,3 +28,14 @@ returns-clause-holds c =
     let ordered : AllPairs IsBefore c.args.certificate.now =
     subst (AllPairs IsBefore) (ap (λ (b : RowsAt). b.rows) c.bounds.view_is ∙ rows) c.bounds.invariant.form.ordered in
     (refused_unless_holding c.args.network.now c.args.certificate.now c.topology.ensures.rules ordered).0 none
+
+pub returns-clause-sound : goal.returns-clause-sound
+returns-clause-sound c =
+    let network : c.in_ok-tallies.tallies ≡ c.args.network.now = c.in_ok-tallies.ensures in
+    let rows : c.in_ok-bounds.bounds.rows ≡ c.args.certificate.now = ap (λ (b : RowsAt). b.rows) c.in_ok-bounds.ensures in
+    let none : refusal_of c.args.network.now c.args.certificate.now ≡ None =
+    ap (λ (rs : List Row). refusal_of c.args.network.now rs) (sym rows) ∙ ap (λ (n : DeclaredNetwork). refusal_of n c.in_ok-bounds.bounds.rows) (sym network) ∙ sym c.in_ok-judge.ensures in
+    let ordered : AllPairs IsBefore c.args.certificate.now =
+    subst (AllPairs IsBefore) (ap (λ (b : RowsAt). b.rows) c.bounds.view_is ∙ rows) c.bounds.invariant.form.ordered in
+    certificate_is_sound c.args.network.now c.args.certificate.now c.topology.ensures.rules
+    ((refused_unless_holding c.args.network.now c.args.certificate.now c.topology.ensures.rules ordered).0 none)
