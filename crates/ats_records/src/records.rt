@@ -64,6 +64,8 @@ impl<'a> Records<'a> {
         ensures fields { result.fields ≡ [] }
         ensures failed { result.failed ≡ false }
     {
+        // Widths are compared here: of a record that csv refuses for its width it promises neither the fields nor what is
+        // left behind it.
         let reader = ReaderBuilder::new()
             .has_headers(false)
             .flexible(true)
