@@ -1,6 +1,8 @@
 pub mod Law
+pub mod Networks
 pub mod Numbers
 pub mod Pairs
+pub mod RowNetworks
 pub mod RowProofs
 pub mod Senders
 pub mod Sums

@@ -1,20 +1,23 @@
 //! What is proved of one port, for all lists of transmissions.
 
 ghost use Rattle.ats_port_law.specs.PortLaw.{PortLaw};
-ghost use Rattle.ats_port_law.specs.Rows.{BehindFlow, InTurn};
+ghost use Rattle.ats_port_law.specs.Rows.{AtOnce, BehindFlow, InTurn};
 
 /// Where a row covers a port and a class that some stream uses, as each row of a certificate does, and the port keeps the
 /// port rule with transmissions that it may be asked to make, each frame of the class arrives behind the port within the
-/// row's bound of its eligibility. Nothing is asked of flows and lower classes but their sizes, and nothing of the order in
+/// row's bound of its eligibility. The frames of each stream, of lower classes too, have declared sizes and conform to its
+/// rate and burst; those of a flow have declared sizes, and nothing else is asked of them. Nothing is asked of the order in
 /// which the port takes equal frames.
 pub fn port_law()
     ensures { PortLaw }
 {}
 
-/// Two worked rows, in which what the law asks holds: a frame behind one of a flow, and the second of two equal frames,
-/// which arrives exactly at the bound.
+/// Worked rows, in which what the law asks holds: a frame behind one of a flow, at a station and at a bridge; a frame that
+/// is alone at its station, at two stations; and the second of two equal frames at a bridge. The last three arrive exactly at
+/// the bound.
 pub fn worked_rows()
     ensures behind_flow { BehindFlow }
+    ensures at_once { AtOnce }
     ensures in_turn { InTurn }
 {}
 
@@ -51,6 +54,32 @@ mod tests {
         bound: 26_172_000,
     };
 
+    /// The same behind the bridge.
+    const BESIDE_FLOW_AT_BRIDGE: Row = Row {
+        port: 2,
+        class: 6,
+        higher: 0,
+        equal: 100_000_000_000,
+        bursts: 12336,
+        lower: 12336,
+        least: 672,
+        wait: 24_000_000,
+        bound: 25_172_000,
+    };
+
+    /// The row of a class with one such stream alone.
+    const OF_ONE: Row = Row {
+        port: 0,
+        class: 6,
+        higher: 0,
+        equal: 100_000_000_000,
+        bursts: 12336,
+        lower: 0,
+        least: 672,
+        wait: 11_664_000,
+        bound: 13_836_000,
+    };
+
     /// The row of a class with two such streams.
     const OF_TWO: Row = Row {
         port: 2,
@@ -77,7 +106,26 @@ mod tests {
             end: 24_672_000,
             latency: 1_500_000,
         };
+        let second = Passed {
+            eligible: 26_172_000,
+            end: 38_508_000,
+            latency: 500_000,
+        };
         assert_eq!(rt; left(&BESIDE_FLOW, &first), Some(1));
+        assert_eq!(rt; left(&BESIDE_FLOW_AT_BRIDGE, &second), Some(12_336_000));
+    }
+
+    #[test]
+    fn a_frame_alone_takes_its_whole_bound(rt: HostRuntime) {
+        let passed = Passed {
+            eligible: 0,
+            end: 12_336_000,
+            latency: 1_500_000,
+        };
+        let from_s1 = OF_ONE;
+        let from_s3 = Row { port: 4, ..OF_ONE };
+        assert_eq!(rt; left(&from_s1, &passed), Some(0));
+        assert_eq!(rt; left(&from_s3, &passed), Some(0));
     }
 
     #[test]

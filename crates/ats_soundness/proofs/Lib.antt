@@ -3,6 +3,7 @@ pub mod Arrivals
 pub mod Behind
 pub mod Bits
 pub mod Bridge
+pub mod Example
 pub mod Known
 pub mod Lifts
 pub mod Offered

@@ -1,5 +1,6 @@
 //! What is proved of each network, certificate and legal run.
 
+ghost use Rattle.ats_soundness.specs.Example.{LawsAreMet};
 ghost use Rattle.ats_soundness.specs.Laws.{StationIsOffered, BridgeIsOffered, ShapingForFree, PathLaw, Containment, CertificateIsSound};
 
 /// A port that leaves a station that keeps its buckets is asked to send no more than the port law wants: frames of declared
@@ -36,4 +37,10 @@ pub fn containment()
 /// talkers and flows send and whichever lawful choice each port makes among equals.
 pub fn certificate_is_sound()
     ensures { CertificateIsSound }
+{}
+
+/// What the laws ask of a network, a certificate and a run can all hold at once, and the sum of the bounds is met: here is
+/// one frame over one bridge, which arrives exactly when that sum is over.
+pub fn laws_are_met()
+    ensures { LawsAreMet }
 {}

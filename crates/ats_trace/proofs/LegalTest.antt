@@ -4,7 +4,6 @@ use Rattle.std.specs.List.{list_all}
 use Rattle.std.specs.List.Sorted.{IsNonDecreasing}
 use Rattle.std.proofs.lemmas.Bool.{and_parts, false≢true, cases_eq}
 use Rattle.std.proofs.lemmas.Bool.Decides.{nat_tests}
-use Rattle.std.proofs.lemmas.List.Sorted.{IsPermutation-refl}
 use Rattle.ats_topology.specs.Port.{port_at}
 use Rattle.ats_network.specs.Network.{DeclaredNetwork}
 use Rattle.ats_transmission.specs.Transmission.{Transmission}
@@ -17,6 +16,7 @@ use Rattle.ats_trace.specs.Parts.{EachPort}
 use Rattle.ats_trace.specs.Projections.{Handed, sent_by, handed_by, handed_from}
 use Rattle.ats_trace.specs.Eligibility.{declared_by, offer_of, residence_behind, IsJudged, IsPassed}
 use Rattle.ats_trace.proofs.Tests.{le_of, eq_of, either, all_by, pairs_pass, pairs_by, each_below, below_by}
+use Rattle.ats_trace.proofs.ArrivalTest.{by_arrival, same_frames}
 use Rattle.ats_trace.proofs.PortTest.{keeps_port_rule, port_rule_by, of_each, tie_agrees, keeps_tie_by}
 
 -- Tests of the parts of a legal run on closed networks and runs.
@@ -87,28 +87,32 @@ verdicts_are (v ∷ vs) (w ∷ ws) h =
     let tail : vs ≡ ws = verdicts_are vs ws parts.1 in
     cc
 
--- frames that arrive in the order of their numbers get their group's verdicts
-abbrev pub judged_pass : DeclaredNetwork → ℕ → List Handed → Bool
-judged_pass network residence_ns handed =
+-- frames in the order of their arrivals get their group's verdicts
+abbrev pub told_pass : DeclaredNetwork → ℕ → List Handed → Bool
+told_pass network residence_ns handed =
     pairs_pass nat_le (map (λ (h : Handed). h.arrival) handed)
     && same_verdicts (map (λ (h : Handed). h.verdict) handed) (verdicts_of (declared_by network) residence_ns (first (declared_by network)) (map offer_of handed))
 
+abbrev pub judged_pass : DeclaredNetwork → ℕ → List Handed → Bool
+judged_pass network residence_ns handed = told_pass network residence_ns (by_arrival handed)
+
 pub judged_by : (network : DeclaredNetwork) (residence_ns : ℕ) (handed : List Handed) → judged_pass network residence_ns handed ≡ true → IsJudged network residence_ns handed
 judged_by network residence_ns handed h =
-    let times : List ℕ = map (λ (h : Handed). h.arrival) handed in
-    let told : List Verdict = map (λ (h : Handed). h.verdict) handed in
-    let due : List Verdict = verdicts_of (declared_by network) residence_ns (first (declared_by network)) (map offer_of handed) in
+    let sorted : List Handed = by_arrival handed in
+    let times : List ℕ = map (λ (h : Handed). h.arrival) sorted in
+    let told : List Verdict = map (λ (h : Handed). h.verdict) sorted in
+    let due : List Verdict = verdicts_of (declared_by network) residence_ns (first (declared_by network)) (map offer_of sorted) in
     let parts : (pairs_pass nat_le times ≡ true) × (same_verdicts told due ≡ true) = and_parts (pairs_pass nat_le times) (same_verdicts told due) h in
     record {
-      arrivals = handed;
-      same = IsPermutation-refl handed;
+      arrivals = sorted;
+      same = same_frames handed;
       in_order = ascending_by times parts.0;
       verdicts = verdicts_are told due parts.1;
     }
 
--- the frame is of class 6, or of class 0
-abbrev pub is_of_six : Handed → Bool
-is_of_six h = h.hop.sent.class == 6 || h.hop.sent.class == 0
+-- the frame is of class 6 or 5, or of class 0
+abbrev pub is_of_known : Handed → Bool
+is_of_known h = h.hop.sent.class == 6 || (h.hop.sent.class == 5 || h.hop.sent.class == 0)
 
 no_class : (a b : ℕ) → a ≡ 0 → a ≡ b → 1 ≤ b → ⊥
 no_class a b none same least = omega arith
@@ -118,31 +122,46 @@ and_false true b h = h
 and_false false b h = refl
 
 -- so there is none of another class
-no_others : (port class : ℕ) → 1 ≤ class → class ≢ 6 → (handed : List Handed) → list_all is_of_six handed ≡ true → filter (λ (h : Handed). h.hop.port == port && h.hop.sent.class == class) handed ≡ []
-no_others port class least other [] passed = refl
-no_others port class least other (h ∷ handed) passed =
-    let parts : (is_of_six h ≡ true) × (list_all is_of_six handed ≡ true) = and_parts (is_of_six h) (list_all is_of_six handed) passed in
-    let rest : filter (λ (k : Handed). k.hop.port == port && k.hop.sent.class == class) handed ≡ [] = no_others port class least other handed parts.1 in
-    let differs : h.hop.sent.class ≢ class = λ same. elim (either (h.hop.sent.class == 6) (h.hop.sent.class == 0) parts.0) [
-      | inl six ↦ other (sym same ∙ eq_of h.hop.sent.class 6 six)
-      | inr none ↦ absurd (no_class h.hop.sent.class class (eq_of h.hop.sent.class 0 none) same least)
+no_others : (port class : ℕ) → 1 ≤ class → class ≢ 6 → class ≢ 5 → (handed : List Handed) → list_all is_of_known handed ≡ true → filter (λ (h : Handed). h.hop.port == port && h.hop.sent.class == class) handed ≡ []
+no_others port class least six five [] passed = refl
+no_others port class least six five (h ∷ handed) passed =
+    let parts : (is_of_known h ≡ true) × (list_all is_of_known handed ≡ true) = and_parts (is_of_known h) (list_all is_of_known handed) passed in
+    let rest : filter (λ (k : Handed). k.hop.port == port && k.hop.sent.class == class) handed ≡ [] = no_others port class least six five handed parts.1 in
+    let differs : h.hop.sent.class ≢ class = λ same. elim (either (h.hop.sent.class == 6) (h.hop.sent.class == 5 || h.hop.sent.class == 0) parts.0) [
+      | inl e ↦ six (sym same ∙ eq_of h.hop.sent.class 6 e)
+      | inr more ↦ elim (either (h.hop.sent.class == 5) (h.hop.sent.class == 0) more) [
+        | inl e ↦ five (sym same ∙ eq_of h.hop.sent.class 5 e)
+        | inr none ↦ absurd (no_class h.hop.sent.class class (eq_of h.hop.sent.class 0 none) same least)
+      ]
     ] in
     let fails : (h.hop.sent.class == class) ≡ false = ne_of h.hop.sent.class class differs in
     let skipped : (h.hop.port == port && h.hop.sent.class == class) ≡ false = and_false (h.hop.port == port) (h.hop.sent.class == class) fails in
     rw skipped rest
 
--- each port's group of class 6 judges its frames
+-- each port's group of a class judges its frames
+abbrev pub group_passes : DeclaredNetwork → List Travel → ℕ → ℕ → Bool
+group_passes network run class p = judged_pass network (residence_behind network p) (handed_by network run p class)
+
+-- of each class
 abbrev pub groups_pass : DeclaredNetwork → List Travel → Bool
 groups_pass network run =
-    list_all is_of_six (handed_from network 0 run) && each_below (λ p. judged_pass network (residence_behind network p) (handed_by network run p 6)) (length network.topology.ports)
+    list_all is_of_known (handed_from network 0 run)
+    && (each_below (group_passes network run 6) (length network.topology.ports) && each_below (group_passes network run 5) (length network.topology.ports))
 
 pub groups_by : (network : DeclaredNetwork) (run : List Travel) → groups_pass network run ≡ true → (port class : ℕ) → port < length network.topology.ports → 1 ≤ class → IsJudged network (residence_behind network port) (handed_by network run port class)
 groups_by network run passed port class within least =
-    let test : ℕ → Bool = λ p. judged_pass network (residence_behind network p) (handed_by network run p 6) in
-    let parts : (list_all is_of_six (handed_from network 0 run) ≡ true) × (each_below test (length network.topology.ports) ≡ true) = and_parts (list_all is_of_six (handed_from network 0 run)) (each_below test (length network.topology.ports)) passed in
+    let ports : ℕ = length network.topology.ports in
+    let of_class : ℕ → Bool = λ c. each_below (group_passes network run c) ports in
+    let parts : (list_all is_of_known (handed_from network 0 run) ≡ true) × ((of_class 6 && of_class 5) ≡ true) = and_parts (list_all is_of_known (handed_from network 0 run)) (of_class 6 && of_class 5) passed in
+    let each : (of_class 6 ≡ true) × (of_class 5 ≡ true) = and_parts (of_class 6) (of_class 5) parts.1 in
+    let judged : (c : ℕ) → of_class c ≡ true → IsJudged network (residence_behind network port) (handed_by network run port c) =
+    λ c h. judged_by network (residence_behind network port) (handed_by network run port c) (below_by (group_passes network run c) ports h port within) in
     elim (cases_eq class 6) [
-      | inl same ↦ rw same (judged_by network (residence_behind network port) (handed_by network run port 6) (below_by test (length network.topology.ports) parts.1 port within))
-      | inr other ↦ rw (no_others port class least other (handed_from network 0 run) parts.0) (judged_by network (residence_behind network port) [] refl)
+      | inl same ↦ rw same (judged 6 each.0)
+      | inr six ↦ elim (cases_eq class 5) [
+        | inl same ↦ rw same (judged 5 each.1)
+        | inr five ↦ rw (no_others port class least six five (handed_from network 0 run) parts.0) (judged_by network (residence_behind network port) [] refl)
+      ]
     ]
 
 -- each flow's frame is judged by its size

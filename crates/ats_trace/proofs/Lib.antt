@@ -1,9 +1,12 @@
 pub mod RowLemmas
 pub mod Tests
 pub mod PortTest
+pub mod ArrivalTest
 pub mod LegalTest
 pub mod LegalProofs
 pub mod ChangeProofs
 pub mod PartTest
 pub mod PartProofs
+pub mod RegulatedProofs
+pub mod MoreChangeProofs
 pub mod TalkerProofs

@@ -159,6 +159,16 @@ below prompt = lit< tt
 below groups = lit< tt
 below flows = lit< tt
 
+-- the run keeps each part
+abbrev pub all_pass : DeclaredNetwork → List Travel → Bool
+all_pass network run = list_all (λ part. passes part network run) parts
+
+pub all_kept : (network : DeclaredNetwork) (run : List Travel) → all_pass network run ≡ true → (part : Part) → Keeps part network run
+all_kept network run h part =
+    let test : Part → Bool = λ part. passes part network run in
+    let there : test (get_or parts (number_of part) flows) ≡ true = AllPass-from_list_all test parts h (number_of part) flows (below part) in
+    kept_by part network run (subst (λ (q : Part). test q ≡ true) (own part) there)
+
 -- the run keeps each part but this one
 abbrev pub others_pass : Part → DeclaredNetwork → List Travel → Bool
 others_pass part network run = list_all (λ other. number_of other == number_of part || passes other network run) parts

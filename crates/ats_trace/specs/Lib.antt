@@ -8,4 +8,6 @@ pub mod Examples
 pub mod LegalExamples
 pub mod Changes
 pub mod Parts
+pub mod Regulated
+pub mod MoreChanges
 pub mod TalkerExamples

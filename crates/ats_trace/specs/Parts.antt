@@ -15,7 +15,8 @@ use Rattle.ats_trace.specs.Examples.{line_and_flow, hop, sunk}
 use Rattle.ats_trace.specs.declared.journey.Release.{Release}
 use Rattle.ats_trace.specs.declared.journey.Ending.TheVariants.{Discard}
 
--- the parts of a legal run, where those of a journey and of the port rule count by themselves
+-- the parts of a legal run, where those of a journey and of the port rule count by themselves; that the sender exists follows
+-- from the way and the release, and counts with the way
 pub data Part : Type 0 where
   in_order : Part
   octets : Part

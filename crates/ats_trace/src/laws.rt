@@ -2,18 +2,25 @@
 
 ghost use Rattle.ats_trace.specs.Changes.{ChangedExamplesAreNot};
 ghost use Rattle.ats_trace.specs.LegalExamples.{ExamplesAreLegal};
+ghost use Rattle.ats_trace.specs.MoreChanges.{EachBreaksAlone};
 ghost use Rattle.ats_trace.specs.Parts.{EachPartCounts, LegalIsEachPart};
+ghost use Rattle.ats_trace.specs.Regulated.{RegulatedAreLegal};
 ghost use Rattle.ats_trace.specs.TalkerExamples.{TalkersOfExamples};
 
 /// One frame over one bridge, a frame that is discarded for its size, a frame behind one of a flow, and two frames that
-/// become eligible at the same time, in either order.
+/// become eligible at the same time, in either order. And a frame that the bridge holds back, one that is late, and what
+/// becomes of another stream's frame behind each: it waits for one of its group that is held back, and for no late one and
+/// none of another class.
 pub fn examples_are_legal()
-    ensures { ExamplesAreLegal }
+    ensures plain { ExamplesAreLegal }
+    ensures regulated { RegulatedAreLegal }
 {}
 
-/// For each part of a legal run and of the port rule one of these with one number changed, which is not legal.
+/// Runs that are not legal: for each field of a legal run, of a journey and of the port rule one of the legal examples with
+/// one number changed, and runs that break one part alone.
 pub fn changed_examples_are_not()
-    ensures { ChangedExamplesAreNot }
+    ensures changed { ChangedExamplesAreNot }
+    ensures alone { EachBreaksAlone }
 {}
 
 /// A run is legal exactly where it keeps each of the parts that are listed.
