@@ -1,16 +1,14 @@
-use Rattle.std.proofs.Common.{◌≡◌, ℕ, ◌+◌, ◌-◌, ◌<◌, Bool, true, false, cond, List, [], ◌∷◌, ◌++◌, length, get_or, map, filter, drop, Option, Some, None, Result, Ok, Err, refl, sym, ap, subst, ◌∙◌, arith, length-append, append_assoc}
-use Rattle.std.specs.Prelude.{slice_get, nat_lt}
+use Rattle.std.proofs.Common.{◌≡◌, ℕ, ◌+◌, ◌-◌, ◌<◌, Bool, true, false, cond, List, [], ◌∷◌, ◌++◌, length, get_or, map, filter, drop, Option, Some, None, Ok, Err, refl, sym, ap, subst, ◌∙◌, arith, length-append, append_assoc}
+use Rattle.std.specs.Prelude.{nat_lt}
 use Rattle.std.specs.Option.{option_or}
 use Rattle.std.specs.List.{AllPairs}
-use Rattle.std.proofs.lemmas.Bool.{true≢false}
-use Rattle.std.proofs.lemmas.List.{append-nil, drop_more, map-append, get_or_append_left, get_or_at}
+use Rattle.std.proofs.lemmas.List.{append-nil, drop_more, get_or_append_left, get_or_at}
 use Rattle.std.proofs.lemmas.Option.{slice_get_within, get_or_from_slice_get}
 use Rattle.ats_num.specs.declared.time.TheConstants.{PS_PER_SECOND}
 use Rattle.ats_topology.specs.Port.{no_port}
-use Rattle.ats_topology.specs.declared.port.Port.{Port}
 use Rattle.ats_network.specs.Network.{DeclaredNetwork, IsNetwork}
 use Rattle.ats_certificate.specs.PortSums.{is_used}
-use Rattle.ats_certificate.specs.Used.{classes, place, places_at, places_from, places_of}
+use Rattle.ats_certificate.specs.Used.{classes, place, places_from, places_of}
 use Rattle.ats_certificate.specs.Certificate.{IsBefore}
 use Rattle.ats_certificate.specs.Form.{ComesAfter}
 use Rattle.ats_certificate.specs.declared.row.Row.{Row}
@@ -97,7 +95,7 @@ begun_after network at rows left is begun used last last_is =
     let first : get_or (rows ++ row ∷ behind) (length rows - 1) last ≡ last = get_or_append_left rows (row ∷ behind) last (length rows - 1) inside ∙ get_or_from_slice_get rows (length rows - 1) last last last_is in
     let second : get_or (rows ++ row ∷ behind) (length rows) last ≡ row = get_or_at rows row behind last (length rows) refl in
     let before : IsBefore (get_or (rows ++ row ∷ behind) (length rows - 1) last) (get_or (rows ++ row ∷ behind) (length rows) last) =
-        pairs (length rows - 1) (length rows) last (omega arith) (omega (arith, length-append rows (row ∷ behind))) in
+    pairs (length rows - 1) (length rows) last (omega arith) (omega (arith, length-append rows (row ∷ behind))) in
     subst (λ (r : Row). IsBefore r row) first (subst (λ (r : Row). IsBefore (get_or (rows ++ row ∷ behind) (length rows - 1) last) r) second before)
 
 -- the places of a port and those behind it, from a class on

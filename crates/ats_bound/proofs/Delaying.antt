@@ -1,9 +1,9 @@
-use Rattle.std.proofs.Common.{◌≡◌, ℕ, zero, suc, ◌+◌, ◌*◌, ◌<◌, ◌≤◌, ◌^◌, Bool, true, false, cond, List, [], ◌∷◌, ◌++◌, length, get_or, set, take, drop, replicate, map, sum_by, Option, Some, None, refl, sym, ap, subst, ◌∙◌, inl, inr, ◌⊎◌, eqb, arith, length-set, get_or-set_same, get_or-set_other}
-use Rattle.std.specs.Prelude.{unwrap_or, ◌&&◌, nat_lt}
+use Rattle.std.proofs.Common.{◌≡◌, ℕ, ◌+◌, ◌*◌, ◌<◌, ◌≤◌, Bool, true, false, cond, List, [], ◌∷◌, length, get_or, set, take, drop, replicate, map, sum_by, Option, Some, None, refl, sym, ap, subst, ◌∙◌, inl, inr, eqb, arith, length-set, get_or-set_same, get_or-set_other}
+use Rattle.std.specs.Prelude.{unwrap_or, nat_lt}
 use Rattle.std.specs.List.{All, AllPairs, find}
 use Rattle.std.specs.Option.{option_or, option_map}
-use Rattle.std.proofs.lemmas.Bool.{cases_Bool, and_parts, and_from, eqb-true, eq-eqb, true≢false}
-use Rattle.std.proofs.lemmas.List.{at_drop_more, take_more, get_or-take, length-take-le, get_or_default, get_or-replicate, length-replicate, length-map, get_or-map}
+use Rattle.std.proofs.lemmas.Bool.{cases_Bool, and_from, eq-eqb, true≢false}
+use Rattle.std.proofs.lemmas.List.{at_drop_more, take_more, get_or-take, length-take-le, get_or-replicate, length-replicate, length-map, get_or-map}
 use Rattle.std.proofs.lemmas.List.Elements.{All-map, All-head, All-tail}
 use Rattle.std.proofs.lemmas.List.Folds.{find-append}
 use Rattle.std.proofs.lemmas.List.Sums.{sum_by-cons}
@@ -11,7 +11,7 @@ use Rattle.ats_num.specs.declared.time.TheConstants.{PS_PER_NS}
 use Rattle.ats_streams.specs.Stream.{DeclaredStream}
 use Rattle.ats_network.specs.Sender.{Sender, stream_sender, flow_sender}
 use Rattle.ats_network.specs.Network.{DeclaredNetwork, IsNetwork}
-use Rattle.ats_network.specs.Senders.{IsSender, no_sender}
+use Rattle.ats_network.specs.Senders.{IsSender}
 use Rattle.ats_network.proofs.Appended.{all_left}
 use Rattle.ats_network.proofs.SenderLemmas.{each_is_sender}
 use Rattle.ats_certificate.specs.Certificate.{IsBefore, is_row_of, row_of, bound_at, bound_along}
@@ -20,11 +20,10 @@ use Rattle.ats_certificate.specs.declared.row.Row.{Row}
 use Rattle.ats_bound.specs.Delays.{place_in, HasBounds, sum_along, delay_by, IsCovered}
 use Rattle.ats_bound.specs.Least.{least_row, least_certificate}
 use Rattle.ats_bound.specs.Reason.{first_some, delay}
-use Rattle.ats_bound.specs.declared.reason.Reason.{Reason}
 use Rattle.ats_bound.specs.declared.reason.Reason.TheVariants.{Deadline}
 use Rattle.ats_bound.proofs.Lists.{IsFound, found_is, option_cases}
 use Rattle.ats_bound.proofs.NoneHolds.{row_at}
-use Rattle.ats_bound.proofs.Places.{IsPlace, is_place, places_used}
+use Rattle.ats_bound.proofs.Places.{is_place, places_used}
 
 -- a first value stands at an element or behind it
 pub first_more : {A B : Type 0} (given : A → Option B) (xs : List A) (i : ℕ) (d : A) → i < length xs → first_some given (drop i xs) ≡ option_or (given (get_or xs i d)) (first_some given (drop (i + 1) xs))
@@ -153,12 +152,12 @@ pub delays_agree : (network : DeclaredNetwork) (rows : List Row) (table : List �
 delays_agree network rows table is has =
     first_agree (delay_by table) (delay rows) network.streams
     (λ k d h. (
-      let stream : DeclaredStream = get_or network.streams k d in
-      let along = each_along network is k d h in
-      let sums : sum_along table stream.path stream.class ≡ bound_along rows stream =
-          sum_agree (λ port. get_or table (place_in port stream.class) 0) (λ port. bound_at rows port stream.class) stream.path
-          (λ i e below. has.each (get_or stream.path i e) stream.class (along.ports i e below) (omega (arith, along.class))) in
-      ap (λ (n : ℕ). cond (nat_lt (PS_PER_NS * stream.deadline_ns) n) (Some (Deadline stream.name n)) None) sums))
+    let stream : DeclaredStream = get_or network.streams k d in
+    let along = each_along network is k d h in
+    let sums : sum_along table stream.path stream.class ≡ bound_along rows stream =
+    sum_agree (λ port. get_or table (place_in port stream.class) 0) (λ port. bound_at rows port stream.class) stream.path
+    (λ i e below. has.each (get_or stream.path i e) stream.class (along.ports i e below) (omega (arith, along.class))) in
+    ap (λ (n : ℕ). cond (nat_lt (PS_PER_NS * stream.deadline_ns) n) (Some (Deadline stream.name n)) None) sums))
 
 -- each row of the least certificate is that of a port
 pub ports_exist : (network : DeclaredNetwork) → IsNetwork network → All (λ (row : Row). row.port < length network.topology.ports) (least_certificate network)

@@ -1,19 +1,17 @@
-use Rattle.std.proofs.Common.{◌≡◌, ℕ, ◌<◌, ◌≤◌, Bool, true, List, map, length, get_or, None, refl, sym, ap, ◌∙◌}
-use Rattle.std.specs.Prelude.{IsSome, is_some}
-use Rattle.std.specs.List.{All, AllPairs, find, list_any}
-use Rattle.std.proofs.lemmas.List.Elements.{All-map, All-weaker}
-use Rattle.ats_streams.specs.Stream.{DeclaredStream}
+use Rattle.std.proofs.Common.{◌≡◌, ℕ, true, get_or, ◌∙◌}
+use Rattle.std.specs.List.{All}
+use Rattle.std.proofs.lemmas.List.Elements.{All-map}
 use Rattle.ats_network.specs.Network.{DeclaredNetwork, IsNetwork}
 use Rattle.ats_certificate.specs.PortSums.{is_used}
 use Rattle.ats_certificate.specs.Used.{places_of}
-use Rattle.ats_certificate.specs.Certificate.{Holds, HasRows, RowHolds, IsBefore, IsInTime, MayStay, is_row_of, row_of}
-use Rattle.ats_certificate.specs.Least.{IsLeastRow, IsLeastCertificate}
+use Rattle.ats_certificate.specs.Certificate.{HasRows, IsBefore, is_row_of}
+use Rattle.ats_certificate.specs.Least.{IsLeastRow}
 use Rattle.ats_certificate.specs.declared.row.Row.{Row}
 use Rattle.ats_bound.specs.Least.{least_row, least_certificate}
-use Rattle.ats_bound.specs.Reason.{reason_of, first_some, overload, overstay, delay}
-use Rattle.ats_bound.specs.Laws.{IsAnswered, LeastCertificateHolds}
+use Rattle.ats_bound.specs.Reason.{first_some, overload, overstay, delay}
+use Rattle.ats_bound.specs.Laws.{LeastCertificateHolds}
 use Rattle.ats_bound.proofs.Lists.{list_any-map, is_some-find, AllPairs-map, none_first, option_or-none}
-use Rattle.ats_bound.proofs.Places.{IsPlace, is_at, is_place, places_used, places_ordered, places_have}
+use Rattle.ats_bound.proofs.Places.{is_place, places_used, places_ordered, places_have}
 use Rattle.ats_bound.proofs.Waits.{Fits, least_row-is}
 use Rattle.ats_bound.proofs.Reasons.{fits_from, stays_from, in_time_from}
 
@@ -21,9 +19,9 @@ use Rattle.ats_bound.proofs.Reasons.{fits_from, stays_from, in_time_from}
 pub least_rows : (network : DeclaredNetwork) → IsNetwork network → HasRows network (least_certificate network)
 least_rows network is = record {
   complete = λ port class used.
-    is_some-find (is_row_of port class) (least_certificate network)
-    ∙ list_any-map (is_row_of port class) (least_row network) (places_of network)
-    ∙ places_have network port class is used;
+      is_some-find (is_row_of port class) (least_certificate network)
+      ∙ list_any-map (is_row_of port class) (least_row network) (places_of network)
+      ∙ places_have network port class is used;
   used = All-map (λ (row : Row). is_used network row.port row.class ≡ true) (least_row network) (places_of network) (places_used network);
   ordered = AllPairs-map IsBefore (least_row network) (places_of network) (places_ordered network);
 }

@@ -1,10 +1,10 @@
-use Rattle.std.proofs.Common.{◌≡◌, ℕ, zero, suc, ◌+◌, ◌<◌, ◌≤◌, Bool, true, false, cond, List, [], ◌∷◌, ◌++◌, length, get_or, map, filter, sum_by, Option, Some, None, refl, sym, ap, subst, ◌∙◌, inl, inr, ◌⊎◌, arith}
+use Rattle.std.proofs.Common.{◌≡◌, ℕ, zero, suc, ◌<◌, Bool, true, false, cond, List, [], ◌∷◌, ◌++◌, length, get_or, map, filter, Option, Some, None, refl, sym, ap, subst, ◌∙◌, inl, inr, ◌⊎◌, arith}
 use Rattle.std.specs.Prelude.{is_some, ◌&&◌, ◌||◌}
 use Rattle.std.specs.List.{All, AllPairs, Contains, find, list_any}
 use Rattle.std.specs.Option.{option_or}
-use Rattle.std.proofs.lemmas.Bool.{cases_Bool, or_cases}
-use Rattle.std.proofs.lemmas.List.{length-append, get_or_append_left, get_or-append_right, get_or-map, length-map}
-use Rattle.std.proofs.lemmas.List.Elements.{All-nil, All-cons, All-head, All-tail, All-append, All-get_or, Contains-get_or}
+use Rattle.std.proofs.lemmas.Bool.{or_cases}
+use Rattle.std.proofs.lemmas.List.{get_or-map, length-map}
+use Rattle.std.proofs.lemmas.List.Elements.{All-nil, All-cons, All-head, All-tail, All-append}
 use Rattle.std.proofs.lemmas.List.Kept.{AllPairs-cons}
 use Rattle.ats_bound.specs.Reason.{first_some}
 
@@ -157,6 +157,6 @@ same_in_order R apart (x ∷ xs) [] first second there back = absurd (not_empty 
 same_in_order {X} R apart (x ∷ xs) (y ∷ ys) first second there back =
     let same : x ≡ y = same_head R apart x xs y ys first second (there x (zero, omega arith, refl)) (back y (zero, omega arith, refl)) in
     let rests : xs ≡ ys = same_in_order R apart xs ys (rest_of R x xs first) (rest_of R y ys second)
-        (λ z c. behind_head R apart x xs y ys first same z c (there z (behind x xs z c)))
-        (λ z c. behind_head R apart y ys x xs second (sym same) z c (back z (behind y ys z c))) in
+    (λ z c. behind_head R apart x xs y ys first same z c (there z (behind x xs z c)))
+    (λ z c. behind_head R apart y ys x xs second (sym same) z c (back z (behind y ys z c))) in
     ap (λ (t : List X). x ∷ t) rests ∙ ap (λ (h : X). h ∷ ys) same

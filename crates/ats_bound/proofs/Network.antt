@@ -1,5 +1,4 @@
-use Rattle.std.proofs.Common.{◌≡◌, ℕ, ◌+◌, ◌*◌, ◌<◌, ◌≤◌, Bool, true, false, cond, List, [], ◌∷◌, ◌++◌, length, map, take, sym, ap, subst, ◌∙◌, arith, length-append}
-use Rattle.std.specs.List.{All}
+use Rattle.std.proofs.Common.{◌≡◌, ℕ, ◌+◌, ◌<◌, ◌≤◌, Bool, true, false, cond, List, [], ◌∷◌, ◌++◌, length, map, take, sym, ap, subst, ◌∙◌, arith, length-append}
 use Rattle.std.proofs.lemmas.List.{append-nil, length-map, length-take}
 use Rattle.std.proofs.lemmas.List.Elements.{All-filter, All-take, filter_more}
 use Rattle.std.proofs.lemmas.List.Sums.{length-filter, count_by-le-length}
@@ -44,7 +43,7 @@ pub count_next : (network : DeclaredNetwork) (port class i : ℕ) (tally next : 
 count_next network port class i tally next within used is h =
     let senders : List Sender = senders_of network in
     let more : senders_at port (take (i + 1) senders) ≡ senders_at port (take i senders) ++ sender_at network i ∷ [] =
-        filter_more (uses port) senders i no_sender within ∙ ap (λ (b : Bool). senders_at port (take i senders) ++ cond b (sender_at network i ∷ []) []) used in
+    filter_more (uses port) senders i no_sender within ∙ ap (λ (b : Bool). senders_at port (take i senders) ++ cond b (sender_at network i ∷ []) []) used in
     let same : tally_with class (sender_at network i) tally ≡ next = sym is in
     subst (λ (t : Tally). IsTally class (senders_at port (take (i + 1) senders)) t) same
     (subst (λ (ss : List Sender). IsTally class ss (tally_with class (sender_at network i) tally)) (sym more) (tally_more class (senders_at port (take i senders)) tally (sender_at network i) h))
@@ -54,6 +53,6 @@ pub count_not : (network : DeclaredNetwork) (port class i : ℕ) (tally next : T
 count_not network port class i tally next within unused is h =
     let senders : List Sender = senders_of network in
     let same_list : senders_at port (take (i + 1) senders) ≡ senders_at port (take i senders) =
-        filter_more (uses port) senders i no_sender within ∙ ap (λ (b : Bool). senders_at port (take i senders) ++ cond b (sender_at network i ∷ []) []) unused ∙ append-nil (senders_at port (take i senders)) in
+    filter_more (uses port) senders i no_sender within ∙ ap (λ (b : Bool). senders_at port (take i senders) ++ cond b (sender_at network i ∷ []) []) unused ∙ append-nil (senders_at port (take i senders)) in
     let same : tally ≡ next = sym is in
     subst (λ (t : Tally). IsTally class (senders_at port (take (i + 1) senders)) t) same (subst (λ (ss : List Sender). IsTally class ss tally) (sym same_list) h)

@@ -1,22 +1,22 @@
-use Rattle.std.proofs.Common.{◌≡◌, ℕ, ◌*◌, ◌<◌, ◌≤◌, Bool, true, List, length, get_or, map, sum_by, Option, Some, None, refl, sym, ap, subst, ◌∙◌, inl, inr, eqb, arith}
-use Rattle.std.specs.Prelude.{is_some, unwrap_or, ◌&&◌}
-use Rattle.std.specs.List.{All, find}
+use Rattle.std.proofs.Common.{◌≡◌, ℕ, ◌≤◌, true, List, get_or, Option, Some, None, refl, sym, ap, subst, ◌∙◌, inl, inr, eqb, arith}
+use Rattle.std.specs.Prelude.{is_some, unwrap_or}
+use Rattle.std.specs.List.{All}
 use Rattle.std.specs.Option.{option_or, option_map}
 use Rattle.std.proofs.lemmas.Bool.{and_parts, eqb-true, true≢false}
-use Rattle.std.proofs.lemmas.List.Elements.{All-map, All-get_or}
+use Rattle.std.proofs.lemmas.List.Elements.{All-map}
 use Rattle.std.proofs.lemmas.List.Sums.{sum_by-le-sum_by}
 use Rattle.ats_streams.specs.Stream.{DeclaredStream}
 use Rattle.ats_network.specs.Network.{DeclaredNetwork, IsNetwork}
 use Rattle.ats_certificate.specs.PortSums.{is_used}
 use Rattle.ats_certificate.specs.Used.{places_of}
-use Rattle.ats_certificate.specs.Certificate.{Holds, RowHolds, MayStay, IsInTime, is_row_of, row_of, bound_at, bound_along}
+use Rattle.ats_certificate.specs.Certificate.{Holds, RowHolds, MayStay, IsInTime, is_row_of, row_of, bound_at}
 use Rattle.ats_certificate.specs.declared.row.Row.{Row}
 use Rattle.ats_bound.specs.Least.{least_row, least_certificate}
 use Rattle.ats_bound.specs.Reason.{reason_of, first_some, overload, overstay, delay}
 use Rattle.ats_bound.specs.Laws.{ReasonLeavesNone}
 use Rattle.ats_bound.specs.declared.reason.Reason.{Reason}
 use Rattle.ats_bound.proofs.Lists.{All-found, IsFound, found_is, option_cases, first_some-none}
-use Rattle.ats_bound.proofs.Places.{IsPlace, IsUsedAt, is_place, places_used}
+use Rattle.ats_bound.proofs.Places.{IsPlace, is_place, places_used}
 use Rattle.ats_bound.proofs.Waits.{Fits, load-is, least_wait-le, least_bound-le}
 use Rattle.ats_bound.proofs.Reasons.{overload-none, overstay-none, delay-none}
 
@@ -114,16 +114,16 @@ reason_of-none network loads stays times =
 pub no_reason_held : (network : DeclaredNetwork) (rows : List Row) → IsNetwork network → Holds network rows → reason_of network ≡ None
 no_reason_held network rows is h =
     let loads : first_some (overload network) (places_of network) ≡ None =
-        first_some-none (overload network) (places_of network)
-        (λ k d within. overload-none network (get_or (places_of network) k d).0 (get_or (places_of network) k d).1 (fits_held network rows (get_or (places_of network) k d).0 (get_or (places_of network) k d).1 h (places_used network k d within))) in
+    first_some-none (overload network) (places_of network)
+    (λ k d within. overload-none network (get_or (places_of network) k d).0 (get_or (places_of network) k d).1 (fits_held network rows (get_or (places_of network) k d).0 (get_or (places_of network) k d).1 h (places_used network k d within))) in
     let stays : first_some (overstay network) (least_certificate network) ≡ None =
-        first_some-none (overstay network) (least_certificate network)
-        (All-map (λ (row : Row). overstay network row ≡ None) (least_row network) (places_of network)
-        (λ k d within. overstay-none network (least_row network (get_or (places_of network) k d))
-        (stays_held network rows (get_or (places_of network) k d).0 (get_or (places_of network) k d).1 is h (places_used network k d within)))) in
+    first_some-none (overstay network) (least_certificate network)
+    (All-map (λ (row : Row). overstay network row ≡ None) (least_row network) (places_of network)
+    (λ k d within. overstay-none network (least_row network (get_or (places_of network) k d))
+    (stays_held network rows (get_or (places_of network) k d).0 (get_or (places_of network) k d).1 is h (places_used network k d within)))) in
     let times : first_some (delay (least_certificate network)) network.streams ≡ None =
-        first_some-none (delay (least_certificate network)) network.streams
-        (λ k d within. delay-none (least_certificate network) (get_or network.streams k d) (in_time_held network rows (get_or network.streams k d) is h (h.deadlines k d within))) in
+    first_some-none (delay (least_certificate network)) network.streams
+    (λ k d within. delay-none (least_certificate network) (get_or network.streams k d) (in_time_held network rows (get_or network.streams k d) is h (h.deadlines k d within))) in
     reason_of-none network loads stays times
 
 none_some : {X : Type 0} (x : X) → None ≡ Some x → ⊥

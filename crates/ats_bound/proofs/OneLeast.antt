@@ -1,17 +1,15 @@
-use Rattle.std.proofs.Common.{◌≡◌, ℕ, ◌<◌, Bool, true, List, map, length, get_or, Option, Some, None, refl, sym, ap, subst, ◌∙◌, inl, inr, ◌⊎◌, eqb, arith}
-use Rattle.std.specs.Prelude.{is_some, ◌&&◌}
-use Rattle.std.specs.List.{All, AllPairs, Contains, find, list_any}
+use Rattle.std.proofs.Common.{◌≡◌, ℕ, true, List, sym, ap, subst, ◌∙◌, inl, inr, arith}
+use Rattle.std.specs.List.{Contains}
 use Rattle.std.proofs.lemmas.List.Elements.{All-contains}
 use Rattle.ats_network.specs.Network.{DeclaredNetwork, IsNetwork}
 use Rattle.ats_certificate.specs.PortSums.{is_used}
-use Rattle.ats_certificate.specs.Used.{places_of}
 use Rattle.ats_certificate.specs.Certificate.{IsBefore, is_row_of, row_of}
 use Rattle.ats_certificate.specs.Least.{IsLeastRow, IsLeastCertificate}
 use Rattle.ats_certificate.specs.declared.row.Row.{Row}
 use Rattle.ats_bound.specs.Least.{least_row, least_certificate}
 use Rattle.ats_bound.specs.Laws.{LeastCertificateIsOne}
 use Rattle.ats_bound.proofs.Lists.{IsFound, found_is, All-found, Contains-found, option_cases, same_in_order}
-use Rattle.ats_bound.proofs.Places.{is_place, places_have}
+use Rattle.ats_bound.proofs.Places.{is_place}
 use Rattle.ats_bound.proofs.Waits.{least_row-only}
 use Rattle.ats_bound.proofs.NoneHolds.{IsLeastOf, each_least, row_at, no_none}
 use Rattle.ats_bound.proofs.LeastHolds.{least_rows}

@@ -1,7 +1,7 @@
-use Rattle.std.proofs.Common.{◌≡◌, ℕ, zero, suc, ◌+◌, ◌-◌, ◌*◌, ◌<◌, ◌≤◌, Bool, true, false, cond, List, [], ◌∷◌, ◌++◌, length, get_or, map, filter, sum_by, refl, sym, ap, subst, ◌∙◌, inl, inr, ◌⊎◌, eqb, arith}
+use Rattle.std.proofs.Common.{◌≡◌, ℕ, zero, suc, ◌+◌, ◌-◌, ◌<◌, ◌≤◌, Bool, true, false, cond, List, [], ◌∷◌, length, get_or, map, filter, sum_by, refl, ap, ◌∙◌, inl, inr, ◌⊎◌, eqb, arith}
 use Rattle.std.specs.Prelude.{◌&&◌, ◌||◌}
 use Rattle.std.specs.List.{All, AllPairs, list_any}
-use Rattle.std.proofs.lemmas.Bool.{cases_Bool, cases_eq, eqb-true, eq-eqb, and_from, or_left, or_right}
+use Rattle.std.proofs.lemmas.Bool.{cases_eq, eqb-true, eq-eqb, and_from, or_left, or_right}
 use Rattle.std.proofs.lemmas.List.Elements.{All-nil, All-append, All-map, All-filter, All-weaker, All-head, All-tail, filter_passes, filter-append}
 use Rattle.std.proofs.lemmas.List.Folds.{list_any-append, list_any_at}
 use Rattle.std.proofs.lemmas.List.Kept.{AllPairs-filter}
@@ -13,9 +13,8 @@ use Rattle.ats_topology.specs.declared.port.Port.{Port}
 use Rattle.ats_network.specs.Sender.{Sender, stream_sender, flow_sender}
 use Rattle.ats_network.specs.Network.{DeclaredNetwork, IsNetwork, senders_of}
 use Rattle.ats_network.specs.Senders.{IsSender}
-use Rattle.ats_network.proofs.Appended.{all_left}
 use Rattle.ats_network.proofs.SenderLemmas.{each_is_sender}
-use Rattle.ats_certificate.specs.PortSums.{uses, is_of, sum_where, senders_at, port_sums, is_used}
+use Rattle.ats_certificate.specs.PortSums.{uses, is_of, sum_where, senders_at, is_used}
 use Rattle.ats_certificate.specs.Used.{classes, place, places_at, places_from, places_of}
 use Rattle.ats_bound.proofs.Lists.{any_gives, list_any-map, list_any-filter, AllPairs-append, AllPairs-map}
 
@@ -97,7 +96,7 @@ has_class : (network : DeclaredNetwork) (port class : ℕ) → 1 ≤ class → c
 has_class network port class least most used =
     let there : get_or classes (class - 1) 0 ≡ class = class_at (class - 1) 0 (omega arith) ∙ omega arith in
     let passes : (is_used network port class && is_at port class (place port class)) ≡ true =
-        and_from (is_used network port class) (is_at port class (place port class)) used (and_from (eqb port port) (eqb class class) (eq-eqb port port refl) (eq-eqb class class refl)) in
+    and_from (is_used network port class) (is_at port class (place port class)) used (and_from (eqb port port) (eqb class class) (eq-eqb port port refl) (eq-eqb class class refl)) in
     list_any-map (is_at port class) (place port) (filter (λ c. is_used network port c) classes)
     ∙ list_any-filter (λ c. is_at port class (place port c)) (λ c. is_used network port c) classes
     ∙ list_any_at (λ c. is_used network port c && is_at port class (place port c)) classes (class - 1) 0 (omega arith)
@@ -158,8 +157,8 @@ used_class network port class is used =
     let streams : List Sender = map stream_sender network.streams in
     any_gives (is_of class) (1 ≤ class) (senders_at port streams)
     (λ k d h e. (
-      let least = All-filter (uses port) (λ (s : Sender). 1 ≤ s.class) streams (streams_class network.streams is.streams) k d h in
-      omega (arith, least, eqb-true (get_or (senders_at port streams) k d).class class e)))
+    let least = All-filter (uses port) (λ (s : Sender). 1 ≤ s.class) streams (streams_class network.streams is.streams) k d h in
+    omega (arith, least, eqb-true (get_or (senders_at port streams) k d).class class e)))
     used
 
 pub is_place : (network : DeclaredNetwork) (port class : ℕ) → IsNetwork network → is_used network port class ≡ true → IsPlace network port class
@@ -175,8 +174,8 @@ is_place network port class is used =
       most = any_gives (is_of class) (class ≤ 7) senders (λ k d h e. (let s = all k d h in omega (arith, s.is.class, eqb-true (get_or senders k d).class class e))) any;
       is_port = is.topology.each_port port no_port inside;
       rate =
-        any_sum (is_of class) (λ (s : Sender). s.rate) senders
-        (λ k d h e. (let s = all k d h in (s.is.shaped (omega (arith, least, eqb-true (get_or senders k d).class class e))).rate.positive)) any;
+          any_sum (is_of class) (λ (s : Sender). s.rate) senders
+          (λ k d h e. (let s = all k d h in (s.is.shaped (omega (arith, least, eqb-true (get_or senders k d).class class e))).rate.positive)) any;
     }
 
 -- the places are all that are used

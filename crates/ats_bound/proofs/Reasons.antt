@@ -1,4 +1,4 @@
-use Rattle.std.proofs.Common.{◌≡◌, ℕ, ◌*◌, ◌<◌, ◌≤◌, Bool, true, false, cond, List, Option, Some, None, refl, sym, ap, ◌∙◌, arith}
+use Rattle.std.proofs.Common.{◌≡◌, ℕ, ◌*◌, ◌≤◌, Bool, true, false, cond, List, Option, Some, None, refl, ap, arith}
 use Rattle.std.specs.Prelude.{nat_lt}
 use Rattle.std.specs.Option.{ForSome}
 use Rattle.std.proofs.lemmas.Bool.{ltb-false, le-ltb}
@@ -9,7 +9,6 @@ use Rattle.ats_network.specs.Residence.{residence_after}
 use Rattle.ats_certificate.specs.Certificate.{MayStay, IsInTime, bound_along}
 use Rattle.ats_certificate.specs.declared.row.Row.{Row}
 use Rattle.ats_bound.specs.Reason.{load_at, overload, overstay_by, overstay, delay}
-use Rattle.ats_bound.specs.declared.reason.Reason.{Reason}
 use Rattle.ats_bound.specs.declared.reason.Reason.TheVariants.{Overloaded, Residence, Deadline}
 use Rattle.ats_bound.proofs.Waits.{Fits}
 

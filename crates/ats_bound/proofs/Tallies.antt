@@ -1,13 +1,11 @@
-use Rattle.std.proofs.Common.{◌≡◌, ℕ, zero, suc, ◌+◌, ◌*◌, ◌<◌, ◌≤◌, min, max, Bool, true, false, cond, List, [], ◌∷◌, ◌++◌, length, get_or, map, filter, sum_by, Option, Some, None, refl, sym, ap, subst, ◌∙◌, inl, inr, arith}
-use Rattle.std.specs.Prelude.{fold, is_some, unwrap_or, ◌||◌}
-use Rattle.std.specs.List.{All, list_any}
+use Rattle.std.proofs.Common.{◌≡◌, ℕ, ◌+◌, ◌*◌, ◌<◌, ◌≤◌, min, max, Bool, true, false, cond, List, [], ◌∷◌, ◌++◌, length, get_or, map, filter, sum_by, Option, Some, refl, sym, ap, subst, ◌∙◌, inl, inr, arith}
+use Rattle.std.specs.Prelude.{fold, unwrap_or, ◌||◌}
+use Rattle.std.specs.List.{All}
 use Rattle.std.proofs.Math.Nat.{mul-le-mul_right}
-use Rattle.std.proofs.lemmas.Bool.{cases_Bool, cases_order, eqb-true, eq-eqb, ne_eqb, lt-ltb, le-ltb, ltb-true, or_cases, or_from, or_left, or_right}
-use Rattle.std.proofs.lemmas.List.{map-append, append-nil, length-map}
-use Rattle.std.proofs.lemmas.List.Elements.{All-nil, All-cons, All-head, All-tail, All-map, All-filter, filter_passes, filter-append}
-use Rattle.std.proofs.lemmas.List.Folds.{list_any-append}
+use Rattle.std.proofs.lemmas.Bool.{cases_order, eqb-true, eq-eqb, ne_eqb, lt-ltb, le-ltb, ltb-true, or_cases, or_from, or_left, or_right}
+use Rattle.std.proofs.lemmas.List.{map-append, append-nil}
+use Rattle.std.proofs.lemmas.List.Elements.{All-head, All-tail, All-filter, filter_passes, filter-append}
 use Rattle.std.proofs.lemmas.List.Sums.{fold-append, sum_by-append, sum_by-cons, sum_by-le, length-filter, count_by-le-length}
-use Rattle.ats_num.specs.Wire.{bits_of}
 use Rattle.ats_num.specs.declared.rate.TheConstants.{MAX_BPS, MAX_BURST_BITS}
 use Rattle.ats_num.specs.declared.wire.TheConstants.{MAX_WIRE_BITS}
 use Rattle.ats_topology.specs.Topology.{DeclaredTopology}
@@ -118,7 +116,7 @@ tally_none class = record { above = refl; equal = refl; bursts = refl; lower = r
 sum_within : (test : Sender → Bool) (amount : Sender → ℕ) (most count : ℕ) (senders : List Sender) → All (λ (s : Sender). test s ≡ true → amount s ≤ most) senders → length senders ≤ count → sum_where test amount senders ≤ count * most
 sum_within test amount most count senders all few =
     let each : All (λ (s : Sender). amount s ≤ most) (filter test senders) =
-        (λ k d h. All-filter test (λ (s : Sender). test s ≡ true → amount s ≤ most) senders all k d h (filter_passes test senders k d h)) in
+    (λ k d h. All-filter test (λ (s : Sender). test s ≡ true → amount s ≤ most) senders all k d h (filter_passes test senders k d h)) in
     let total = sum_by-le amount most (filter test senders) each in
     let fewer : length (filter test senders) ≤ count = omega (arith, length-filter test senders, count_by-le-length test senders, few) in
     omega (arith, total, mul-le-mul_right most fewer)
@@ -140,19 +138,39 @@ known_within amount most (s ∷ senders) all = least_within amount most (amount 
 pub tally_within : (topology : DeclaredTopology) (class : ℕ) (senders : List Sender) (tally : Tally) → 1 ≤ class → All (IsSender topology) senders → length senders ≤ MAX_SENDERS → IsTally class senders tally → IsWithin MAX_SENDERS tally
 tally_within topology class senders tally shaped all few h =
     record {
-      above = omega (arith, h.above, sum_within (is_above class) (λ (s : Sender). s.rate) MAX_BPS MAX_SENDERS senders
-          (λ k d i e. ((all k d i).shaped (omega (arith, ltb-true class (get_or senders k d).class e))).rate.within) few);
-      equal = omega (arith, h.equal, sum_within (is_of class) (λ (s : Sender). s.rate) MAX_BPS MAX_SENDERS senders
-          (λ k d i e. ((all k d i).shaped (omega (arith, shaped, eqb-true (get_or senders k d).class class e))).rate.within) few);
-      bursts = omega (arith, h.bursts, sum_within (λ (s : Sender). is_above class s || is_of class s) (λ (s : Sender). s.burst_bits) MAX_BURST_BITS MAX_SENDERS senders
-          (λ k d i e. ((all k d i).shaped (elim (or_cases (is_above class (get_or senders k d)) (is_of class (get_or senders k d)) e) as (λ _. 1 ≤ (get_or senders k d).class) [
-            | inl above ↦ omega (arith, ltb-true class (get_or senders k d).class above)
-            | inr of ↦ omega (arith, shaped, eqb-true (get_or senders k d).class class of)
-          ])).burst) few);
-      lower = omega (arith, h.lower, greatest_within longest MAX_WIRE_BITS 0 (filter (is_below class) senders) (omega arith)
-          (All-filter (is_below class) (λ (s : Sender). longest s ≤ MAX_WIRE_BITS) senders (λ k d i. (let z = all k d i in omega (arith, z.sizes.most)))));
-      least = omega (arith, ap (λ (o : Option ℕ). unwrap_or o 0) h.least, known_within shortest MAX_WIRE_BITS (filter (is_of class) senders)
-          (All-filter (is_of class) (λ (s : Sender). shortest s ≤ MAX_WIRE_BITS) senders (λ k d i. (let z = all k d i in omega (arith, z.sizes.ordered, z.sizes.most)))));
+      above = omega (
+        arith,
+        h.above,
+        sum_within (is_above class) (λ (s : Sender). s.rate) MAX_BPS MAX_SENDERS senders
+            (λ k d i e. ((all k d i).shaped (omega (arith, ltb-true class (get_or senders k d).class e))).rate.within) few,
+      );
+      equal = omega (
+        arith,
+        h.equal,
+        sum_within (is_of class) (λ (s : Sender). s.rate) MAX_BPS MAX_SENDERS senders
+            (λ k d i e. ((all k d i).shaped (omega (arith, shaped, eqb-true (get_or senders k d).class class e))).rate.within) few,
+      );
+      bursts = omega (
+        arith,
+        h.bursts,
+        sum_within (λ (s : Sender). is_above class s || is_of class s) (λ (s : Sender). s.burst_bits) MAX_BURST_BITS MAX_SENDERS senders
+            (λ k d i e. ((all k d i).shaped (elim (or_cases (is_above class (get_or senders k d)) (is_of class (get_or senders k d)) e) as (λ _. 1 ≤ (get_or senders k d).class) [
+              | inl above ↦ omega (arith, ltb-true class (get_or senders k d).class above)
+              | inr of ↦ omega (arith, shaped, eqb-true (get_or senders k d).class class of)
+            ])).burst) few,
+      );
+      lower = omega (
+        arith,
+        h.lower,
+        greatest_within longest MAX_WIRE_BITS 0 (filter (is_below class) senders) (omega arith)
+            (All-filter (is_below class) (λ (s : Sender). longest s ≤ MAX_WIRE_BITS) senders (λ k d i. (let z = all k d i in omega (arith, z.sizes.most)))),
+      );
+      least = omega (
+        arith,
+        ap (λ (o : Option ℕ). unwrap_or o 0) h.least,
+        known_within shortest MAX_WIRE_BITS (filter (is_of class) senders)
+            (All-filter (is_of class) (λ (s : Sender). shortest s ≤ MAX_WIRE_BITS) senders (λ k d i. (let z = all k d i in omega (arith, z.sizes.ordered, z.sizes.most)))),
+      );
     }
 
 known_is : (ns : List ℕ) → unwrap_or (least_known ns) 0 ≡ least_of ns

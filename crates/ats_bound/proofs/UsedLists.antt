@@ -1,11 +1,10 @@
-use Rattle.std.proofs.Common.{◌≡◌, ℕ, zero, suc, ◌+◌, ◌<◌, ◌≤◌, Bool, true, false, cond, List, [], ◌∷◌, ◌++◌, length, get_or, map, filter, take, Option, Some, None, refl, sym, ap, subst, ◌∙◌, arith, length-append}
+use Rattle.std.proofs.Common.{◌≡◌, ℕ, zero, suc, ◌+◌, ◌<◌, ◌≤◌, Bool, true, false, cond, List, [], ◌∷◌, ◌++◌, length, get_or, map, filter, take, refl, sym, ap, subst, ◌∙◌, arith}
 use Rattle.std.specs.Prelude.{is_some, ◌||◌}
 use Rattle.std.specs.List.{All, list_any}
 use Rattle.std.proofs.lemmas.Bool.{ne_eqb}
 use Rattle.std.proofs.lemmas.List.{map_more, length-map, length-take-le}
 use Rattle.std.proofs.lemmas.List.Elements.{All-nil, All-cons, All-map, All-take, filter-append, All-filter}
 use Rattle.std.proofs.lemmas.List.Folds.{list_any-append, list_any_none}
-use Rattle.ats_streams.specs.Flow.{DeclaredFlow}
 use Rattle.ats_network.specs.Sender.{Sender, stream_sender, flow_sender}
 use Rattle.ats_network.specs.Network.{DeclaredNetwork, IsNetwork, senders_of}
 use Rattle.ats_network.specs.Senders.{IsSender, sender_at, no_sender}
@@ -80,9 +79,9 @@ used-is network port class shaped =
     let streams : List Sender = map stream_sender network.streams in
     let flows : List Sender = map flow_sender network.flows in
     let none : list_any (is_of class) (senders_at port flows) ≡ false =
-        list_any_none (is_of class) (senders_at port flows)
-        (All-filter (uses port) (λ (s : Sender). is_of class s ≡ false) flows
-        (All-map (λ (s : Sender). is_of class s ≡ false) flow_sender network.flows (λ k d h. ne_eqb 0 class (λ e. omega arith)))) in
+    list_any_none (is_of class) (senders_at port flows)
+    (All-filter (uses port) (λ (s : Sender). is_of class s ≡ false) flows
+    (All-map (λ (s : Sender). is_of class s ≡ false) flow_sender network.flows (λ k d h. ne_eqb 0 class (λ e. omega arith)))) in
     ap (list_any (is_of class)) (filter-append (uses port) streams flows)
     ∙ list_any-append (is_of class) (senders_at port streams) (senders_at port flows)
     ∙ ap (λ (b : Bool). list_any (is_of class) (senders_at port streams) || b) none

@@ -1,4 +1,4 @@
-use Rattle.std.proofs.Common.{◌≡◌, ℕ, ◌+◌, ◌-◌, ◌*◌, ◌<◌, ◌≤◌, Bool, true, List, refl, sym, ap, ◌∙◌, arith}
+use Rattle.std.proofs.Common.{◌≡◌, ℕ, ◌+◌, ◌-◌, ◌*◌, ◌≤◌, refl, ap, ◌∙◌, arith}
 use Rattle.std.proofs.Math.Nat.{mul-le-mul_left}
 use Rattle.ats_num.specs.Division.{IsCeiling}
 use Rattle.ats_num.specs.declared.time.TheConstants.{PS_PER_SECOND}
@@ -7,12 +7,12 @@ use Rattle.ats_topology.specs.declared.port.Port.{Port}
 use Rattle.ats_network.specs.Network.{DeclaredNetwork, senders_of}
 use Rattle.ats_network.specs.Sender.{Sender}
 use Rattle.ats_certificate.specs.PortSums.{PortSums, port_sums, is_of, sum_where, senders_at}
-use Rattle.ats_certificate.specs.Certificate.{Covers, HasSums, IsEnough, FitsLink, bound_of}
+use Rattle.ats_certificate.specs.Certificate.{Covers, HasSums, bound_of}
 use Rattle.ats_certificate.specs.Least.{IsLeastRow}
 use Rattle.ats_certificate.specs.declared.row.Row.{Row}
-use Rattle.ats_bound.specs.Least.{ceiling, least_wait, row_with, least_row}
+use Rattle.ats_bound.specs.Least.{least_wait, least_row}
 use Rattle.ats_bound.specs.Reason.{load_at}
-use Rattle.ats_bound.proofs.Ceiling.{ceiling-is, ceiling-only}
+use Rattle.ats_bound.proofs.Ceiling.{ceiling-is}
 use Rattle.ats_bound.proofs.Places.{IsPlace}
 
 -- the load of a place is within its link

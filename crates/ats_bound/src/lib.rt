@@ -8,10 +8,12 @@ mod listing;
 pub mod reason;
 pub mod rows;
 mod stays;
-pub mod tally;
+mod tally;
 mod users;
 
 pub use least::make;
 pub use reason::{NoBound, Reason};
-pub use rows::{least_wait, row};
-pub use tally::Tally;
+pub use rows::{is_used, row};
+
+#[cfg(test)]
+mod tests;

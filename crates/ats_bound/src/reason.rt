@@ -4,7 +4,7 @@ use ats_num::{Name, NoMemory};
 
 /// Why no certificate holds for a network: of several reasons the one that stands first here, and of several of one kind
 /// the first in the order of the rows, or of the streams.
-#[derive(Clone, Copy, Debug)]
+#[derive(Clone, Copy, Debug, PartialEq, Eq)]
 pub enum Reason {
     /// The rates of a class and those above it are more than its port's link can carry.
     Overloaded {
@@ -34,7 +34,7 @@ pub enum Reason {
 }
 
 /// Why there is no certificate.
-#[derive(Clone, Copy, Debug)]
+#[derive(Clone, Copy, Debug, PartialEq, Eq)]
 pub enum NoBound {
     /// None holds.
     Reason(Reason),

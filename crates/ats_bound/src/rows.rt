@@ -1,12 +1,13 @@
 //! Rows with the least waits.
 
-ghost use Rattle.std.specs.Prelude.{◌≡◌, ◌-◌, ◌+◌, ◌*◌, ◌<◌, ◌≤◌, length, map, unwrap_or, All, IfOk, IsTrue};
+ghost use Rattle.std.specs.Prelude.{◌≡◌, ◌&&◌, ◌-◌, ◌+◌, ◌*◌, ◌<◌, ◌≤◌, length, map, unwrap_or, All, IfOk, IsTrue};
+ghost use Rattle.std.specs.List.{list_any};
 ghost use Rattle.ats_num.specs.declared.time.TheConstants.{PS_PER_SECOND};
 ghost use Rattle.ats_topology.specs.Rates.{IsPsPerBit};
 ghost use Rattle.ats_network.specs.Network.{senders_of};
-ghost use Rattle.ats_network.specs.Senders.{sender_at};
+ghost use Rattle.ats_network.specs.Sender.{stream_sender};
 ghost use Rattle.ats_certificate.specs.Form.{IsRow};
-ghost use Rattle.ats_certificate.specs.PortSums.{is_used, senders_at};
+ghost use Rattle.ats_certificate.specs.PortSums.{is_of, is_used, senders_at, uses};
 ghost use Rattle.ats_bound.specs.Least.{ceiling};
 ghost use Rattle.ats_bound.specs.Row.{row_from, row_or_load};
 ghost use Rattle.ats_bound.specs.Tally.{IsTally, IsWithin, sums_of};
@@ -16,10 +17,19 @@ use ats_certificate::Row;
 use ats_network::Network;
 use ats_num::ceil_div;
 use ats_num::time::PS_PER_SECOND;
+use ats_streams::Stream;
 use ats_topology::Port;
 
+/// Whether some stream of the class uses the port. It takes no memory.
+pub fn is_used(network: &Network, port: u32, class: u8) -> bool
+    ensures { result ≡ is_used network.now port class }
+{
+    is_used_by(network.streams(), port, class)
+}
+
 /// The row of a port and a class that some stream uses there: what the streams and flows make of them, the least wait that
-/// is enough, and its bound. It takes no memory, and looks at each path of the network once.
+/// is enough, and its bound. It takes no memory, and looks at each path of the network once. `is_used` tests
+/// whether some stream does.
 ///
 /// # Errors
 ///
@@ -30,6 +40,13 @@ pub fn row(network: &Network, port: u32, class: u8) -> Result<Row, u128>
     ensures { result ≡ row_or_load network.now (port, class) }
 {
     row_of(network, port, class, tally_at(network, port, class))
+}
+
+// Whether one of these streams uses the port and is of the class.
+fn is_used_by(streams: &[Stream], port: u32, class: u8) -> bool
+    ensures { result ≡ list_any (λ s. uses port (stream_sender s) && is_of class (stream_sender s)) streams.now }
+{
+    streams.iter().any(|stream| stream.path().contains(&port) && stream.class() == class)
 }
 
 /// The row of a port and a class, from what the senders at the port make of the class.
@@ -89,9 +106,8 @@ fn row_from(port: &Port, number: u32, class: u8, tally: Tally) -> Result<Row, u1
     })
 }
 
-/// The least wait that is enough, in picoseconds, where a bit takes `ps` picoseconds, the higher classes take `higher`
-/// picoseconds of each second, and the senders make so much of a class.
-pub fn least_wait(ps: u128, higher: u128, tally: Tally) -> u128
+// The least wait that is enough, where a bit takes so many picoseconds and the higher classes so much of each second.
+fn least_wait(ps: u128, higher: u128, tally: Tally) -> u128
     requires ps { ps ≤ 100000 }
     requires higher { higher < PS_PER_SECOND }
     requires tally { IsWithin MAX_SENDERS tally }

@@ -1,7 +1,6 @@
 use Rattle.std.proofs.Common.{◌≡◌, ◌*◌, ℕ, List, length, ap, sym, subst, ◌∙◌}
 use Rattle.std.specs.List.{All}
 use Rattle.ats_topology.specs.declared.port.Port.{Port}
-use Rattle.ats_streams.specs.Stream.{DeclaredStream}
 use Rattle.ats_bound.specs.Delays.{HasBounds, IsCovered, delay_by}
 use Rattle.ats_bound.specs.Reason.{first_some}
 use Rattle.ats_bound.proofs.Delaying.{each_covered, delays_agree}
@@ -17,7 +16,7 @@ pub returns : goal.returns
 returns c =
     let ports : length c.ports.result.now ≡ length c.args.network.now.topology.ports = ap (λ (ports : List Port). length ports) c.ports.ensures.value ∙ ap (λ t. length t.ports) c.topology.ensures.value in
     let has : HasBounds (length c.args.network.now.topology.ports) c.args.rows.now c.in_ok-table.table.items =
-        subst (λ (n : ℕ). HasBounds n c.args.rows.now c.in_ok-table.table.items) ports c.in_ok-table.ensures.bounds in
+    subst (λ (n : ℕ). HasBounds n c.args.rows.now c.in_ok-table.table.items) ports c.in_ok-table.ensures.bounds in
     c.first_delay_by.ensures
     ∙ ap (first_some (delay_by c.deref.result.now)) c.streams.ensures.value
     ∙ ap (λ (table : List ℕ). first_some (delay_by table) c.args.network.now.streams) c.deref.ensures.value

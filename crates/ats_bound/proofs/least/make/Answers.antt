@@ -23,7 +23,7 @@ returns-clause-holds c =
     let first : c.rows.result.now ≡ least_certificate c.args.network.now = c.rows.ensures.value ∙ c.in_ok-certificate.ensures.ok in
     let second : c.rows-2.result.now ≡ least_certificate c.args.network.now = c.rows-2.ensures.value ∙ c.in_ok-certificate.ensures.ok in
     let stays : first_some (overstay c.args.network.now) (least_certificate c.args.network.now) ≡ None =
-        sym (ap (first_some (overstay c.args.network.now)) first) ∙ sym c.first_overstay.ensures ∙ c.in_default.is in
+    sym (ap (first_some (overstay c.args.network.now)) first) ∙ sym c.first_overstay.ensures ∙ c.in_default.is in
     let times : first_some (delay (least_certificate c.args.network.now)) c.args.network.now.streams ≡ None =
-        sym (ap (λ (rows : List Row). first_some (delay rows) c.args.network.now.streams) second) ∙ sym c.in_ok-reason.ensures ∙ c.in_default-2.is in
+    sym (ap (λ (rows : List Row). first_some (delay rows) c.args.network.now.streams) second) ∙ sym c.in_ok-reason.ensures ∙ c.in_default-2.is in
     (least_certificate_holds c.args.network.now c.in_ok-certificate.ensures.rules (reason_of-none c.args.network.now c.in_ok-certificate.ensures.fits stays times)).holds

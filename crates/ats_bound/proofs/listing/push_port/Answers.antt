@@ -1,8 +1,7 @@
-use Rattle.std.proofs.Common.{◌≡◌, ◌≤◌, ◌<◌, ◌+◌, ℕ, List, get_or, sym, ap, subst, ◌∙◌, refl, arith}
+use Rattle.std.proofs.Common.{◌+◌, ℕ, get_or, subst, refl}
 use Rattle.ats_certificate.specs.Used.{classes}
-use Rattle.ats_certificate.specs.declared.row.Row.{Row}
 use Rattle.ats_bound.specs.Begun.{IsBegun}
-use Rattle.ats_bound.proofs.Beginnings.{begun_next, begun_after, begun_due, places_left, places_left-first, places_left-more}
+use Rattle.ats_bound.proofs.Beginnings.{begun_next, begun_after, places_left, places_left-first, places_left-more}
 use Rattle.ats_bound.proofs.listing.push_port.Goals as goal
 
 pub loop-class-init : goal.loop-class-init

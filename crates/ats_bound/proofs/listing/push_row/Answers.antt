@@ -1,10 +1,9 @@
-use Rattle.std.proofs.Common.{◌≡◌, ◌≤◌, ◌<◌, ◌++◌, ℕ, List, [], ◌∷◌, length, Bool, not, sym, ap, subst, ◌∙◌}
+use Rattle.std.proofs.Common.{◌≤◌, ◌<◌, ◌++◌, ℕ, List, [], ◌∷◌, length, not, sym, ap, subst, ◌∙◌}
 use Rattle.std.specs.List.{All}
 use Rattle.std.proofs.lemmas.List.{append-nil}
 use Rattle.ats_network.specs.Network.{senders_of}
 use Rattle.ats_certificate.specs.Form.{ComesAfter}
 use Rattle.ats_certificate.specs.declared.row.Row.{Row}
-use Rattle.ats_bound.specs.Begun.{rows_at}
 use Rattle.ats_bound.specs.declared.tally.TheConstants.{MAX_SENDERS}
 use Rattle.ats_bound.proofs.UsedLists.{each_user, few_users, tallied, used_listed}
 use Rattle.ats_bound.proofs.Beginnings.{row_ok, overload-of_load, rows_at-used, rows_at-unused, overload_at-used, overload_at-unused}

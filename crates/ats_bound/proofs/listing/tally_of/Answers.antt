@@ -1,4 +1,4 @@
-use Rattle.std.proofs.Common.{ap, sym, ◌∙◌, arith}
+use Rattle.std.proofs.Common.{arith}
 use Rattle.ats_bound.proofs.UsedLists.{listed_within, listed_more}
 use Rattle.ats_bound.proofs.listing.tally_of.Goals as goal
 

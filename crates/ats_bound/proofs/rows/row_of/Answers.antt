@@ -1,6 +1,5 @@
-use Rattle.std.proofs.Common.{◌≡◌, ◌<◌, ◌≤◌, ℕ, List, length, ap, ◌∙◌, sym, subst, arith}
-use Rattle.std.proofs.lemmas.List.{get_or_default}
-use Rattle.ats_topology.specs.Port.{port_at, no_port}
+use Rattle.std.proofs.Common.{◌≡◌, List, length, ap, ◌∙◌, sym, subst, arith}
+use Rattle.ats_topology.specs.Port.{port_at}
 use Rattle.ats_topology.specs.Rates.{IsPsPerBit}
 use Rattle.ats_topology.specs.declared.port.Port.{Port}
 use Rattle.ats_bound.proofs.Places.{IsPlace, is_place, used_class}
@@ -14,7 +13,7 @@ bounds-ports-port c =
     omega (arith, at.within, long)
 
 pub row_from-requires-clause-ps : goal.row_from-requires-clause-ps
-row_from-requires-clause-ps c = 
+row_from-requires-clause-ps c =
     let at : IsPlace c.args.network.now c.args.port c.args.class = is_place c.args.network.now c.args.port c.args.class c.topology.ensures.rules c.requires.used in
     let same : c.args.network.now.topology.ports ≡ c.ports-ports.result.now = sym (c.ports-ports.ensures.value ∙ ap (λ t. t.ports) c.topology.ensures.value) in
     subst (λ (ports : List Port). IsPsPerBit (port_at ports c.args.port).ps_per_bit) same at.is_port.rate

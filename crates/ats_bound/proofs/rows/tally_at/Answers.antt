@@ -1,4 +1,4 @@
-use Rattle.std.proofs.Common.{◌≡◌, ◌<◌, ◌≤◌, ℕ, List, length, Bool, sym, ap, ◌∙◌, eqb, arith}
+use Rattle.std.proofs.Common.{◌≡◌, ◌<◌, ℕ, length, sym, ap, ◌∙◌, eqb, arith}
 use Rattle.std.specs.List.{list_any}
 use Rattle.ats_network.specs.Network.{senders_of}
 use Rattle.ats_network.specs.Senders.{sender_at}
@@ -20,7 +20,7 @@ pub loop-sender-preserved : goal.loop-sender-preserved
 loop-sender-preserved c =
     let within : c.loop-sender.sender < length (senders_of c.args.network.now) = omega (arith, c.loop-sender-test.true, c.senders-sender-end.ensures.value) in
     let tested : uses c.args.port (sender_at c.args.network.now c.loop-sender.sender) ≡ c.contains.result =
-        ap (list_any (λ (p : ℕ). eqb p c.args.port)) (sym c.sender_path.ensures.value) ∙ sym c.contains.ensures.value in
+    ap (list_any (λ (p : ℕ). eqb p c.args.port)) (sym c.sender_path.ensures.value) ∙ sym c.contains.ensures.value in
     elim c.if-contains.branch [
       | then-contains w ↦ count_next c.args.network.now c.args.port c.args.class c.loop-sender.sender c.loop-sender.tally c.if-contains.tally within
           (tested ∙ w.if-contains.true) (w.tally-is ∙ w.with_sender-tally.ensures) c.loop-sender.invariant

@@ -1,5 +1,4 @@
-use Rattle.std.proofs.Common.{◌≡◌, length, take}
-use Rattle.ats_bound.specs.Gathered.{AddsUser}
+use Rattle.std.proofs.Common.{take}
 use Rattle.ats_bound.proofs.Gathering.{IsAdded}
 use Rattle.ats_bound.proofs.users.add_user.Given as goal
 

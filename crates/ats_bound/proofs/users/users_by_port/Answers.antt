@@ -1,10 +1,10 @@
-use Rattle.std.proofs.Common.{◌≡◌, ◌≢◌, ◌<◌, ℕ, List, length, sym, ap, subst, ◌∙◌, arith}
+use Rattle.std.proofs.Common.{◌≢◌, ◌<◌, ℕ, List, length, sym, subst, arith}
 use Rattle.std.specs.List.{All, AllPairs}
 use Rattle.ats_network.specs.Network.{senders_of}
 use Rattle.ats_network.specs.Senders.{IsSender, sender_at, no_sender}
 use Rattle.ats_network.proofs.SenderLemmas.{each_is_sender}
 use Rattle.ats_bound.specs.Gathered.{AddsUser}
-use Rattle.ats_bound.proofs.Gathering.{gathered_none, gathered_more}
+use Rattle.ats_bound.proofs.Gathering.{gathered_more}
 use Rattle.ats_bound.proofs.users.users_by_port.Goals as goal
 
 pub add_user-requires-clause-ports : goal.add_user-requires-clause-ports

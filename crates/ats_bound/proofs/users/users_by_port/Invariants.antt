@@ -1,4 +1,4 @@
-use Rattle.std.proofs.Common.{◌≡◌, length, take}
+use Rattle.std.proofs.Common.{length, take}
 use Rattle.ats_network.specs.Network.{senders_of}
 use Rattle.ats_bound.specs.Gathered.{AreGathered}
 use Rattle.ats_bound.proofs.users.users_by_port.Given as goal
