@@ -8,12 +8,10 @@ mod listing;
 pub mod reason;
 pub mod rows;
 mod stays;
-mod tally;
+pub mod tally;
 mod users;
 
 pub use least::make;
 pub use reason::{NoBound, Reason};
-pub use rows::{is_used, row};
-
-#[cfg(test)]
-mod tests;
+pub use rows::{is_used, least_wait, row};
+pub use tally::Tally;

@@ -106,8 +106,9 @@ fn row_from(port: &Port, number: u32, class: u8, tally: Tally) -> Result<Row, u1
     })
 }
 
-// The least wait that is enough, where a bit takes so many picoseconds and the higher classes so much of each second.
-fn least_wait(ps: u128, higher: u128, tally: Tally) -> u128
+/// The least wait that is enough, in picoseconds, where a bit takes `ps` picoseconds, the higher classes take `higher`
+/// picoseconds of each second, and the senders make so much of a class.
+pub fn least_wait(ps: u128, higher: u128, tally: Tally) -> u128
     requires ps { ps ≤ 100000 }
     requires higher { higher < PS_PER_SECOND }
     requires tally { IsWithin MAX_SENDERS tally }

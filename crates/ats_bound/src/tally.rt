@@ -11,26 +11,26 @@ use ats_num::wire_bits;
 use ats_streams::{Flow, Stream};
 
 /// The most senders of a network.
-pub(crate) const MAX_SENDERS: u64 = 5120;
+pub const MAX_SENDERS: u64 = 5120;
 
 /// What the senders that were counted make of a class.
 #[derive(Clone, Copy)]
-pub(crate) struct Tally {
+pub struct Tally {
     /// The rates of the higher classes, in bits per second.
-    pub(crate) above: u64,
+    pub above: u64,
     /// The rates of the class, in bits per second.
-    pub(crate) equal: u64,
+    pub equal: u64,
     /// The bursts of the class and the higher ones, in bits.
-    pub(crate) bursts: u64,
+    pub bursts: u64,
     /// The wire bits of the longest frame of a lower class; 0 where there is none.
-    pub(crate) lower: u64,
+    pub lower: u64,
     /// The wire bits of the shortest frame of the class; `None` where no sender is of it.
-    pub(crate) least: Option<u64>,
+    pub least: Option<u64>,
 }
 
 impl Tally {
     /// No sender.
-    pub(crate) fn new() -> Self
+    pub fn new() -> Self
         ensures { result ≡ no_tally }
     {
         Tally {
@@ -43,7 +43,7 @@ impl Tally {
     }
 
     /// With one sender of the network more.
-    pub(crate) fn with_sender(self, network: &Network, class: u8, sender: u32) -> Self
+    pub fn with_sender(self, network: &Network, class: u8, sender: u32) -> Self
         requires class { 1 ≤ class }
         requires sender { sender < length (senders_of network.now) }
         requires room { IsWithin MAX_SENDERS self }
