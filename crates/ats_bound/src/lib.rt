@@ -15,3 +15,6 @@ pub use least::make;
 pub use reason::{NoBound, Reason};
 pub use rows::{is_used, least_wait, row};
 pub use tally::Tally;
+
+#[cfg(test)]
+mod tests;
