@@ -1,6 +1,6 @@
 //! What is printed for a text that declares no network.
 
-ghost use Rattle.std.specs.Prelude.{◌≡◌, ◌++◌, codes, decimal, OnOk};
+ghost use Rattle.std.specs.Prelude.{◌≡◌, ◌++◌, decimal, OnOk};
 ghost use Rattle.ats_topology.specs.FaultText as topology;
 ghost use Rattle.ats_document.specs.FaultText as form;
 ghost use Rattle.ats_network_file.specs.FaultText.{fault_text};

@@ -14,7 +14,7 @@ use crate::fault::NetFault;
 use ats_document::{Route, Table};
 use ats_network::{is_valid_path, shortest};
 use ats_num::{Name, NoMemory};
-use ats_topology::{Port, Topology};
+use ats_topology::Topology;
 use std::alloc::Global;
 
 /// The ports of the route of an entry of a table, or `BadPath` where they make no valid path.

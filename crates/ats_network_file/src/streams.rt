@@ -1,9 +1,7 @@
 //! The streams that a network file declares.
 
-ghost use Rattle.std.specs.Prelude.{◌≡◌, ◌<◌, ◌≤◌, ◌+◌, [], length, not, IfOk, OnOk};
-ghost use Rattle.ats_streams.specs.Stream.{DeclaredStream};
+ghost use Rattle.std.specs.Prelude.{◌≡◌, ◌<◌, ◌≤◌, ◌+◌, [], length, IfOk, OnOk};
 ghost use Rattle.ats_network.specs.Path.{IsValidPath};
-ghost use Rattle.ats_network.specs.Network.{DeclaredNetwork};
 ghost use Rattle.ats_network.specs.declared.network.TheConstants.{MAX_STREAMS};
 ghost use Rattle.ats_network_file.specs.Steps.{GivesSeen};
 ghost use Rattle.ats_network_file.specs.Reading.{stream_over, stream_made, stream_pushed, stream_added, all_added};
