@@ -1,13 +1,14 @@
-use Rattle.std.proofs.Common.{◌≡◌, ℕ, List, [], Option, Some, None, Result, inl, inr, refl, sym, subst, lit<}
-use Rattle.std.specs.Prelude.{IsSome, IfSome, ◌⊎◌, codes, unwrap_or}
+use Rattle.std.proofs.Common.{◌≡◌, ℕ, List, [], Option, Some, None, Result, inl, inr, Ok, Err, refl, sym, ap, subst, lit<}
+use Rattle.std.specs.Prelude.{IfSome, OnOk, ◌⊎◌, codes}
 use Rattle.std.specs.Global.{Vec}
-use Rattle.ats_io.specs.Outside.{Rose, TakesPrefix, appended}
-use Rattle.ats_cli.specs.Command.{Command, Shape, Show, Unknown}
+use Rattle.ats_io.specs.Outside.{Rose, TakesPrefix}
+use Rattle.ats_cli.specs.Command.{Command, Shape, Show, Bound, Check, Unknown}
 use Rattle.ats_cli.specs.Answer.{Answer, HasText, words_answer}
 use Rattle.ats_cli.specs.Due.{IsAnswer, IsDue, IsTold, told_bytes}
 use Rattle.ats_cli.specs.Calls.{Printed, PrintedPrefix, ReadRose, IsCalm, StatusIsDue}
 use Rattle.ats_cli.specs.Outcome.{Answers, Prints, PrintsFront, answer_of}
 use Rattle.ats_cli.specs.declared.outcome.Stop.{Stop}
+use Rattle.ats_cli.specs.declared.outcome.Stop.TheVariants as stop
 use Rattle.ats_cli.specs.declared.status.Status.{Status}
 use Rattle.ats_cli.specs.declared.status.Status.TheVariants.{Done, Words, Input, Refused, ReadFailed, WriteFailed, NoMemory}
 
@@ -16,6 +17,21 @@ made_due : (told : List ℕ → Option (List ℕ)) (command : Command) (outcome 
     → Answers told command outcome → answer_of outcome ≡ Some answer → IsTold told command → IsDue told command answer
 made_due told command outcome answer answers made is_told =
     record { is_told = is_told; answers = subst (λ (o : Option Answer). IfSome o (IsAnswer (told_bytes told) command)) made (answers is_told) }
+
+nothing : (answer : Answer) → None ≡ Some answer → ⊥
+nothing answer h = cc
+
+one_value : {A : Type 0} (a b : A) → Some a ≡ Some b → a ≡ b
+one_value a b h = cc
+
+other_status : (a b : Answer) → (a.status ≡ b.status → ⊥) → Some a ≡ Some b → ⊥
+other_status a b differs h = differs (ap (λ (answer : Answer). answer.status) (one_value a b h))
+
+input_is_not_done : Input ≡ Done → ⊥
+input_is_not_done h = cc
+
+refused_is_not_done : Refused ≡ Done → ⊥
+refused_is_not_done h = cc
 
 -- once the answer that an outcome makes was printed, a due text was
 pub printed_due : (told : List ℕ → Option (List ℕ)) (command : Command) (outcome : Result (Vec ℕ) Stop) (status : Status) (old new : Option (List ℕ))
@@ -44,6 +60,9 @@ ends_as_due told command NoMemory old new read write printed failed cut is_told 
 pub calm_unread : (told : List ℕ → Option (List ℕ)) (command : Command) (before after : List ℕ → ℕ) → IsCalm command before after → ¬ ReadRose told command before after
 calm_unread told (Shape file) before after calm = λ rose. let At : List ℕ → Type 0 = λ name. Rose (before name) (after name) in calm 0 [] (lit< tt) (subst At rose.1 rose.2)
 calm_unread told (Show net) before after calm = λ rose. let At : List ℕ → Type 0 = λ name. Rose (before name) (after name) in calm 0 [] (lit< tt) (subst At rose.1 rose.2)
+calm_unread told (Bound net) before after calm = λ rose. let At : List ℕ → Type 0 = λ name. Rose (before name) (after name) in calm 0 [] (lit< tt) (subst At rose.1 rose.2)
+calm_unread told (Check net certificate) before after calm = λ rose. let At : List ℕ → Type 0 = λ name. Rose (before name) (after name) in
+    elim rose.1 [ inl first ↦ calm 0 [] (lit< tt) (subst At first rose.2) | inr second ↦ calm 1 [] (lit< tt) (subst At second.0 rose.2) ]
 calm_unread told Unknown before after calm = λ rose. rose.1
 
 -- a front of the line for words outside the table was printed
@@ -55,3 +74,11 @@ pub words_end_as_due : (told : List ℕ → Option (List ℕ)) (status : Status)
     → (status ≡ NoMemory) ⊎ StatusIsDue told Unknown status
 words_end_as_due told status write is_told (inl printed) failed quiet = inr (words_answer, record { is_told = is_told; answers = refl }, sym printed)
 words_end_as_due told status write is_told (inr cut) failed quiet = absurd (quiet (failed cut))
+
+-- where an outcome was printed as done, what holds of an outcome with a text holds
+pub done_holds : (outcome : Result (Vec ℕ) Stop) (text : List ℕ) (P : Type 0) → OnOk outcome P → answer_of outcome ≡ Some (record { status = Done; text = text }) → P
+done_holds (Ok text') text P h made = h
+done_holds (Err (stop.Input why)) text P h made = absurd (other_status (record { status = Input; text = why.items }) (record { status = Done; text = text }) input_is_not_done made)
+done_holds (Err (stop.Refused why)) text P h made = absurd (other_status (record { status = Refused; text = why.items }) (record { status = Done; text = text }) refused_is_not_done made)
+done_holds (Err stop.ReadFailed) text P h made = absurd (nothing (record { status = Done; text = text }) made)
+done_holds (Err stop.NoMemory) text P h made = absurd (nothing (record { status = Done; text = text }) made)

@@ -1,3 +1,5 @@
+pub mod RowPorts
+pub mod Judging
 pub mod Steps
 pub mod Ending
 pub mod OneAnswer

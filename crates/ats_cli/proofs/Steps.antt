@@ -1,5 +1,6 @@
-use Rattle.std.proofs.Common.{◌≡◌, ℕ, List, [], Option, Some, None, Result, Ok, Err, refl, sym, ◌∙◌, ap, subst}
-use Rattle.std.specs.Prelude.{IsSome, IfSome, IsErrAnd, unwrap_or}
+use Rattle.std.proofs.Common.{◌≡◌, ℕ, List, [], Option, Some, None, Result, Ok, Err, refl, sym, ◌∙◌, ap, subst, arith}
+use Rattle.ats_io.specs.Outside.{Rose}
+use Rattle.std.specs.Prelude.{IsSome, IfSome, IsErrAnd, IsOk, OnOk, ◌≤◌, unwrap_or}
 use Rattle.std.specs.Global.{Vec}
 use Rattle.ats_cli.specs.Answer.{Answer, settled, ◌>>=◌}
 use Rattle.ats_cli.specs.Input.{bytes_in, declared_in}
@@ -56,3 +57,28 @@ pub step_settles : {A : Type 0} (result : Result (Vec ℕ) Stop) (stop : Stop) (
     → result ≡ Err stop → IsStopOf stop due → IfSome (answer_of result) (λ (answer : Answer). answer ≡ settled (due >>= next))
 step_settles result stop due next is stops =
     subst (λ (r : Result (Vec ℕ) Stop). IfSome (answer_of r) (λ (answer : Answer). answer ≡ settled (due >>= next))) (sym is) (stop_settles stop (due >>= next) (stops_all stop due next stops))
+
+-- what a judgement gives settles a command
+pub result_settles : (result : Result (Vec ℕ) Stop) (due : Result (List ℕ) Answer) → Gives (λ (text : Vec ℕ). text.items) result due → IfSome (answer_of result) (λ (answer : Answer). answer ≡ settled due)
+result_settles (Ok text) due h = text_settles text.items due h
+result_settles (Err stop) due h = stop_settles stop due h
+
+-- what holds where a call gave a value
+pub on_ok_then : {X : Type 0} (result : Result X Stop) (P Q : Type 0) → OnOk result P → (P → Q) → OnOk result Q
+on_ok_then (Ok x) P Q h f = f h
+on_ok_then (Err e) P Q h f = tt
+
+-- a fault that came after some state came after an earlier one
+pub rose_since : (before between after : ℕ) → before ≤ between → Rose between after → Rose before after
+rose_since before between after h rose = omega arith
+
+one_error : {X : Type 0} (stop other : Stop) → (let r : Result X Stop = Err stop in r ≡ Err other) → stop ≡ other
+one_error stop other h = cc
+
+-- two stops of one outcome are the same
+pub same_stop : {X : Type 0} (result : Result X Stop) (stop other : Stop) → result ≡ Err stop → result ≡ Err other → stop ≡ other
+same_stop {X} result stop other h k = one_error {X = X} stop other (sym h ∙ k)
+
+-- what is declared is no answer
+pub declared_is_ok : {A : Type 0} (due : Result A Answer) (value : A) → due ≡ Ok value → IsOk due
+declared_is_ok due value h = rw h refl

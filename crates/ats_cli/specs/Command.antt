@@ -5,6 +5,8 @@ use Rattle.std.specs.Str.{bytes_eq}
 pub data Command : Type 0 where
   Shape : List ℕ → Command
   Show : List ℕ → Command
+  Bound : List ℕ → Command
+  Check : List ℕ → List ℕ → Command
   Unknown : Command
 
 -- the command of a verb and a file
@@ -12,17 +14,25 @@ abbrev pub command_on : List ℕ → List ℕ → Command
 command_on verb file =
     if bytes_eq verb (codes "shape") then Shape file
     else if bytes_eq verb (codes "show") then Show file
+    else if bytes_eq verb (codes "bound") then Bound file
     else Unknown
+
+-- the command of a verb and two files
+abbrev pub command_on_two : List ℕ → List ℕ → List ℕ → Command
+command_on_two verb file second = if bytes_eq verb (codes "check") then Check file second else Unknown
 
 -- the command that words name
 abbrev pub command_of : List (List ℕ) → Command
 command_of [] = Unknown
 command_of (verb ∷ []) = Unknown
 command_of (verb ∷ file ∷ []) = command_on verb file
-command_of (verb ∷ file ∷ word ∷ words) = Unknown
+command_of (verb ∷ file ∷ second ∷ []) = command_on_two verb file second
+command_of (verb ∷ file ∷ second ∷ word ∷ words) = Unknown
 
 -- the words of a command that name files, from left to right
 abbrev pub file_words : Command → List (List ℕ)
 file_words (Shape file) = file ∷ []
 file_words (Show net) = net ∷ []
+file_words (Bound net) = net ∷ []
+file_words (Check net certificate) = net ∷ certificate ∷ []
 file_words Unknown = []

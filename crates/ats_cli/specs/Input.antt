@@ -5,6 +5,10 @@ use Rattle.ats_shape.specs.FaultText as shape
 use Rattle.ats_network.specs.Network.{DeclaredNetwork}
 use Rattle.ats_network_file.specs.Reading.{network_of}
 use Rattle.ats_network_file.specs.FaultText as network
+use Rattle.ats_topology.specs.Topology.{DeclaredTopology}
+use Rattle.ats_certificate.specs.declared.row.Row.{Row}
+use Rattle.ats_certificate_file.specs.Reading.{rows_of}
+use Rattle.ats_certificate_file.specs.FaultText as certificate
 use Rattle.ats_cli.specs.Answer.{Answer, input_answer, ◌>>=◌}
 
 -- the bytes of a file: more than 16,777,216 are too long, whatever they are
@@ -27,3 +31,9 @@ unfoldable pub network_in : List ℕ → List ℕ → Result DeclaredNetwork Ans
 network_in file bytes = do
   text ← bytes_in file bytes
   declared_in file network.fault_text (network_of text)
+
+-- the rows that a certificate's file of these bytes declares for the ports of a topology
+unfoldable pub rows_in : DeclaredTopology → List ℕ → List ℕ → Result (List Row) Answer
+rows_in topology file bytes = do
+  text ← bytes_in file bytes
+  declared_in file certificate.fault_text (rows_of topology text)

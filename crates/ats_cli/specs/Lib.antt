@@ -3,8 +3,10 @@ pub mod Faults
 pub mod Command
 pub mod Answer
 pub mod Input
+pub mod Judged
 pub mod Due
 pub mod Calls
+pub mod Soundness
 pub mod Named
 pub mod Outcome
 pub mod Open

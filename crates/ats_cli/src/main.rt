@@ -4,6 +4,8 @@
 
 ghost use Rattle.std.specs.Prelude.{◌≡◌, ◌≢◌, ◌⊎◌, IfErr};
 
+mod bound_command;
+mod check_command;
 mod command;
 mod fault_counts;
 mod input_file;

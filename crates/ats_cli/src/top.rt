@@ -1,6 +1,6 @@
 //! The program's call.
 
-ghost use Rattle.std.specs.Prelude.{◌≡◌, ◌≤◌, ◌⊎◌, IsErrOf};
+ghost use Rattle.std.specs.Prelude.{◌≡◌, ◌≤◌, ◌⊎◌, IsErrOf, OnOk};
 ghost use Rattle.ats_io.specs.Outside.{Rose, Continues};
 ghost use Rattle.ats_cli.specs.Command.{command_of};
 ghost use Rattle.ats_cli.specs.Command as table;
@@ -8,8 +8,11 @@ ghost use Rattle.ats_cli.specs.Named.{texts_of, view};
 ghost use Rattle.ats_cli.specs.Answer.{HasText};
 ghost use Rattle.ats_cli.specs.Due.{IsTold};
 ghost use Rattle.ats_cli.specs.Outcome.{Answers};
+ghost use Rattle.ats_cli.specs.Soundness.{IsSoundCheck};
 ghost use Rattle.ats_cli.specs.Calls.{Printed, PrintedPrefix, ReadRose, IsCalm, StatusIsDue};
 
+use crate::bound_command::bound;
+use crate::check_command::check;
 use crate::command::{Command, named_by};
 use crate::outcome::{Stop, finish, print};
 use crate::shape_command::shape;
@@ -26,6 +29,9 @@ pub fn ats<F: Files, O: Sink>(alloc: Global, words: &[String], files: &mut F, ou
     // Words comes exactly where the words are not in the command table, but where writing its line failed.
     ensures words { result ≡ Status.Words → command_of (texts_of words.now) ≡ table.Unknown }
     ensures unknown { command_of (texts_of words.now) ≡ table.Unknown → (result ≡ Status.Words) ⊎ (result ≡ Status.WriteFailed) }
+
+    // Done to `check NET CERT` means that the bounds of the certificate are sound in each legal run of the network.
+    ensures sound { result ≡ Status.Done → IsSoundCheck (F.told files.old) (command_of (texts_of words.now)) }
 
     // ReadFailed and WriteFailed have a cause.
     ensures read_failed { result ≡ Status.ReadFailed → ReadRose (F.told files.old) (command_of (texts_of words.now)) (F.faults files.old) (F.faults files.new) }
@@ -58,6 +64,7 @@ fn carry_out<F: Files, O: Sink>(
 ) -> Status
     ensures printed { HasText result → Printed (F.told files.old) (view command.now) result (O.held out.old) (O.held out.new) }
     ensures no_words { ¬ (result ≡ Status.Words) }
+    ensures sound { result ≡ Status.Done → IsSoundCheck (F.told files.old) (view command.now) }
     ensures read_failed { result ≡ Status.ReadFailed → ReadRose (F.told files.old) (view command.now) (F.faults files.old) (F.faults files.new) }
     ensures write_failed { result ≡ Status.WriteFailed → Rose (O.faults out.old) (O.faults out.new) }
     ensures cut_short { result ≡ Status.WriteFailed → PrintedPrefix (F.told files.old) (view command.now) (O.held out.old) (O.held out.new) }
@@ -72,11 +79,14 @@ fn carry_out<F: Files, O: Sink>(
 // What a command of the table comes to.
 fn outcome_of<F: Files>(alloc: Global, command: &Command, files: &mut F) -> Result<Vec<u8>, Stop>
     ensures due { Answers (F.told files.old) (view command.now) result }
+    ensures sound { OnOk result (IsSoundCheck (F.told files.old) (view command.now)) }
     ensures failed { IsErrOf result Stop.ReadFailed → ReadRose (F.told files.old) (view command.now) (F.faults files.old) (F.faults files.new) }
     ensures continues { Continues F.told F.faults files.old files.new }
 {
     match *command {
         Command::Shape(file) => shape(alloc, file, files),
         Command::Show(net) => show(alloc, net, files),
+        Command::Bound(net) => bound(alloc, net, files),
+        Command::Check(net, certificate) => check(alloc, net, certificate, files),
     }
 }

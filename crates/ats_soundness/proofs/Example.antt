@@ -1,4 +1,4 @@
-use Rattle.std.proofs.Common.{◌≡◌, ℕ, ◌*◌, ◌≤◌, Bool, true, false, cond, [], ◌∷◌, refl, subst, inl, inr, arith, lit<, lit≤}
+use Rattle.std.proofs.Common.{◌≡◌, ℕ, ◌+◌, ◌*◌, ◌≤◌, Bool, true, false, cond, [], ◌∷◌, refl, subst, inl, inr, arith, lit<, lit≤}
 use Rattle.std.specs.Prelude.{◌||◌, ◌==◌, IsSome, nat_lt, slice_index_or, All}
 use Rattle.std.specs.List.{list_any}
 use Rattle.std.proofs.lemmas.Bool.{or_cases, eqb-true, false≢true}
@@ -19,6 +19,10 @@ use Rattle.ats_port_law.proofs.Networks.{bare, over_bridge}
 use Rattle.ats_trace.specs.Examples.{line, line_nodes, line_links}
 use Rattle.ats_trace.proofs.Tests.{lt_of, pairs_by}
 use Rattle.ats_trace.proofs.LegalProofs.{examples_legal}
+use Rattle.ats_trace.specs.Regulated.{regulated}
+use Rattle.ats_trace.specs.Run.{releases_of}
+use Rattle.ats_trace.specs.Talker.{talker_of, KeepsBuckets}
+use Rattle.ats_trace.proofs.RegulatedProofs.{regulated_legal}
 use Rattle.ats_trace.proofs.TalkerProofs.{talkers_of_examples}
 use Rattle.ats_soundness.specs.Example.{row_of_line, line_rows, LawsAreMet}
 
@@ -110,6 +114,12 @@ holds = record {
     all_two : (P : Row → Type 0) → P (row_of_line 0 13836000) → P (row_of_line 2 12836000) → All P line_rows
     all_two P first second = All-cons P (row_of_line 0 13836000) (row_of_line 2 12836000 ∷ []) first (All-cons P (row_of_line 2 12836000) [] second (All-nil P))
 
+-- two frames at once are more than the burst
+not_kept : ¬ KeepsBuckets line (releases_of regulated) (talker_of line 0)
+not_kept keeps =
+    let over : 1000000000000 * 24672 ≤ 100000000 * 0 + 1000000000000 * 12336 = (keeps.streams 0 (lit< tt) refl).within 0 1 (lit≤ tt) (lit< tt) in
+    absurd (omega arith)
+
 pub laws_are_met : LawsAreMet
 laws_are_met = record {
   network = is_network;
@@ -123,4 +133,6 @@ laws_are_met = record {
   from_bridge = record { within = lit< tt; bridge = refl };
   whole = refl;
   sum = refl;
+  beyond = regulated_legal.regulated;
+  not_kept = not_kept;
 }

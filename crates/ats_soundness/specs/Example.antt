@@ -11,6 +11,7 @@ use Rattle.ats_trace.specs.Run.{IsLegal, releases_of}
 use Rattle.ats_trace.specs.Stored.{travel_at}
 use Rattle.ats_trace.specs.Talker.{talker_of, KeepsBuckets}
 use Rattle.ats_trace.specs.Examples.{line, one_frame}
+use Rattle.ats_trace.specs.Regulated.{regulated}
 use Rattle.ats_trace.specs.declared.journey.Ending.TheVariants.{Sink}
 use Rattle.ats_soundness.specs.Sound.{bounds_of}
 
@@ -32,7 +33,8 @@ the_frame = travel_at one_frame 0
 
 -- the line is a network, its certificate holds, and one frame's run over it is legal; the frame is of a stream whose talker
 -- keeps its buckets; the first port of its path leaves a station and leads to a bridge, and the second leaves that bridge.
--- The frame arrives exactly when the sum of the bounds is over
+-- The frame arrives exactly when the sum of the bounds is over. And a legal run of the same network has a talker that does not
+-- keep its buckets, so that containment alone speaks of it
 pub record LawsAreMet : Type 0 where
   pub network : IsNetwork line
   pub holds : Holds line line_rows
@@ -46,3 +48,5 @@ pub record LawsAreMet : Type 0 where
   pub whole : the_frame.ending
       ≡ Sink (record { 0 = the_frame.release.at.0 + sum_by (bounds_of line_rows (sender_at line the_frame.release.sender)) (sender_at line the_frame.release.sender).path })
   pub sum : sum_by (bounds_of line_rows (sender_at line the_frame.release.sender)) (sender_at line the_frame.release.sender).path ≡ 26672000
+  pub beyond : IsLegal line regulated
+  pub not_kept : ¬ KeepsBuckets line (releases_of regulated) (talker_of line 0)

@@ -1,4 +1,4 @@
-use Rattle.std.proofs.Common.{◌≡◌, ℕ, zero, suc, ◌≤◌, List, get_or, length, refl, ap, arith, lit<, lit≤}
+use Rattle.std.proofs.Common.{◌≡◌, ℕ, zero, suc, ◌≤◌, get_or, length, refl, ap, arith, lit<, lit≤}
 use Rattle.ats_transmission.specs.PortRule.{IsAhead, StartsAfterGap}
 use Rattle.ats_trace.specs.Projections.{sent_by}
 use Rattle.ats_trace.specs.Stored.{no_travel}

@@ -1,4 +1,4 @@
-use Rattle.std.proofs.Common.{List, ℕ, Result, sym, subst}
+use Rattle.std.proofs.Common.{Result, sym, subst}
 use Rattle.ats_network_file.specs.Reading.{network_of}
 use Rattle.ats_network_file.specs.FaultText.{fault_text}
 use Rattle.ats_network.specs.Network.{DeclaredNetwork}

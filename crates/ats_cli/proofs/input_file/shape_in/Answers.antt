@@ -1,4 +1,4 @@
-use Rattle.std.proofs.Common.{List, ℕ, Result, sym, subst}
+use Rattle.std.proofs.Common.{Result, sym, subst}
 use Rattle.ats_shape.specs.Reading.{shape_of}
 use Rattle.ats_shape.specs.FaultText.{fault_text}
 use Rattle.ats_shape.specs.Shape.{DeclaredShape}

@@ -1,7 +1,5 @@
-use Rattle.std.proofs.Common.{rules, ◌≡◌, ℕ, List, Option, Some, subst}
+use Rattle.std.proofs.Common.{rules, ℕ, List, Option, subst}
 use Rattle.ats_io.specs.Outside.{TakesPrefix}
-use Rattle.ats_cli.specs.Answer.{Answer}
-use Rattle.ats_cli.specs.Outcome.{answer_of}
 use Rattle.ats_cli.specs.declared.status.Status.TheVariants.{Done, Input, Refused}
 use Rattle.ats_cli.proofs.outcome.finish.Goals as goal
 

@@ -5,6 +5,7 @@ use Rattle.ats_cli.specs.Command.{Command}
 use Rattle.ats_cli.specs.Named.{view}
 use Rattle.ats_cli.specs.Due.{IsTold}
 use Rattle.ats_cli.specs.Calls.{PrintedPrefix, ReadRose, IsCalm, StatusIsDue}
+use Rattle.ats_cli.specs.Soundness.{IsSoundCheck}
 use Rattle.ats_cli.specs.declared.status.Status.TheVariants.{NoMemory}
 use Rattle.ats_cli.proofs.Ending.{ends_as_due, calm_unread, words_end_as_due, front_of_words}
 use Rattle.ats_cli.proofs.top.ats.Goals as goal
@@ -36,3 +37,9 @@ returns-in-None-clause-complete g c =
     let Ends : Command → Type 0 = λ command. IsTold told command → IsCalm command before before → ¬ write → (c.print.result ≡ NoMemory) ⊎ StatusIsDue told command c.print.result in
     subst Ends c.in-None.ensures
     (λ is_told calm quiet. words_end_as_due told c.print.result write is_told c.print.ensures.ends c.print.ensures.failed quiet)
+
+pub returns-in-Some-clause-sound : goal.returns-in-Some-clause-sound
+returns-in-Some-clause-sound g c = λ done. subst (IsSoundCheck (g.F.Files.told c.args.files.now)) c.in-Some.ensures (c.carry_out.ensures.sound done)
+
+pub returns-in-None-clause-sound : goal.returns-in-None-clause-sound
+returns-in-None-clause-sound g c = λ done. subst (IsSoundCheck (g.F.Files.told c.args.files.now)) c.in-None.ensures tt
