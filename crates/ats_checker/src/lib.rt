@@ -14,3 +14,8 @@ mod tallies;
 pub use bounds::Bounds;
 pub use judgement::{Sums, check};
 pub use refusal::{Field, Refusal};
+
+#[cfg(test)]
+mod tests;
+#[cfg(test)]
+mod worked;

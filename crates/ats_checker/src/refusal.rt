@@ -22,7 +22,7 @@ pub enum Field {
 
 /// Why a certificate does not hold: the first clause that fails, in the order of the variants, and there the first row in
 /// the order of ports and classes, the first field or the first stream.
-#[derive(Clone, Copy, Debug)]
+#[derive(Clone, Copy, Debug, PartialEq, Eq)]
 pub enum Refusal {
     /// Some stream of the class uses the port, and there is no row for them.
     RowMissing {
