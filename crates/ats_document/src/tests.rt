@@ -1,6 +1,7 @@
 //! What no clause says: that the definitions mean what a network file means, and that reads succeed.
 
 mod changes;
+mod forms;
 mod limits;
 
 use crate::{

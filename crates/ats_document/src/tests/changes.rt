@@ -160,7 +160,7 @@ fn changed(alloc: Global, old: &[u8], new: &[u8]) -> Result<Vec<u8>, Fail> {
 }
 
 /// That each change tells what its row says.
-fn check_changes(alloc: Global, rows: &str) -> Result<(), Fail> {
+pub(super) fn check_changes(alloc: Global, rows: &str) -> Result<(), Fail> {
     for row in rows.lines() {
         let (change, due) = row.split_once(" => ").ok_or("a row")?;
         let (old, new) = change.split_once(" | ").ok_or("a row")?;
@@ -173,7 +173,7 @@ fn check_changes(alloc: Global, rows: &str) -> Result<(), Fail> {
 }
 
 /// That each file tells what its row says.
-fn check_files(alloc: Global, rows: &str) -> Result<(), Fail> {
+pub(super) fn check_files(alloc: Global, rows: &str) -> Result<(), Fail> {
     for row in rows.lines() {
         let (file, due) = row.split_once(" => ").ok_or("a row")?;
         if told(alloc, &with_lines(alloc, file)?)?.as_slice() != due.as_bytes() {

@@ -33,6 +33,9 @@ const ROWS: &str = "1024 station => well
 1 empty-station 1024 bridge => missing station 1 name
 1 station 1024 empty-bridge => limit bridge
 1 station 1023 empty-bridge => missing bridge 1 name
+1 empty-bridge 2049 link => missing bridge 1 name
+2049 link 4097 stream => limit link
+4097 stream 1025 flow => limit stream
 ";
 
 /// The text of an entry.
