@@ -1,1 +1,5 @@
 pub mod ValidPaths
+pub mod Identities
+pub mod Documents
+pub mod Senders
+pub mod Networks

@@ -1,0 +1,88 @@
+use Rattle.std.proofs.Common.{◌≡◌, ℕ, ◌≤◌, Bool, true, false, ◌||◌, cond, length, Option, Some, None, refl}
+use Rattle.std.specs.Prelude.{nat_lt}
+use Rattle.std.specs.Option.{option_or}
+use Rattle.std.proofs.lemmas.Bool.{or_parts, ltb-false}
+use Rattle.ats_num.specs.Wire.{bits_of}
+use Rattle.ats_num.specs.declared.rate.TheConstants.{MAX_BPS, MAX_BURST_BITS}
+use Rattle.ats_num.specs.declared.wire.TheConstants.{MIN_OCTETS, MAX_OCTETS}
+use Rattle.ats_model.specs.Rules.{KeepsRules}
+use Rattle.ats_streams.specs.Fault.{rules_fault}
+use Rattle.ats_streams.specs.Flow.{DeclaredFlow, IsFlow, flow_fault}
+use Rattle.ats_streams.specs.Stream.{DeclaredStream, IsStream, MayIdentify, stream_fault, limit_fault}
+use Rattle.ats_streams.specs.declared.fault.StreamFault.{StreamFault}
+use Rattle.ats_streams.specs.declared.path.TheConstants.{MAX_PORTS}
+use Rattle.ats_streams.specs.declared.stream.TheConstants.{MAX_CLASS, MAX_DEADLINE_NS}
+
+-- Streams and flows without a fault keep what each stream and each flow keeps.
+
+-- where no test finds a fault, each fails
+record Passed (a : Bool) (rest : Option StreamFault) : Type 0 where
+  test : a ≡ false
+  none : rest ≡ None
+
+passed : (a : Bool) (fault : StreamFault) (rest : Option StreamFault) → cond a (Some fault) rest ≡ None → Passed a rest
+passed true fault rest h = cc
+passed false fault rest h = record { test = refl; none = h }
+
+record NoneOf (a b : Option StreamFault) : Type 0 where
+  first : a ≡ None
+  then : b ≡ None
+
+none_of : (a b : Option StreamFault) → option_or a b ≡ None → NoneOf a b
+none_of None b h = record { first = refl; then = h }
+none_of (Some f) b h = cc
+
+record Between (least most x : ℕ) : Type 0 where
+  above : least ≤ x
+  below : x ≤ most
+
+between : (least most x : ℕ) → (nat_lt x least || nat_lt most x) ≡ false → Between least most x
+between least most x h =
+    let parts : (nat_lt x least ≡ false) × (nat_lt most x ≡ false) = or_parts (nat_lt x least) (nat_lt most x) h in
+    record { above = ltb-false x least parts.0; below = ltb-false most x parts.1 }
+
+rules_kept : (rate burst least most : ℕ) → rules_fault rate burst least most ≡ None → KeepsRules rate burst least most
+rules_kept rate burst least most h =
+    let a = passed (nat_lt rate 1 || nat_lt MAX_BPS rate) _ _ h in
+    let b = passed (nat_lt least MIN_OCTETS || nat_lt most least || nat_lt MAX_OCTETS most) _ _ a.none in
+    let c = passed (nat_lt burst (bits_of most)) _ _ b.none in
+    let d = passed (nat_lt MAX_BURST_BITS burst) _ _ c.none in
+    let rated : Between 1 MAX_BPS rate = between 1 MAX_BPS rate a.test in
+    let sizes : ((nat_lt least MIN_OCTETS || nat_lt most least) ≡ false) × (nat_lt MAX_OCTETS most ≡ false) = or_parts (nat_lt least MIN_OCTETS || nat_lt most least) (nat_lt MAX_OCTETS most) b.test in
+    let ordered : (nat_lt least MIN_OCTETS ≡ false) × (nat_lt most least ≡ false) = or_parts (nat_lt least MIN_OCTETS) (nat_lt most least) sizes.0 in
+    record {
+      rate = record { positive = rated.above; within = rated.below };
+      sizes = record { least = ltb-false least MIN_OCTETS ordered.0; ordered = ltb-false most least ordered.1; most = ltb-false MAX_OCTETS most sizes.1 };
+      covers = ltb-false burst (bits_of most) c.test;
+      burst = ltb-false MAX_BURST_BITS burst d.test;
+    }
+
+-- a stream without a fault, whose identity is one, keeps what each stream keeps
+pub stream_keeps : (s : DeclaredStream) → MayIdentify s.identity → stream_fault s ≡ None → IsStream s
+stream_keeps s identity h =
+    let a = passed (nat_lt s.class 1 || nat_lt MAX_CLASS s.class) _ _ h in
+    let b = none_of (rules_fault s.rate s.burst_bits s.min_octets s.max_octets) (limit_fault s.path s.deadline_ns) a.none in
+    let c = passed (nat_lt (length s.path) 1 || nat_lt MAX_PORTS (length s.path)) _ _ b.then in
+    let d = passed (nat_lt s.deadline_ns 1 || nat_lt MAX_DEADLINE_NS s.deadline_ns) _ _ c.none in
+    let class : Between 1 MAX_CLASS s.class = between 1 MAX_CLASS s.class a.test in
+    let ports : Between 1 MAX_PORTS (length s.path) = between 1 MAX_PORTS (length s.path) c.test in
+    let deadline : Between 1 MAX_DEADLINE_NS s.deadline_ns = between 1 MAX_DEADLINE_NS s.deadline_ns d.test in
+    record {
+      class = record { least = class.above; most = class.below };
+      rules = rules_kept s.rate s.burst_bits s.min_octets s.max_octets b.first;
+      path = record { least = ports.above; most = ports.below };
+      deadline = record { positive = deadline.above; most = deadline.below };
+      identity = identity;
+    }
+
+-- and so does a flow
+pub flow_keeps : (f : DeclaredFlow) → flow_fault f ≡ None → IsFlow f
+flow_keeps f h =
+    let a = passed (nat_lt f.max_octets MIN_OCTETS || nat_lt MAX_OCTETS f.max_octets) _ _ h in
+    let b = passed (nat_lt (length f.path) 1 || nat_lt MAX_PORTS (length f.path)) _ _ a.none in
+    let size : Between MIN_OCTETS MAX_OCTETS f.max_octets = between MIN_OCTETS MAX_OCTETS f.max_octets a.test in
+    let ports : Between 1 MAX_PORTS (length f.path) = between 1 MAX_PORTS (length f.path) b.test in
+    record {
+      size = record { least = size.above; most = size.below };
+      path = record { least = ports.above; most = ports.below };
+    }
