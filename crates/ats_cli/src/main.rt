@@ -9,12 +9,18 @@ mod check_command;
 mod command;
 mod fault_counts;
 mod input_file;
+#[cfg(test)]
+mod larger_rows;
 mod laws;
+#[cfg(test)]
+mod network_rows;
 mod outcome;
 mod real_files;
 mod real_sink;
 #[cfg(test)]
 mod row_tests;
+#[cfg(test)]
+mod rows;
 mod shape_command;
 mod show_command;
 mod status;
