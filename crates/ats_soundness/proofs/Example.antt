@@ -47,7 +47,7 @@ is_stream = record {
 is_path : IsValidPath line.topology the_stream.path
 is_path = over_bridge line.topology 0 2 (lit< tt) (lit< tt) refl (record { within = lit< tt; station = refl }) (record { within = lit< tt; station = refl }) refl refl refl
 
-is_network : IsNetwork line
+pub is_network : IsNetwork line
 is_network = pushed_stream (declared_network (topology_of line_nodes line_links) [] []) the_stream (bare line_nodes line_links refl) is_stream is_path refl refl (lit< tt)
 
 -- where one sender is all that there is, it uses the port, and the class is its own

@@ -9,6 +9,10 @@ pub mod Lifts
 pub mod Offered
 pub mod Passages
 pub mod Paths
+pub mod RuleNetworks
+pub mod RuleProofs
+pub mod RuleRuns
+pub mod RuleTest
 pub mod Serving
 pub mod Shaping
 pub mod Sized

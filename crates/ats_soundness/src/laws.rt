@@ -1,6 +1,8 @@
 //! What is proved of each network, certificate and legal run.
 
 ghost use Rattle.ats_soundness.specs.Example.{LawsAreMet};
+ghost use Rattle.ats_soundness.specs.RuleExamples.{EachRuleCounts};
+ghost use Rattle.ats_soundness.specs.Rules.{HoldsIsEachRule};
 ghost use Rattle.ats_soundness.specs.Laws.{StationIsOffered, BridgeIsOffered, ShapingForFree, PathLaw, Containment, CertificateIsSound};
 
 /// A port that leaves a station that keeps its buckets is asked to send no more than the port law wants: frames of declared
@@ -44,4 +46,15 @@ pub fn certificate_is_sound()
 /// does not keep its bucket: of it the path law says nothing, and containment does.
 pub fn laws_are_met()
     ensures { LawsAreMet }
+{}
+
+/// A certificate holds exactly where it keeps each of ten rules, and each stream is in time.
+pub fn holds_is_each_rule()
+    ensures { HoldsIsEachRule }
+{}
+
+/// None of the ten rules can be left out: for each there is a network and a certificate that breaks it alone, by the least
+/// that a run shows, and is not sound.
+pub fn each_rule_counts()
+    ensures { EachRuleCounts }
 {}

@@ -7,7 +7,7 @@ use Rattle.ats_trace.specs.Regulated.{line_of_two, line_of_classes, regulated, l
 use Rattle.ats_trace.proofs.PartTest.{all_pass, all_kept}
 use Rattle.ats_trace.proofs.PartProofs.{legal_is_each_part}
 
-legal_by : (network : DeclaredNetwork) (run : List Travel) → all_pass network run ≡ true → IsLegal network run
+pub legal_by : (network : DeclaredNetwork) (run : List Travel) → all_pass network run ≡ true → IsLegal network run
 legal_by network run h = (legal_is_each_part network run).1 (all_kept network run h)
 
 pub regulated_legal : RegulatedAreLegal

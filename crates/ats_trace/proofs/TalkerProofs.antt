@@ -17,10 +17,10 @@ use Rattle.ats_trace.proofs.Tests.{le_of, all_by, pairs_pass, each_below, below_
 use Rattle.ats_trace.proofs.LegalTest.{ascending_by}
 
 -- the frames from place i to place j are no more than the bucket gives
-abbrev within : ℕ → ℕ → List Frame → ℕ → ℕ → Bool
+abbrev pub within : ℕ → ℕ → List Frame → ℕ → ℕ → Bool
 within rate burst frames j i = nat_le (PS_PER_SECOND * bits_between frames i j) (rate * time_between frames i j + PS_PER_SECOND * burst)
 
-abbrev conforms : ℕ → ℕ → List Frame → Bool
+abbrev pub conforms : ℕ → ℕ → List Frame → Bool
 conforms rate burst frames = pairs_pass nat_le (times_of frames) && each_below (λ j. each_below (within rate burst frames j) (suc j)) (length frames)
 
 conforms_by : (rate burst : ℕ) (frames : List Frame) → conforms rate burst frames ≡ true → Conforms rate burst frames
@@ -34,13 +34,13 @@ conforms_by rate burst frames h =
     }
 
 -- all streams conform, and all releases have declared sizes
-abbrev stream_conforms : DeclaredNetwork → List Release → ℕ → Bool
+abbrev pub stream_conforms : DeclaredNetwork → List Release → ℕ → Bool
 stream_conforms network releases i = conforms (sender_at network i).rate (sender_at network i).burst_bits (frames_of i releases)
 
-abbrev is_sized : DeclaredNetwork → Release → Bool
+abbrev pub is_sized : DeclaredNetwork → Release → Bool
 is_sized network r = is_declared_size (declared_by network r.sender) r.octets
 
-keeps_by : (network : DeclaredNetwork) (releases : List Release) (station : ℕ) → each_below (stream_conforms network releases) (length network.streams) ≡ true → list_all (is_sized network) releases ≡ true → KeepsBuckets network releases station
+pub keeps_by : (network : DeclaredNetwork) (releases : List Release) (station : ℕ) → each_below (stream_conforms network releases) (length network.streams) ≡ true → list_all (is_sized network) releases ≡ true → KeepsBuckets network releases station
 keeps_by network releases station conform sized =
     record {
       streams = λ i there begins. conforms_by (sender_at network i).rate (sender_at network i).burst_bits (frames_of i releases)
