@@ -53,8 +53,8 @@ pub fn holds_is_each_rule()
     ensures { HoldsIsEachRule }
 {}
 
-/// None of the ten rules can be left out: for each there is a network and a certificate that breaks it alone, by the least
-/// that a run shows, and is not sound.
+/// None of the ten rules can be left out: for each there is a network and a certificate that breaks this rule alone, and that
+/// is not sound, because some legal run exceeds its bounds.
 pub fn each_rule_counts()
     ensures { EachRuleCounts }
 {}
