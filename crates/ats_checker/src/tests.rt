@@ -480,3 +480,100 @@ fn nothing_declared(rt: HostRuntime) -> Result<(), Fail> {
     assert!(rt; found.as_slice().is_empty());
     Ok(())
 }
+
+// Of two clauses that fail the earlier one is named, wherever its row stands.
+#[test]
+fn a_missing_row_before_a_stray_one(rt: HostRuntime) -> Result<(), Fail> {
+    let network = line_with_stream(rt.alloc(), 1_000_000)?;
+    let rows = [row_of(0, 0, 11_664_000, 13_836_000), row_of(1, 0, 0, 0)];
+    let found = refusal(rt.alloc(), &network, &rows)?;
+    assert_eq!(rt; found, Refusal::RowMissing { port: 2, class: 6 });
+    Ok(())
+}
+
+#[test]
+fn a_stray_row_before_a_field(rt: HostRuntime) -> Result<(), Fail> {
+    let network = line_with_stream(rt.alloc(), 1_000_000)?;
+    let rows = [
+        row_of(0, 0, 11_664_000, 0),
+        row_of(2, 0, 11_664_000, 12_836_000),
+        row_of(3, 0, 0, 0),
+    ];
+    let found = refusal(rt.alloc(), &network, &rows)?;
+    assert_eq!(rt; found, Refusal::RowStray { port: 3, class: 6 });
+    Ok(())
+}
+
+// Two streams that take a link and one bit a second more, with these waits.
+fn overloaded(alloc: Global, first_wait: u128, second_bound: u128) -> Result<Refusal, Fail> {
+    let half = 500_000_000;
+    let mut network = line(alloc)?;
+    add_stream(alloc, &mut network, b"m", &[0, 2], 6, half, 1_000_000)?;
+    add_stream(alloc, &mut network, b"n", &[0, 2], 6, half + 1, 1_000_000)?;
+    let mut first = shared_row(0, first_wait, first_wait + 2_172_000);
+    let mut second = shared_row(2, 24_000_000, second_bound);
+    first.equal = 1_000_000_001_000;
+    second.equal = 1_000_000_001_000;
+    refusal(alloc, &network, &[first, second])
+}
+
+#[test]
+fn a_field_before_an_overload(rt: HostRuntime) -> Result<(), Fail> {
+    let wanted = Refusal::FieldWrong {
+        port: 2,
+        class: 6,
+        field: Field::Bound,
+        right: 25_172_000,
+    };
+    let found = overloaded(rt.alloc(), 24_000_000, 25_172_001)?;
+    assert_eq!(rt; found, wanted);
+    Ok(())
+}
+
+#[test]
+fn an_overload_before_a_wait(rt: HostRuntime) -> Result<(), Fail> {
+    let wanted = Refusal::Overloaded {
+        port: 0,
+        class: 6,
+        load: 1_000_000_001_000,
+    };
+    let found = overloaded(rt.alloc(), 0, 25_172_000)?;
+    assert_eq!(rt; found, wanted);
+    Ok(())
+}
+
+// The rows where two streams meet behind a bridge.
+fn met(alloc: Global, residence_ns: u32, second_wait: u128) -> Result<Refusal, Fail> {
+    let network = meeting(alloc, residence_ns)?;
+    let rows = [
+        row_of(0, 0, 11_664_000, 13_836_000),
+        shared_row(2, second_wait, second_wait + 1_172_000),
+        row_of(4, 0, 11_664_000, 13_836_000),
+    ];
+    refusal(alloc, &network, &rows)
+}
+
+#[test]
+fn a_wait_before_a_residence(rt: HostRuntime) -> Result<(), Fail> {
+    let wanted = Refusal::WaitTooSmall {
+        port: 2,
+        class: 6,
+        least_wait: 24_000_000,
+    };
+    let found = met(rt.alloc(), 11_663, 23_999_999)?;
+    assert_eq!(rt; found, wanted);
+    Ok(())
+}
+
+// The longest wait makes both streams late, and no bridge is behind its port.
+#[test]
+fn a_residence_before_a_deadline(rt: HostRuntime) -> Result<(), Fail> {
+    let wanted = Refusal::Residence {
+        port: 0,
+        class: 6,
+        need: 11_664_000,
+    };
+    let found = met(rt.alloc(), 11_663, 2_000_000_000_000)?;
+    assert_eq!(rt; found, wanted);
+    Ok(())
+}

@@ -1,6 +1,5 @@
 use Rattle.std.proofs.Common.{◌≡◌, ◌≢◌, ℕ, ◌+◌, ◌<◌, ◌≤◌, true, List, refl, sym, subst, arith, inl, inr, lit<}
 use Rattle.std.specs.Prelude.{Contains}
-use Rattle.std.specs.List.{list_all}
 use Rattle.ats_network.specs.Network.{DeclaredNetwork, IsNetwork}
 use Rattle.ats_network.specs.Senders.{sender_at}
 use Rattle.ats_certificate.specs.Certificate.{bound_at, Holds}
@@ -12,18 +11,18 @@ use Rattle.ats_trace.specs.Talker.{talker_of, KeepsBuckets}
 use Rattle.ats_trace.specs.Examples.{line, line_and_flow, one_frame, behind_a_flow}
 use Rattle.ats_trace.proofs.LegalProofs.{examples_legal}
 use Rattle.ats_soundness.specs.Sound.{IsServed, IsSound}
-use Rattle.ats_soundness.specs.Rules.{Rule, rows_are_there, higher_is_right, equal_is_right, bursts_are_right, lower_is_right, least_is_right, bound_follows, load_fits, wait_is_enough, frames_may_stay, Keeps, AreInTime, HoldsIsEachRule}
+use Rattle.ats_soundness.specs.Rules.{Rule, rows_are_there, higher_is_right, equal_is_right, bursts_are_right, lower_is_right, least_is_right, bound_follows, load_fits, wait_is_enough, frames_may_stay, Keeps, RestHolds, HoldsIsEachRule}
 use Rattle.ats_soundness.specs.RuleExamples.{pair, below, fast, fast_rows, network_for, rows_for, BreaksAlone, EachRuleCounts}
 use Rattle.ats_soundness.proofs.Example.{is_network}
 use Rattle.ats_soundness.proofs.RuleNetworks.{pair_is, below_is, fast_is, with_flow_is}
 use Rattle.ats_soundness.proofs.RuleRuns.{of_two, of_three, of_classes, of_fast, two_legal, two_kept, three_legal, three_kept, classes_legal, classes_kept, fast_legal, fast_kept, flow_legal, flow_kept, one_kept}
-use Rattle.ats_soundness.proofs.RuleTest.{same_rule, others_pass, others_by, is_in_time, in_time_by}
+use Rattle.ats_soundness.proofs.RuleTest.{same_rule, others_pass, others_by, rest_passes, rest_by}
 use Rattle.ats_soundness.proofs.Soundness as soundness
 
 -- the rules of a certificate that holds
 
 rule_of_holding : (network : DeclaredNetwork) (given : List Row) → Holds network given → (rule : Rule) → Keeps rule network given
-rule_of_holding network given h rows_are_there = h.rows_of
+rule_of_holding network given h rows_are_there = h.rows_of.complete
 rule_of_holding network given h higher_is_right = λ k d within. (h.each k d within).covers.sums.higher
 rule_of_holding network given h equal_is_right = λ k d within. (h.each k d within).covers.sums.equal
 rule_of_holding network given h bursts_are_right = λ k d within. (h.each k d within).covers.sums.bursts
@@ -34,10 +33,10 @@ rule_of_holding network given h load_fits = λ k d within. (h.each k d within).c
 rule_of_holding network given h wait_is_enough = λ k d within. (h.each k d within).covers.wait
 rule_of_holding network given h frames_may_stay = λ k d within. (h.each k d within).residence
 
-holds_of_rules : (network : DeclaredNetwork) (given : List Row) → ((rule : Rule) → Keeps rule network given) → AreInTime network given → Holds network given
-holds_of_rules network given keeps in_time =
+holds_of_rules : (network : DeclaredNetwork) (given : List Row) → ((rule : Rule) → Keeps rule network given) → RestHolds network given → Holds network given
+holds_of_rules network given keeps rest =
     record {
-      rows_of = keeps rows_are_there;
+      rows_of = record { complete = keeps rows_are_there; used = rest.used; ordered = rest.ordered };
       each = λ k d within. record {
         covers = record {
           sums = record {
@@ -53,13 +52,13 @@ holds_of_rules network given keeps in_time =
         };
         residence = keeps frames_may_stay k d within;
       };
-      deadlines = in_time;
+      deadlines = rest.in_time;
     }
 
 pub holds_is_each_rule : HoldsIsEachRule
 holds_is_each_rule network given = record {
   kept = rule_of_holding network given;
-  in_time = λ h. h.deadlines;
+  rest = λ h. record { used = h.rows_of.used; ordered = h.rows_of.ordered; in_time = h.deadlines };
   enough = holds_of_rules network given;
 }
 
@@ -79,12 +78,12 @@ each rule network given others kept other =
     ]
 
 -- what breaks a rule alone
-breaks : (rule : Rule) (network : DeclaredNetwork) (given : List Row) → IsNetwork network → ((other : Rule) → other ≢ rule → Keeps other network given) → AreInTime network given → ¬ IsSound network given → BreaksAlone rule network given
-breaks rule network given is others in_time unsound = record {
+breaks : (rule : Rule) (network : DeclaredNetwork) (given : List Row) → IsNetwork network → ((other : Rule) → other ≢ rule → Keeps other network given) → RestHolds network given → ¬ IsSound network given → BreaksAlone rule network given
+breaks rule network given is others rest unsound = record {
   is_network = is;
-  broken = λ kept. unsound (soundness.certificate_is_sound network given is (holds_of_rules network given (each rule network given others kept) in_time));
+  broken = λ kept. unsound (soundness.certificate_is_sound network given is (holds_of_rules network given (each rule network given others kept) rest));
   others = others;
-  in_time = in_time;
+  rest = rest;
   unsound = unsound;
 }
 
@@ -125,10 +124,10 @@ missing_unserved served =
     absurd (omega arith)
 
 -- by the rules that are kept, and the run that shows that it counts
-at_rule : (rule : Rule) → IsNetwork (network_for rule) → others_pass rule (network_for rule) (rows_for rule) ≡ true → list_all (is_in_time (rows_for rule)) (network_for rule).streams ≡ true
+at_rule : (rule : Rule) → IsNetwork (network_for rule) → others_pass rule (network_for rule) (rows_for rule) ≡ true → rest_passes (network_for rule) (rows_for rule) ≡ true
     → ¬ IsSound (network_for rule) (rows_for rule) → BreaksAlone rule (network_for rule) (rows_for rule)
-at_rule rule is kept in_time unsound =
-    breaks rule (network_for rule) (rows_for rule) is (others_by rule (network_for rule) (rows_for rule) kept) (in_time_by (network_for rule) (rows_for rule) in_time) unsound
+at_rule rule is kept rest unsound =
+    breaks rule (network_for rule) (rows_for rule) is (others_by rule (network_for rule) (rows_for rule) kept) (rest_by (network_for rule) (rows_for rule) rest) unsound
 
 pub each_rule_counts : EachRuleCounts
 each_rule_counts rows_are_there = at_rule rows_are_there is_network refl refl (unsound_by line (rows_for rows_are_there) one_frame 0 examples_legal.one_frame (0, lit< tt, refl) (lit< tt) one_kept missing_unserved)

@@ -11,10 +11,10 @@ use Rattle.ats_network.specs.Sender.{Sender, stream_sender}
 use Rattle.ats_network.specs.Network.{DeclaredNetwork}
 use Rattle.ats_network.specs.Residence.{residence_after}
 use Rattle.ats_certificate.specs.PortSums.{PortSums, port_sums, uses, is_of, is_used, senders_at}
-use Rattle.ats_certificate.specs.Certificate.{row_of, IsBefore, HasRows, FitsLink, bound_of, bound_along, IsInTime}
+use Rattle.ats_certificate.specs.Certificate.{row_of, IsBefore, FitsLink, bound_of, bound_along, IsInTime}
 use Rattle.ats_certificate.specs.declared.row.Row.{Row}
 use Rattle.ats_trace.proofs.Tests.{le_of, lt_of, eq_of, either, all_by, pairs_pass, pairs_by}
-use Rattle.ats_soundness.specs.Rules.{Rule, rows_are_there, higher_is_right, equal_is_right, bursts_are_right, lower_is_right, least_is_right, bound_follows, load_fits, wait_is_enough, frames_may_stay, Keeps, AreInTime}
+use Rattle.ats_soundness.specs.Rules.{Rule, rows_are_there, higher_is_right, equal_is_right, bursts_are_right, lower_is_right, least_is_right, bound_follows, load_fits, wait_is_enough, frames_may_stay, Keeps, RestHolds}
 
 -- Tests of the rules of a certificate on closed networks and rows.
 
@@ -61,21 +61,6 @@ before_by a b h = elim (either (nat_lt a.port b.port) (a.port == b.port && nat_l
 abbrev are_used : DeclaredNetwork → List Row → Bool
 are_used network given = list_all (λ (row : Row). is_used network row.port row.class) given
 
--- the rows are those of the network
-abbrev has_rows : DeclaredNetwork → List Row → Bool
-has_rows network given = are_covered given (map stream_sender network.streams) && (are_used network given && pairs_pass is_before given)
-
-has_rows_by : (network : DeclaredNetwork) (given : List Row) → has_rows network given ≡ true → HasRows network given
-has_rows_by network given h =
-    let first : (are_covered given (map stream_sender network.streams) ≡ true) × ((are_used network given && pairs_pass is_before given) ≡ true)
-    = and_parts (are_covered given (map stream_sender network.streams)) (are_used network given && pairs_pass is_before given) h in
-    let second : (are_used network given ≡ true) × (pairs_pass is_before given ≡ true) = and_parts (are_used network given) (pairs_pass is_before given) first.1 in
-    record {
-      complete = λ port class used. covered_by given port class (map stream_sender network.streams) first.0 used;
-      used = AllPass-from_list_all (λ (row : Row). is_used network row.port row.class) given second.0;
-      ordered = pairs_by IsBefore is_before before_by given second.1;
-    }
-
 -- a column of each row is that of its sums
 abbrev is_column : (Row → ℕ) → (PortSums → ℕ) → DeclaredNetwork → Row → Bool
 is_column column sum network row = column row == sum (port_sums network row.port row.class)
@@ -107,7 +92,7 @@ may_stay network row = stays row.wait (residence_after network.topology row.port
 
 -- the rows keep a rule
 abbrev pub passes : Rule → DeclaredNetwork → List Row → Bool
-passes rows_are_there network given = has_rows network given
+passes rows_are_there network given = are_covered given (map stream_sender network.streams)
 passes higher_is_right network given = list_all (is_column (λ row. row.higher) (λ sums. sums.higher) network) given
 passes equal_is_right network given = list_all (is_column (λ row. row.equal) (λ sums. sums.equal) network) given
 passes bursts_are_right network given = list_all (is_column (λ row. row.bursts) (λ sums. sums.bursts) network) given
@@ -119,7 +104,7 @@ passes wait_is_enough network given = list_all (is_enough network) given
 passes frames_may_stay network given = list_all (may_stay network) given
 
 pub kept_by : (rule : Rule) (network : DeclaredNetwork) (given : List Row) → passes rule network given ≡ true → Keeps rule network given
-kept_by rows_are_there network given h = has_rows_by network given h
+kept_by rows_are_there network given h = λ port class used. covered_by given port class (map stream_sender network.streams) h used
 kept_by higher_is_right network given h = column_by (λ row. row.higher) (λ sums. sums.higher) network given h
 kept_by equal_is_right network given h = column_by (λ row. row.equal) (λ sums. sums.equal) network given h
 kept_by bursts_are_right network given h = column_by (λ row. row.bursts) (λ sums. sums.bursts) network given h
@@ -131,12 +116,23 @@ kept_by wait_is_enough network given h =
     all_by _ (is_enough network) (λ row. le_of (PS_PER_SECOND * ((port_at network.topology.ports row.port).ps_per_bit * (row.lower + row.bursts - row.least))) (row.wait * (PS_PER_SECOND - row.higher))) given h
 kept_by frames_may_stay network given h = all_by _ (may_stay network) (λ row. stays_by row.wait (residence_after network.topology row.port)) given h
 
--- the streams are in time
-abbrev pub is_in_time : List Row → DeclaredStream → Bool
+-- the rows are of used ports and classes and in order, and the streams are in time
+abbrev is_in_time : List Row → DeclaredStream → Bool
 is_in_time given stream = nat_le (bound_along given stream) (PS_PER_NS * stream.deadline_ns)
 
-pub in_time_by : (network : DeclaredNetwork) (given : List Row) → list_all (is_in_time given) network.streams ≡ true → AreInTime network given
-in_time_by network given h = all_by (IsInTime given) (is_in_time given) (λ stream. le_of (bound_along given stream) (PS_PER_NS * stream.deadline_ns)) network.streams h
+abbrev pub rest_passes : DeclaredNetwork → List Row → Bool
+rest_passes network given = are_used network given && (pairs_pass is_before given && list_all (is_in_time given) network.streams)
+
+pub rest_by : (network : DeclaredNetwork) (given : List Row) → rest_passes network given ≡ true → RestHolds network given
+rest_by network given h =
+    let all_in_time : Bool = list_all (is_in_time given) network.streams in
+    let first : (are_used network given ≡ true) × ((pairs_pass is_before given && all_in_time) ≡ true) = and_parts (are_used network given) (pairs_pass is_before given && all_in_time) h in
+    let second : (pairs_pass is_before given ≡ true) × (all_in_time ≡ true) = and_parts (pairs_pass is_before given) all_in_time first.1 in
+    record {
+      used = AllPass-from_list_all (λ (row : Row). is_used network row.port row.class) given first.0;
+      ordered = pairs_by IsBefore is_before before_by given second.0;
+      in_time = all_by (IsInTime given) (is_in_time given) (λ stream. le_of (bound_along given stream) (PS_PER_NS * stream.deadline_ns)) network.streams second.1;
+    }
 
 -- the rules in their order
 abbrev pub all_rules : List Rule

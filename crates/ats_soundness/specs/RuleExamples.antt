@@ -6,7 +6,7 @@ use Rattle.ats_certificate.specs.declared.row.Row.{Row}
 use Rattle.ats_trace.specs.Examples.{stream, line, line_nodes, line_links, line_and_flow}
 use Rattle.ats_trace.specs.Regulated.{nodes_with}
 use Rattle.ats_soundness.specs.Example.{row_of_line, line_rows}
-use Rattle.ats_soundness.specs.Rules.{Rule, rows_are_there, higher_is_right, equal_is_right, bursts_are_right, lower_is_right, least_is_right, bound_follows, load_fits, wait_is_enough, frames_may_stay, Keeps, AreInTime}
+use Rattle.ats_soundness.specs.Rules.{Rule, rows_are_there, higher_is_right, equal_is_right, bursts_are_right, lower_is_right, least_is_right, bound_follows, load_fits, wait_is_enough, frames_may_stay, Keeps, RestHolds}
 use Rattle.ats_soundness.specs.Sound.{IsSound}
 
 -- For each rule a network and a certificate that breaks this rule alone, and is not sound.
@@ -58,7 +58,7 @@ network_for frames_may_stay = pair 12335
 abbrev pub rows_for : Rule → List Row
 -- the row of port 2 is missing
 rows_for rows_are_there = row_of_line 0 13836000 ∷ []
--- at port 0 the class above is left out, and the wait is the least that would do without it
+-- at port 0 the rate of the class above is left out, and the wait is the least that would do without it
 rows_for higher_is_right =
     row_with 0 5 0 50000000000 13008 0 672 12336000 14508000
     ∷ row_with 0 6 0 500000000000 12336 672 672 12336000 14508000
@@ -82,12 +82,13 @@ rows_for wait_is_enough = pair_rows (row_with 0 6 0 150000000000 13008 0 672 123
 -- all is right but the bridge's residence, which is one nanosecond short
 rows_for frames_may_stay = pair_rows (row_with 0 6 0 150000000000 13008 0 672 12336000 14508000)
 
--- the certificate breaks this rule and no other, and its bounds are not sound: some legal run of the network exceeds them
+-- the certificate breaks this rule and no other, and its bounds are not sound: in some legal run of the network a frame is
+-- discarded, or comes later than they say
 pub record BreaksAlone (rule : Rule) (network : DeclaredNetwork) (given : List Row) : Type 0 where
   pub is_network : IsNetwork network
   pub broken : ¬ Keeps rule network given
   pub others : (other : Rule) → other ≢ rule → Keeps other network given
-  pub in_time : AreInTime network given
+  pub rest : RestHolds network given
   pub unsound : ¬ IsSound network given
 
 -- so no rule can be left out, and a judge that leaves it out accepts a certificate that is not sound

@@ -48,13 +48,13 @@ pub fn laws_are_met()
     ensures { LawsAreMet }
 {}
 
-/// A certificate holds exactly where it keeps each of ten rules, and each stream is in time.
+/// A certificate holds exactly where it keeps each of ten rules, has no other row, is in order, and each stream is in time.
 pub fn holds_is_each_rule()
     ensures { HoldsIsEachRule }
 {}
 
 /// None of the ten rules can be left out: for each there is a network and a certificate that breaks this rule alone, and that
-/// is not sound, because some legal run exceeds its bounds.
+/// is not sound, because in some legal run a frame is discarded, or comes later than its bounds say.
 pub fn each_rule_counts()
     ensures { EachRuleCounts }
 {}
