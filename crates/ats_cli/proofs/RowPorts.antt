@@ -1,18 +1,19 @@
-use Rattle.std.proofs.Common.{◌≡◌, ℕ, ◌+◌, ◌<◌, Bool, true, false, cond, List, [], ◌∷◌, ◌++◌, length, Option, Some, None, Result, Ok, Err, subst, arith}
-use Rattle.std.specs.Prelude.{IfOk, IfSome, ◌==◌}
+use Rattle.std.proofs.Common.{◌≡◌, ℕ, ◌+◌, ◌<◌, Bool, true, false, cond, List, [], ◌∷◌, ◌++◌, length, Option, Some, None, Result, Ok, subst, arith}
+use Rattle.std.specs.Prelude.{IfOk, IfSome}
 use Rattle.ats_num.specs.declared.wire.TheConstants.{MAX_WIRE_BITS}
 use Rattle.std.specs.List.{position_from}
 use Rattle.std.proofs.lemmas.List.Elements.{All-push, All-nil}
 use Rattle.ats_topology.specs.Topology.{DeclaredTopology}
 use Rattle.ats_port_names.specs.PortName.{port_named}
-use Rattle.ats_records.specs.Reading.{field_of, records_of, same_fields}
+use Rattle.ats_records.specs.Reading.{field_of}
 use Rattle.ats_certificate.specs.Form.{last_of}
 use Rattle.ats_certificate.specs.declared.row.Row.{Row}
 use Rattle.ats_checker.specs.Ports.{RowsInside}
 use Rattle.ats_certificate_file.specs.Steps.{◌>>=◌, or_fault, ok_where}
-use Rattle.ats_certificate_file.specs.Reading.{number_in, number_within, row_in, row_after, comes_after, rows_from, rows_under, rows_of, header}
+use Rattle.ats_certificate_file.specs.Reading.{number_in, number_within, row_in, row_after, comes_after, rows_of}
 use Rattle.ats_certificate_file.specs.declared.fault.CertFault.{CertFault}
-use Rattle.ats_certificate_file.specs.declared.fault.CertFault.TheVariants.{BadRow, UnknownPort, RowOrder}
+use Rattle.ats_certificate_file.specs.declared.fault.CertFault.TheVariants.{UnknownPort, RowOrder}
+use Rattle.ats_cli.proofs.RowSteps.{behind, always, followed, where_passed, rows_keep}
 
 -- a place that is found is one of the list
 either : (b : Bool) (i n : ℕ) (r : Option ℕ) → i < n → IfSome r (λ p. p < n) → IfSome (cond b (Some i) r) (λ p. p < n)
@@ -32,23 +33,6 @@ found_first test xs =
     let At : ℕ → Type 0 = λ n. IfSome (position_from test 0 xs) (λ p. p < n) in
     let same : 0 + length xs ≡ length xs = omega arith in
     subst At same (found_within test 0 xs)
-
--- what holds behind a step, whatever it gives, holds behind both
-behind : {A B : Type 0} (P : B → Type 0) (x : Result A CertFault) (f : A → Result B CertFault) → IfOk x (λ a. IfOk (f a) P) → IfOk (x >>= f) P
-behind P (Ok a) f h = h
-behind P (Err e) f h = tt
-
-always : {A B : Type 0} (P : B → Type 0) (x : Result A CertFault) (f : A → Result B CertFault) → ((a : A) → IfOk (f a) P) → IfOk (x >>= f) P
-always P (Ok a) f h = h a
-always P (Err e) f h = tt
-
-followed : {A : Type 0} (P Q : A → Type 0) (x : Result A CertFault) → IfOk x P → ((a : A) → P a → Q a) → IfOk x Q
-followed P Q (Ok a) h f = f a h
-followed P Q (Err e) h f = tt
-
-where_passed : {A : Type 0} (P : A → Type 0) (b : Bool) (e : CertFault) (a : A) → P a → IfOk (ok_where b e a) P
-where_passed P true e a h = h
-where_passed P false e a h = tt
 
 or_within : {B : Type 0} (P : B → Type 0) (n : ℕ) (e : CertFault) (o : Option ℕ) (f : ℕ → Result B CertFault) → IfSome o (λ p. p < n) → ((p : ℕ) → p < n → IfOk (f p) P) → IfOk (or_fault e o >>= f) P
 or_within P n e None f h k = tt
@@ -70,26 +54,13 @@ after_inside topology rows n fields =
     let Inside : Row → Type 0 = λ row. row.port < length topology.ports in
     behind Inside (row_in topology n fields) _
     (followed Inside (λ row. IfOk (ok_where (comes_after (last_of rows) row) (RowOrder n) row) Inside) (row_in topology n fields) (row_inside topology n fields)
-    (λ row within. where_passed Inside (comes_after (last_of rows) row) (RowOrder n) row within))
-
-all_inside : (topology : DeclaredTopology) (rows : List Row) (n : ℕ) (records : List (List (List ℕ))) → RowsInside topology rows → IfOk (rows_from topology rows n records) (RowsInside topology)
-all_inside topology rows n [] inside = inside
-all_inside topology rows n (fields ∷ records) inside =
-    let Inside : Row → Type 0 = λ row. row.port < length topology.ports in
-    let rest : Row → Result (List Row) CertFault = λ row. rows_from topology (rows ++ row ∷ []) (n + 1) records in
-    always (RowsInside topology) (ok_where (length fields == 9) (BadRow n) fields) _
-    (λ nine. behind (RowsInside topology) (row_after topology rows n nine) rest
-    (followed Inside (λ row. IfOk (rest row) (RowsInside topology)) (row_after topology rows n nine) (after_inside topology rows n nine)
-    (λ row within. all_inside topology (rows ++ row ∷ []) (n + 1) records (All-push Inside rows row inside within))))
-
-under_inside : (topology : DeclaredTopology) (records : List (List (List ℕ))) → IfOk (rows_under topology records) (RowsInside topology)
-under_inside topology [] = tt
-under_inside topology (first ∷ records) = choose topology (same_fields first header) (rows_from topology [] 2 records) (all_inside topology [] 2 records (All-nil (λ (row : Row). row.port < length topology.ports)))
-  where
-    choose : (topology : DeclaredTopology) (b : Bool) (r : Result (List Row) CertFault) → IfOk r (RowsInside topology) → IfOk (cond b r (Err (BadRow 1))) (RowsInside topology)
-    choose topology true r h = h
-    choose topology false r h = tt
+    (λ row within. where_passed Inside (comes_after (last_of rows) row) (RowOrder n) row (λ passed. within)))
 
 -- the rows that a file declares are of ports of the topology
 pub rows_inside : (topology : DeclaredTopology) (bytes : List ℕ) (rows : List Row) → rows_of topology bytes ≡ Ok rows → RowsInside topology rows
-rows_inside topology bytes rows is = subst (λ (r : Result (List Row) CertFault). IfOk r (RowsInside topology)) is (under_inside topology (records_of bytes))
+rows_inside topology =
+    let Inside : Row → Type 0 = λ row. row.port < length topology.ports in
+    rows_keep topology (RowsInside topology)
+    (λ rows n fields inside. followed Inside (λ row. RowsInside topology (rows ++ row ∷ [])) (row_after topology rows n fields) (after_inside topology rows n fields)
+    (λ row within. All-push Inside rows row inside within))
+    (All-nil Inside)

@@ -11,4 +11,5 @@ pub mod Named
 pub mod Outcome
 pub mod Open
 pub mod Laws
+pub mod Meaning
 pub mod Status
