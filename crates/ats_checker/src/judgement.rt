@@ -1,6 +1,6 @@
 //! The judgement of a certificate.
 
-ghost use Rattle.std.specs.Prelude.{◌≡◌, length, map, IfErr, IfOk, OnOk};
+ghost use Rattle.std.specs.Prelude.{◌≡◌, ◌⊎◌, length, map, IfErr, IfOk, OnOk};
 ghost use Rattle.std.specs.Result.{result_err};
 ghost use Rattle.ats_certificate.specs.Certificate.{Holds, bound_along};
 ghost use Rattle.ats_checker.specs.Due.{IsDue};
@@ -50,13 +50,15 @@ impl Sums {
 /// # Errors
 ///
 /// The first clause that fails, in the order of `Refusal`'s variants, and there the first row, field or stream, exactly
-/// where the certificate does not hold; or `NoMemory` in its place, or in place of the sums, where memory runs out. The
-/// port that a refusal names is one of the network's where each row's is.
+/// where the certificate does not hold; or `NoMemory` in its place, or in place of the sums, where memory runs out. So a
+/// certificate that holds is accepted, unless memory runs out. The port that a refusal names is one of the network's where
+/// each row's is.
 pub fn check(alloc: Global, network: &Network, certificate: &Certificate) -> Result<Sums, Refusal>
     ensures ok { IfOk result (λ sums. sums ≡ map (bound_along certificate.now) network.now.streams) }
     ensures holds { OnOk result (Holds network.now certificate.now) }
     ensures sound { OnOk result (IsSound network.now certificate.now) }
     ensures refused { IfErr result (λ refusal. IsDue refusal (refusal_of network.now certificate.now)) }
+    ensures fails { IfErr result (λ refusal. (refusal ≡ Refusal.NoMemory) ⊎ ¬ Holds network.now certificate.now) }
     ensures inside { RowsInside network.now.topology certificate.now → IfErr result (RefusalInside network.now.topology) }
 {
     let bounds = Bounds::new(alloc, network.topology(), certificate)?;

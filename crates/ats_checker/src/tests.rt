@@ -505,11 +505,12 @@ fn a_stray_row_before_a_field(rt: HostRuntime) -> Result<(), Fail> {
 }
 
 // Two streams that take a link and one bit a second more, with these waits.
-fn overloaded(alloc: Global, first_wait: u128, second_bound: u128) -> Result<Refusal, Fail> {
+fn overloaded(alloc: Global, first_wait: u64, second_bound: u128) -> Result<Refusal, Fail> {
     let half = 500_000_000;
     let mut network = line(alloc)?;
     add_stream(alloc, &mut network, b"m", &[0, 2], 6, half, 1_000_000)?;
     add_stream(alloc, &mut network, b"n", &[0, 2], 6, half + 1, 1_000_000)?;
+    let first_wait = u128::from(first_wait);
     let mut first = shared_row(0, first_wait, first_wait + 2_172_000);
     let mut second = shared_row(2, 24_000_000, second_bound);
     first.equal = 1_000_000_001_000;
@@ -543,7 +544,8 @@ fn an_overload_before_a_wait(rt: HostRuntime) -> Result<(), Fail> {
 }
 
 // The rows where two streams meet behind a bridge.
-fn met(alloc: Global, residence_ns: u32, second_wait: u128) -> Result<Refusal, Fail> {
+fn met(alloc: Global, residence_ns: u32, second_wait: u64) -> Result<Refusal, Fail> {
+    let second_wait = u128::from(second_wait);
     let network = meeting(alloc, residence_ns)?;
     let rows = [
         row_of(0, 0, 11_664_000, 13_836_000),

@@ -1,7 +1,7 @@
-use Rattle.std.proofs.Common.{rules, ◌≡◌, List, Some, None, ap, sym, subst, ◌∙◌}
+use Rattle.std.proofs.Common.{rules, ◌≡◌, List, Option, Some, None, ap, sym, subst, ◌∙◌}
 use Rattle.ats_network.specs.Network.{DeclaredNetwork}
 use Rattle.std.specs.List.{AllPairs}
-use Rattle.ats_certificate.specs.Certificate.{IsBefore}
+use Rattle.ats_certificate.specs.Certificate.{IsBefore, Holds}
 use Rattle.ats_certificate.specs.declared.row.Row.{Row}
 use Rattle.ats_checker.specs.Bounds.{RowsAt}
 use Rattle.ats_checker.specs.Refusal.{refusal_of}
@@ -18,6 +18,21 @@ returns-in_err-judge-clause-inside c inside =
     ap (λ (rs : List Row). refusal_of c.args.network.now rs) (sym rows) ∙ ap (λ (n : DeclaredNetwork). refusal_of n c.in_ok-bounds.bounds.rows) (sym network) ∙ sym c.in_err-judge.ensures in
     let at = refusal_inside c.args.network.now c.args.certificate.now c.topology.ensures.rules inside c.in_err-judge.field-0.0 found in
     search (rules, at)
+
+given_none : {X : Type 0} (o : Option X) (x : X) → o ≡ Some x → o ≡ None → ⊥
+given_none o x some none = cc
+
+pub returns-in_err-judge-clause-fails : goal.returns-in_err-judge-clause-fails
+returns-in_err-judge-clause-fails c =
+    let network : c.in_ok-tallies.tallies ≡ c.args.network.now = c.in_ok-tallies.ensures in
+    let rows : c.in_ok-bounds.bounds.rows ≡ c.args.certificate.now = ap (λ (b : RowsAt). b.rows) c.in_ok-bounds.ensures in
+    let found : refusal_of c.args.network.now c.args.certificate.now ≡ Some c.in_err-judge.field-0.0 =
+    ap (λ (rs : List Row). refusal_of c.args.network.now rs) (sym rows) ∙ ap (λ (n : DeclaredNetwork). refusal_of n c.in_ok-bounds.bounds.rows) (sym network) ∙ sym c.in_err-judge.ensures in
+    let ordered : AllPairs IsBefore c.args.certificate.now =
+    subst (AllPairs IsBefore) (ap (λ (b : RowsAt). b.rows) c.bounds.view_is ∙ rows) c.bounds.invariant.form.ordered in
+    let fails : ¬ Holds c.args.network.now c.args.certificate.now =
+    λ holds. given_none (refusal_of c.args.network.now c.args.certificate.now) c.in_err-judge.field-0.0 found ((refused_unless_holding c.args.network.now c.args.certificate.now c.topology.ensures.rules ordered).1 holds) in
+    search (rules, fails)
 
 pub returns-clause-holds : goal.returns-clause-holds
 returns-clause-holds c =
