@@ -17,7 +17,7 @@ before_trans a b c (inr (same, class)) (inl low) = inl (omega arith)
 before_trans a b c (inr (same, class)) (inr (equal, next)) = inr (omega arith, omega arith)
 
 -- a row that comes after the last one comes after each
-after_each : (rows : List Row) (row : Row) → AllPairs IsBefore rows → ComesAfter rows row → All (λ (r : Row). IsBefore r row) rows
+pub after_each : (rows : List Row) (row : Row) → AllPairs IsBefore rows → ComesAfter rows row → All (λ (r : Row). IsBefore r row) rows
 after_each rows row ordered after k d within =
     let last = after (get_or rows (length rows - 1) d) (slice_get-get_or rows (length rows - 1) d (omega arith)) in
     ⊎_elim
