@@ -21,10 +21,10 @@ use Rattle.ats_checker.specs.declared.refusal.Field.TheVariants as field
 use Rattle.ats_checker.specs.declared.refusal.Refusal.{Refusal}
 use Rattle.ats_checker.specs.declared.refusal.Refusal.TheVariants.{RowMissing, RowStray, FieldWrong, Overloaded, Residence, Deadline}
 
-none_some : {B : Type 0} (b : B) → None ≡ Some b → ⊥
+pub none_some : {B : Type 0} (b : B) → None ≡ Some b → ⊥
 none_some b h = cc
 
-some_is : {B : Type 0} (a b : B) → Some a ≡ Some b → a ≡ b
+pub some_is : {B : Type 0} (a b : B) → Some a ≡ Some b → a ≡ b
 some_is a b h = cc
 
 -- what is so of each value that a function gives is so of the first

@@ -21,9 +21,10 @@ use Rattle.ats_bound.specs.declared.tally.Tally.{Tally}
 use Rattle.ats_bound.proofs.Places.{is_place}
 use Rattle.ats_bound.proofs.Tallies.{sums_are}
 use Rattle.ats_bound.proofs.Waits.{remains}
+use Rattle.ats_checker.specs.First.{IsRight}
 use Rattle.ats_checker.specs.Refusal.{stray, wrong_in, overloaded}
 use Rattle.ats_checker.specs.Rows.{IsUsedRow}
-use Rattle.ats_checker.proofs.Refused.{IsRight, all_used, right_from, fits_from, place_fits}
+use Rattle.ats_checker.proofs.Refused.{all_used, right_from, fits_from, place_fits}
 
 -- where no row is stray, each is used, and its port is there
 pub rows_used : (network : DeclaredNetwork) (rows : List Row) → IsNetwork network → first_some (stray network) rows ≡ None → All (IsUsedRow network) rows

@@ -5,3 +5,6 @@ pub mod Firsts
 pub mod PlaceOrder
 pub mod Judged
 pub mod Inside
+pub mod Breaches
+pub mod FirstFound
+pub mod FirstRefusal

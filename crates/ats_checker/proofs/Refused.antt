@@ -1,7 +1,7 @@
 -- Rows are refused exactly where they do not hold.
 use Rattle.std.proofs.Common.{◌≡◌, ℕ, ◌+◌, ◌-◌, ◌*◌, ◌≤◌, Bool, true, false, cond, List, get_or, Option, Some, None, refl, sym, ap, ◌∙◌, eqb, arith}
 use Rattle.std.specs.Prelude.{nat_lt, is_some}
-use Rattle.std.specs.List.{All, AllPairs}
+use Rattle.std.specs.List.{All, AllPairs, list_any}
 use Rattle.std.specs.Option.{option_or, ForSome}
 use Rattle.std.proofs.Math.Nat.{mul-le-mul_right}
 use Rattle.std.proofs.lemmas.Bool.{and_parts, eqb-true, eq-eqb, ltb-false, le-ltb}
@@ -13,7 +13,7 @@ use Rattle.ats_network.specs.Network.{DeclaredNetwork, IsNetwork}
 use Rattle.ats_network.specs.Residence.{residence_after}
 use Rattle.ats_certificate.specs.PortSums.{PortSums, port_sums, is_used}
 use Rattle.ats_certificate.specs.Used.{places_of}
-use Rattle.ats_certificate.specs.Certificate.{Holds, HasSums, FitsLink, IsEnough, IsInTime, IsBefore, row_of, bound_of, bound_along}
+use Rattle.ats_certificate.specs.Certificate.{Holds, FitsLink, IsEnough, IsInTime, IsBefore, row_of, bound_of, bound_along}
 use Rattle.ats_certificate.specs.declared.row.Row.{Row}
 use Rattle.ats_bound.specs.Least.{least_wait, least_row, least_certificate}
 use Rattle.ats_bound.specs.Reason.{first_some}
@@ -21,58 +21,66 @@ use Rattle.ats_bound.proofs.Lists.{any_gives, option_or-none, none_first, first_
 use Rattle.ats_bound.proofs.Places.{IsPlace, is_at, is_place, places_used, places_have}
 use Rattle.ats_bound.proofs.Waits.{Fits, work, work-is, least_wait-is, least_wait-le}
 use Rattle.ats_bound.proofs.LeastHolds.{least_certificate_holds}
+use Rattle.ats_checker.specs.First.{IsRight}
 use Rattle.ats_checker.specs.Laws.{RefusedUnlessHolding, LeastIsAccepted}
 use Rattle.ats_checker.specs.Refusal.{missing, stray, wrong, wrong_in, overloaded, short, overstay_by, overstay, late, refusal_of}
 use Rattle.ats_checker.specs.declared.refusal.Field.{Field}
 use Rattle.ats_checker.specs.declared.refusal.Field.TheVariants as field
 use Rattle.ats_checker.specs.declared.refusal.Refusal.TheVariants.{RowMissing, RowStray, FieldWrong, Overloaded, WaitTooSmall, Residence, Deadline}
 
-some_none : {X : Type 0} (x : X) → Some x ≡ None → ⊥
+pub some_none : {X : Type 0} (x : X) → Some x ≡ None → ⊥
 some_none x h = cc
 
 -- a test that gives no refusal where it passes, and one that gives none where it fails
-passes : {X : Type 0} (b : Bool) (x : X) → cond b None (Some x) ≡ None → b ≡ true
+pub passes : {X : Type 0} (b : Bool) (x : X) → cond b None (Some x) ≡ None → b ≡ true
 passes true x h = refl
 passes false x h = absurd (some_none x h)
 
-by_pass : {X : Type 0} (b : Bool) (x : X) → b ≡ true → cond b None (Some x) ≡ None
+pub by_pass : {X : Type 0} (b : Bool) (x : X) → b ≡ true → cond b None (Some x) ≡ None
 by_pass b x e = ap (λ (t : Bool). cond t None (Some x)) e
 
-fails : {X : Type 0} (b : Bool) (x : X) → cond b (Some x) None ≡ None → b ≡ false
+pub fails : {X : Type 0} (b : Bool) (x : X) → cond b (Some x) None ≡ None → b ≡ false
 fails true x h = absurd (some_none x h)
 fails false x h = refl
 
-by_fail : {X : Type 0} (b : Bool) (x : X) → b ≡ false → cond b (Some x) None ≡ None
+pub by_fail : {X : Type 0} (b : Bool) (x : X) → b ≡ false → cond b (Some x) None ≡ None
 by_fail b x e = ap (λ (t : Bool). cond t (Some x) None) e
 
-both_none : {X : Type 0} (a b : Option X) → a ≡ None → b ≡ None → option_or a b ≡ None
+pub both_none : {X : Type 0} (a b : Option X) → a ≡ None → b ≡ None → option_or a b ≡ None
 both_none {X} a b e f = ap (λ (o : Option X). option_or o b) e ∙ f
 
 -- a place has its row
-has_row : (rows : List Row) (port class : ℕ) → missing rows (port, class) ≡ None → is_some (row_of rows port class) ≡ true
+pub has_row : (rows : List Row) (port class : ℕ) → missing rows (port, class) ≡ None → is_some (row_of rows port class) ≡ true
 has_row rows port class h = passes (is_some (row_of rows port class)) (RowMissing port class) h
 
-complete_from : (network : DeclaredNetwork) (rows : List Row) → IsNetwork network → first_some (missing rows) (places_of network) ≡ None
-    → (port class : ℕ) → is_used network port class ≡ true → is_some (row_of rows port class) ≡ true
-complete_from network rows is none port class used =
-    let all = none_first (missing rows) (places_of network) none in
-    any_gives (is_at port class) (is_some (row_of rows port class) ≡ true) (places_of network)
+-- and so has one that is among places that have theirs
+pub has_row_among : (rows : List Row) (places : List (ℕ × ℕ)) (port class : ℕ) → All (λ (at : ℕ × ℕ). missing rows at ≡ None) places
+    → list_any (is_at port class) places ≡ true → is_some (row_of rows port class) ≡ true
+has_row_among rows places port class all any =
+    any_gives (is_at port class) (is_some (row_of rows port class) ≡ true) places
     (λ k d h e. (
-    let at = get_or (places_of network) k d in
+    let at = get_or places k d in
     let parts = and_parts (eqb at.0 port) (eqb at.1 class) e in
     let there : is_some (row_of rows at.0 at.1) ≡ true = has_row rows at.0 at.1 (all k d h) in
     ap (λ (n : ℕ). is_some (row_of rows port n)) (sym (eqb-true at.1 class parts.1)) ∙ ap (λ (n : ℕ). is_some (row_of rows n at.1)) (sym (eqb-true at.0 port parts.0)) ∙ there))
-    (places_have network port class is used)
+    any
 
--- a row that says what the senders make of its place
-pub record IsRight (network : DeclaredNetwork) (row : Row) : Type 0 where
-  pub sums : HasSums row (port_sums network row.port row.class)
-  pub bound : row.bound ≡ bound_of (port_at network.topology.ports row.port) row.wait row.least
+pub complete_from : (network : DeclaredNetwork) (rows : List Row) → IsNetwork network → first_some (missing rows) (places_of network) ≡ None
+    → (port class : ℕ) → is_used network port class ≡ true → is_some (row_of rows port class) ≡ true
+complete_from network rows is none port class used =
+    has_row_among rows (places_of network) port class (none_first (missing rows) (places_of network) none) (places_have network port class is used)
 
-is_given : (row : Row) (field : Field) (given right : ℕ) → wrong row field given right ≡ None → given ≡ right
+-- where each used place has its row, none is missing
+pub none_missing : (network : DeclaredNetwork) (rows : List Row) → ((port class : ℕ) → is_used network port class ≡ true → is_some (row_of rows port class) ≡ true)
+    → first_some (missing rows) (places_of network) ≡ None
+none_missing network rows complete =
+    first_some-none (missing rows) (places_of network)
+    (λ k d h. (let at = get_or (places_of network) k d in by_pass (is_some (row_of rows at.0 at.1)) (RowMissing at.0 at.1) (complete at.0 at.1 (places_used network k d h))))
+
+pub is_given : (row : Row) (field : Field) (given right : ℕ) → wrong row field given right ≡ None → given ≡ right
 is_given row field given right h = eqb-true given right (passes (eqb given right) (FieldWrong row.port row.class field right) h)
 
-by_given : (row : Row) (field : Field) (given right : ℕ) → given ≡ right → wrong row field given right ≡ None
+pub by_given : (row : Row) (field : Field) (given right : ℕ) → given ≡ right → wrong row field given right ≡ None
 by_given row field given right h = by_pass (eqb given right) (FieldWrong row.port row.class field right) (eq-eqb given right h)
 
 pub right_from : (network : DeclaredNetwork) (row : Row) → wrong_in network row ≡ None → IsRight network row
@@ -94,7 +102,7 @@ right_from network row h =
       bound = is_given row field.Bound row.bound (bound_of (port_at network.topology.ports row.port) row.wait row.least) e.1;
     }
 
-by_right : (network : DeclaredNetwork) (row : Row) → IsRight network row → wrong_in network row ≡ None
+pub by_right : (network : DeclaredNetwork) (row : Row) → IsRight network row → wrong_in network row ≡ None
 by_right network row h =
     let sums : PortSums = port_sums network row.port row.class in
     both_none _ _ (by_given row field.Higher row.higher sums.higher h.sums.higher)
@@ -107,24 +115,24 @@ by_right network row h =
 pub fits_from : (row : Row) → overloaded row ≡ None → FitsLink row
 fits_from row h = ltb-false PS_PER_SECOND (row.higher + row.equal) (fails (nat_lt PS_PER_SECOND (row.higher + row.equal)) (Overloaded row.port row.class (row.higher + row.equal)) h)
 
-by_fit : (row : Row) → FitsLink row → overloaded row ≡ None
+pub by_fit : (row : Row) → FitsLink row → overloaded row ≡ None
 by_fit row h = by_fail (nat_lt PS_PER_SECOND (row.higher + row.equal)) (Overloaded row.port row.class (row.higher + row.equal)) (le-ltb PS_PER_SECOND (row.higher + row.equal) h)
 
 -- a right row that fits its link fits the sums of its place
 pub place_fits : (network : DeclaredNetwork) (row : Row) → IsRight network row → FitsLink row → Fits network row.port row.class
 place_fits network row right fits = omega (arith, fits, right.sums.higher, right.sums.equal)
 
-long_from : (network : DeclaredNetwork) (row : Row) → short network row ≡ None → (least_row network (row.port, row.class)).wait ≤ row.wait
+pub long_from : (network : DeclaredNetwork) (row : Row) → short network row ≡ None → (least_row network (row.port, row.class)).wait ≤ row.wait
 long_from network row h =
     let least : ℕ = least_wait (port_at network.topology.ports row.port) (port_sums network row.port row.class) in
     ltb-false row.wait least (fails (nat_lt row.wait least) (WaitTooSmall row.port row.class least) h)
 
-by_long : (network : DeclaredNetwork) (row : Row) → (least_row network (row.port, row.class)).wait ≤ row.wait → short network row ≡ None
+pub by_long : (network : DeclaredNetwork) (row : Row) → (least_row network (row.port, row.class)).wait ≤ row.wait → short network row ≡ None
 by_long network row h =
     let least : ℕ = least_wait (port_at network.topology.ports row.port) (port_sums network row.port row.class) in
     by_fail (nat_lt row.wait least) (WaitTooSmall row.port row.class least) (le-ltb row.wait least h)
 
-enough_from : (network : DeclaredNetwork) (row : Row) → IsPlace network row.port row.class → IsRight network row → FitsLink row
+pub enough_from : (network : DeclaredNetwork) (row : Row) → IsPlace network row.port row.class → IsRight network row → FitsLink row
     → (least_row network (row.port, row.class)).wait ≤ row.wait → IsEnough (port_at network.topology.ports row.port) row
 enough_from network row at right fits long =
     let port : Port = port_at network.topology.ports row.port in
@@ -136,22 +144,22 @@ enough_from network row at right fits long =
     let reach : work port sums ≤ least_wait port sums * (PS_PER_SECOND - sums.higher) = c.reaches in
     omega (arith, reach, more, sent, left)
 
-stays_by : (row : Row) (residence : Option ℕ) → overstay_by row residence ≡ None → ForSome residence (λ ns. row.wait ≤ PS_PER_NS * ns)
+pub stays_by : (row : Row) (residence : Option ℕ) → overstay_by row residence ≡ None → ForSome residence (λ ns. row.wait ≤ PS_PER_NS * ns)
 stays_by row None h ns is = absurd (let no : None ≡ Some ns = is in cc)
 stays_by row (Some residence_ns) h ns is =
     let same : residence_ns ≡ ns = cc is in
     let le = ltb-false (PS_PER_NS * residence_ns) row.wait (fails (nat_lt (PS_PER_NS * residence_ns) row.wait) (Residence row.port row.class row.wait) h) in
     omega (arith, le, same)
 
-by_stay : (row : Row) (residence : Option ℕ) → ForSome residence (λ ns. row.wait ≤ PS_PER_NS * ns) → overstay_by row residence ≡ None
+pub by_stay : (row : Row) (residence : Option ℕ) → ForSome residence (λ ns. row.wait ≤ PS_PER_NS * ns) → overstay_by row residence ≡ None
 by_stay row None h = refl
 by_stay row (Some residence_ns) h = by_fail (nat_lt (PS_PER_NS * residence_ns) row.wait) (Residence row.port row.class row.wait) (le-ltb (PS_PER_NS * residence_ns) row.wait (h residence_ns refl))
 
-in_time_from : (rows : List Row) (stream : DeclaredStream) → late rows stream ≡ None → IsInTime rows stream
+pub in_time_from : (rows : List Row) (stream : DeclaredStream) → late rows stream ≡ None → IsInTime rows stream
 in_time_from rows stream h =
     ltb-false (PS_PER_NS * stream.deadline_ns) (bound_along rows stream) (fails (nat_lt (PS_PER_NS * stream.deadline_ns) (bound_along rows stream)) (Deadline stream.name (bound_along rows stream)) h)
 
-by_time : (rows : List Row) (stream : DeclaredStream) → IsInTime rows stream → late rows stream ≡ None
+pub by_time : (rows : List Row) (stream : DeclaredStream) → IsInTime rows stream → late rows stream ≡ None
 by_time rows stream h =
     by_fail (nat_lt (PS_PER_NS * stream.deadline_ns) (bound_along rows stream)) (Deadline stream.name (bound_along rows stream)) (le-ltb (PS_PER_NS * stream.deadline_ns) (bound_along rows stream) h)
 
@@ -215,8 +223,7 @@ clear_holds network rows is ordered clear =
 pub holds_clear : (network : DeclaredNetwork) (rows : List Row) → IsNetwork network → Holds network rows → AreClear network rows
 holds_clear network rows is holds =
     record {
-      missing = first_some-none (missing rows) (places_of network)
-          (λ k d h. (let at = get_or (places_of network) k d in by_pass (is_some (row_of rows at.0 at.1)) (RowMissing at.0 at.1) (holds.rows_of.complete at.0 at.1 (places_used network k d h))));
+      missing = none_missing network rows holds.rows_of.complete;
       stray = first_some-none (stray network) rows
           (λ k d h. (let row : Row = get_or rows k d in by_pass (is_used network row.port row.class) (RowStray row.port row.class) (holds.rows_of.used k d h)));
       wrong = first_some-none (wrong_in network) rows

@@ -6,3 +6,4 @@ pub mod Bounds
 pub mod Tallies
 pub mod Sums
 pub mod Rows
+pub mod First

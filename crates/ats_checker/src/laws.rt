@@ -1,12 +1,18 @@
 //! Laws of the judgement, and what an accepted certificate promises of each legal run.
 
-ghost use Rattle.ats_checker.specs.Laws.{LeastIsAccepted, RefusedUnlessHolding};
+ghost use Rattle.ats_checker.specs.Laws.{EachRefusalIsTheFirst, LeastIsAccepted, RefusedUnlessHolding};
 ghost use Rattle.ats_port_law.specs.PortLaw.{PortLaw};
 ghost use Rattle.ats_soundness.specs.Laws.{ShapingForFree, PathLaw, Containment, CertificateIsSound};
 
 /// A law: rows that ascend by port and then class are refused exactly where they do not hold for the network.
 pub fn refused_unless_holding()
     ensures { RefusedUnlessHolding }
+{}
+
+/// A law: rows that ascend by port and then class get a refusal exactly where it names the first clause that fails, there the
+/// first port and class, row, field or stream that breaks it, and the number that belongs to it.
+pub fn each_refusal_is_the_first()
+    ensures { EachRefusalIsTheFirst }
 {}
 
 /// A law: where a network has no reason against it, its least certificate is not refused.

@@ -1,0 +1,116 @@
+use Rattle.std.specs.Prelude.{◌≡◌, ◌⊎◌, ℕ, ◌+◌, ◌<◌, IsTrue, IsSome, List, [], ◌∷◌, ◌++◌, All, None}
+use Rattle.ats_topology.specs.Port.{port_at}
+use Rattle.ats_streams.specs.Stream.{DeclaredStream}
+use Rattle.ats_network.specs.Network.{DeclaredNetwork}
+use Rattle.ats_certificate.specs.PortSums.{port_sums, is_used}
+use Rattle.ats_certificate.specs.Certificate.{HasRows, HasSums, FitsLink, IsEnough, MayStay, Covers, RowHolds, IsInTime, is_row_of, row_of, bound_of, bound_along}
+use Rattle.ats_certificate.specs.Least.{IsLeastRow}
+use Rattle.ats_certificate.specs.declared.row.Row.{Row}
+use Rattle.ats_checker.specs.declared.refusal.Field.{Field}
+use Rattle.ats_checker.specs.declared.refusal.Field.TheVariants.{Higher, Equal, Bursts, Lower, Least, Bound}
+use Rattle.ats_checker.specs.declared.refusal.Refusal.{Refusal}
+use Rattle.ats_checker.specs.declared.refusal.Refusal.TheVariants.{RowMissing, RowStray, FieldWrong, Overloaded, WaitTooSmall, Residence, Deadline, NoMemory}
+
+-- the first of a list that breaks a rule: each before it keeps the rule
+pub record IsFirstBreach {A : Type 0} (Rule : A → Type 0) (xs : List A) (x : A) : Type 0 where
+  pub before : List A
+  pub after : List A
+  pub cut : before ++ x ∷ after ≡ xs
+  pub kept : All Rule before
+  pub breaks : ¬ Rule x
+
+-- a row's port is used by some stream of its class
+abbrev pub IsUsed : DeclaredNetwork → Row → Type 0
+IsUsed network row = IsTrue (is_used network row.port row.class)
+
+-- a row says what the senders make of its port and class, and the bound that follows
+pub record IsRight (network : DeclaredNetwork) (row : Row) : Type 0 where
+  pub sums : HasSums row (port_sums network row.port row.class)
+  pub bound : row.bound ≡ bound_of (port_at network.topology.ports row.port) row.wait row.least
+
+-- the fields in the order in which they are judged, what a row says in each, and what it should say there
+abbrev pub fields : List Field
+fields = Higher ∷ Equal ∷ Bursts ∷ Lower ∷ Least ∷ Bound ∷ []
+
+abbrev pub said : Row → Field → ℕ
+said row Higher = row.higher
+said row Equal = row.equal
+said row Bursts = row.bursts
+said row Lower = row.lower
+said row Least = row.least
+said row Bound = row.bound
+
+abbrev pub due : DeclaredNetwork → Row → Field → ℕ
+due network row Higher = (port_sums network row.port row.class).higher
+due network row Equal = (port_sums network row.port row.class).equal
+due network row Bursts = (port_sums network row.port row.class).bursts
+due network row Lower = (port_sums network row.port row.class).lower
+due network row Least = (port_sums network row.port row.class).least
+due network row Bound = bound_of (port_at network.topology.ports row.port) row.wait row.least
+
+-- some stream of the class uses the port, and no row is theirs; each used port and class that comes before has its row
+pub record IsMissing (network : DeclaredNetwork) (rows : List Row) (port class : ℕ) : Type 0 where
+  pub used : IsTrue (is_used network port class)
+  pub none : row_of rows port class ≡ None
+  pub before : (p c : ℕ) → IsTrue (is_used network p c) → (p < port) ⊎ ((p ≡ port) × (c < class)) → IsSome (row_of rows p c)
+
+-- each used port and class has its row; the row of this port and class is the first that no stream uses
+pub record IsStray (network : DeclaredNetwork) (rows : List Row) (port class : ℕ) : Type 0 where
+  pub complete : (p c : ℕ) → IsTrue (is_used network p c) → IsSome (row_of rows p c)
+  pub row : Row
+  pub place : IsTrue (is_row_of port class row)
+  pub first : IsFirstBreach (IsUsed network) rows row
+
+-- what the next four share: the rows are those of the network, and each keeps the rules that come before; the row of this
+-- port and class is the first that breaks the rule
+pub record IsRowAtFault (network : DeclaredNetwork) (rows : List Row) (Earlier Rule : Row → Type 0) (port class : ℕ) (row : Row) : Type 0 where
+  pub rows_of : HasRows network rows
+  pub kept : All Earlier rows
+  pub place : IsTrue (is_row_of port class row)
+  pub first : IsFirstBreach Rule rows row
+
+-- a row is not right; this field is the first that does not say what it should, which is this
+pub record IsWrong (network : DeclaredNetwork) (rows : List Row) (port class : ℕ) (field : Field) (right : ℕ) : Type 0 where
+  pub row : Row
+  pub fault : IsRowAtFault network rows (IsUsed network) (IsRight network) port class row
+  pub first : IsFirstBreach (λ (f : Field). said row f ≡ due network row f) fields field
+  pub is : right ≡ due network row field
+
+-- each row is right; one has a load that does not fit the link
+pub record IsOverload (network : DeclaredNetwork) (rows : List Row) (port class load : ℕ) : Type 0 where
+  pub row : Row
+  pub fault : IsRowAtFault network rows (IsRight network) FitsLink port class row
+  pub is : load ≡ row.higher + row.equal
+
+-- each is right and fits; one has a wait that is not enough. This is the least wait that is: with it, and the bound that
+-- follows, the row would cover its port and class, and with no shorter one
+pub record IsShort (network : DeclaredNetwork) (rows : List Row) (port class wait : ℕ) : Type 0 where
+  pub row : Row
+  pub fault : IsRowAtFault network rows (λ (r : Row). IsRight network r × FitsLink r) (λ (r : Row). IsEnough (port_at network.topology.ports r.port) r) port class row
+  pub is : IsLeastRow network (record row { wait = wait; bound = bound_of (port_at network.topology.ports row.port) wait row.least })
+
+-- each covers its port and class; one has a wait that is longer than a frame may stay behind its port
+pub record IsOverstay (network : DeclaredNetwork) (rows : List Row) (port class wait : ℕ) : Type 0 where
+  pub row : Row
+  pub fault : IsRowAtFault network rows (Covers network) (λ (r : Row). MayStay network r.port r.wait) port class row
+  pub is : wait ≡ row.wait
+
+-- the rows are those of the network, and each holds; the stream of this name is the first that is not in time
+pub record IsLate (network : DeclaredNetwork) (rows : List Row) (name : List ℕ) (along : ℕ) : Type 0 where
+  pub rows_of : HasRows network rows
+  pub kept : All (RowHolds network) rows
+  pub stream : DeclaredStream
+  pub named : stream.name ≡ name
+  pub first : IsFirstBreach (IsInTime rows) network.streams stream
+  pub is : along ≡ bound_along rows stream
+
+-- what each refusal says of rows
+abbrev pub IsFirst : DeclaredNetwork → List Row → Refusal → Type 0
+IsFirst network rows (RowMissing port class) = IsMissing network rows port class
+IsFirst network rows (RowStray port class) = IsStray network rows port class
+IsFirst network rows (FieldWrong port class field right) = IsWrong network rows port class field right
+IsFirst network rows (Overloaded port class load) = IsOverload network rows port class load
+IsFirst network rows (WaitTooSmall port class least) = IsShort network rows port class least
+IsFirst network rows (Residence port class need) = IsOverstay network rows port class need
+IsFirst network rows (Deadline stream sum) = IsLate network rows stream sum
+IsFirst network rows NoMemory = ⊥
