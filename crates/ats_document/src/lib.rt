@@ -19,6 +19,3 @@ pub use key::Key;
 pub use printing::write_fault;
 pub use reading::read_document;
 pub use table::Table;
-
-#[cfg(test)]
-mod tests;

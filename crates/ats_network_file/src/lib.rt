@@ -13,6 +13,3 @@ mod streams;
 pub use fault::NetFault;
 pub use printing::write_fault;
 pub use reading::read_network;
-
-#[cfg(test)]
-mod tests;

@@ -10,6 +10,3 @@ pub mod stream;
 pub use fault::{StreamFault, declared_fault};
 pub use flow::Flow;
 pub use stream::{Stream, is_identity};
-
-#[cfg(test)]
-mod tests;

@@ -20,6 +20,3 @@ pub use node::{Kind, Node};
 pub use port::Port;
 pub use rates::ps_per_bit;
 pub use topology::Topology;
-
-#[cfg(test)]
-mod tests;
