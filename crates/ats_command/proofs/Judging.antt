@@ -18,9 +18,9 @@ use Rattle.ats_checker.proofs.Refused.{refused_unless_holding}
 use Rattle.ats_judgement.specs.Ports.{ReasonInside}
 use Rattle.ats_judgement.specs.Text.{accepted_text, reason_text, refusal_text, refused_text}
 use Rattle.ats_judgement.proofs.ReasonPorts.{each_reason_is_inside}
-use Rattle.ats_cli.specs.Answer.{Answer}
-use Rattle.ats_cli.specs.Judged.{judged, bound_judged, check_judged}
-use Rattle.ats_cli.specs.declared.status.Status.TheVariants as status
+use Rattle.ats_command.specs.Answer.{Answer}
+use Rattle.ats_command.specs.Judged.{judged, bound_judged, check_judged}
+use Rattle.ats_command.specs.declared.status.Status.TheVariants as status
 
 -- a refusal with this text
 refused_with : List ℕ → Result (List ℕ) Answer

@@ -22,13 +22,13 @@ use Rattle.ats_checker.specs.declared.refusal.Refusal.{Refusal}
 use Rattle.ats_checker.proofs.Refused.{refused_unless_holding}
 use Rattle.ats_judgement.specs.Text.{accepted_text, reason_text, refusal_text}
 use Rattle.ats_soundness.proofs.Soundness.{certificate_is_sound}
-use Rattle.ats_cli.specs.Answer.{Answer, input_answer, settled, ◌>>=◌}
-use Rattle.ats_cli.specs.Due.{bound_answer, check_answer}
-use Rattle.ats_cli.specs.Input.{bytes_in, declared_in, network_in, rows_in}
-use Rattle.ats_cli.specs.Judged.{judged, bound_judged, check_judged}
-use Rattle.ats_cli.specs.Meaning.{BoundSays, BoundMeans, CheckSays, CheckMeans}
-use Rattle.ats_cli.specs.declared.status.Status.TheVariants.{Input}
-use Rattle.ats_cli.proofs.RowOrder.{rows_ascend}
+use Rattle.ats_command.specs.Answer.{Answer, input_answer, settled, ◌>>=◌}
+use Rattle.ats_command.specs.Due.{bound_answer, check_answer}
+use Rattle.ats_command.specs.Input.{bytes_in, declared_in, network_in, rows_in}
+use Rattle.ats_command.specs.Judged.{judged, bound_judged, check_judged}
+use Rattle.ats_command.specs.Meaning.{BoundSays, BoundMeans, CheckSays, CheckMeans}
+use Rattle.ats_command.specs.declared.status.Status.TheVariants.{Input}
+use Rattle.ats_command.proofs.RowOrder.{rows_ascend}
 
 -- a fault of a file is answered so
 abbrev IsInput : Answer → Type 0

@@ -1,8 +1,8 @@
 use Rattle.std.proofs.Common.{◌≡◌, ℕ, List, Option, refl}
-use Rattle.ats_cli.specs.Command.{Command, Shape, Show, Bound, Check, Unknown, command_of}
-use Rattle.ats_cli.specs.Answer.{Answer, words_answer}
-use Rattle.ats_cli.specs.Due.{IsDue, IsTold, shape_answer, show_answer, bound_answer, check_answer, told_bytes}
-use Rattle.ats_cli.specs.Laws.{OneAnswerIsDue}
+use Rattle.ats_command.specs.Command.{Command, Shape, Show, Bound, Check, Unknown, command_of}
+use Rattle.ats_command.specs.Answer.{Answer, words_answer}
+use Rattle.ats_command.specs.Due.{IsDue, IsTold, shape_answer, show_answer, bound_answer, check_answer, told_bytes}
+use Rattle.ats_command.specs.Laws.{OneAnswerIsDue}
 
 only_due : (told : List ℕ → Option (List ℕ)) (command : Command) → IsTold told command → (answer : Answer) × (IsDue told command answer) × ((other : Answer) → IsDue told command other → other ≡ answer)
 only_due told (Shape file) is_told = (shape_answer file (told_bytes told file), record { is_told = is_told; answers = refl }, λ other due. due.answers)

@@ -13,7 +13,7 @@ use Rattle.ats_certificate_file.specs.Steps.{◌>>=◌, or_fault, ok_where}
 use Rattle.ats_certificate_file.specs.Reading.{number_in, number_within, row_in, row_after, comes_after, rows_of}
 use Rattle.ats_certificate_file.specs.declared.fault.CertFault.{CertFault}
 use Rattle.ats_certificate_file.specs.declared.fault.CertFault.TheVariants.{UnknownPort, RowOrder}
-use Rattle.ats_cli.proofs.RowSteps.{behind, always, followed, where_passed, rows_keep}
+use Rattle.ats_command.proofs.RowSteps.{behind, always, followed, where_passed, rows_keep}
 
 -- a place that is found is one of the list
 either : (b : Bool) (i n : ℕ) (r : Option ℕ) → i < n → IfSome r (λ p. p < n) → IfSome (cond b (Some i) r) (λ p. p < n)

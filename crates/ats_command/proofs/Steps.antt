@@ -2,13 +2,13 @@ use Rattle.std.proofs.Common.{◌≡◌, ℕ, List, [], Option, Some, None, Resu
 use Rattle.ats_io.specs.Outside.{Rose}
 use Rattle.std.specs.Prelude.{IsSome, IfSome, IsErrAnd, IsOk, OnOk, ◌≤◌, unwrap_or}
 use Rattle.std.specs.Global.{Vec}
-use Rattle.ats_cli.specs.Answer.{Answer, settled, ◌>>=◌}
-use Rattle.ats_cli.specs.Input.{bytes_in, declared_in}
-use Rattle.ats_cli.specs.Due.{told_bytes}
-use Rattle.ats_cli.specs.Outcome.{Gives, IsStopOf, answer_of}
-use Rattle.ats_cli.specs.declared.outcome.Stop.{Stop}
-use Rattle.ats_cli.specs.declared.outcome.Stop.TheVariants.{Input, Refused, ReadFailed, NoMemory}
-use Rattle.ats_cli.specs.declared.status.Status.TheVariants as status
+use Rattle.ats_command.specs.Answer.{Answer, settled, ◌>>=◌}
+use Rattle.ats_command.specs.Input.{bytes_in, declared_in}
+use Rattle.ats_command.specs.Due.{told_bytes}
+use Rattle.ats_command.specs.Outcome.{Gives, IsStopOf, answer_of}
+use Rattle.ats_command.specs.declared.outcome.Stop.{Stop}
+use Rattle.ats_command.specs.declared.outcome.Stop.TheVariants.{Input, Refused, ReadFailed, NoMemory}
+use Rattle.ats_command.specs.declared.status.Status.TheVariants as status
 
 some_is : (o : Option (List ℕ)) → IsSome o → o ≡ Some (unwrap_or o [])
 some_is None h = cc

@@ -1,9 +1,9 @@
 use Rattle.std.specs.Prelude.{◌≡◌, ℕ, List, Option, All}
 use Rattle.ats_io.specs.Outside.{Rose, TakesPrefix, appended}
-use Rattle.ats_cli.specs.Command.{Command, file_words}
-use Rattle.ats_cli.specs.Answer.{Answer}
-use Rattle.ats_cli.specs.Due.{IsDue, IsTold, Reaches}
-use Rattle.ats_cli.specs.declared.status.Status.{Status}
+use Rattle.ats_command.specs.Command.{Command, file_words}
+use Rattle.ats_command.specs.Answer.{Answer}
+use Rattle.ats_command.specs.Due.{IsDue, IsTold, Reaches}
+use Rattle.ats_command.specs.declared.status.Status.{Status}
 
 -- a text was printed, whole; with the status it is due, where the files tell their bytes
 abbrev pub Printed : (List ℕ → Option (List ℕ)) → Command → Status → Option (List ℕ) → Option (List ℕ) → Type 0

@@ -2,10 +2,10 @@ use Rattle.std.specs.Prelude.{◌≡◌, ℕ, ◌⊎◌, List, [], All, IsSome, 
 use Rattle.ats_io.specs.Outside.{IfTold}
 use Rattle.ats_shape.specs.Text.{text_of}
 use Rattle.ats_show.specs.Text.{show_text}
-use Rattle.ats_cli.specs.Command.{Command, Shape, Show, Bound, Check, Unknown, file_words}
-use Rattle.ats_cli.specs.Answer.{Answer, words_answer, settled, ◌>>=◌}
-use Rattle.ats_cli.specs.Input.{shape_in, network_in, rows_in}
-use Rattle.ats_cli.specs.Judged.{bound_judged, check_judged}
+use Rattle.ats_command.specs.Command.{Command, Shape, Show, Bound, Check, Unknown, file_words}
+use Rattle.ats_command.specs.Answer.{Answer, words_answer, settled, ◌>>=◌}
+use Rattle.ats_command.specs.Input.{shape_in, network_in, rows_in}
+use Rattle.ats_command.specs.Judged.{bound_judged, check_judged}
 
 -- to `shape FILE`, by the bytes of the file
 unfoldable pub shape_answer : List ℕ → List ℕ → Answer

@@ -7,8 +7,8 @@ use Rattle.ats_bound.specs.Least.{least_certificate}
 use Rattle.ats_bound.specs.Reason.{reason_of}
 use Rattle.ats_checker.specs.Refusal.{refusal_of}
 use Rattle.ats_judgement.specs.Text.{accepted_text, reason_text, refusal_text, refused_text}
-use Rattle.ats_cli.specs.Answer.{Answer}
-use Rattle.ats_cli.specs.declared.status.Status.TheVariants.{Refused}
+use Rattle.ats_command.specs.Answer.{Answer}
+use Rattle.ats_command.specs.declared.status.Status.TheVariants.{Refused}
 
 -- a text, unless something is refused
 abbrev pub judged : List ℕ → Option (List ℕ) → Result (List ℕ) Answer

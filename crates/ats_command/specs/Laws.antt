@@ -1,7 +1,7 @@
 use Rattle.std.specs.Prelude.{◌≡◌, ℕ, List, Option}
-use Rattle.ats_cli.specs.Command.{command_of}
-use Rattle.ats_cli.specs.Answer.{Answer}
-use Rattle.ats_cli.specs.Due.{IsDue, IsTold}
+use Rattle.ats_command.specs.Command.{command_of}
+use Rattle.ats_command.specs.Answer.{Answer}
+use Rattle.ats_command.specs.Due.{IsDue, IsTold}
 
 -- this answer is due, and no other
 pub record IsOnlyDue (told : List ℕ → Option (List ℕ)) (words : List (List ℕ)) (answer : Answer) : Type 0 where

@@ -5,10 +5,10 @@ use Rattle.ats_certificate.specs.declared.row.Row.{Row}
 use Rattle.ats_certificate_file.specs.Text.{certificate_text}
 use Rattle.ats_bound.specs.Least.{least_certificate}
 use Rattle.ats_soundness.specs.Sound.{IsSound}
-use Rattle.ats_cli.specs.Input.{network_in, rows_in}
-use Rattle.ats_cli.specs.Due.{bound_answer, check_answer}
-use Rattle.ats_cli.specs.declared.status.Status.{Status}
-use Rattle.ats_cli.specs.declared.status.Status.TheVariants.{Done, Words, Input, Refused, ReadFailed, WriteFailed, NoMemory}
+use Rattle.ats_command.specs.Input.{network_in, rows_in}
+use Rattle.ats_command.specs.Due.{bound_answer, check_answer}
+use Rattle.ats_command.specs.declared.status.Status.{Status}
+use Rattle.ats_command.specs.declared.status.Status.TheVariants.{Done, Words, Input, Refused, ReadFailed, WriteFailed, NoMemory}
 
 -- a file of these bytes declares this network, and the text writes its least certificate, which holds and is sound
 pub record IsBounded (net bytes text : List ℕ) (network : DeclaredNetwork) : Type 0 where

@@ -1,8 +1,8 @@
 use Rattle.std.specs.Prelude.{ℕ, List, map, String, string_bytes, Option, Some, None}
 use Rattle.std.specs.declared.alloc.Global.{Global}
-use Rattle.ats_cli.specs.Command as table
-use Rattle.ats_cli.specs.declared.command.Command.{Command}
-use Rattle.ats_cli.specs.declared.command.Command.TheVariants.{Shape, Show, Bound, Check}
+use Rattle.ats_command.specs.Command as table
+use Rattle.ats_command.specs.declared.command.Command.{Command}
+use Rattle.ats_command.specs.declared.command.Command.TheVariants.{Shape, Show, Bound, Check}
 
 -- the bytes of words
 abbrev pub texts_of : List (String Global) → List (List ℕ)

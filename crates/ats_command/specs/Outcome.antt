@@ -1,13 +1,13 @@
 use Rattle.std.specs.Prelude.{◌≡◌, ℕ, List, IfSome, Option, Some, None, Result, Ok, Err}
 use Rattle.std.specs.Global.{Vec}
 use Rattle.ats_io.specs.Outside.{TakesPrefix, appended}
-use Rattle.ats_cli.specs.Command.{Command}
-use Rattle.ats_cli.specs.Answer.{Answer}
-use Rattle.ats_cli.specs.Due.{IsAnswer, IsTold, told_bytes}
-use Rattle.ats_cli.specs.declared.status.Status.{Status}
-use Rattle.ats_cli.specs.declared.status.Status.TheVariants as status
-use Rattle.ats_cli.specs.declared.outcome.Stop.{Stop}
-use Rattle.ats_cli.specs.declared.outcome.Stop.TheVariants.{Input, Refused, ReadFailed, NoMemory}
+use Rattle.ats_command.specs.Command.{Command}
+use Rattle.ats_command.specs.Answer.{Answer}
+use Rattle.ats_command.specs.Due.{IsAnswer, IsTold, told_bytes}
+use Rattle.ats_command.specs.declared.status.Status.{Status}
+use Rattle.ats_command.specs.declared.status.Status.TheVariants as status
+use Rattle.ats_command.specs.declared.outcome.Stop.{Stop}
+use Rattle.ats_command.specs.declared.outcome.Stop.TheVariants.{Input, Refused, ReadFailed, NoMemory}
 
 -- a stop with a text is what the bytes of a file give; a read that failed and want of memory stand for anything
 abbrev pub IsStopOf : {A : Type 0} → Stop → Result A Answer → Type 0

@@ -2,9 +2,9 @@ use Rattle.std.specs.Prelude.{◌≡◌, ℕ, List, Option, Ok}
 use Rattle.ats_network.specs.Network.{DeclaredNetwork}
 use Rattle.ats_certificate.specs.declared.row.Row.{Row}
 use Rattle.ats_soundness.specs.Sound.{IsSound}
-use Rattle.ats_cli.specs.Command.{Command, Shape, Show, Bound, Check, Unknown}
-use Rattle.ats_cli.specs.Due.{IsTold, told_bytes}
-use Rattle.ats_cli.specs.Input.{network_in, rows_in}
+use Rattle.ats_command.specs.Command.{Command, Shape, Show, Bound, Check, Unknown}
+use Rattle.ats_command.specs.Due.{IsTold, told_bytes}
+use Rattle.ats_command.specs.Input.{network_in, rows_in}
 
 -- two files of these bytes declare this network and these rows, whose bounds are sound
 pub record AreSound (net certificate net_bytes certificate_bytes : List ℕ) (network : DeclaredNetwork) (rows : List Row) : Type 0 where

@@ -4,10 +4,10 @@ ghost use Rattle.std.specs.Prelude.{◌≡◌, IfOk, IsErrOf};
 ghost use Rattle.ats_io.specs.Outside.{Continues};
 ghost use Rattle.ats_judgement.specs.Ports.{ReasonInside};
 ghost use Rattle.ats_judgement.specs.Text.{reason_text, refused_text};
-ghost use Rattle.ats_cli.specs.Command as table;
-ghost use Rattle.ats_cli.specs.Calls.{ReadRose};
-ghost use Rattle.ats_cli.specs.Judged.{bound_judged};
-ghost use Rattle.ats_cli.specs.Outcome.{Answers, Gives};
+ghost use Rattle.ats_command.specs.Command as table;
+ghost use Rattle.ats_command.specs.Calls.{ReadRose};
+ghost use Rattle.ats_command.specs.Judged.{bound_judged};
+ghost use Rattle.ats_command.specs.Outcome.{Answers, Gives};
 
 use crate::input_file::network_in;
 use crate::outcome::Stop;

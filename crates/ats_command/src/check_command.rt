@@ -5,11 +5,11 @@ ghost use Rattle.ats_io.specs.Outside.{Continues};
 ghost use Rattle.ats_checker.specs.Ports.{RefusalInside, RowsInside};
 ghost use Rattle.ats_judgement.specs.Text.{refusal_text, refused_text};
 ghost use Rattle.ats_soundness.specs.Sound.{IsSound};
-ghost use Rattle.ats_cli.specs.Command as table;
-ghost use Rattle.ats_cli.specs.Calls.{ReadRose};
-ghost use Rattle.ats_cli.specs.Judged.{check_judged};
-ghost use Rattle.ats_cli.specs.Outcome.{Answers, Gives};
-ghost use Rattle.ats_cli.specs.Soundness.{IsSoundCheck};
+ghost use Rattle.ats_command.specs.Command as table;
+ghost use Rattle.ats_command.specs.Calls.{ReadRose};
+ghost use Rattle.ats_command.specs.Judged.{check_judged};
+ghost use Rattle.ats_command.specs.Outcome.{Answers, Gives};
+ghost use Rattle.ats_command.specs.Soundness.{IsSoundCheck};
 
 use crate::input_file::{certificate_in, network_in};
 use crate::outcome::Stop;

@@ -1,8 +1,8 @@
 //! The command table.
 
 ghost use Rattle.std.specs.Prelude.{◌≡◌};
-ghost use Rattle.ats_cli.specs.Command.{command_of, command_on, command_on_two};
-ghost use Rattle.ats_cli.specs.Named.{texts_of, view_of};
+ghost use Rattle.ats_command.specs.Command.{command_of, command_on, command_on_two};
+ghost use Rattle.ats_command.specs.Named.{texts_of, view_of};
 
 /// A line of the command table, with its words.
 #[derive(Clone, Copy)]

@@ -9,9 +9,9 @@ ghost use Rattle.ats_network_file.specs.FaultText as network;
 ghost use Rattle.ats_checker.specs.Ports.{RowsInside};
 ghost use Rattle.ats_certificate_file.specs.Reading.{rows_of};
 ghost use Rattle.ats_certificate_file.specs.FaultText as certificate;
-ghost use Rattle.ats_cli.specs.Answer.{input_text};
-ghost use Rattle.ats_cli.specs.Input.{bytes_in, declared_in, shape_in, network_in, rows_in};
-ghost use Rattle.ats_cli.specs.Outcome.{Gives};
+ghost use Rattle.ats_command.specs.Answer.{input_text};
+ghost use Rattle.ats_command.specs.Input.{bytes_in, declared_in, shape_in, network_in, rows_in};
+ghost use Rattle.ats_command.specs.Outcome.{Gives};
 
 use crate::outcome::Stop;
 use ats_certificate::Certificate;

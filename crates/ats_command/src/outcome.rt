@@ -2,8 +2,8 @@
 
 ghost use Rattle.std.specs.Prelude.{◌≡◌, ◌≤◌, ◌⊎◌, Err};
 ghost use Rattle.ats_io.specs.Outside.{Rose, TakesPrefix, appended};
-ghost use Rattle.ats_cli.specs.Answer.{HasText};
-ghost use Rattle.ats_cli.specs.Outcome.{Prints, PrintsFront};
+ghost use Rattle.ats_command.specs.Answer.{HasText};
+ghost use Rattle.ats_command.specs.Outcome.{Prints, PrintsFront};
 
 use crate::status::Status;
 use ats_io::{Sink, write_all};
@@ -59,7 +59,7 @@ pub fn print<O: Sink>(out: &mut O, status: Status, text: &[u8]) -> Status
 
 impl From<NoMemory> for Stop {
     ghost use Rattle.std.specs.Prelude.{◌≡◌};
-    ghost use Rattle.ats_cli.specs.declared.outcome.Stop.TheVariants as stops;
+    ghost use Rattle.ats_command.specs.declared.outcome.Stop.TheVariants as stops;
 
     ghost from_gives = { λ _ e. e ≡ stops.NoMemory };
 

@@ -3,9 +3,9 @@
 ghost use Rattle.std.specs.Prelude.{◌≡◌, IfOk, IsErrOf};
 ghost use Rattle.ats_io.specs.Outside.{Continues};
 ghost use Rattle.ats_shape.specs.Text.{text_of};
-ghost use Rattle.ats_cli.specs.Command as table;
-ghost use Rattle.ats_cli.specs.Calls.{ReadRose};
-ghost use Rattle.ats_cli.specs.Outcome.{Answers};
+ghost use Rattle.ats_command.specs.Command as table;
+ghost use Rattle.ats_command.specs.Calls.{ReadRose};
+ghost use Rattle.ats_command.specs.Outcome.{Answers};
 
 use crate::input_file::shape_in;
 use crate::outcome::Stop;

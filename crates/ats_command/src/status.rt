@@ -22,7 +22,7 @@ pub enum Status {
 }
 
 impl Status {
-    ghost use Rattle.ats_cli.specs.Status.{code_of};
+    ghost use Rattle.ats_command.specs.Status.{code_of};
 
     /// The exit code: 0 to 6 in the order of the variants.
     pub fn code(self) -> u8

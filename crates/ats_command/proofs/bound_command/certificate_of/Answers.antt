@@ -2,8 +2,8 @@ use Rattle.std.proofs.Common.{subst}
 use Rattle.ats_bound.specs.Due.{IsDue}
 use Rattle.ats_bound.specs.Reason.{reason_of}
 use Rattle.ats_bound.specs.declared.reason.NoBound.{NoBound}
-use Rattle.ats_cli.proofs.Judging.{least_inside, reason_inside, bound_text, bound_refused}
-use Rattle.ats_cli.proofs.bound_command.certificate_of.Goals as goal
+use Rattle.ats_command.proofs.Judging.{least_inside, reason_inside, bound_text, bound_refused}
+use Rattle.ats_command.proofs.bound_command.certificate_of.Goals as goal
 
 pub write_certificate-requires : goal.write_certificate-requires
 write_certificate-requires c = least_inside c.args.network.now c.topology-topology.result.now c.in-Ok.certificate c.topology-topology.ensures.rules c.topology-topology.ensures.value c.in-Ok.ensures.value

@@ -4,17 +4,17 @@ use Rattle.ats_topology.specs.Topology.{DeclaredTopology}
 use Rattle.ats_network.specs.Network.{DeclaredNetwork}
 use Rattle.ats_certificate.specs.declared.row.Row.{Row}
 use Rattle.ats_soundness.specs.Sound.{IsSound}
-use Rattle.ats_cli.specs.Answer.{Answer, ◌>>=◌}
-use Rattle.ats_cli.specs.Command.{Check}
-use Rattle.ats_cli.specs.Input.{network_in, rows_in}
-use Rattle.ats_cli.specs.Judged.{check_judged}
-use Rattle.ats_cli.specs.Due.{told_bytes, check_answer}
-use Rattle.ats_cli.specs.Outcome.{Gives, IsStopOf}
-use Rattle.ats_cli.specs.Soundness.{IsSoundCheck}
-use Rattle.ats_cli.specs.declared.outcome.Stop.{Stop}
-use Rattle.ats_cli.specs.declared.outcome.Stop.TheVariants.{ReadFailed}
-use Rattle.ats_cli.proofs.Steps.{told_is, err_is, stops_all, goes_on, step_settles, result_settles, on_ok_then, rose_since, same_stop, declared_is_ok}
-use Rattle.ats_cli.proofs.check_command.check.Goals as goal
+use Rattle.ats_command.specs.Answer.{Answer, ◌>>=◌}
+use Rattle.ats_command.specs.Command.{Check}
+use Rattle.ats_command.specs.Input.{network_in, rows_in}
+use Rattle.ats_command.specs.Judged.{check_judged}
+use Rattle.ats_command.specs.Due.{told_bytes, check_answer}
+use Rattle.ats_command.specs.Outcome.{Gives, IsStopOf}
+use Rattle.ats_command.specs.Soundness.{IsSoundCheck}
+use Rattle.ats_command.specs.declared.outcome.Stop.{Stop}
+use Rattle.ats_command.specs.declared.outcome.Stop.TheVariants.{ReadFailed}
+use Rattle.ats_command.proofs.Steps.{told_is, err_is, stops_all, goes_on, step_settles, result_settles, on_ok_then, rose_since, same_stop, declared_is_ok}
+use Rattle.ats_command.proofs.check_command.check.Goals as goal
 
 pub returns-in_err-network-clause-due : goal.returns-in_err-network-clause-due
 unfolding check_answer

@@ -1,6 +1,6 @@
 use Rattle.ats_soundness.proofs.Soundness.{certificate_is_sound}
-use Rattle.ats_cli.proofs.Judging.{check_text, check_refused}
-use Rattle.ats_cli.proofs.check_command.judgement_of.Goals as goal
+use Rattle.ats_command.proofs.Judging.{check_text, check_refused}
+use Rattle.ats_command.proofs.check_command.judgement_of.Goals as goal
 
 pub returns-in_ok-accepted-in-Ok-clause-due : goal.returns-in_ok-accepted-in-Ok-clause-due
 returns-in_ok-accepted-in-Ok-clause-due c =

@@ -2,11 +2,11 @@ use Rattle.std.proofs.Common.{List, Result, sym, subst}
 use Rattle.ats_certificate.specs.declared.row.Row.{Row}
 use Rattle.ats_certificate_file.specs.Reading.{rows_of}
 use Rattle.ats_certificate_file.specs.FaultText.{fault_text}
-use Rattle.ats_cli.specs.Input.{bytes_in, declared_in, rows_in}
-use Rattle.ats_cli.specs.Outcome.{Gives}
-use Rattle.ats_cli.specs.declared.outcome.Stop.{Stop}
-use Rattle.ats_cli.proofs.Steps.{stops_all, err_is, declares}
-use Rattle.ats_cli.proofs.input_file.certificate_in.Goals as goal
+use Rattle.ats_command.specs.Input.{bytes_in, declared_in, rows_in}
+use Rattle.ats_command.specs.Outcome.{Gives}
+use Rattle.ats_command.specs.declared.outcome.Stop.{Stop}
+use Rattle.ats_command.proofs.Steps.{stops_all, err_is, declares}
+use Rattle.ats_command.proofs.input_file.certificate_in.Goals as goal
 
 pub returns-in_err-bytes-clause-due : goal.returns-in_err-bytes-clause-due
 unfolding rows_in

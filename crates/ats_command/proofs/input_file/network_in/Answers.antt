@@ -2,11 +2,11 @@ use Rattle.std.proofs.Common.{Result, sym, subst}
 use Rattle.ats_network_file.specs.Reading.{network_of}
 use Rattle.ats_network_file.specs.FaultText.{fault_text}
 use Rattle.ats_network.specs.Network.{DeclaredNetwork}
-use Rattle.ats_cli.specs.Input.{bytes_in, declared_in, network_in}
-use Rattle.ats_cli.specs.Outcome.{Gives}
-use Rattle.ats_cli.specs.declared.outcome.Stop.{Stop}
-use Rattle.ats_cli.proofs.Steps.{stops_all, err_is, declares}
-use Rattle.ats_cli.proofs.input_file.network_in.Goals as goal
+use Rattle.ats_command.specs.Input.{bytes_in, declared_in, network_in}
+use Rattle.ats_command.specs.Outcome.{Gives}
+use Rattle.ats_command.specs.declared.outcome.Stop.{Stop}
+use Rattle.ats_command.proofs.Steps.{stops_all, err_is, declares}
+use Rattle.ats_command.proofs.input_file.network_in.Goals as goal
 
 pub returns-in_err-bytes-clause-due : goal.returns-in_err-bytes-clause-due
 unfolding network_in

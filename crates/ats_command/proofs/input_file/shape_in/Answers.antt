@@ -2,11 +2,11 @@ use Rattle.std.proofs.Common.{Result, sym, subst}
 use Rattle.ats_shape.specs.Reading.{shape_of}
 use Rattle.ats_shape.specs.FaultText.{fault_text}
 use Rattle.ats_shape.specs.Shape.{DeclaredShape}
-use Rattle.ats_cli.specs.Input.{bytes_in, declared_in, shape_in}
-use Rattle.ats_cli.specs.Outcome.{Gives}
-use Rattle.ats_cli.specs.declared.outcome.Stop.{Stop}
-use Rattle.ats_cli.proofs.Steps.{stops_all, err_is, declares}
-use Rattle.ats_cli.proofs.input_file.shape_in.Goals as goal
+use Rattle.ats_command.specs.Input.{bytes_in, declared_in, shape_in}
+use Rattle.ats_command.specs.Outcome.{Gives}
+use Rattle.ats_command.specs.declared.outcome.Stop.{Stop}
+use Rattle.ats_command.proofs.Steps.{stops_all, err_is, declares}
+use Rattle.ats_command.proofs.input_file.shape_in.Goals as goal
 
 pub returns-in_err-bytes-clause-due : goal.returns-in_err-bytes-clause-due
 unfolding shape_in

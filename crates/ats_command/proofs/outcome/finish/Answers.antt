@@ -1,7 +1,7 @@
 use Rattle.std.proofs.Common.{rules, ℕ, List, Option, subst}
 use Rattle.ats_io.specs.Outside.{TakesPrefix}
-use Rattle.ats_cli.specs.declared.status.Status.TheVariants.{Done, Input, Refused}
-use Rattle.ats_cli.proofs.outcome.finish.Goals as goal
+use Rattle.ats_command.specs.declared.status.Status.TheVariants.{Done, Input, Refused}
+use Rattle.ats_command.proofs.outcome.finish.Goals as goal
 
 pub returns-in-Ok-clause-cut_short : goal.returns-in-Ok-clause-cut_short
 returns-in-Ok-clause-cut_short g c = λ h.

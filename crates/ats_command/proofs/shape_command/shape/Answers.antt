@@ -1,10 +1,10 @@
 use Rattle.std.proofs.Common.{ℕ, List, [], Option, Ok, lit<, sym, ap, ◌∙◌}
 use Rattle.ats_shape.specs.Text.{text_of}
-use Rattle.ats_cli.specs.Answer.{◌>>=◌}
-use Rattle.ats_cli.specs.Input.{shape_in}
-use Rattle.ats_cli.specs.Due.{told_bytes, shape_answer}
-use Rattle.ats_cli.proofs.Steps.{told_is, err_is, step_settles, text_settles}
-use Rattle.ats_cli.proofs.shape_command.shape.Goals as goal
+use Rattle.ats_command.specs.Answer.{◌>>=◌}
+use Rattle.ats_command.specs.Input.{shape_in}
+use Rattle.ats_command.specs.Due.{told_bytes, shape_answer}
+use Rattle.ats_command.proofs.Steps.{told_is, err_is, step_settles, text_settles}
+use Rattle.ats_command.proofs.shape_command.shape.Goals as goal
 
 pub returns-in_err-shape-clause-due : goal.returns-in_err-shape-clause-due
 unfolding shape_answer

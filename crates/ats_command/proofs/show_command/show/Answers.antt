@@ -1,10 +1,10 @@
 use Rattle.std.proofs.Common.{ℕ, List, [], Option, Ok, lit<, sym, ap, ◌∙◌}
 use Rattle.ats_show.specs.Text.{show_text}
-use Rattle.ats_cli.specs.Answer.{◌>>=◌}
-use Rattle.ats_cli.specs.Input.{network_in}
-use Rattle.ats_cli.specs.Due.{told_bytes, show_answer}
-use Rattle.ats_cli.proofs.Steps.{told_is, err_is, step_settles, text_settles}
-use Rattle.ats_cli.proofs.show_command.show.Goals as goal
+use Rattle.ats_command.specs.Answer.{◌>>=◌}
+use Rattle.ats_command.specs.Input.{network_in}
+use Rattle.ats_command.specs.Due.{told_bytes, show_answer}
+use Rattle.ats_command.proofs.Steps.{told_is, err_is, step_settles, text_settles}
+use Rattle.ats_command.proofs.show_command.show.Goals as goal
 
 pub returns-in_err-network-clause-due : goal.returns-in_err-network-clause-due
 unfolding show_answer
