@@ -1,6 +1,7 @@
 //! What is proved of the definitions themselves, for all lists of transmissions.
 
-ghost use Rattle.ats_transmission.specs.Laws.{OrderGivesRule, OrderGivesTie, RuleKeptByPermutation, TieKeptByPermutation};
+ghost use Rattle.ats_transmission.specs.Laws.{OrderGivesRule, OrderGivesTie, RuleKeptByPermutation};
+ghost use Rattle.ats_transmission.specs.Laws.{TieKeptByPermutation};
 
 /// A port that makes each transmission after the ones before it, as it may, keeps the port rule.
 pub fn order_gives_rule()
