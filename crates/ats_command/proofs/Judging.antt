@@ -7,15 +7,15 @@ use Rattle.ats_certificate.specs.declared.row.Row.{Row}
 use Rattle.ats_certificate_file.specs.Text.{certificate_text}
 use Rattle.ats_bound.specs.Least.{least_certificate}
 use Rattle.ats_bound.specs.Reason.{reason_of}
-use Rattle.ats_bound.specs.declared.reason.Reason.{Reason}
-use Rattle.ats_bound.proofs.Delaying.{ports_exist}
+use Rattle.ats_tally.specs.Reason.{ReasonInside}
+use Rattle.ats_tally.specs.declared.reason.Reason.{Reason}
+use Rattle.ats_bound.proofs.LeastHolds.{ports_exist}
 use Rattle.ats_checker.specs.Due.{IsDue}
 use Rattle.ats_checker.specs.Ports.{RowsInside}
 use Rattle.ats_checker.specs.Refusal.{refusal_of}
 use Rattle.ats_checker.specs.declared.refusal.Refusal.{Refusal}
-use Rattle.ats_checker.specs.declared.refusal.Refusal.TheVariants.{RowMissing, RowStray, FieldWrong, Overloaded, WaitTooSmall, Residence, Deadline, NoMemory}
+use Rattle.ats_checker.specs.declared.refusal.Refusal.TheVariants.{RowMissing, RowStray, FieldWrong, WaitTooSmall, Network, NoMemory}
 use Rattle.ats_checker.proofs.Refused.{refused_unless_holding}
-use Rattle.ats_judgement.specs.Ports.{ReasonInside}
 use Rattle.ats_judgement.specs.Text.{accepted_text, reason_text, refusal_text, refused_text}
 use Rattle.ats_judgement.proofs.ReasonPorts.{each_reason_is_inside}
 use Rattle.ats_command.specs.Answer.{Answer}
@@ -68,10 +68,8 @@ refusal_is : (refusal : Refusal) (due : Option Refusal) â†’ IsDue refusal due â†
 refusal_is (RowMissing port class) due h other = h
 refusal_is (RowStray port class) due h other = h
 refusal_is (FieldWrong port class field right) due h other = h
-refusal_is (Overloaded port class load) due h other = h
 refusal_is (WaitTooSmall port class least) due h other = h
-refusal_is (Residence port class need) due h other = h
-refusal_is (Deadline stream sum) due h other = h
+refusal_is (Network reason) due h other = h
 refusal_is NoMemory due h other = absurd (other refl)
 
 -- the line for the refusal of a certificate
