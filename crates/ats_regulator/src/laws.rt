@@ -3,7 +3,7 @@
 ghost use Rattle.ats_regulator.specs.Laws.{ConformingByWindows, EligibilityIsLeast, LateTimeIsLeast, GroupTimeIsLast, OutputConforms, OutputConformsByWindows, OutputAscends, FoldIsFullFold};
 ghost use Rattle.ats_regulator.specs.GroupsLaws.{GroupsOutputConforms, GroupsOutputAscends, GroupsEligibilityIsLeast};
 ghost use Rattle.ats_regulator.specs.Shaping.{ShapingIsFree};
-ghost use Rattle.ats_regulator.specs.Rows.{BucketEmptied, RoundedUp};
+ghost use Rattle.ats_regulator.specs.Rows.{BucketEmptied, OrderCounts, RoundedUp};
 
 /// Frames conform to a token bucket from each place to each later one exactly where their times do not descend and no
 /// window of time holds more bits than the rate gives in it and the burst.
@@ -75,8 +75,10 @@ pub fn shaping_is_free()
 {}
 
 /// The laws at two lists of frames: a bucket that is just emptied, and a rate at which eligibility times are rounded up.
-/// Frames that were a picosecond earlier would not conform.
+/// Frames that were a picosecond earlier would not conform. And two frames that come in another order than they were
+/// eligible at the hop before, for which shaping is not free.
 pub fn worked_rows()
     ensures bucket_emptied { BucketEmptied }
     ensures rounded_up { RoundedUp }
+    ensures order_counts { OrderCounts }
 {}

@@ -24,7 +24,9 @@ use Rattle.ats_trace.specs.Run.{releases_of}
 use Rattle.ats_trace.specs.Talker.{talker_of, KeepsBuckets}
 use Rattle.ats_trace.proofs.RegulatedProofs.{regulated_legal}
 use Rattle.ats_trace.proofs.TalkerProofs.{talkers_of_examples}
-use Rattle.ats_soundness.specs.Example.{row_of_line, line_rows, LawsAreMet}
+use Rattle.ats_network.specs.Senders.{sender_at}
+use Rattle.ats_soundness.specs.Sound.{IsPromptOnce, IsServed, bounds_of}
+use Rattle.ats_soundness.specs.Example.{row_of_line, line_rows, held_back, LawsAreMet}
 
 -- the stream of the line
 abbrev the_stream : DeclaredStream
@@ -120,6 +122,18 @@ not_kept keeps =
     let over : 1000000000000 * 24672 ≤ 100000000 * 0 + 1000000000000 * 12336 = (keeps.streams 0 (lit< tt) refl).within 0 1 (lit≤ tt) (lit< tt) in
     absurd (omega arith)
 
+-- the bridge lets the second of them go long after the bound of the port before
+not_served : ¬ IsServed line_rows (sender_at line 0) held_back
+not_served served =
+    let over : 137196000 ≤ 0 + 13836000 = served.prompt.1.0 in
+    absurd (omega arith)
+
+not_prompt : ¬ IsPromptOnce (bounds_of line_rows (sender_at line 0)) (sender_at line 0).path held_back.hops
+    held_back.ending
+not_prompt prompt =
+    let over : 137196000 ≤ 0 + 13836000 = prompt.0 in
+    absurd (omega arith)
+
 pub laws_are_met : LawsAreMet
 laws_are_met = record {
   network = is_network;
@@ -135,4 +149,6 @@ laws_are_met = record {
   sum = refl;
   beyond = regulated_legal.regulated;
   not_kept = not_kept;
+  not_served = not_served;
+  not_prompt = not_prompt;
 }

@@ -13,7 +13,7 @@ use Rattle.ats_trace.specs.Talker.{talker_of, KeepsBuckets}
 use Rattle.ats_trace.specs.Examples.{line, one_frame}
 use Rattle.ats_trace.specs.Regulated.{regulated}
 use Rattle.ats_trace.specs.declared.journey.Ending.TheVariants.{Sink}
-use Rattle.ats_soundness.specs.Sound.{bounds_of}
+use Rattle.ats_soundness.specs.Sound.{IsPromptOnce, IsServed, bounds_of}
 
 -- A network, a certificate and a run for which all that the laws ask holds.
 
@@ -31,10 +31,15 @@ line_rows = row_of_line 0 13836000 ∷ row_of_line 2 12836000 ∷ []
 abbrev pub the_frame : Travel
 the_frame = travel_at one_frame 0
 
+-- a frame that the bridge holds back, because its talker sent more than its burst
+abbrev pub held_back : Travel
+held_back = travel_at regulated 1
+
 -- the line is a network, its certificate holds, and one frame's run over it is legal; the frame is of a stream whose talker
 -- keeps its buckets; the first port of its path leaves a station and leads to a bridge, and the second leaves that bridge.
--- The frame arrives exactly when the sum of the bounds is over. And a legal run of the same network has a talker that does not
--- keep its buckets, so that containment alone speaks of it
+-- The frame arrives exactly when the sum of the bounds is over. And a legal run of the same network has a talker that
+-- does not keep its buckets, so that containment alone speaks of it: a frame is not served there, nor prompt from the
+-- talker on
 pub record LawsAreMet : Type 0 where
   pub network : IsNetwork line
   pub holds : Holds line line_rows
@@ -50,3 +55,6 @@ pub record LawsAreMet : Type 0 where
   pub sum : sum_by (bounds_of line_rows (sender_at line the_frame.release.sender)) (sender_at line the_frame.release.sender).path ≡ 26672000
   pub beyond : IsLegal line regulated
   pub not_kept : ¬ KeepsBuckets line (releases_of regulated) (talker_of line 0)
+  pub not_served : ¬ IsServed line_rows (sender_at line 0) held_back
+  pub not_prompt : ¬ IsPromptOnce (bounds_of line_rows (sender_at line 0)) (sender_at line 0).path held_back.hops
+      held_back.ending

@@ -43,7 +43,8 @@ pub fn certificate_is_sound()
 
 /// What the laws ask of a network, a certificate and a run can all hold at once, and the sum of the bounds is met: here is
 /// one frame over one bridge, which arrives exactly when that sum is over. And a legal run of the same network whose talker
-/// does not keep its bucket: of it the path law says nothing, and containment does.
+/// does not keep its bucket: of it the path law says nothing, and containment does. There a frame is later than its
+/// bounds say, so that a talker's buckets count, and containment begins behind the first bridge.
 pub fn laws_are_met()
     ensures { LawsAreMet }
 {}
