@@ -16,4 +16,5 @@ row_from port number class sums =
 
 -- the least row of a place, or its load where that is more than the whole link
 abbrev pub row_or_load : DeclaredNetwork → ℕ × ℕ → Result Row ℕ
-row_or_load network place = row_from (port_at network.topology.ports place.0) place.0 place.1 (port_sums network place.0 place.1)
+row_or_load network place =
+    row_from (port_at network.topology.ports place.0) place.0 place.1 (port_sums network place.0 place.1)

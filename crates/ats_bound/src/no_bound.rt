@@ -6,8 +6,8 @@ use ats_tally::Reason;
 /// Why there is no certificate.
 #[derive(Clone, Copy, Debug, PartialEq, Eq)]
 pub enum NoBound {
-    /// None holds: of several reasons the one that stands first among `Reason`'s variants, and of several of one kind the
-    /// first in the order of the rows, or of the streams.
+    /// None holds: of several reasons the one that stands first among `Reason`'s variants, and of several of one kind
+    /// the first in the order of the rows, or of the streams.
     Reason(Reason),
     /// Memory ran out.
     NoMemory,

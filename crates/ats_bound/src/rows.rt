@@ -15,7 +15,7 @@ use ats_network::Network;
 use ats_num::time::PS_PER_SECOND;
 use ats_streams::Stream;
 use ats_tally::tally::MAX_SENDERS;
-use ats_tally::{Tally, least_wait};
+use ats_tally::{ClassSums, Tally, least_wait};
 use ats_topology::Port;
 
 /// Whether some stream of the class uses the port. It takes no memory.
@@ -25,8 +25,8 @@ pub fn is_used(network: &Network, port: u32, class: u8) -> bool
     is_used_by(network.streams(), port, class)
 }
 
-/// The row of a port and a class that some stream uses there: what the streams and flows make of them, the least wait that
-/// is enough, and its bound. It takes no memory, and looks at each path of the network once. `is_used` tests
+/// The row of a port and a class that some stream uses there: what the streams and flows make of them, the least wait
+/// that is enough, and its bound. It takes no memory, and looks at each path of the network once. `is_used` tests
 /// whether some stream does.
 ///
 /// # Errors
@@ -84,22 +84,21 @@ fn row_from(port: &Port, number: u32, class: u8, tally: Tally) -> Result<Row, u1
     ensures form { IfOk result IsRow }
 {
     let ps = u128::from(port.ps_per_bit);
-    let higher = ps * u128::from(tally.above);
-    let equal = ps * u128::from(tally.equal);
-    if higher + equal > u128::from(PS_PER_SECOND) {
-        return Err(higher + equal);
+    let sums = ClassSums::of(tally, port.ps_per_bit);
+    let load = sums.higher + sums.equal;
+    if load > u128::from(PS_PER_SECOND) {
+        return Err(load);
     }
-    let least = tally.least.unwrap_or(0);
-    let wait = least_wait(ps, higher, tally);
+    let wait = least_wait(ps, sums.higher, tally);
     Ok(Row {
         port: number,
         class,
-        higher,
-        equal,
-        bursts: u128::from(tally.bursts),
-        lower: tally.lower,
-        least,
+        higher: sums.higher,
+        equal: sums.equal,
+        bursts: sums.bursts,
+        lower: sums.lower,
+        least: sums.least,
         wait,
-        bound: wait + ps * u128::from(least) + u128::from(port.latency.0),
+        bound: wait + ps * u128::from(sums.least) + u128::from(port.latency.0),
     })
 }

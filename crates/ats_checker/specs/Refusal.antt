@@ -30,8 +30,8 @@ stray network row = if is_used network row.port row.class then None else Some (R
 abbrev pub wrong : Row → Field → ℕ → ℕ → Option Refusal
 wrong row field given right = if given == right then None else Some (FieldWrong row.port row.class field right)
 
--- the first field of a row that is wrong, where the senders make these sums of its port and class and its bound is to be
--- this one
+-- the first field of a row that is wrong, where the senders make these sums of its port and class and its bound is to
+-- be this one
 abbrev pub wrong_by : Row → PortSums → ℕ → Option Refusal
 wrong_by row sums bound =
     option_or (wrong row field.Higher row.higher sums.higher)
@@ -44,7 +44,8 @@ wrong_by row sums bound =
 -- the first field of a row that is wrong for a network
 abbrev pub wrong_in : DeclaredNetwork → Row → Option Refusal
 wrong_in network row =
-    wrong_by row (port_sums network row.port row.class) (bound_of (port_at network.topology.ports row.port) row.wait row.least)
+    wrong_by row (port_sums network row.port row.class)
+    (bound_of (port_at network.topology.ports row.port) row.wait row.least)
 
 -- a row with a wait that is too short
 abbrev pub short : DeclaredNetwork → Row → Option Refusal
@@ -56,8 +57,8 @@ short network row =
 abbrev pub of_network : Option Reason → Option Refusal
 of_network = option_map Network
 
--- why rows do not hold for a network, if they don't: of the clauses the first that fails, and there the first place, row,
--- field or stream
+-- why rows do not hold for a network, if they don't: of the clauses the first that fails, and there the first place,
+-- row, field or stream
 abbrev pub refusal_of : DeclaredNetwork → List Row → Option Refusal
 refusal_of network rows =
     option_or (first_some (missing rows) (places_of network))

@@ -63,8 +63,8 @@ fn wrong_in(tallies: &Tallies, row: &Row) -> Option<Refusal>
     wrong_by(row, &sums, row.wait + sent + u128::from(port.latency.0))
 }
 
-// The first field of a row that is wrong, where the senders make these sums of its port and class and its bound is to be
-// this one.
+// The first field of a row that is wrong, where the senders make these sums of its port and class and its bound is to
+// be this one.
 fn wrong_by(row: &Row, sums: &ClassSums, bound: u128) -> Option<Refusal>
     ensures { result ≡ wrong_by row.now (port_sums_of sums.now) bound }
 {

@@ -1,9 +1,8 @@
 //! A certificate that holds, written.
 
 ghost use Rattle.std.specs.Prelude.{◌≡◌, ◌++◌, ◌<◌, length, All, IfOk, OnOk};
-ghost use Rattle.std.specs.List.{flat_map};
 ghost use Rattle.ats_certificate.specs.Certificate.{bound_along};
-ghost use Rattle.ats_judgement.specs.Text.{accepted_text, hop_line, stream_lines};
+ghost use Rattle.ats_judgement.specs.Text.{accepted_text, hop_line, hop_lines, stream_lines, streams_text};
 
 use crate::pieces::write_number;
 use ats_num::NoMemory;
@@ -14,7 +13,8 @@ use ats_topology::Topology;
 use std::alloc::Global;
 
 /// What is printed of a certificate that holds for a network: for each stream a line for each port of its path with the
-/// bound there, and a line with the sum; then the number of streams. It takes time linear in the sum of the paths' lengths.
+/// bound there, and a line with the sum; then the number of streams. It takes time linear in the sum of the paths'
+/// lengths.
 ///
 /// # Errors
 ///
@@ -31,7 +31,7 @@ pub fn accepted(alloc: Global, delays: &Delays) -> Result<Vec<u8>, NoMemory>
 
 // The lines of each stream.
 fn write_streams(out: &mut Vec<u8>, delays: &Delays) -> Result<(), NoMemory>
-    ensures { OnOk result (out.new.items ≡ out.old.items ++ flat_map (stream_lines delays.now.network.topology delays.now.rows) delays.now.network.streams) }
+    ensures { OnOk result (out.new.items ≡ out.old.items ++ streams_text delays.now.network delays.now.rows) }
 {
     let network = delays.network();
     let streams = network.streams();
@@ -79,7 +79,7 @@ fn write_hops(
 ) -> Result<(), NoMemory>
     requires ports { bounds.now.ports ≡ length topology.now.ports }
     requires inside { All (λ p. p < length topology.now.ports) stream.now.path }
-    ensures { OnOk result (out.new.items ≡ out.old.items ++ flat_map (hop_line topology.now bounds.now.rows stream.now) stream.now.path) }
+    ensures { OnOk result (out.new.items ≡ out.old.items ++ hop_lines topology.now bounds.now.rows stream.now) }
 {
     for port in stream.path() {
         write_hop(out, topology, bounds, stream, *port)?;

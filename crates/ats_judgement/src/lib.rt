@@ -1,4 +1,5 @@
-//! What is printed of a judgement: of a certificate that holds, of one that does not, and of a network for which none holds.
+//! What is printed of a judgement: of a certificate that holds, of one that does not, and of a network for which none
+//! holds.
 #![tactic(auto)]
 
 pub mod acceptance;

@@ -1,7 +1,7 @@
 //! Pieces of lines.
 
 ghost use Rattle.std.specs.Prelude.{◌≡◌, ◌++◌, ◌<◌, codes, decimal, length, OnOk};
-ghost use Rattle.ats_judgement.specs.Text.{place_text};
+ghost use Rattle.ats_judgement.specs.Text.{measure_text, place_text};
 
 use ats_num::{Name, NoMemory};
 use ats_port_names::write_port;
@@ -48,7 +48,7 @@ pub(crate) fn write_measure(
     n: u128,
 ) -> Result<(), NoMemory>
     requires { port < length topology.now.ports }
-    ensures { OnOk result (out.new.items ≡ out.old.items ++ (word.now ++ place_text topology.now port class ++ codes " " ++ decimal n)) }
+    ensures { OnOk result (out.new.items ≡ out.old.items ++ (word.now ++ measure_text topology.now port class n)) }
 {
     write_place(out, word, topology, port, class)?;
     write_number(out, b" ", n)

@@ -9,8 +9,8 @@ use ats_num::NoMemory;
 use ats_tally::Reason;
 use ats_topology::Topology;
 
-/// Appends why no certificate holds for a network: a word for what fails, the port and the class, or the stream, and the
-/// number that is too great. After `NoMemory` nothing is said of `out`.
+/// Appends why no certificate holds for a network: a word for what fails, the port and the class, or the stream, and
+/// the number that is too great. After `NoMemory` nothing is said of `out`.
 pub fn write_reason(out: &mut Vec<u8>, topology: &Topology, reason: &Reason) -> Result<(), NoMemory>
     requires { ReasonInside topology.now reason.now }
     ensures { OnOk result (out.new.items ≡ out.old.items ++ reason_text topology.now reason.now) }

@@ -19,7 +19,8 @@ bound_given rows port class = option_map (λ (row : Row). row.bound) (row_of row
 -- a list has the bounds of so many ports, that of each port and class at 8 * port + class
 pub record AreBounds (ports : ℕ) (rows : List Row) (bounds : List (Option ℕ)) : Type 0 where
   pub count : length bounds ≡ 8 * ports
-  pub each : (port class : ℕ) (d : Option ℕ) → port < ports → class ≤ 7 → slice_index_or bounds (8 * port + class) d ≡ bound_given rows port class
+  pub each : (port class : ℕ) (d : Option ℕ) → port < ports → class ≤ 7
+      → slice_index_or bounds (8 * port + class) d ≡ bound_given rows port class
 
 -- a certificate's rows with such a list
 pub record AreTabled (ports : ℕ) (rows : List Row) (bounds : List (Option ℕ)) : Type 0 where

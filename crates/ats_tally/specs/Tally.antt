@@ -24,7 +24,11 @@ abbrev pub tally_with : ℕ → Sender → Tally → Tally
 tally_with class s tally =
     if is_below class s then record tally { lower = max tally.lower (longest s) }
     else if is_above class s then record tally { above = tally.above + s.rate; bursts = tally.bursts + s.burst_bits }
-    else record tally { equal = tally.equal + s.rate; bursts = tally.bursts + s.burst_bits; least = Some (least_with tally.least (shortest s)) }
+    else record tally {
+      equal = tally.equal + s.rate;
+      bursts = tally.bursts + s.burst_bits;
+      least = Some (least_with tally.least (shortest s));
+    }
 
 -- what the senders make of a class
 pub record IsTally (class : ℕ) (senders : List Sender) (tally : Tally) : Type 0 where

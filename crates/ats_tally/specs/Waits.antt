@@ -8,8 +8,8 @@ use Rattle.ats_tally.specs.declared.tally.Tally.{Tally}
 abbrev pub ceiling : ℕ → ℕ → ℕ
 ceiling n d = (n + (d - 1)) / d
 
--- the least wait that is enough for these sums: the time in which the longest lower frame and all bursts but the shortest
--- frame are sent, at the rate that the higher classes leave
+-- the least wait that is enough for these sums: the time in which the longest lower frame and all bursts but the
+-- shortest frame are sent, at the rate that the higher classes leave
 abbrev pub least_wait : Port → PortSums → ℕ
 least_wait port sums =
     ceiling (PS_PER_SECOND * (port.ps_per_bit * (sums.lower + sums.bursts - sums.least))) (PS_PER_SECOND - sums.higher)

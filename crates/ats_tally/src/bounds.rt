@@ -13,8 +13,8 @@ use ats_topology::Topology;
 use std::alloc::Global;
 use std::marker::Model;
 
-/// The bounds of a certificate at the ports of a topology, each found at once. Contracts see the number of ports and the
-/// certificate's rows.
+/// The bounds of a certificate at the ports of a topology, each found at once. Contracts see the number of ports and
+/// the certificate's rows.
 #[derive(Drop)]
 pub struct Bounds<'a> {
     certificate: &'a Certificate,

@@ -1,13 +1,9 @@
 //! The sums of a port and a class.
 
-ghost use Rattle.std.specs.Prelude.{◌≡◌, ◌<◌, length};
-ghost use Rattle.ats_tally.specs.Tally.{IsTally};
-ghost use Rattle.ats_certificate.specs.PortSums.{port_sums, senders_at};
-ghost use Rattle.ats_network.specs.Network.{senders_of};
-ghost use Rattle.ats_tally.specs.ClassSums.{port_sums_of};
+ghost use Rattle.std.specs.Prelude.{◌≡◌};
+ghost use Rattle.ats_tally.specs.ClassSums.{class_sums};
 
 use crate::tally::Tally;
-use ats_network::Network;
 
 /// What the senders at a port make of a class, as a row of a certificate says it.
 #[derive(Clone, Copy)]
@@ -24,18 +20,18 @@ pub struct ClassSums {
     pub least: u64,
 }
 
-/// The sums of a port and a class, from what the senders at the port make of the class.
-pub(crate) fn sums_of(network: &Network, port: u32, class: u8, tally: Tally) -> ClassSums
-    requires port { port < length network.now.topology.ports }
-    requires tally { IsTally class (senders_at port (senders_of network.now)) tally }
-    ensures { port_sums_of result ≡ port_sums network.now port class }
-{
-    let ps = u128::from(network.topology().ports()[port as usize].ps_per_bit);
-    ClassSums {
-        higher: ps * u128::from(tally.above),
-        equal: ps * u128::from(tally.equal),
-        bursts: u128::from(tally.bursts),
-        lower: tally.lower,
-        least: tally.least.unwrap_or(0),
+impl ClassSums {
+    /// The sums of a tally at a port where a bit takes so many picoseconds.
+    pub fn of(tally: Tally, ps_per_bit: u32) -> Self
+        ensures { result ≡ class_sums ps_per_bit tally }
+    {
+        let ps = u128::from(ps_per_bit);
+        ClassSums {
+            higher: ps * u128::from(tally.above),
+            equal: ps * u128::from(tally.equal),
+            bursts: u128::from(tally.bursts),
+            lower: tally.lower,
+            least: tally.least.unwrap_or(0),
+        }
     }
 }

@@ -12,8 +12,8 @@ use ats_num::NoMemory;
 use std::alloc::Global;
 use std::marker::Model;
 
-/// The bounds that a certificate gives the streams of a network at each hop, and for each stream their sum. Contracts see the
-/// network and the certificate's rows.
+/// The bounds that a certificate gives the streams of a network at each hop, and for each stream their sum. Contracts
+/// see the network and the certificate's rows.
 #[derive(Drop)]
 pub struct Delays<'a> {
     network: &'a Network,

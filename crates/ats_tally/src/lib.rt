@@ -1,5 +1,5 @@
-//! What the senders of a network make of each port and class, the bounds of a certificate by port and class with their sums
-//! along the streams' paths, and the searches for the first load, wait or sum that a network can't bear.
+//! What the senders of a network make of each port and class, the bounds of a certificate by port and class with their
+//! sums along the streams' paths, and the searches for the first load, wait or sum that a network can't bear.
 #![tactic(auto)]
 
 pub mod bounds;

@@ -1,14 +1,14 @@
 //! What the senders make of each port and class.
 
-ghost use Rattle.std.specs.Prelude.{◌≡◌, ◌+◌, ◌*◌, ◌<◌, ◌≤◌, length, take, IfOk};
+ghost use Rattle.std.specs.Prelude.{◌≡◌, ◌+◌, ◌*◌, ◌<◌, ◌≤◌, length, IfOk};
 ghost use Rattle.ats_network.specs.Network.{IsNetwork, senders_of};
 ghost use Rattle.ats_network.specs.Senders.{sender_at};
 ghost use Rattle.ats_tally.specs.Tally.{IsTally};
 ghost use Rattle.ats_certificate.specs.PortSums.{is_used, port_sums, senders_at};
 ghost use Rattle.ats_tally.specs.ClassSums.{port_sums_of};
-ghost use Rattle.ats_tally.specs.Tallies.{AddsSender, AreCounted, AreTallies, HaveRoom};
+ghost use Rattle.ats_tally.specs.Tallies.{AddsSender, AreCounted, AreFirst, HaveRoom};
 
-use crate::class_sums::{ClassSums, sums_of};
+use crate::class_sums::ClassSums;
 use crate::place_index::place;
 use crate::tally::Tally;
 use ats_network::Network;
@@ -68,7 +68,8 @@ impl<'a> Tallies<'a> {
         requires class_most { class ≤ 7 }
         ensures { port_sums_of result ≡ port_sums self.now port class }
     {
-        sums_of(self.network, port, class, self.tally(port, class))
+        let ports = self.network.topology().ports();
+        ClassSums::of(self.tally(port, class), ports[port as usize].ps_per_bit)
     }
 
     /// Whether some stream of the class uses the port, which need not be one of the network's.
@@ -98,8 +99,8 @@ fn table_of(alloc: Global, network: &Network) -> Result<Vec<Tally>, NoMemory>
 // Counts a sender at each port of its path.
 fn count_sender(table: &mut Vec<Tally>, network: &Network, sender: u32)
     requires sender { sender < length (senders_of network.now) }
-    requires before { AreTallies (length network.now.topology.ports) (take sender (senders_of network.now)) table.old.items }
-    ensures { AreTallies (length network.now.topology.ports) (take (sender + 1) (senders_of network.now)) table.new.items }
+    requires before { AreFirst network.now sender table.old.items }
+    ensures { AreFirst network.now (sender + 1) table.new.items }
 {
     for port in network.sender_path(sender) {
         count_at(table, network, *port, sender);
