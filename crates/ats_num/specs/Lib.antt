@@ -6,3 +6,4 @@ pub mod Name
 pub mod NameInside
 pub mod Tie
 pub mod ReadsBack
+pub mod Failure
