@@ -23,9 +23,9 @@ unless fault None x = Ok x
 unless fault (Some f) x = Err (fault f)
 
 -- a call failed like this: its fault is the one that is due, where there may be one; want of memory is due at any time
-abbrev pub IsDue : {F : Type 0} → Option F → Failure F → Type 0
-IsDue due NoMemory = Unit {0}
-IsDue due (Fault fault) = due ≡ Some fault
+abbrev pub IsDue : {F : Type 0} → Failure F → Option F → Type 0
+IsDue NoMemory due = Unit {0}
+IsDue (Fault fault) due = due ≡ Some fault
 
 -- a call failed like this in place of what is due: its fault is that, unless memory ran out
 abbrev pub Fails : {A F : Type 0} → Failure F → Result A F → Type 0
