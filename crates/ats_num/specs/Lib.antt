@@ -7,3 +7,4 @@ pub mod NameInside
 pub mod Tie
 pub mod ReadsBack
 pub mod Failure
+pub mod IfFault
