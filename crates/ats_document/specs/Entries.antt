@@ -1,4 +1,4 @@
-use Rattle.std.specs.Prelude.{ℕ, List, Result, Ok, Err, if◌then◌else◌}
+use Rattle.std.specs.Prelude.{ℕ, Result, Ok, if◌then◌else◌}
 use Rattle.ats_num.specs.Failure.{◌>>=◌}
 use Rattle.ats_document.specs.Walk.{Entry, has, formed, name_at, whole_at, path_at, deadline_at, identity_at}
 use Rattle.ats_document.specs.Document.{DeclaredRoute, path, ends, DeclaredStream, DeclaredFlow}
