@@ -11,14 +11,14 @@ ghost use Rattle.ats_command.specs.Outcome.{Answers, Gives};
 
 use crate::input_file::network_in;
 use crate::outcome::Stop;
-use ats_bound::{NoBound, Reason, make};
+use ats_bound::{Reason, make};
 use ats_certificate_file::write_certificate;
 use ats_io::Files;
 use ats_judgement::write_reason;
 use ats_network::Network;
-use ats_num::NoMemory;
+use ats_num::Failure;
 use ats_topology::Topology;
-use std::alloc::Global;
+use std::alloc::{AllocError, Global};
 
 /// The text of `bound NET`. It stops where the network's file has a fault or can't be read, and where no certificate of the
 /// network holds.
@@ -39,13 +39,13 @@ fn certificate_of(alloc: Global, network: &Network) -> Result<Vec<u8>, Stop>
     let topology = network.topology();
     match make(alloc, network) {
         Ok(certificate) => Ok(write_certificate(alloc, &certificate, topology)?),
-        Err(NoBound::Reason(reason)) => Err(Stop::Refused(refused(alloc, topology, &reason)?)),
-        Err(NoBound::NoMemory) => Err(Stop::NoMemory),
+        Err(Failure::Fault(reason)) => Err(Stop::Refused(refused(alloc, topology, &reason)?)),
+        Err(Failure::NoMemory) => Err(Stop::NoMemory),
     }
 }
 
 // The line that says why no certificate holds.
-fn refused(alloc: Global, topology: &Topology, reason: &Reason) -> Result<Vec<u8>, NoMemory>
+fn refused(alloc: Global, topology: &Topology, reason: &Reason) -> Result<Vec<u8>, AllocError>
     requires { ReasonInside topology.now reason.now }
     ensures { IfOk result (λ text. text.items ≡ refused_text (reason_text topology.now reason.now)) }
 {
