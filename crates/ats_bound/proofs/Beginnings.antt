@@ -15,12 +15,13 @@ use Rattle.ats_certificate.specs.declared.row.Row.{Row}
 use Rattle.ats_bound.specs.Begun.{rows_at, overload_at, IsBegun}
 use Rattle.ats_bound.specs.Due.{IsDue}
 use Rattle.ats_bound.specs.Least.{least_row, least_certificate}
-use Rattle.ats_bound.specs.Reason.{first_some, load_at, overload}
+use Rattle.ats_tally.specs.Reason.{first_some}
+use Rattle.ats_bound.specs.Reason.{load_at, overload}
 use Rattle.ats_bound.specs.Row.{row_or_load}
-use Rattle.ats_bound.specs.declared.reason.NoBound.{NoBound}
-use Rattle.ats_bound.specs.declared.reason.NoBound.TheVariants as answer
-use Rattle.ats_bound.specs.declared.reason.Reason.{Reason}
-use Rattle.ats_bound.specs.declared.reason.Reason.TheVariants.{Overloaded}
+use Rattle.ats_bound.specs.declared.no_bound.NoBound.{NoBound}
+use Rattle.ats_bound.specs.declared.no_bound.NoBound.TheVariants as answer
+use Rattle.ats_tally.specs.declared.reason.Reason.{Reason}
+use Rattle.ats_tally.specs.declared.reason.Reason.TheVariants.{Overloaded}
 use Rattle.ats_bound.proofs.LeastHolds.{least_rows}
 
 -- what a row, and a load, say of a place

@@ -7,7 +7,7 @@ use Rattle.ats_certificate.specs.Least.{IsLeastRow, IsLeastCertificate}
 use Rattle.ats_certificate.specs.declared.row.Row.{Row}
 use Rattle.ats_bound.specs.Least.{least_row, least_certificate}
 use Rattle.ats_bound.specs.Reason.{load_at, reason_of}
-use Rattle.ats_bound.specs.declared.reason.Reason.{Reason}
+use Rattle.ats_tally.specs.declared.reason.Reason.{Reason}
 
 -- where a network has no reason against it, its least certificate is one, and holds
 pub record IsAnswered (network : DeclaredNetwork) : Type 0 where

@@ -3,7 +3,4 @@ pub mod Reason
 pub mod Laws
 pub mod Row
 pub mod Due
-pub mod Tally
-pub mod Gathered
 pub mod Begun
-pub mod Delays

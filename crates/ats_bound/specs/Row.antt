@@ -5,7 +5,8 @@ use Rattle.ats_topology.specs.declared.port.Port.{Port}
 use Rattle.ats_network.specs.Network.{DeclaredNetwork}
 use Rattle.ats_certificate.specs.PortSums.{PortSums, port_sums}
 use Rattle.ats_certificate.specs.declared.row.Row.{Row}
-use Rattle.ats_bound.specs.Least.{least_wait, row_with}
+use Rattle.ats_tally.specs.Waits.{least_wait}
+use Rattle.ats_bound.specs.Least.{row_with}
 
 -- the row of a port and a class with these sums and the least wait, or the load where it is more than the whole link
 abbrev pub row_from : Port → ℕ → ℕ → PortSums → Result Row ℕ

@@ -2,16 +2,17 @@
 
 ghost use Rattle.std.specs.Prelude.{◌≡◌, None, IfOk, IfErr, OnOk};
 ghost use Rattle.ats_certificate.specs.Certificate.{Holds};
+ghost use Rattle.ats_tally.specs.Reason.{first_some, late};
 ghost use Rattle.ats_bound.specs.Due.{IsDue};
 ghost use Rattle.ats_bound.specs.Least.{least_certificate};
 ghost use Rattle.ats_bound.specs.Reason.{reason_of};
 
-use crate::delays::first_delay;
 use crate::listing::least_rows;
-use crate::reason::NoBound;
-use crate::stays::first_overstay;
+use crate::no_bound::NoBound;
 use ats_certificate::Certificate;
 use ats_network::Network;
+use ats_num::NoMemory;
+use ats_tally::{Delays, Reason, first_late, first_overstay};
 use std::alloc::Global;
 
 /// The certificate of a network with the least waits, which holds. It takes time and memory linear in the number of ports
@@ -33,8 +34,20 @@ pub fn make(alloc: Global, network: &Network) -> Result<Certificate, NoBound>
     if let Some(reason) = first_overstay(network, certificate.rows()) {
         return Err(NoBound::Reason(reason));
     }
-    if let Some(reason) = first_delay(alloc, network, certificate.rows())? {
+    if let Some(reason) = late_by(alloc, network, &certificate)? {
         return Err(NoBound::Reason(reason));
     }
     Ok(certificate)
+}
+
+// The first stream that is late by a certificate.
+fn late_by(
+    alloc: Global,
+    network: &Network,
+    certificate: &Certificate,
+) -> Result<Option<Reason>, NoMemory>
+    ensures { IfOk result (λ reason. reason ≡ first_some (late certificate.now) network.now.streams) }
+{
+    let delays = Delays::new(alloc, network, certificate)?;
+    Ok(first_late(&delays))
 }

@@ -6,10 +6,12 @@ use Rattle.ats_certificate.specs.PortSums.{port_sums, is_used}
 use Rattle.ats_certificate.specs.Certificate.{HasRows, HasSums, FitsLink, IsEnough, MayStay, Covers, RowHolds, IsInTime, is_row_of, row_of, bound_of, bound_along}
 use Rattle.ats_certificate.specs.Least.{IsLeastRow}
 use Rattle.ats_certificate.specs.declared.row.Row.{Row}
+use Rattle.ats_tally.specs.declared.reason.Reason.{Reason}
+use Rattle.ats_tally.specs.declared.reason.Reason.TheVariants.{Overloaded, Residence, Deadline}
 use Rattle.ats_checker.specs.declared.refusal.Field.{Field}
 use Rattle.ats_checker.specs.declared.refusal.Field.TheVariants.{Higher, Equal, Bursts, Lower, Least, Bound}
 use Rattle.ats_checker.specs.declared.refusal.Refusal.{Refusal}
-use Rattle.ats_checker.specs.declared.refusal.Refusal.TheVariants.{RowMissing, RowStray, FieldWrong, Overloaded, WaitTooSmall, Residence, Deadline, NoMemory}
+use Rattle.ats_checker.specs.declared.refusal.Refusal.TheVariants.{RowMissing, RowStray, FieldWrong, WaitTooSmall, Network, NoMemory}
 
 -- the first of a list that breaks a rule: each before it keeps the rule
 pub record IsFirstBreach {A : Type 0} (Rule : A → Type 0) (xs : List A) (x : A) : Type 0 where
@@ -104,13 +106,17 @@ pub record IsLate (network : DeclaredNetwork) (rows : List Row) (name : List ℕ
   pub first : IsFirstBreach (IsInTime rows) network.streams stream
   pub is : along ≡ bound_along rows stream
 
--- what each refusal says of rows
+-- what each reason of the network says of rows
+abbrev pub IsFirstReason : DeclaredNetwork → List Row → Reason → Type 0
+IsFirstReason network rows (Overloaded port class load) = IsOverload network rows port class load
+IsFirstReason network rows (Residence port class need) = IsOverstay network rows port class need
+IsFirstReason network rows (Deadline stream sum) = IsLate network rows stream sum
+
+-- what each refusal says of them
 abbrev pub IsFirst : DeclaredNetwork → List Row → Refusal → Type 0
 IsFirst network rows (RowMissing port class) = IsMissing network rows port class
 IsFirst network rows (RowStray port class) = IsStray network rows port class
 IsFirst network rows (FieldWrong port class field right) = IsWrong network rows port class field right
-IsFirst network rows (Overloaded port class load) = IsOverload network rows port class load
 IsFirst network rows (WaitTooSmall port class least) = IsShort network rows port class least
-IsFirst network rows (Residence port class need) = IsOverstay network rows port class need
-IsFirst network rows (Deadline stream sum) = IsLate network rows stream sum
+IsFirst network rows (Network reason) = IsFirstReason network rows reason
 IsFirst network rows NoMemory = ⊥

@@ -7,13 +7,13 @@ use Rattle.ats_certificate.specs.declared.row.Row.{Row}
 use Rattle.ats_certificate_file.specs.Text.{certificate_text}
 use Rattle.ats_bound.specs.Least.{least_certificate}
 use Rattle.ats_bound.specs.Reason.{reason_of}
-use Rattle.ats_bound.specs.declared.reason.Reason.{Reason}
-use Rattle.ats_bound.proofs.Delaying.{ports_exist}
+use Rattle.ats_tally.specs.Reason.{ReasonInside}
+use Rattle.ats_tally.specs.declared.reason.Reason.{Reason}
+use Rattle.ats_bound.proofs.LeastHolds.{ports_exist}
 use Rattle.ats_checker.specs.Ports.{RowsInside}
 use Rattle.ats_checker.specs.Refusal.{refusal_of}
 use Rattle.ats_checker.specs.declared.refusal.Refusal.{Refusal}
 use Rattle.ats_checker.proofs.Refused.{refused_unless_holding}
-use Rattle.ats_judgement.specs.Ports.{ReasonInside}
 use Rattle.ats_judgement.specs.Text.{accepted_text, reason_text, refusal_text, refused_text}
 use Rattle.ats_judgement.proofs.ReasonPorts.{each_reason_is_inside}
 use Rattle.ats_command.specs.Answer.{Answer}

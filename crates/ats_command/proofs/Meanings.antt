@@ -14,7 +14,7 @@ use Rattle.ats_certificate_file.specs.FaultText as certificate
 use Rattle.ats_certificate_file.specs.Text.{certificate_text}
 use Rattle.ats_bound.specs.Least.{least_certificate}
 use Rattle.ats_bound.specs.Reason.{reason_of}
-use Rattle.ats_bound.specs.declared.reason.Reason.{Reason}
+use Rattle.ats_tally.specs.declared.reason.Reason.{Reason}
 use Rattle.ats_bound.proofs.LeastHolds.{least_certificate_holds}
 use Rattle.ats_bound.proofs.NoneHolds.{reason_leaves_none}
 use Rattle.ats_checker.specs.Refusal.{refusal_of}

@@ -53,7 +53,7 @@ fn judgement_of(
 {
     let topology = network.topology();
     match ats_checker::check(alloc, network, certificate) {
-        Ok(_sums) => Ok(accepted(alloc, network, certificate)?),
+        Ok(delays) => Ok(accepted(alloc, &delays)?),
         Err(Failure::Fault(refusal)) => Err(Stop::Refused(refused(alloc, topology, &refusal)?)),
         Err(Failure::NoMemory) => Err(Stop::NoMemory),
     }

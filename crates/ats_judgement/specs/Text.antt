@@ -6,12 +6,12 @@ use Rattle.ats_streams.specs.Stream.{DeclaredStream}
 use Rattle.ats_network.specs.Network.{DeclaredNetwork}
 use Rattle.ats_certificate.specs.Certificate.{bound_at, bound_along}
 use Rattle.ats_certificate.specs.declared.row.Row.{Row}
-use Rattle.ats_bound.specs.declared.reason.Reason.{Reason}
-use Rattle.ats_bound.specs.declared.reason.Reason.TheVariants as reason
+use Rattle.ats_tally.specs.declared.reason.Reason.{Reason}
+use Rattle.ats_tally.specs.declared.reason.Reason.TheVariants as reason
 use Rattle.ats_checker.specs.declared.refusal.Field.{Field}
 use Rattle.ats_checker.specs.declared.refusal.Field.TheVariants as field
 use Rattle.ats_checker.specs.declared.refusal.Refusal.{Refusal}
-use Rattle.ats_checker.specs.declared.refusal.Refusal.TheVariants.{RowMissing, RowStray, FieldWrong, Overloaded, WaitTooSmall, Residence, Deadline, NoMemory}
+use Rattle.ats_checker.specs.declared.refusal.Refusal.TheVariants.{RowMissing, RowStray, FieldWrong, WaitTooSmall, Network, NoMemory}
 
 -- `hop NAME PORT BOUND` for a port of a stream's path
 unfoldable pub hop_line : DeclaredTopology → List Row → DeclaredStream → ℕ → List ℕ
@@ -32,10 +32,12 @@ accepted_text network rows =
 abbrev pub place_text : DeclaredTopology → ℕ → ℕ → List ℕ
 place_text topology port class = port_name topology port ++ codes " " ++ decimal class
 
--- why no certificate holds
+-- what a network can't bear
 abbrev pub reason_text : DeclaredTopology → Reason → List ℕ
-reason_text topology (reason.Overloaded port class load) = codes "overloaded " ++ place_text topology port class ++ codes " " ++ decimal load
-reason_text topology (reason.Residence port class need) = codes "residence " ++ place_text topology port class ++ codes " " ++ decimal need
+reason_text topology (reason.Overloaded port class load) =
+    codes "overloaded " ++ place_text topology port class ++ codes " " ++ decimal load
+reason_text topology (reason.Residence port class need) =
+    codes "residence " ++ place_text topology port class ++ codes " " ++ decimal need
 reason_text topology (reason.Deadline stream sum) = codes "deadline " ++ stream ++ codes " " ++ decimal sum
 
 -- a column as the header of a certificate names it
@@ -47,16 +49,19 @@ field_text field.Lower = codes "lower"
 field_text field.Least = codes "least"
 field_text field.Bound = codes "bound"
 
+-- a field of a row with its right value
+abbrev pub wrong_text : DeclaredTopology → ℕ → ℕ → Field → ℕ → List ℕ
+wrong_text topology port class field right =
+    codes "field " ++ place_text topology port class ++ codes " " ++ field_text field ++ codes " " ++ decimal right
+
 -- why a certificate does not hold; want of memory is never printed
 abbrev pub refusal_text : DeclaredTopology → Refusal → List ℕ
 refusal_text topology (RowMissing port class) = codes "row-missing " ++ place_text topology port class
 refusal_text topology (RowStray port class) = codes "row-stray " ++ place_text topology port class
-refusal_text topology (FieldWrong port class field right) =
-    codes "field " ++ place_text topology port class ++ codes " " ++ field_text field ++ codes " " ++ decimal right
-refusal_text topology (Overloaded port class load) = codes "overloaded " ++ place_text topology port class ++ codes " " ++ decimal load
-refusal_text topology (WaitTooSmall port class least) = codes "wait " ++ place_text topology port class ++ codes " " ++ decimal least
-refusal_text topology (Residence port class need) = codes "residence " ++ place_text topology port class ++ codes " " ++ decimal need
-refusal_text topology (Deadline stream sum) = codes "deadline " ++ stream ++ codes " " ++ decimal sum
+refusal_text topology (FieldWrong port class field right) = wrong_text topology port class field right
+refusal_text topology (WaitTooSmall port class least) =
+    codes "wait " ++ place_text topology port class ++ codes " " ++ decimal least
+refusal_text topology (Network reason) = reason_text topology reason
 refusal_text topology NoMemory = codes "no-memory"
 
 -- the line `refused` with what is refused

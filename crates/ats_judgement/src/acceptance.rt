@@ -1,68 +1,71 @@
 //! A certificate that holds, written.
 
-ghost use Rattle.std.specs.Prelude.{◌≡◌, ◌++◌, ◌<◌, ◌≤◌, length, All, IfOk, OnOk};
+ghost use Rattle.std.specs.Prelude.{◌≡◌, ◌++◌, ◌<◌, length, All, IfOk, OnOk};
 ghost use Rattle.std.specs.List.{flat_map};
+ghost use Rattle.ats_certificate.specs.Certificate.{bound_along};
 ghost use Rattle.ats_judgement.specs.Text.{accepted_text, hop_line, stream_lines};
 
 use crate::pieces::write_number;
-use ats_certificate::Certificate;
-use ats_checker::Bounds;
-use ats_network::Network;
 use ats_num::NoMemory;
 use ats_port_names::write_port;
 use ats_streams::Stream;
+use ats_tally::{Bounds, Delays};
 use ats_topology::Topology;
 use std::alloc::Global;
 
 /// What is printed of a certificate that holds for a network: for each stream a line for each port of its path with the
-/// bound there, and a line with the sum; then the number of streams. It takes time linear in the numbers of ports and of
-/// rows and the sum of the paths' lengths.
+/// bound there, and a line with the sum; then the number of streams. It takes time linear in the sum of the paths' lengths.
 ///
 /// # Errors
 ///
 /// `NoMemory` where memory runs out.
-pub fn accepted(
-    alloc: Global,
-    network: &Network,
-    certificate: &Certificate,
-) -> Result<Vec<u8>, NoMemory>
-    ensures { IfOk result (λ text. text.items ≡ accepted_text network.now certificate.now) }
+pub fn accepted(alloc: Global, delays: &Delays) -> Result<Vec<u8>, NoMemory>
+    ensures { IfOk result (λ text. text.items ≡ accepted_text delays.now.network delays.now.rows) }
 {
-    let bounds = Bounds::new(alloc, network.topology(), certificate)?;
     let mut out = Vec::new(alloc);
-    write_streams(&mut out, network, &bounds)?;
-    write_number(&mut out, b"accepted ", network.streams().len())?;
+    write_streams(&mut out, delays)?;
+    write_number(&mut out, b"accepted ", delays.network().streams().len())?;
     out.extend_from_slice(b"\n")?;
     Ok(out)
 }
 
 // The lines of each stream.
-fn write_streams(out: &mut Vec<u8>, network: &Network, bounds: &Bounds) -> Result<(), NoMemory>
-    requires { bounds.now.ports ≡ length network.now.topology.ports }
-    ensures { OnOk result (out.new.items ≡ out.old.items ++ flat_map (stream_lines network.now.topology bounds.now.rows) network.now.streams) }
+fn write_streams(out: &mut Vec<u8>, delays: &Delays) -> Result<(), NoMemory>
+    ensures { OnOk result (out.new.items ≡ out.old.items ++ flat_map (stream_lines delays.now.network.topology delays.now.rows) delays.now.network.streams) }
 {
-    for stream in network.streams() {
-        write_stream(out, network.topology(), bounds, stream)?;
+    let network = delays.network();
+    let streams = network.streams();
+    let sums = delays.sums();
+    for i in 0..streams.len() {
+        write_stream(
+            out,
+            network.topology(),
+            delays.bounds(),
+            &streams[i],
+            sums[i],
+        )?;
     }
     Ok(())
 }
 
-// The lines of a stream.
+// The lines of a stream, whose bounds have this sum.
 #[tactic(auto, unfolding(crate::specs::Text::stream_lines))]
 fn write_stream(
     out: &mut Vec<u8>,
     topology: &Topology,
     bounds: &Bounds,
     stream: &Stream,
+    sum: u128,
 ) -> Result<(), NoMemory>
     requires ports { bounds.now.ports ≡ length topology.now.ports }
     requires inside { All (λ p. p < length topology.now.ports) stream.now.path }
+    requires sum { sum ≡ bound_along bounds.now.rows stream.now }
     ensures { OnOk result (out.new.items ≡ out.old.items ++ stream_lines topology.now bounds.now.rows stream.now) }
 {
     write_hops(out, topology, bounds, stream)?;
     out.extend_from_slice(b"sum ")?;
     out.extend_from_slice(stream.name().bytes())?;
-    write_number(out, b" ", bounds.along(stream))?;
+    write_number(out, b" ", sum)?;
     out.extend_from_slice(b"\n")?;
     Ok(())
 }

@@ -10,6 +10,3 @@ pub mod refusals;
 pub use acceptance::accepted;
 pub use reasons::write_reason;
 pub use refusals::write_refusal;
-
-#[cfg(test)]
-mod tests;

@@ -1,12 +1,12 @@
 //! Why no certificate holds for a network, written.
 
 ghost use Rattle.std.specs.Prelude.{◌≡◌, ◌++◌, OnOk};
-ghost use Rattle.ats_judgement.specs.Ports.{ReasonInside};
+ghost use Rattle.ats_tally.specs.Reason.{ReasonInside};
 ghost use Rattle.ats_judgement.specs.Text.{reason_text};
 
 use crate::pieces::{write_measure, write_named};
-use ats_bound::Reason;
 use ats_num::NoMemory;
+use ats_tally::Reason;
 use ats_topology::Topology;
 
 /// Appends why no certificate holds for a network: a word for what fails, the port and the class, or the stream, and the

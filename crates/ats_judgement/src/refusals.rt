@@ -1,10 +1,11 @@
 //! Why a certificate does not hold for a network, written.
 
-ghost use Rattle.std.specs.Prelude.{◌≡◌, ◌++◌, ◌<◌, codes, decimal, length, OnOk};
+ghost use Rattle.std.specs.Prelude.{◌≡◌, ◌++◌, ◌<◌, length, OnOk};
 ghost use Rattle.ats_checker.specs.Ports.{RefusalInside};
-ghost use Rattle.ats_judgement.specs.Text.{field_text, place_text, refusal_text};
+ghost use Rattle.ats_judgement.specs.Text.{field_text, refusal_text, wrong_text};
 
-use crate::pieces::{write_measure, write_named, write_number, write_place};
+use crate::pieces::{write_measure, write_number, write_place};
+use crate::reasons::write_reason;
 use ats_checker::{Field, Refusal};
 use ats_num::NoMemory;
 use ats_topology::Topology;
@@ -33,18 +34,12 @@ pub fn write_refusal(
             field,
             right,
         } => write_wrong(out, topology, *port, *class, *field, *right),
-        Refusal::Overloaded { port, class, load } => {
-            write_measure(out, b"overloaded ", topology, *port, *class, *load)
-        }
         Refusal::WaitTooSmall {
             port,
             class,
             least_wait,
         } => write_measure(out, b"wait ", topology, *port, *class, *least_wait),
-        Refusal::Residence { port, class, need } => {
-            write_measure(out, b"residence ", topology, *port, *class, *need)
-        }
-        Refusal::Deadline { stream, sum } => write_named(out, b"deadline ", stream, *sum),
+        Refusal::Network(reason) => write_reason(out, topology, reason),
         Refusal::NoMemory => Ok(out.extend_from_slice(b"no-memory")?),
     }
 }
@@ -59,7 +54,7 @@ fn write_wrong(
     right: u128,
 ) -> Result<(), NoMemory>
     requires { port < length topology.now.ports }
-    ensures { OnOk result (out.new.items ≡ out.old.items ++ (codes "field " ++ place_text topology.now port class ++ codes " " ++ field_text field ++ codes " " ++ decimal right)) }
+    ensures { OnOk result (out.new.items ≡ out.old.items ++ wrong_text topology.now port class field right) }
 {
     write_place(out, b"field ", topology, port, class)?;
     out.extend_from_slice(b" ")?;

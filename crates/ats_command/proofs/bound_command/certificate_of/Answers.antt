@@ -1,7 +1,7 @@
 use Rattle.std.proofs.Common.{subst}
 use Rattle.ats_num.specs.Failure.{IsDue}
 use Rattle.ats_num.specs.declared.failure.Failure.{Failure}
-use Rattle.ats_bound.specs.declared.reason.Reason.{Reason}
+use Rattle.ats_tally.specs.declared.reason.Reason.{Reason}
 use Rattle.ats_bound.specs.Reason.{reason_of}
 use Rattle.ats_command.proofs.Judging.{least_inside, reason_inside, bound_text, bound_refused}
 use Rattle.ats_command.proofs.bound_command.certificate_of.Goals as goal

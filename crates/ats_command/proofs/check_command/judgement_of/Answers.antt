@@ -1,6 +1,8 @@
-use Rattle.std.proofs.Common.{subst}
+use Rattle.std.proofs.Common.{ap, subst, ◌∙◌}
 use Rattle.ats_num.specs.Failure.{IsDue}
 use Rattle.ats_num.specs.declared.failure.Failure.{Failure}
+use Rattle.ats_tally.specs.Delays.{NetworkRows}
+use Rattle.ats_judgement.specs.Text.{accepted_text}
 use Rattle.ats_checker.specs.Refusal.{refusal_of}
 use Rattle.ats_checker.specs.declared.refusal.Refusal.{Refusal}
 use Rattle.ats_soundness.proofs.Soundness.{certificate_is_sound}
@@ -9,7 +11,9 @@ use Rattle.ats_command.proofs.check_command.judgement_of.Goals as goal
 
 pub returns-in_ok-accepted-in-Ok-clause-due : goal.returns-in_ok-accepted-in-Ok-clause-due
 returns-in_ok-accepted-in-Ok-clause-due c =
-    check_text c.args.network.now c.args.certificate.now c.in_ok-accepted-in-Ok.field-0.items c.topology-topology.ensures.rules c.in-Ok.ensures.holds c.in_ok-accepted-in-Ok.ensures
+    check_text c.args.network.now c.args.certificate.now c.in_ok-accepted-in-Ok.field-0.items c.topology-topology.ensures.rules
+    c.in-Ok.ensures.holds
+    (c.in_ok-accepted-in-Ok.ensures ∙ ap (λ (d : NetworkRows). accepted_text d.network d.rows) c.in-Ok.ensures.ok)
 
 pub returns-in_ok-accepted-in-Ok-clause-sound : goal.returns-in_ok-accepted-in-Ok-clause-sound
 returns-in_ok-accepted-in-Ok-clause-sound c = certificate_is_sound c.args.network.now c.args.certificate.now c.topology-topology.ensures.rules c.in-Ok.ensures.holds
