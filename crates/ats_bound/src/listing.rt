@@ -35,7 +35,11 @@ pub(crate) fn least_rows(alloc: Global, network: &Network) -> Result<Certificate
 }
 
 // Adds the rows of a port.
-fn push_port(certificate: &mut Certificate, tallies: &Tallies, port: u32) -> Result<(), Failure<Reason>>
+fn push_port(
+    certificate: &mut Certificate,
+    tallies: &Tallies,
+    port: u32,
+) -> Result<(), Failure<Reason>>
     requires network { IsNetwork tallies.now }
     requires port { port < length tallies.now.topology.ports }
     requires begun { IsBegun tallies.now certificate.old (places_past tallies.now port) }

@@ -11,7 +11,11 @@ use std::alloc::AllocError;
 
 /// Appends why no certificate holds for a network: a word for what fails, the port and the class, or the stream, and the
 /// number that is too great. After `AllocError` nothing is said of `out`.
-pub fn write_reason(out: &mut Vec<u8>, topology: &Topology, reason: &Reason) -> Result<(), AllocError>
+pub fn write_reason(
+    out: &mut Vec<u8>,
+    topology: &Topology,
+    reason: &Reason,
+) -> Result<(), AllocError>
     requires { ReasonInside topology.now reason.now }
     ensures { OnOk result (out.new.items ≡ out.old.items ++ reason_text topology.now reason.now) }
 {
