@@ -2,5 +2,4 @@ pub mod Least
 pub mod Reason
 pub mod Laws
 pub mod Row
-pub mod Due
 pub mod Begun

@@ -4,9 +4,7 @@
 pub mod laws;
 pub mod least;
 mod listing;
-pub mod no_bound;
 pub mod rows;
 
 pub use least::make;
-pub use no_bound::NoBound;
 pub use rows::{is_used, row};

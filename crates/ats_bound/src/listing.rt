@@ -1,18 +1,18 @@
 //! The rows of a network with the least waits.
 
 ghost use Rattle.std.specs.Prelude.{◌≡◌, ◌≤◌, ◌<◌, ◌+◌, ◌++◌, length, None, IfOk, IfErr, OnOk};
+ghost use Rattle.ats_num.specs.Failure.{IsDue};
 ghost use Rattle.ats_network.specs.Network.{IsNetwork};
 ghost use Rattle.ats_certificate.specs.Used.{places_of};
 ghost use Rattle.ats_tally.specs.Reason.{first_some};
 ghost use Rattle.ats_bound.specs.Begun.{IsBegun, IsNext, overload_at, places_past, rows_at};
-ghost use Rattle.ats_bound.specs.Due.{IsDue};
 ghost use Rattle.ats_bound.specs.Least.{least_certificate};
 ghost use Rattle.ats_bound.specs.Reason.{overload};
 
-use crate::no_bound::NoBound;
 use crate::rows::row_of;
 use ats_certificate::Certificate;
 use ats_network::Network;
+use ats_num::Failure;
 use ats_tally::{Reason, Tallies};
 use std::alloc::Global;
 
@@ -20,7 +20,7 @@ use std::alloc::Global;
 const CLASSES: [u8; 7] = [1, 2, 3, 4, 5, 6, 7];
 
 /// The rows of all ports and classes that some stream uses, with the least waits, or the first that is overloaded.
-pub(crate) fn least_rows(alloc: Global, network: &Network) -> Result<Certificate, NoBound>
+pub(crate) fn least_rows(alloc: Global, network: &Network) -> Result<Certificate, Failure<Reason>>
     ensures rules { OnOk result (IsNetwork network.now) }
     ensures ok { IfOk result (λ certificate. certificate ≡ least_certificate network.now) }
     ensures fits { OnOk result (first_some (overload network.now) (places_of network.now) ≡ None) }
@@ -35,7 +35,11 @@ pub(crate) fn least_rows(alloc: Global, network: &Network) -> Result<Certificate
 }
 
 // Adds the rows of a port.
-fn push_port(certificate: &mut Certificate, tallies: &Tallies, port: u32) -> Result<(), NoBound>
+fn push_port(
+    certificate: &mut Certificate,
+    tallies: &Tallies,
+    port: u32,
+) -> Result<(), Failure<Reason>>
     requires network { IsNetwork tallies.now }
     requires port { port < length tallies.now.topology.ports }
     requires begun { IsBegun tallies.now certificate.old (places_past tallies.now port) }
@@ -56,7 +60,7 @@ fn push_row(
     tallies: &Tallies,
     port: u32,
     class: u8,
-) -> Result<(), NoBound>
+) -> Result<(), Failure<Reason>>
     requires port { port < length tallies.now.topology.ports }
     requires class_least { 1 ≤ class }
     requires class_most { class ≤ 7 }
@@ -73,6 +77,6 @@ fn push_row(
             certificate.push(row)?;
             Ok(())
         }
-        Err(load) => Err(NoBound::Reason(Reason::Overloaded { port, class, load })),
+        Err(load) => Err(Failure::Fault(Reason::Overloaded { port, class, load })),
     }
 }

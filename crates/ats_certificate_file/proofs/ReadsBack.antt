@@ -22,7 +22,7 @@ use Rattle.ats_certificate.specs.Form.{ComesAfter, IsRow, last_of}
 use Rattle.ats_certificate.specs.declared.row.Row.{Row}
 use Rattle.ats_certificate_file.specs.Laws.{CertificateReadsBack}
 use Rattle.ats_certificate_file.specs.Reading.{comes_after, header, is_before, number_in, number_within, row_after, row_in, rows_from, rows_under}
-use Rattle.ats_certificate_file.specs.Steps.{◌>>=◌, ok_where, or_fault}
+use Rattle.ats_num.specs.Failure.{◌>>=◌, ok_where, or_fault}
 use Rattle.ats_certificate_file.specs.Text.{fields_of}
 use Rattle.ats_certificate_file.specs.declared.fault.CertFault.{CertFault}
 use Rattle.ats_certificate_file.specs.declared.fault.CertFault.TheVariants.{BadNumber, BadRow, RowOrder, UnknownPort}

@@ -20,7 +20,7 @@ use Rattle.ats_checker.specs.First.{IsFirst, IsUsed, IsRight, fields, said, due,
 use Rattle.ats_checker.specs.Refusal.{missing, stray, wrong_in, short, of_network, refusal_of}
 use Rattle.ats_checker.specs.declared.refusal.Field.{Field}
 use Rattle.ats_checker.specs.declared.refusal.Refusal.{Refusal}
-use Rattle.ats_checker.specs.declared.refusal.Refusal.TheVariants.{RowMissing, RowStray, FieldWrong, WaitTooSmall, Network, NoMemory}
+use Rattle.ats_checker.specs.declared.refusal.Refusal.TheVariants.{RowMissing, RowStray, FieldWrong, WaitTooSmall, Network}
 use Rattle.ats_checker.proofs.Refused.{complete_from, none_missing}
 use Rattle.ats_checker.proofs.Breaches.{none_given, breach_keeps, given_at, or_past, at_some, false_if, true_if, not_less}
 use Rattle.ats_checker.specs.Laws.{EachRefusalIsTheFirst}
@@ -150,7 +150,6 @@ module _ (network : DeclaredNetwork) (rows : List Row) (is : IsNetwork network) 
       or_past _ _ _ (no_missing l.rows_of) (or_past _ _ _ (no_stray l.rows_of) (or_past _ _ _ (no_wrong (covers_right covers))
       (or_past _ _ _ (ap of_network (no_overload (λ k d h. (covers k d h).load))) (or_past _ _ _ (no_short l.rows_of covers)
       (or_past _ _ _ (ap of_network (no_overstay l.kept)) (ap of_network (by_late name along l)))))))
-  refusal_by NoMemory none = absurd none
 
 pub each_refusal_is_the_first : EachRefusalIsTheFirst
 each_refusal_is_the_first network rows refusal is ordered = (first_from network rows is ordered refusal, refusal_by network rows is refusal)

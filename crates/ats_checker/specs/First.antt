@@ -12,7 +12,7 @@ use Rattle.ats_tally.specs.declared.reason.Reason.TheVariants.{Overloaded, Resid
 use Rattle.ats_checker.specs.declared.refusal.Field.{Field}
 use Rattle.ats_checker.specs.declared.refusal.Field.TheVariants.{Higher, Equal, Bursts, Lower, Least, Bound}
 use Rattle.ats_checker.specs.declared.refusal.Refusal.{Refusal}
-use Rattle.ats_checker.specs.declared.refusal.Refusal.TheVariants.{RowMissing, RowStray, FieldWrong, WaitTooSmall, Network, NoMemory}
+use Rattle.ats_checker.specs.declared.refusal.Refusal.TheVariants.{RowMissing, RowStray, FieldWrong, WaitTooSmall, Network}
 
 -- the first of a list that breaks a rule: each before it keeps the rule
 pub record IsFirstBreach {A : Type 0} (Rule : A → Type 0) (xs : List A) (x : A) : Type 0 where
@@ -127,4 +127,3 @@ IsFirst network rows (RowStray port class) = IsStray network rows port class
 IsFirst network rows (FieldWrong port class field right) = IsWrong network rows port class field right
 IsFirst network rows (WaitTooSmall port class least) = IsShort network rows port class least
 IsFirst network rows (Network reason) = IsFirstReason network rows reason
-IsFirst network rows NoMemory = ⊥

@@ -1,6 +1,5 @@
 pub mod Refusal
 pub mod Laws
-pub mod Due
 pub mod Ports
 pub mod Rows
 pub mod First

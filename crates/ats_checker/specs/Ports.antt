@@ -3,7 +3,7 @@ use Rattle.ats_topology.specs.Topology.{DeclaredTopology}
 use Rattle.ats_certificate.specs.declared.row.Row.{Row}
 use Rattle.ats_tally.specs.Reason.{ReasonInside}
 use Rattle.ats_checker.specs.declared.refusal.Refusal.{Refusal}
-use Rattle.ats_checker.specs.declared.refusal.Refusal.TheVariants.{RowMissing, RowStray, FieldWrong, WaitTooSmall, Network, NoMemory}
+use Rattle.ats_checker.specs.declared.refusal.Refusal.TheVariants.{RowMissing, RowStray, FieldWrong, WaitTooSmall, Network}
 
 -- the port of each row is a port of the topology
 abbrev pub RowsInside : DeclaredTopology → List Row → Type 0
@@ -16,4 +16,3 @@ RefusalInside topology (RowStray port class) = port < length topology.ports
 RefusalInside topology (FieldWrong port class field right) = port < length topology.ports
 RefusalInside topology (WaitTooSmall port class least) = port < length topology.ports
 RefusalInside topology (Network reason) = ReasonInside topology reason
-RefusalInside topology NoMemory = Unit {0}

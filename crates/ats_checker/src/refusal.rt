@@ -1,8 +1,7 @@
 //! Why a certificate does not hold for a network.
 
-use ats_num::NoMemory as OutOfMemory;
+use ats_num::Fault;
 use ats_tally::Reason;
-use std::alloc::{AllocError, AllocFailed};
 
 /// A column of a certificate that follows from the network, or from the network and the wait.
 #[derive(Clone, Copy, Debug, PartialEq, Eq)]
@@ -63,39 +62,6 @@ pub enum Refusal {
     },
     /// A load, a wait or a sum is more than the network can bear.
     Network(Reason),
-    /// Memory ran out.
-    NoMemory,
 }
 
-impl From<AllocError> for Refusal {
-    ghost use Rattle.std.specs.Prelude.{◌≡◌};
-    ghost use Rattle.ats_checker.specs.declared.refusal.Refusal.TheVariants.{NoMemory};
-
-    ghost from_gives = { λ _ e. e ≡ NoMemory };
-
-    fn from(_e: AllocError) -> Refusal {
-        Refusal::NoMemory
-    }
-}
-
-impl<T: Drop> From<AllocFailed<T>> for Refusal {
-    ghost use Rattle.std.specs.Prelude.{◌≡◌};
-    ghost use Rattle.ats_checker.specs.declared.refusal.Refusal.TheVariants.{NoMemory};
-
-    ghost from_gives = { λ _ e. e ≡ NoMemory };
-
-    fn from(_e: AllocFailed<T>) -> Refusal {
-        Refusal::NoMemory
-    }
-}
-
-impl From<OutOfMemory> for Refusal {
-    ghost use Rattle.std.specs.Prelude.{◌≡◌};
-    ghost use Rattle.ats_checker.specs.declared.refusal.Refusal.TheVariants.{NoMemory};
-
-    ghost from_gives = { λ _ e. e ≡ NoMemory };
-
-    fn from(_e: OutOfMemory) -> Refusal {
-        Refusal::NoMemory
-    }
-}
+impl Fault for Refusal {}

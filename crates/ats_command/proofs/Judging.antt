@@ -1,4 +1,4 @@
-use Rattle.std.proofs.Common.{◌≡◌, ◌≢◌, ℕ, List, Option, Some, None, Result, Ok, Err, refl, sym, ap, subst, ◌∙◌}
+use Rattle.std.proofs.Common.{◌≡◌, ℕ, List, Option, Some, None, Result, Ok, Err, sym, ap, subst, ◌∙◌}
 use Rattle.std.specs.Option.{option_map}
 use Rattle.ats_topology.specs.Topology.{DeclaredTopology}
 use Rattle.ats_network.specs.Network.{DeclaredNetwork, IsNetwork}
@@ -10,11 +10,9 @@ use Rattle.ats_bound.specs.Reason.{reason_of}
 use Rattle.ats_tally.specs.Reason.{ReasonInside}
 use Rattle.ats_tally.specs.declared.reason.Reason.{Reason}
 use Rattle.ats_bound.proofs.LeastHolds.{ports_exist}
-use Rattle.ats_checker.specs.Due.{IsDue}
 use Rattle.ats_checker.specs.Ports.{RowsInside}
 use Rattle.ats_checker.specs.Refusal.{refusal_of}
 use Rattle.ats_checker.specs.declared.refusal.Refusal.{Refusal}
-use Rattle.ats_checker.specs.declared.refusal.Refusal.TheVariants.{RowMissing, RowStray, FieldWrong, WaitTooSmall, Network, NoMemory}
 use Rattle.ats_checker.proofs.Refused.{refused_unless_holding}
 use Rattle.ats_judgement.specs.Text.{accepted_text, reason_text, refusal_text, refused_text}
 use Rattle.ats_judgement.proofs.ReasonPorts.{each_reason_is_inside}
@@ -63,20 +61,11 @@ check_text network rows text is holds written =
     ap (λ (o : Option Refusal). judged (accepted_text network rows) (option_map (refusal_text network.topology) o)) (not_refused network rows is holds)
     ∙ ap (λ (t : List ℕ). judged t None) (sym written)
 
--- a refusal that is not want of memory is the one that there is
-refusal_is : (refusal : Refusal) (due : Option Refusal) → IsDue refusal due → refusal ≢ NoMemory → due ≡ Some refusal
-refusal_is (RowMissing port class) due h other = h
-refusal_is (RowStray port class) due h other = h
-refusal_is (FieldWrong port class field right) due h other = h
-refusal_is (WaitTooSmall port class least) due h other = h
-refusal_is (Network reason) due h other = h
-refusal_is NoMemory due h other = absurd (other refl)
-
 -- the line for the refusal of a certificate
 pub check_refused : (network : DeclaredNetwork) (rows : List Row) (topology : DeclaredTopology) (refusal : Refusal) (text : List ℕ) → topology ≡ network.topology
-    → IsDue refusal (refusal_of network rows) → refusal ≢ NoMemory → text ≡ refused_text (refusal_text topology refusal)
+    → refusal_of network rows ≡ Some refusal → text ≡ refused_text (refusal_text topology refusal)
     → check_judged network rows ≡ Err (record { status = status.Refused; text = text })
 unfolding check_judged refused_with
-check_refused network rows topology refusal text same due memory written =
-    ap (λ (o : Option Refusal). judged (accepted_text network rows) (option_map (refusal_text network.topology) o)) (refusal_is refusal (refusal_of network rows) due memory)
+check_refused network rows topology refusal text same due written =
+    ap (λ (o : Option Refusal). judged (accepted_text network rows) (option_map (refusal_text network.topology) o)) due
     ∙ ap refused_with (sym (written ∙ ap (λ (t : DeclaredTopology). refused_text (refusal_text t refusal)) same))

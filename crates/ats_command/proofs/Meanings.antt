@@ -22,7 +22,8 @@ use Rattle.ats_checker.specs.declared.refusal.Refusal.{Refusal}
 use Rattle.ats_checker.proofs.Refused.{refused_unless_holding}
 use Rattle.ats_judgement.specs.Text.{accepted_text, reason_text, refusal_text}
 use Rattle.ats_soundness.proofs.Soundness.{certificate_is_sound}
-use Rattle.ats_command.specs.Answer.{Answer, input_answer, settled, ◌>>=◌}
+use Rattle.ats_num.specs.Failure.{◌>>=◌}
+use Rattle.ats_command.specs.Answer.{Answer, input_answer, settled}
 use Rattle.ats_command.specs.Due.{bound_answer, check_answer}
 use Rattle.ats_command.specs.Input.{bytes_in, declared_in, network_in, rows_in}
 use Rattle.ats_command.specs.Judged.{judged, bound_judged, check_judged}

@@ -9,7 +9,7 @@ use Rattle.ats_records.specs.Reading.{field_of}
 use Rattle.ats_certificate.specs.Form.{last_of}
 use Rattle.ats_certificate.specs.declared.row.Row.{Row}
 use Rattle.ats_checker.specs.Ports.{RowsInside}
-use Rattle.ats_certificate_file.specs.Steps.{◌>>=◌, or_fault, ok_where}
+use Rattle.ats_num.specs.Failure.{◌>>=◌, or_fault, ok_where}
 use Rattle.ats_certificate_file.specs.Reading.{number_in, number_within, row_in, row_after, comes_after, rows_of}
 use Rattle.ats_certificate_file.specs.declared.fault.CertFault.{CertFault}
 use Rattle.ats_certificate_file.specs.declared.fault.CertFault.TheVariants.{UnknownPort, RowOrder}

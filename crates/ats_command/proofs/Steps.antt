@@ -1,8 +1,9 @@
 use Rattle.std.proofs.Common.{◌≡◌, ℕ, List, [], Option, Some, None, Result, Ok, Err, refl, sym, ◌∙◌, ap, subst, arith}
 use Rattle.ats_io.specs.Outside.{Rose}
-use Rattle.std.specs.Prelude.{IsSome, IfSome, IsErrAnd, IsOk, OnOk, ◌≤◌, unwrap_or}
+use Rattle.std.specs.Prelude.{IsSome, IfSome, IfOk, IsErrAnd, IsOk, OnOk, ◌≤◌, unwrap_or}
 use Rattle.std.specs.Global.{Vec}
-use Rattle.ats_command.specs.Answer.{Answer, settled, ◌>>=◌}
+use Rattle.ats_num.specs.Failure.{◌>>=◌}
+use Rattle.ats_command.specs.Answer.{Answer, settled}
 use Rattle.ats_command.specs.Input.{bytes_in, declared_in}
 use Rattle.ats_command.specs.Due.{told_bytes}
 use Rattle.ats_command.specs.Outcome.{Gives, IsStopOf, answer_of}
@@ -82,3 +83,10 @@ same_stop {X} result stop other h k = one_error {X = X} stop other (sym h ∙ k)
 -- what is declared is no answer
 pub declared_is_ok : {A : Type 0} (due : Result A Answer) (value : A) → due ≡ Ok value → IsOk due
 declared_is_ok due value h = rw h refl
+
+-- a value that was declared keeps what each one keeps that is due
+pub declared_keeps : {A F : Type 0} (P : A → Type 0) (result : Result A Stop) (file : List ℕ) (words : F → List ℕ) (due : Result A F)
+    → Gives (λ (value : A). value) result (declared_in file words due) → ((value : A) → due ≡ Ok value → P value) → IfOk result P
+declared_keeps P (Err stop) file words due h keeps = tt
+declared_keeps P (Ok value) file words (Err fault) h keeps = cc
+declared_keeps P (Ok value) file words (Ok other) h keeps = keeps value (let same : other ≡ value = cc in ap Ok same)

@@ -19,12 +19,6 @@ input_text file fault = codes "input " ++ file ++ codes " " ++ fault ++ codes "\
 abbrev pub input_answer : List ℕ → List ℕ → Answer
 input_answer file fault = record { status = Input; text = input_text file fault }
 
--- one after another, as far as the first answer
-infixl 10 ◌>>=◌
-abbrev pub ◌>>=◌ : {A B : Type 0} → Result A Answer → (A → Result B Answer) → Result B Answer
-(Ok x) >>= f = f x
-(Err answer) >>= f = Err answer
-
 -- a command that is carried out is done, and prints its text; another answer may come before that
 abbrev pub settled : Result (List ℕ) Answer → Answer
 settled (Ok text) = record { status = Done; text = text }

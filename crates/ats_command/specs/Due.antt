@@ -3,7 +3,8 @@ use Rattle.ats_io.specs.Outside.{IfTold}
 use Rattle.ats_shape.specs.Text.{text_of}
 use Rattle.ats_show.specs.Text.{show_text}
 use Rattle.ats_command.specs.Command.{Command, Shape, Show, Bound, Check, Unknown, file_words}
-use Rattle.ats_command.specs.Answer.{Answer, words_answer, settled, ◌>>=◌}
+use Rattle.ats_num.specs.Failure.{◌>>=◌}
+use Rattle.ats_command.specs.Answer.{Answer, words_answer, settled}
 use Rattle.ats_command.specs.Input.{shape_in, network_in, rows_in}
 use Rattle.ats_command.specs.Judged.{bound_judged, check_judged}
 

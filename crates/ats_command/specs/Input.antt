@@ -9,7 +9,8 @@ use Rattle.ats_topology.specs.Topology.{DeclaredTopology}
 use Rattle.ats_certificate.specs.declared.row.Row.{Row}
 use Rattle.ats_certificate_file.specs.Reading.{rows_of}
 use Rattle.ats_certificate_file.specs.FaultText as certificate
-use Rattle.ats_command.specs.Answer.{Answer, input_answer, ◌>>=◌}
+use Rattle.ats_num.specs.Failure.{◌>>=◌}
+use Rattle.ats_command.specs.Answer.{Answer, input_answer}
 
 -- the bytes of a file: more than 16,777,216 are too long, whatever they are
 abbrev pub bytes_in : List ℕ → List ℕ → Result (List ℕ) Answer

@@ -1,8 +1,11 @@
 use Rattle.std.specs.Prelude.{◌≡◌, ℕ, List, IfSome, Option, Some, None, Result, Ok, Err}
 use Rattle.std.specs.Global.{Vec}
+use Rattle.ats_num.specs.Failure as reading
+use Rattle.ats_num.specs.declared.failure.Failure.{Failure}
 use Rattle.ats_io.specs.Outside.{TakesPrefix, appended}
 use Rattle.ats_command.specs.Command.{Command}
 use Rattle.ats_command.specs.Answer.{Answer}
+use Rattle.ats_command.specs.Input.{declared_in}
 use Rattle.ats_command.specs.Due.{IsAnswer, IsTold, told_bytes}
 use Rattle.ats_command.specs.declared.status.Status.{Status}
 use Rattle.ats_command.specs.declared.status.Status.TheVariants as status
@@ -20,6 +23,11 @@ IsStopOf NoMemory due = Unit {0}
 abbrev pub Gives : {X A : Type 0} → (X → A) → Result X Stop → Result A Answer → Type 0
 Gives seen (Ok x) due = due ≡ Ok (seen x)
 Gives seen (Err stop) due = IsStopOf stop due
+
+-- what was read from a file is passed on: what the reading was to give, or an answer with the words that its fault is shown as
+abbrev pub PassesOn : {X F : Type 0} → (F → Option (List ℕ)) → List ℕ → Result X (Failure F) → Result X Stop → Type 0
+PassesOn {X} {F} shown file read result = (words : F → List ℕ) (due : Result X F) → ((fault : F) → shown fault ≡ Some (words fault))
+    → reading.Gives read due → Gives (λ (x : X). x) result (declared_in file words due)
 
 -- the answer that the outcome of a command makes, if it makes one
 abbrev pub answer_of : Result (Vec ℕ) Stop → Option Answer

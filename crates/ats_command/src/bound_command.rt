@@ -2,8 +2,8 @@
 
 ghost use Rattle.std.specs.Prelude.{◌≡◌, IfOk, IsErrOf};
 ghost use Rattle.ats_io.specs.Outside.{Continues};
-ghost use Rattle.ats_judgement.specs.Text.{reason_text, refused_text};
 ghost use Rattle.ats_tally.specs.Reason.{ReasonInside};
+ghost use Rattle.ats_judgement.specs.Text.{reason_text, refused_text};
 ghost use Rattle.ats_command.specs.Command as table;
 ghost use Rattle.ats_command.specs.Calls.{ReadRose};
 ghost use Rattle.ats_command.specs.Judged.{bound_judged};
@@ -11,15 +11,15 @@ ghost use Rattle.ats_command.specs.Outcome.{Answers, Gives};
 
 use crate::input_file::network_in;
 use crate::outcome::Stop;
-use ats_bound::{NoBound, make};
+use ats_bound::make;
 use ats_certificate_file::write_certificate;
 use ats_io::Files;
 use ats_judgement::write_reason;
 use ats_network::Network;
-use ats_num::NoMemory;
+use ats_num::Failure;
 use ats_tally::Reason;
 use ats_topology::Topology;
-use std::alloc::Global;
+use std::alloc::{AllocError, Global};
 
 /// The text of `bound NET`. It stops where the network's file has a fault or can't be read, and where no certificate of the
 /// network holds.
@@ -40,13 +40,13 @@ fn certificate_of(alloc: Global, network: &Network) -> Result<Vec<u8>, Stop>
     let topology = network.topology();
     match make(alloc, network) {
         Ok(certificate) => Ok(write_certificate(alloc, &certificate, topology)?),
-        Err(NoBound::Reason(reason)) => Err(Stop::Refused(refused(alloc, topology, &reason)?)),
-        Err(NoBound::NoMemory) => Err(Stop::NoMemory),
+        Err(Failure::Fault(reason)) => Err(Stop::Refused(refused(alloc, topology, &reason)?)),
+        Err(Failure::NoMemory) => Err(Stop::NoMemory),
     }
 }
 
 // The line that says why no certificate holds.
-fn refused(alloc: Global, topology: &Topology, reason: &Reason) -> Result<Vec<u8>, NoMemory>
+fn refused(alloc: Global, topology: &Topology, reason: &Reason) -> Result<Vec<u8>, AllocError>
     requires { ReasonInside topology.now reason.now }
     ensures { IfOk result (λ text. text.items ≡ refused_text (reason_text topology.now reason.now)) }
 {

@@ -1,6 +1,6 @@
 //! `check NET CERT`: judges a certificate of a network, and gives the sums.
 
-ghost use Rattle.std.specs.Prelude.{◌≡◌, ◌≢◌, IfOk, IsErrOf, OnOk};
+ghost use Rattle.std.specs.Prelude.{◌≡◌, IfOk, IsErrOf, OnOk};
 ghost use Rattle.ats_io.specs.Outside.{Continues};
 ghost use Rattle.ats_checker.specs.Ports.{RefusalInside, RowsInside};
 ghost use Rattle.ats_judgement.specs.Text.{refusal_text, refused_text};
@@ -18,9 +18,9 @@ use ats_checker::Refusal;
 use ats_io::Files;
 use ats_judgement::{accepted, write_refusal};
 use ats_network::Network;
-use ats_num::NoMemory;
+use ats_num::Failure;
 use ats_topology::Topology;
-use std::alloc::Global;
+use std::alloc::{AllocError, Global};
 
 /// The text of `check NET CERT`. It stops where the network's file and then where the certificate's has a fault or can't be
 /// read, and where the certificate does not hold.
@@ -54,19 +54,16 @@ fn judgement_of(
     let topology = network.topology();
     match ats_checker::check(alloc, network, certificate) {
         Ok(delays) => Ok(accepted(alloc, &delays)?),
-        Err(refusal) => Err(Stop::Refused(refused(alloc, topology, &refusal)?)),
+        Err(Failure::Fault(refusal)) => Err(Stop::Refused(refused(alloc, topology, &refusal)?)),
+        Err(Failure::NoMemory) => Err(Stop::NoMemory),
     }
 }
 
-// The line that says why a certificate does not hold. `NoMemory` also where that is what the judgement says.
-fn refused(alloc: Global, topology: &Topology, refusal: &Refusal) -> Result<Vec<u8>, NoMemory>
+// The line that says why a certificate does not hold.
+fn refused(alloc: Global, topology: &Topology, refusal: &Refusal) -> Result<Vec<u8>, AllocError>
     requires { RefusalInside topology.now refusal.now }
-    ensures text { IfOk result (λ text. text.items ≡ refused_text (refusal_text topology.now refusal.now)) }
-    ensures memory { OnOk result (refusal.now ≢ Refusal.NoMemory) }
+    ensures { IfOk result (λ text. text.items ≡ refused_text (refusal_text topology.now refusal.now)) }
 {
-    if let Refusal::NoMemory = refusal {
-        return Err(NoMemory);
-    }
     let mut text = Vec::from_slice(alloc, b"refused ")?;
     write_refusal(&mut text, topology, refusal)?;
     text.extend_from_slice(b"\n")?;

@@ -7,7 +7,7 @@ ghost use Rattle.ats_command.specs.Outcome.{Prints, PrintsFront};
 
 use crate::status::Status;
 use ats_io::{Sink, write_all};
-use ats_num::NoMemory;
+use std::alloc::AllocError;
 
 /// Why a command is not carried out.
 #[derive(Drop)]
@@ -57,13 +57,13 @@ pub fn print<O: Sink>(out: &mut O, status: Status, text: &[u8]) -> Status
     }
 }
 
-impl From<NoMemory> for Stop {
+impl From<AllocError> for Stop {
     ghost use Rattle.std.specs.Prelude.{◌≡◌};
     ghost use Rattle.ats_command.specs.declared.outcome.Stop.TheVariants as stops;
 
     ghost from_gives = { λ _ e. e ≡ stops.NoMemory };
 
-    fn from(_e: NoMemory) -> Stop {
+    fn from(_e: AllocError) -> Stop {
         Stop::NoMemory
     }
 }

@@ -10,9 +10,8 @@ ghost use Rattle.ats_command.specs.Outcome.{Answers};
 use crate::input_file::shape_in;
 use crate::outcome::Stop;
 use ats_io::Files;
-use ats_num::NoMemory;
 use ats_shape::{Shape, judge, report};
-use std::alloc::Global;
+use std::alloc::{AllocError, Global};
 
 /// The text of `shape FILE`. It stops where the file has a fault or can't be read.
 pub fn shape<F: Files>(alloc: Global, file: &str, files: &mut F) -> Result<Vec<u8>, Stop>
@@ -25,7 +24,7 @@ pub fn shape<F: Files>(alloc: Global, file: &str, files: &mut F) -> Result<Vec<u
 }
 
 // What is printed for a shape.
-fn text_of(alloc: Global, shape: &Shape) -> Result<Vec<u8>, NoMemory>
+fn text_of(alloc: Global, shape: &Shape) -> Result<Vec<u8>, AllocError>
     ensures { IfOk result (λ text. text.items ≡ text_of shape.now) }
 {
     let verdicts = judge(alloc, shape)?;

@@ -1,9 +1,11 @@
-use Rattle.std.proofs.Common.{◌≡◌, ℕ, ◌+◌, ◌<◌, ◌≤◌, Bool, true, false, List, [], ◌∷◌, ◌++◌, length, get_or, drop, Option, Some, None, option_map, is_some, unwrap_or, Result, Ok, Err, refl, sym, ap, ◌∙◌, append_assoc, append-nil, arith}
-use Rattle.toml.specs.Data.{Data, Items, no_items, item, Members, as_table}
+use Rattle.std.proofs.Common.{◌≡◌, ℕ, ◌+◌, ◌<◌, ◌≤◌, true, List, [], ◌∷◌, ◌++◌, length, get_or, drop, Option, Some, None, option_map, is_some, unwrap_or, Result, Ok, Err, refl, sym, ap, ◌∙◌, append_assoc, append-nil, arith}
+use Rattle.toml.specs.Data.{Data, Members, as_table}
 use Rattle.toml.specs.View.{view, items_view}
 use Rattle.toml.specs.declared.value.Value.{Value}
 use Rattle.toml.proofs.Views.{items_view-drop}
-use Rattle.ats_document.specs.Steps.{◌>>=◌, Fails, GivesSeen}
+use Rattle.ats_num.specs.declared.failure.Failure.{Failure}
+use Rattle.ats_num.specs.declared.failure.Failure.TheVariants.{Fault, NoMemory}
+use Rattle.ats_num.specs.Failure.{◌>>=◌, Fails, GivesSeen}
 use Rattle.ats_document.specs.Kinds.{in_front, all_in}
 use Rattle.ats_document.specs.Walk.{Entry}
 use Rattle.ats_document.specs.Seen.{are_tables, tables_of}
@@ -13,7 +15,7 @@ use Rattle.std.proofs.lemmas.List.{drop_all}
 use Rattle.ats_document.specs.Reading.{entries_from, entries_in}
 use Rattle.ats_document.specs.declared.table.Table.{Table}
 use Rattle.ats_document.specs.declared.fault.DocumentFault.{DocumentFault}
-use Rattle.ats_document.specs.declared.fault.DocumentFault.TheVariants.{NotToml, Missing, Unknown, WrongKind, Limit, NoMemory}
+use Rattle.ats_document.specs.declared.fault.DocumentFault.TheVariants.{Limit}
 
 -- an item of an array, and those behind it
 pub all_in_drop : {A : Type 0} (kind : Data → Option A) (vs : List Value) (i : ℕ) (d : Value) → i < length vs
@@ -25,23 +27,11 @@ pub joined_option : {A : Type 0} (before : List A) (x : A) (rest : Option (List 
 joined_option before x None = refl
 joined_option before x (Some ys) = ap Some (append_assoc before (x ∷ []) ys)
 
--- a fault is itself
-pub fails_itself : (Y : Type 0) (e : DocumentFault) → Fails {Y = Y} e (Err e)
-fails_itself Y NoMemory = tt
-fails_itself Y NotToml = refl
-fails_itself Y (Missing t n k) = refl
-fails_itself Y (Unknown t n) = refl
-fails_itself Y (WrongKind t n k) = refl
-fails_itself Y (Limit t) = refl
-
 -- a fault of a part is one of the whole
-pub fails_along : {X Y : Type 0} (e : DocumentFault) (part : Result X DocumentFault) (whole : Result Y DocumentFault) → (part ≡ Err e → whole ≡ Err e) → Fails e part → Fails e whole
-fails_along NoMemory part whole f h = tt
-fails_along NotToml part whole f h = f h
-fails_along (Missing t n k) part whole f h = f h
-fails_along (Unknown t n) part whole f h = f h
-fails_along (WrongKind t n k) part whole f h = f h
-fails_along (Limit t) part whole f h = f h
+pub fails_along : {X Y : Type 0} (e : Failure DocumentFault) (part : Result X DocumentFault) (whole : Result Y DocumentFault)
+    → ((f : DocumentFault) → part ≡ Err f → whole ≡ Err f) → Fails e part → Fails e whole
+fails_along NoMemory part whole along h = tt
+fails_along (Fault f) part whole along h = along f h
 
 -- entries in front of those that are read behind them
 abbrev pub behind : {A : Type 0} → List A → Result (List A) DocumentFault → Result (List A) DocumentFault
@@ -103,12 +93,12 @@ pub entries_within : {A : Type 0} (read : Entry → Result A DocumentFault) (tab
 entries_within read table most tables h = rw (le-ltb most (length tables) h)
 
 -- a fault of the next entry is the fault of the array
-pub entry_stops : {A : Type 0} (read : Entry → Result A DocumentFault) (table : Table) (most n : ℕ) (before : List A) (e : DocumentFault) (entry : Entry) (ms : Members) (rest left all : List Members)
+pub entry_stops : {A : Type 0} (read : Entry → Result A DocumentFault) (table : Table) (most n : ℕ) (before : List A) (e : Failure DocumentFault) (entry : Entry) (ms : Members) (rest left all : List Members)
     → entry ≡ record { table = table; number = n; members = ms } → left ≡ ms ∷ rest → length all ≤ most
     → behind before (entries_from read table n left) ≡ entries_from read table 1 all → Fails e (read entry) → Fails e (entries_in read table most all)
 entry_stops read table most n before e entry ms rest left all is next few so_far failed =
     fails_along e (read entry) (entries_in read table most all)
-    (λ part. entries_within read table most all few ∙ sym so_far ∙ ap (λ ts. behind before (entries_from read table n ts)) next ∙ entry_fails read table n before e ms rest (ap read (sym is) ∙ part)) failed
+    (λ f part. entries_within read table most all few ∙ sym so_far ∙ ap (λ ts. behind before (entries_from read table n ts)) next ∙ entry_fails read table n before f ms rest (ap read (sym is) ∙ part)) failed
 
 -- after the last entry
 pub entries_end : {A : Type 0} (read : Entry → Result A DocumentFault) (table : Table) (n : ℕ) (before : List A) (vs : List Value) (i : ℕ) → length vs ≤ i
@@ -116,7 +106,7 @@ pub entries_end : {A : Type 0} (read : Entry → Result A DocumentFault) (table 
 entries_end read table n before vs i past = rw (drop_all i vs past) (ap Ok (append-nil before))
 
 -- a fault that is passed on
-pub fault_passed : {A B : Type 0} (seen : A → B) (result : Result A DocumentFault) (e : DocumentFault) (due : Result B DocumentFault) → IsErrAnd result (λ f. f ≡ e) → Fails e due → GivesSeen seen result due
+pub fault_passed : {A B : Type 0} (seen : A → B) (result : Result A (Failure DocumentFault)) (e : Failure DocumentFault) (due : Result B DocumentFault) → IsErrAnd result (λ f. f ≡ e) → Fails e due → GivesSeen seen result due
 fault_passed seen (Ok x) e due h failed = absurd h
 fault_passed seen (Err f) e due h failed = rw h failed
 

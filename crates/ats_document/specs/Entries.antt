@@ -1,5 +1,5 @@
-use Rattle.std.specs.Prelude.{ℕ, List, Result, Ok, Err, if◌then◌else◌}
-use Rattle.ats_document.specs.Steps.{◌>>=◌}
+use Rattle.std.specs.Prelude.{ℕ, Result, Ok, if◌then◌else◌}
+use Rattle.ats_num.specs.Failure.{◌>>=◌}
 use Rattle.ats_document.specs.Walk.{Entry, has, formed, name_at, whole_at, path_at, deadline_at, identity_at}
 use Rattle.ats_document.specs.Document.{DeclaredRoute, path, ends, DeclaredStream, DeclaredFlow}
 use Rattle.ats_document.specs.declared.entries.StationEntry.{StationEntry}

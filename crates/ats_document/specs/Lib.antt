@@ -1,5 +1,4 @@
 pub mod Words
-pub mod Steps
 pub mod Kinds
 pub mod Walk
 pub mod Document

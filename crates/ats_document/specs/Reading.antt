@@ -2,7 +2,7 @@ use Rattle.std.specs.Prelude.{ℕ, ◌+◌, ◌-◌, nat_lt, List, [], ◌∷◌
 use Rattle.std.specs.Str.{is_utf8}
 use Rattle.toml.specs.Data.{Members}
 use Rattle.toml.specs.Parse.{parse_document}
-use Rattle.ats_document.specs.Steps.{◌>>=◌, or_fault}
+use Rattle.ats_num.specs.Failure.{◌>>=◌, or_fault}
 use Rattle.ats_document.specs.Walk.{Entry, formed, whole_at, tables_at}
 use Rattle.ats_document.specs.Document.{DeclaredDocument}
 use Rattle.ats_document.specs.Entries.{station_in, bridge_in, link_in, stream_in, flow_in}

@@ -1,5 +1,4 @@
-use Rattle.std.specs.Prelude.{ℕ, Bool, List, [], Option, unwrap_or, is_some, Vec}
-use Rattle.std.specs.declared.alloc.Global.{Global}
+use Rattle.std.specs.Prelude.{Bool, List, [], unwrap_or, is_some}
 use Rattle.toml.specs.Data.{Members, as_table}
 use Rattle.toml.specs.View.{items_view, table_view}
 use Rattle.toml.specs.declared.value.Value.{Value}

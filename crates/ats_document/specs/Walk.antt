@@ -3,7 +3,7 @@ use Rattle.std.specs.List.{list_any, find}
 use Rattle.std.specs.Str.{bytes_eq}
 use Rattle.toml.specs.Data.{Data, Members, no_members, member, get_member}
 use Rattle.ats_document.specs.Words.{key_text, keys_of}
-use Rattle.ats_document.specs.Steps.{◌>>=◌, or_fault, ok_where}
+use Rattle.ats_num.specs.Failure.{◌>>=◌, or_fault, ok_where}
 use Rattle.ats_document.specs.Kinds.{name_in, whole_in, address_in, path_in, tables_in}
 use Rattle.ats_document.specs.declared.table.Table.{Table}
 use Rattle.ats_document.specs.declared.key.Key.{Key}

@@ -3,7 +3,7 @@
 ghost use Rattle.std.specs.Prelude.{◌≡◌, ◌≤◌, ◌<◌, ◌^◌, Some, length, IsSome, IsTrue, IfOk, IfErr};
 ghost use Rattle.toml.specs.Data.{as_table};
 ghost use Rattle.toml.specs.View.{view, table_view};
-ghost use Rattle.ats_document.specs.Steps.{GivesSeen};
+ghost use Rattle.ats_num.specs.Failure.{GivesSeen};
 ghost use Rattle.ats_document.specs.Seen.{are_tables, tables_of};
 ghost use Rattle.ats_document.specs.Reading.{entries_in, arrays_in};
 
@@ -12,6 +12,7 @@ use crate::fault::DocumentFault;
 use crate::key::Key;
 use crate::section::Section;
 use crate::table::Table;
+use ats_num::Failure;
 use std::alloc::Global;
 use toml::Value;
 
@@ -22,14 +23,14 @@ pub(crate) fn read_entries<E: FromSection>(
     table: Table,
     most: usize,
     values: &[Value],
-) -> Result<Vec<E>, DocumentFault>
+) -> Result<Vec<E>, Failure<DocumentFault>>
     requires tables { IsTrue (are_tables values.now) }
     requires few { most < 2 ^ 31 }
     ensures value { GivesSeen (λ entries. entries.items) result (entries_in E.reads table most (tables_of values.now)) }
     ensures few { IfOk result (λ entries. length entries.items ≤ most) }
 {
     if values.len() > most {
-        return Err(DocumentFault::Limit { table });
+        return Err(Failure::Fault(DocumentFault::Limit { table }));
     }
     let mut entries = Vec::new(alloc);
     for (place, value) in values.iter().enumerate() {

@@ -1,7 +1,7 @@
 //! What the tables of a network file declare.
 
 ghost use Rattle.std.specs.Prelude.{◌≡◌, Result};
-ghost use Rattle.ats_document.specs.Steps.{Gives};
+ghost use Rattle.ats_num.specs.Failure.{Gives};
 ghost use Rattle.ats_document.specs.Walk.{Entry};
 ghost use Rattle.ats_document.specs.Seen.{entry_of};
 ghost use Rattle.ats_document.specs.declared.fault.DocumentFault.{DocumentFault};
@@ -9,7 +9,7 @@ ghost use Rattle.ats_document.specs.declared.fault.DocumentFault.{DocumentFault}
 use crate::fault::DocumentFault;
 use crate::key::Key;
 use crate::section::Section;
-use ats_num::Name;
+use ats_num::{Failure, Name};
 use std::alloc::Global;
 use std::marker::Model;
 
@@ -20,7 +20,7 @@ pub(crate) trait FromSection: Drop {
 
     /// What stands in a table, or its first fault: the first missing key, then an unknown key, then the first key of the
     /// wrong kind.
-    fn read(alloc: Global, section: &Section) -> Result<Self, DocumentFault>
+    fn read(alloc: Global, section: &Section) -> Result<Self, Failure<DocumentFault>>
         ensures { Gives result (reads (entry_of section.now)) };
 }
 
@@ -36,7 +36,7 @@ impl FromSection for StationEntry {
 
     ghost reads = { station_in };
 
-    fn read(_alloc: Global, section: &Section) -> Result<Self, DocumentFault> {
+    fn read(_alloc: Global, section: &Section) -> Result<Self, Failure<DocumentFault>> {
         section.formed()?;
         let name = section.name(Key::Name)?;
         Ok(StationEntry { name })
@@ -59,7 +59,7 @@ impl FromSection for BridgeEntry {
 
     ghost reads = { bridge_in };
 
-    fn read(_alloc: Global, section: &Section) -> Result<Self, DocumentFault> {
+    fn read(_alloc: Global, section: &Section) -> Result<Self, Failure<DocumentFault>> {
         section.formed()?;
         let name = section.name(Key::Name)?;
         let processing_ns = section.short(Key::ProcessingNs)?;
@@ -90,7 +90,7 @@ impl FromSection for LinkEntry {
 
     ghost reads = { link_in };
 
-    fn read(_alloc: Global, section: &Section) -> Result<Self, DocumentFault> {
+    fn read(_alloc: Global, section: &Section) -> Result<Self, Failure<DocumentFault>> {
         section.formed()?;
         let a = section.name(Key::A)?;
         let b = section.name(Key::B)?;
@@ -154,7 +154,7 @@ impl FromSection for StreamEntry {
 
     ghost reads = { stream_in };
 
-    fn read(alloc: Global, section: &Section) -> Result<Self, DocumentFault> {
+    fn read(alloc: Global, section: &Section) -> Result<Self, Failure<DocumentFault>> {
         section.formed()?;
         let name = section.name(Key::Name)?;
         let route = section.route(alloc)?;
@@ -206,7 +206,7 @@ impl FromSection for FlowEntry {
 
     ghost reads = { flow_in };
 
-    fn read(alloc: Global, section: &Section) -> Result<Self, DocumentFault> {
+    fn read(alloc: Global, section: &Section) -> Result<Self, Failure<DocumentFault>> {
         section.formed()?;
         let name = section.name(Key::Name)?;
         let route = section.route(alloc)?;

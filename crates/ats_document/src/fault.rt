@@ -1,13 +1,16 @@
 //! Why a text is no network file, as far as its form goes.
 
-ghost use Rattle.std.specs.Prelude.{◌≡◌};
+ghost use Rattle.std.specs.Prelude.{Some};
+ghost use Rattle.ats_document.specs.FaultText.{fault_text};
 
 use crate::key::Key;
 use crate::table::Table;
-use std::alloc::{AllocError, AllocFailed};
+use ats_num::Fault;
+use std::fmt;
 
 /// The first fault of form of a text that is no network file. The entries of an array are counted from 1; the top table's
-/// entry is 0.
+/// entry is 0. It is displayed as `not-toml`, `missing TABLE ENTRY KEY`, `unknown TABLE ENTRY`, `kind TABLE ENTRY KEY` or
+/// `limit TABLE`.
 #[derive(Clone, Copy, Debug, PartialEq, Eq, Hash)]
 pub enum DocumentFault {
     /// The text is no TOML document, or no UTF-8.
@@ -42,28 +45,26 @@ pub enum DocumentFault {
         /// The table.
         table: Table,
     },
-    /// Memory ran out.
-    NoMemory,
 }
 
-impl From<AllocError> for DocumentFault {
-    ghost use Rattle.std.specs.Prelude.{◌≡◌};
-    ghost use Rattle.ats_document.specs.declared.fault.DocumentFault.TheVariants.{NoMemory};
+impl Fault for DocumentFault {}
 
-    ghost from_gives = { λ _ e. e ≡ NoMemory };
+impl fmt::Display for DocumentFault {
+    ghost output = { λ fault. Some (fault_text fault) };
 
-    fn from(_e: AllocError) -> DocumentFault {
-        DocumentFault::NoMemory
-    }
-}
-
-impl<T: Drop> From<AllocFailed<T>> for DocumentFault {
-    ghost use Rattle.std.specs.Prelude.{◌≡◌};
-    ghost use Rattle.ats_document.specs.declared.fault.DocumentFault.TheVariants.{NoMemory};
-
-    ghost from_gives = { λ _ e. e ≡ NoMemory };
-
-    fn from(_e: AllocFailed<T>) -> DocumentFault {
-        DocumentFault::NoMemory
+    fn fmt<W: fmt::Write>(&self, f: &mut fmt::Formatter<W>) -> fmt::Result {
+        match self {
+            DocumentFault::NotToml => f.write_str("not-toml"),
+            DocumentFault::Missing { table, entry, key } => {
+                write!(f, "missing {} {entry} {}", table.text(), key.text())
+            }
+            DocumentFault::Unknown { table, entry } => {
+                write!(f, "unknown {} {entry}", table.text())
+            }
+            DocumentFault::WrongKind { table, entry, key } => {
+                write!(f, "kind {} {entry} {}", table.text(), key.text())
+            }
+            DocumentFault::Limit { table } => write!(f, "limit {}", table.text()),
+        }
     }
 }

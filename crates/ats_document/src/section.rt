@@ -6,7 +6,7 @@ ghost use Rattle.toml.specs.Data.{get_member};
 ghost use Rattle.toml.specs.View.{view, items_view, table_view};
 ghost use Rattle.ats_document.specs.Words.{key_text};
 ghost use Rattle.ats_document.specs.Walk.{has, is_due, is_missing, missing_key, is_known, has_unknown, formed, at, name_at, whole_at, tables_at, path_at, identity_at, deadline_at};
-ghost use Rattle.ats_document.specs.Steps.{or_fault, GivesSeen};
+ghost use Rattle.ats_num.specs.Failure.{or_fault, GivesSeen};
 ghost use Rattle.ats_document.specs.Kinds.{name_in, address_in, all_in};
 ghost use Rattle.ats_document.specs.Entries.{route_at};
 ghost use Rattle.ats_document.specs.Document.{IsRoute, IsIdentity};
@@ -17,7 +17,7 @@ use crate::fault::DocumentFault;
 use crate::key::Key;
 use crate::kinds::{address_in, name_in, whole_in};
 use crate::table::Table;
-use ats_num::Name;
+use ats_num::{Failure, Name};
 use std::alloc::Global;
 use toml::Value;
 
@@ -201,7 +201,7 @@ impl<'a> Section<'a> {
     }
 
     /// The way of a stream or a flow: its path, or its two ends.
-    pub(crate) fn route(&self, alloc: Global) -> Result<Route, DocumentFault>
+    pub(crate) fn route(&self, alloc: Global) -> Result<Route, Failure<DocumentFault>>
         ensures value { GivesSeen route_seen result (route_at (entry_of self.now)) }
         ensures route { IfOk result (λ route. IsRoute (route_seen route)) }
     {
@@ -214,24 +214,24 @@ impl<'a> Section<'a> {
     }
 
     // The names of a path, which has none of its ends beside it.
-    fn path(&self, alloc: Global) -> Result<Vec<Name>, DocumentFault>
+    fn path(&self, alloc: Global) -> Result<Vec<Name>, Failure<DocumentFault>>
         ensures value { GivesSeen (λ names. names.items) result (path_at (entry_of self.now)) }
         ensures long { IfOk result (λ names. 2 ≤ length names.items) }
     {
         if self.has(Key::From) || self.has(Key::To) {
-            return Err(self.wrong_kind(Key::Path));
+            return Err(Failure::Fault(self.wrong_kind(Key::Path)));
         }
         let value = match self.value(Key::Path) {
             Some(value) => value,
-            None => return Err(self.wrong_kind(Key::Path)),
+            None => return Err(Failure::Fault(self.wrong_kind(Key::Path))),
         };
         let values = match value.as_array() {
             Some(values) => values.as_slice(),
-            None => return Err(self.wrong_kind(Key::Path)),
+            None => return Err(Failure::Fault(self.wrong_kind(Key::Path))),
         };
         let names = names_in(alloc, values, self.wrong_kind(Key::Path))?;
         if names.len() < 2 {
-            return Err(self.wrong_kind(Key::Path));
+            return Err(Failure::Fault(self.wrong_kind(Key::Path)));
         }
         Ok(names)
     }
@@ -283,14 +283,14 @@ fn names_in(
     alloc: Global,
     values: &[Value],
     fault: DocumentFault,
-) -> Result<Vec<Name>, DocumentFault>
+) -> Result<Vec<Name>, Failure<DocumentFault>>
     ensures { GivesSeen (λ names. names.items) result (or_fault fault (all_in name_in (items_view values.now))) }
 {
     let mut names = Vec::new(alloc);
     for value in values {
         let name = match name_in(value) {
             Some(name) => name,
-            None => return Err(fault),
+            None => return Err(Failure::Fault(fault)),
         };
         names.push(name)?;
     }

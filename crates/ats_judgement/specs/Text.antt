@@ -11,7 +11,7 @@ use Rattle.ats_tally.specs.declared.reason.Reason.TheVariants as reason
 use Rattle.ats_checker.specs.declared.refusal.Field.{Field}
 use Rattle.ats_checker.specs.declared.refusal.Field.TheVariants as field
 use Rattle.ats_checker.specs.declared.refusal.Refusal.{Refusal}
-use Rattle.ats_checker.specs.declared.refusal.Refusal.TheVariants.{RowMissing, RowStray, FieldWrong, WaitTooSmall, Network, NoMemory}
+use Rattle.ats_checker.specs.declared.refusal.Refusal.TheVariants.{RowMissing, RowStray, FieldWrong, WaitTooSmall, Network}
 
 -- `hop NAME PORT BOUND` for a port of a stream's path
 unfoldable pub hop_line : DeclaredTopology → List Row → DeclaredStream → ℕ → List ℕ
@@ -66,14 +66,13 @@ abbrev pub wrong_text : DeclaredTopology → ℕ → ℕ → Field → ℕ → L
 wrong_text topology port class field right =
     codes "field " ++ place_text topology port class ++ codes " " ++ field_text field ++ codes " " ++ decimal right
 
--- why a certificate does not hold; want of memory is never printed
+-- why a certificate does not hold
 abbrev pub refusal_text : DeclaredTopology → Refusal → List ℕ
 refusal_text topology (RowMissing port class) = codes "row-missing " ++ place_text topology port class
 refusal_text topology (RowStray port class) = codes "row-stray " ++ place_text topology port class
 refusal_text topology (FieldWrong port class field right) = wrong_text topology port class field right
 refusal_text topology (WaitTooSmall port class least) = codes "wait " ++ measure_text topology port class least
 refusal_text topology (Network reason) = reason_text topology reason
-refusal_text topology NoMemory = codes "no-memory"
 
 -- the line `refused` with what is refused
 abbrev pub refused_text : List ℕ → List ℕ

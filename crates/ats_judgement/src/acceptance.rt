@@ -5,21 +5,19 @@ ghost use Rattle.ats_certificate.specs.Certificate.{bound_along};
 ghost use Rattle.ats_judgement.specs.Text.{accepted_text, hop_line, hop_lines, stream_lines, streams_text};
 
 use crate::pieces::write_number;
-use ats_num::NoMemory;
 use ats_port_names::write_port;
 use ats_streams::Stream;
 use ats_tally::{Bounds, Delays};
 use ats_topology::Topology;
-use std::alloc::Global;
+use std::alloc::{AllocError, Global};
 
 /// What is printed of a certificate that holds for a network: for each stream a line for each port of its path with the
-/// bound there, and a line with the sum; then the number of streams. It takes time linear in the sum of the paths'
-/// lengths.
+/// bound there, and a line with the sum; then the number of streams. It takes time linear in the sum of the paths' lengths.
 ///
 /// # Errors
 ///
-/// `NoMemory` where memory runs out.
-pub fn accepted(alloc: Global, delays: &Delays) -> Result<Vec<u8>, NoMemory>
+/// `AllocError` where memory runs out.
+pub fn accepted(alloc: Global, delays: &Delays) -> Result<Vec<u8>, AllocError>
     ensures { IfOk result (λ text. text.items ≡ accepted_text delays.now.network delays.now.rows) }
 {
     let mut out = Vec::new(alloc);
@@ -30,7 +28,7 @@ pub fn accepted(alloc: Global, delays: &Delays) -> Result<Vec<u8>, NoMemory>
 }
 
 // The lines of each stream.
-fn write_streams(out: &mut Vec<u8>, delays: &Delays) -> Result<(), NoMemory>
+fn write_streams(out: &mut Vec<u8>, delays: &Delays) -> Result<(), AllocError>
     ensures { OnOk result (out.new.items ≡ out.old.items ++ streams_text delays.now.network delays.now.rows) }
 {
     let network = delays.network();
@@ -56,7 +54,7 @@ fn write_stream(
     bounds: &Bounds,
     stream: &Stream,
     sum: u128,
-) -> Result<(), NoMemory>
+) -> Result<(), AllocError>
     requires ports { bounds.now.ports ≡ length topology.now.ports }
     requires inside { All (λ p. p < length topology.now.ports) stream.now.path }
     requires sum { sum ≡ bound_along bounds.now.rows stream.now }
@@ -76,7 +74,7 @@ fn write_hops(
     topology: &Topology,
     bounds: &Bounds,
     stream: &Stream,
-) -> Result<(), NoMemory>
+) -> Result<(), AllocError>
     requires ports { bounds.now.ports ≡ length topology.now.ports }
     requires inside { All (λ p. p < length topology.now.ports) stream.now.path }
     ensures { OnOk result (out.new.items ≡ out.old.items ++ hop_lines topology.now bounds.now.rows stream.now) }
@@ -95,7 +93,7 @@ fn write_hop(
     bounds: &Bounds,
     stream: &Stream,
     port: u32,
-) -> Result<(), NoMemory>
+) -> Result<(), AllocError>
     requires ports { bounds.now.ports ≡ length topology.now.ports }
     requires inside { port < length topology.now.ports }
     ensures { OnOk result (out.new.items ≡ out.old.items ++ hop_line topology.now bounds.now.rows stream.now port) }

@@ -3,17 +3,18 @@
 ghost use Rattle.std.specs.Prelude.{◌≡◌, ◌++◌, ◌<◌, codes, decimal, length, OnOk};
 ghost use Rattle.ats_judgement.specs.Text.{measure_text, place_text};
 
-use ats_num::{Name, NoMemory};
+use ats_num::Name;
 use ats_port_names::write_port;
 use ats_topology::Topology;
 use itoa::{Buffer, Integer};
+use std::alloc::AllocError;
 
 // A word, and a number behind it.
 pub(crate) fn write_number<I: Integer + Drop>(
     out: &mut Vec<u8>,
     word: &[u8],
     n: I,
-) -> Result<(), NoMemory>
+) -> Result<(), AllocError>
     ensures { OnOk result (out.new.items ≡ out.old.items ++ (word.now ++ I.text n)) }
 {
     let mut buffer = Buffer::new();
@@ -29,7 +30,7 @@ pub(crate) fn write_place(
     topology: &Topology,
     port: u32,
     class: u8,
-) -> Result<(), NoMemory>
+) -> Result<(), AllocError>
     requires { port < length topology.now.ports }
     ensures { OnOk result (out.new.items ≡ out.old.items ++ (word.now ++ place_text topology.now port class)) }
 {
@@ -46,7 +47,7 @@ pub(crate) fn write_measure(
     port: u32,
     class: u8,
     n: u128,
-) -> Result<(), NoMemory>
+) -> Result<(), AllocError>
     requires { port < length topology.now.ports }
     ensures { OnOk result (out.new.items ≡ out.old.items ++ (word.now ++ measure_text topology.now port class n)) }
 {
@@ -60,7 +61,7 @@ pub(crate) fn write_named(
     word: &[u8],
     name: &Name,
     n: u128,
-) -> Result<(), NoMemory>
+) -> Result<(), AllocError>
     ensures { OnOk result (out.new.items ≡ out.old.items ++ (word.now ++ name.now ++ codes " " ++ decimal n)) }
 {
     out.extend_from_slice(word)?;

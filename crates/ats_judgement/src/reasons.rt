@@ -5,13 +5,17 @@ ghost use Rattle.ats_tally.specs.Reason.{ReasonInside};
 ghost use Rattle.ats_judgement.specs.Text.{reason_text};
 
 use crate::pieces::{write_measure, write_named};
-use ats_num::NoMemory;
 use ats_tally::Reason;
 use ats_topology::Topology;
+use std::alloc::AllocError;
 
-/// Appends why no certificate holds for a network: a word for what fails, the port and the class, or the stream, and
-/// the number that is too great. After `NoMemory` nothing is said of `out`.
-pub fn write_reason(out: &mut Vec<u8>, topology: &Topology, reason: &Reason) -> Result<(), NoMemory>
+/// Appends why no certificate holds for a network: a word for what fails, the port and the class, or the stream, and the
+/// number that is too great. After `AllocError` nothing is said of `out`.
+pub fn write_reason(
+    out: &mut Vec<u8>,
+    topology: &Topology,
+    reason: &Reason,
+) -> Result<(), AllocError>
     requires { ReasonInside topology.now reason.now }
     ensures { OnOk result (out.new.items ≡ out.old.items ++ reason_text topology.now reason.now) }
 {

@@ -7,17 +7,17 @@ ghost use Rattle.ats_judgement.specs.Text.{field_text, refusal_text, wrong_text}
 use crate::pieces::{write_measure, write_number, write_place};
 use crate::reasons::write_reason;
 use ats_checker::{Field, Refusal};
-use ats_num::NoMemory;
 use ats_topology::Topology;
+use std::alloc::AllocError;
 
-/// Appends why a certificate does not hold: a word for the clause that fails, the port and the class, or the stream,
-/// and, where there is one, the right value, the load, the least wait, the wait or the sum. `Refusal::NoMemory`, which
-/// no line has, is written as a word of its own. After `NoMemory` nothing is said of `out`.
+/// Appends why a certificate does not hold: a word for the clause that fails, the port and the class, or the stream, and,
+/// where there is one, the right value, the load, the least wait, the wait or the sum. After `AllocError` nothing is
+/// said of `out`.
 pub fn write_refusal(
     out: &mut Vec<u8>,
     topology: &Topology,
     refusal: &Refusal,
-) -> Result<(), NoMemory>
+) -> Result<(), AllocError>
     requires { RefusalInside topology.now refusal.now }
     ensures { OnOk result (out.new.items ≡ out.old.items ++ refusal_text topology.now refusal.now) }
 {
@@ -40,7 +40,6 @@ pub fn write_refusal(
             least_wait,
         } => write_measure(out, b"wait ", topology, *port, *class, *least_wait),
         Refusal::Network(reason) => write_reason(out, topology, reason),
-        Refusal::NoMemory => Ok(out.extend_from_slice(b"no-memory")?),
     }
 }
 
@@ -52,7 +51,7 @@ fn write_wrong(
     class: u8,
     field: Field,
     right: u128,
-) -> Result<(), NoMemory>
+) -> Result<(), AllocError>
     requires { port < length topology.now.ports }
     ensures { OnOk result (out.new.items ≡ out.old.items ++ wrong_text topology.now port class field right) }
 {

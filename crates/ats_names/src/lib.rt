@@ -4,6 +4,3 @@
 pub mod table;
 
 pub use table::NameTable;
-
-#[cfg(test)]
-mod tests;

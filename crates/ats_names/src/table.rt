@@ -3,8 +3,8 @@
 ghost use Rattle.std.specs.Prelude.{◌≡◌, ◌+◌, ◌<◌, ◌^◌, [], ◌∷◌, ◌++◌, length, None, IfSome, OnOk, OnErr};
 ghost use Rattle.ats_names.specs.Places.{place_of};
 
-use ats_num::{Name, NoMemory};
-use std::alloc::Global;
+use ats_num::Name;
+use std::alloc::{AllocError, Global};
 use std::collections::BTreeMap;
 use std::marker::Model;
 
@@ -45,8 +45,8 @@ impl NameTable {
         self.places.get(name).copied()
     }
 
-    /// Adds a name at the end. `NoMemory` leaves the table as it was.
-    pub fn push(&mut self, name: Name) -> Result<(), NoMemory>
+    /// Adds a name at the end. `AllocError` leaves the table as it was.
+    pub fn push(&mut self, name: Name) -> Result<(), AllocError>
         requires absent { place_of name self.old ≡ None }
         requires room { length self.old < 2 ^ 32 }
         ensures ok { OnOk result (self.new ≡ self.old ++ name ∷ []) }

@@ -6,3 +6,5 @@ pub mod Name
 pub mod NameInside
 pub mod Tie
 pub mod ReadsBack
+pub mod Failure
+pub mod IfFault

@@ -6,8 +6,8 @@ ghost use Rattle.ats_queue.specs.Order.{GoesBefore, Takes, IsNextTime};
 ghost use Rattle.ats_queue.specs.Inside.{AreDistinct, IsFirstOf};
 
 use crate::queued::{Queued, goes_before};
-use ats_num::{NoMemory, Ps, Tie};
-use std::alloc::Global;
+use ats_num::{Ps, Tie};
+use std::alloc::{AllocError, Global};
 use std::marker::Model;
 
 /// The frames that wait at a port in one class. Contracts see them with sender and eligibility time as a list, whose
@@ -33,8 +33,8 @@ impl<T: Tie> Model for ClassQueue<T> {
 }
 
 impl<T: Tie> ClassQueue<T> {
-    /// An empty queue with room for so many frames, which breaks ties by `tie`. `NoMemory` where memory runs out.
-    pub fn open(alloc: Global, capacity: u32, tie: T) -> Result<ClassQueue<T>, NoMemory>
+    /// An empty queue with room for so many frames, which breaks ties by `tie`. `AllocError` where memory runs out.
+    pub fn open(alloc: Global, capacity: u32, tie: T) -> Result<ClassQueue<T>, AllocError>
         ensures { IfOk result (λ queue. queue ≡ record { held = []; capacity = capacity; tie = tie }) }
     {
         Ok(ClassQueue {

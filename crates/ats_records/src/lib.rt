@@ -7,6 +7,3 @@ pub mod writing;
 
 pub use records::{Records, Taken};
 pub use writing::{Field, push_record};
-
-#[cfg(test)]
-mod tests;

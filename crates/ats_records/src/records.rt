@@ -5,9 +5,8 @@ ghost use Rattle.ats_records.specs.Reading.{Takes, field_of, records_of, same_fi
 ghost use Rattle.ats_records.specs.Inside.{Compares, ReadsOnward, ReadsRecord, records_left};
 ghost use Rattle.csv.specs.Records.{fields_of};
 
-use ats_num::NoMemory;
 use csv::{ByteRecord, Reader, ReaderBuilder};
-use std::alloc::Global;
+use std::alloc::{AllocError, Global};
 use std::marker::Model;
 
 /// What `Records::advance` found.
@@ -78,16 +77,16 @@ impl<'a> Records<'a> {
         }
     }
 
-    /// Takes the next record, and says whether it is as wide as the first one; or tells that none is left. After `NoMemory`
-    /// each further call answers `NoMemory`.
-    pub fn advance(&mut self) -> Result<Taken, NoMemory>
+    /// Takes the next record, and says whether it is as wide as the first one; or tells that none is left. After `AllocError`
+    /// each further call answers `AllocError`.
+    pub fn advance(&mut self) -> Result<Taken, AllocError>
         ensures taken { IfOk result (λ taken. Takes taken self.old self.new) }
         ensures failed { OnErr result (self.new.failed ≡ true) }
         ensures goes { OnOk result (self.new.failed ≡ false) }
         ensures fails { self.old.failed ≡ true → IsErr result }
     {
         match self.stage {
-            Stage::Failed => Err(NoMemory),
+            Stage::Failed => Err(AllocError),
             Stage::Ended => {
                 self.row.clear();
                 Ok(Taken::End)
@@ -126,13 +125,13 @@ impl<'a> Records<'a> {
 
 // Takes the next record of a reader, and says whether there was one.
 #[tactic(auto, using(crate::proofs::Next::read_found))]
-fn read(reader: &mut Reader<&[u8]>, row: &mut ByteRecord) -> Result<bool, NoMemory>
+fn read(reader: &mut Reader<&[u8]>, row: &mut ByteRecord) -> Result<bool, AllocError>
     requires { ReadsOnward reader.old }
     ensures { IfOk result (λ found. MatchBool found (ReadsRecord reader.old reader.new (fields_of row.new)) (records_left reader.old ≡ [])) }
 {
     match reader.read_byte_record(row) {
         Ok(found) => Ok(found),
-        Err(_) => Err(NoMemory),
+        Err(_) => Err(AllocError),
     }
 }
 

@@ -4,8 +4,8 @@ ghost use Rattle.std.specs.Prelude.{◌≡◌, ◌++◌, map, OnOk};
 ghost use Rattle.std.specs.List.{join_with_byte};
 ghost use Rattle.ats_records.specs.Plain.{bytes_of, further, record_text};
 
-use ats_num::NoMemory;
 use itoa::Buffer;
+use std::alloc::AllocError;
 
 /// A field of a record that is to be written.
 #[derive(Clone, Copy, Debug, PartialEq, Eq)]
@@ -17,8 +17,8 @@ pub enum Field<'a> {
 }
 
 /// Appends the plain text of a record: its fields as they stand, a comma between each two, and LF. It reads back where the
-/// record is plain. After `NoMemory` nothing is said of `out`.
-pub fn push_record(out: &mut Vec<u8>, fields: &[Field]) -> Result<(), NoMemory>
+/// record is plain. After `AllocError` nothing is said of `out`.
+pub fn push_record(out: &mut Vec<u8>, fields: &[Field]) -> Result<(), AllocError>
     ensures { OnOk result (out.new.items ≡ out.old.items ++ record_text (map bytes_of fields.now)) }
 {
     push_fields(out, fields)?;
@@ -28,7 +28,7 @@ pub fn push_record(out: &mut Vec<u8>, fields: &[Field]) -> Result<(), NoMemory>
 
 // Appends fields with a comma between each two.
 #[tactic(auto, using(crate::proofs::Plain::joined))]
-fn push_fields(out: &mut Vec<u8>, fields: &[Field]) -> Result<(), NoMemory>
+fn push_fields(out: &mut Vec<u8>, fields: &[Field]) -> Result<(), AllocError>
     ensures { OnOk result (out.new.items ≡ out.old.items ++ join_with_byte 44 (map bytes_of fields.now)) }
 {
     match fields.split_first() {
@@ -43,7 +43,7 @@ fn push_fields(out: &mut Vec<u8>, fields: &[Field]) -> Result<(), NoMemory>
 
 // Appends each field with a comma before it.
 #[tactic(auto, using(crate::proofs::Plain::further_more))]
-fn push_further(out: &mut Vec<u8>, fields: &[Field]) -> Result<(), NoMemory>
+fn push_further(out: &mut Vec<u8>, fields: &[Field]) -> Result<(), AllocError>
     ensures { OnOk result (out.new.items ≡ out.old.items ++ further (map bytes_of fields.now)) }
 {
     for field in fields {
@@ -54,7 +54,7 @@ fn push_further(out: &mut Vec<u8>, fields: &[Field]) -> Result<(), NoMemory>
 }
 
 // Appends the bytes of a field.
-fn push_field(out: &mut Vec<u8>, field: &Field) -> Result<(), NoMemory>
+fn push_field(out: &mut Vec<u8>, field: &Field) -> Result<(), AllocError>
     ensures { OnOk result (out.new.items ≡ out.old.items ++ bytes_of field.now) }
 {
     match field {

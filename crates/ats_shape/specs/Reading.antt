@@ -7,7 +7,7 @@ use Rattle.ats_names.specs.Places.{place_of}
 use Rattle.ats_io.specs.Text.{lines_of, words_of}
 use Rattle.ats_streams.specs.Fault.{rules_fault}
 use Rattle.ats_streams.specs.declared.fault.StreamFault.{StreamFault}
-use Rattle.ats_shape.specs.Steps.{◌>>=◌, or_fault, ok_where}
+use Rattle.ats_num.specs.Failure.{◌>>=◌, or_fault, ok_where}
 use Rattle.ats_shape.specs.Shape.{DeclaredShape}
 use Rattle.ats_shape.specs.declared.shape.ShapeStream.{ShapeStream}
 use Rattle.ats_shape.specs.declared.shape.ShapeFrame.{ShapeFrame}

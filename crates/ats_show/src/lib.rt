@@ -4,6 +4,3 @@
 pub mod printing;
 
 pub use printing::show;
-
-#[cfg(test)]
-mod tests;

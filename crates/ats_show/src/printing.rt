@@ -9,18 +9,17 @@ ghost use Rattle.ats_streams.specs.Flow.{DeclaredFlow};
 ghost use Rattle.ats_show.specs.Text.{port_line, path_text, sender_line, stream_line, flow_line, totals_line, show_text};
 
 use ats_network::Network;
-use ats_num::NoMemory;
 use ats_port_names::write_port;
 use ats_streams::{Flow, Stream};
 use ats_topology::Topology;
 use itoa::{Buffer, Integer};
-use std::alloc::Global;
+use std::alloc::{AllocError, Global};
 
 /// A line for each port by number, with its picoseconds per bit and its latency in picoseconds; a line for each stream and
-/// then for each flow, with its class and the ports of its path; and a line of totals. `NoMemory` where there is no memory
+/// then for each flow, with its class and the ports of its path; and a line of totals. `AllocError` where there is no memory
 /// for the text.
 #[tactic(auto, unfolding(crate::specs::Text::show_text))]
-pub fn show(alloc: Global, network: &Network) -> Result<Vec<u8>, NoMemory>
+pub fn show(alloc: Global, network: &Network) -> Result<Vec<u8>, AllocError>
     ensures { IfOk result (λ text. text.items ≡ show_text network.now) }
 {
     let mut out = Vec::new(alloc);
@@ -34,7 +33,7 @@ pub fn show(alloc: Global, network: &Network) -> Result<Vec<u8>, NoMemory>
 }
 
 // The lines of the ports.
-fn write_ports(out: &mut Vec<u8>, topology: &Topology) -> Result<(), NoMemory>
+fn write_ports(out: &mut Vec<u8>, topology: &Topology) -> Result<(), AllocError>
     ensures { OnOk result (out.new.items ≡ out.old.items ++ flat_map (port_line topology.now) (enumerate_from 0 topology.now.ports)) }
 {
     for port in 0..topology.ports().len() as u32 {
@@ -45,7 +44,7 @@ fn write_ports(out: &mut Vec<u8>, topology: &Topology) -> Result<(), NoMemory>
 
 // The line of a port.
 #[tactic(auto, unfolding(crate::specs::Text::port_line))]
-fn write_port_line(out: &mut Vec<u8>, topology: &Topology, port: u32) -> Result<(), NoMemory>
+fn write_port_line(out: &mut Vec<u8>, topology: &Topology, port: u32) -> Result<(), AllocError>
     requires { port < length topology.now.ports }
     ensures { OnOk result (out.new.items ≡ out.old.items ++ port_line topology.now (port, port_at topology.now.ports port)) }
 {
@@ -60,7 +59,11 @@ fn write_port_line(out: &mut Vec<u8>, topology: &Topology, port: u32) -> Result<
 }
 
 // The lines of the streams.
-fn write_streams(out: &mut Vec<u8>, topology: &Topology, streams: &[Stream]) -> Result<(), NoMemory>
+fn write_streams(
+    out: &mut Vec<u8>,
+    topology: &Topology,
+    streams: &[Stream],
+) -> Result<(), AllocError>
     requires { All (λ (s : DeclaredStream). ArePorts topology.now.ports s.path) streams.now }
     ensures { OnOk result (out.new.items ≡ out.old.items ++ flat_map (stream_line topology.now) streams.now) }
 {
@@ -79,7 +82,7 @@ fn write_streams(out: &mut Vec<u8>, topology: &Topology, streams: &[Stream]) -> 
 }
 
 // The lines of the flows, which have class 0.
-fn write_flows(out: &mut Vec<u8>, topology: &Topology, flows: &[Flow]) -> Result<(), NoMemory>
+fn write_flows(out: &mut Vec<u8>, topology: &Topology, flows: &[Flow]) -> Result<(), AllocError>
     requires { All (λ (f : DeclaredFlow). ArePorts topology.now.ports f.path) flows.now }
     ensures { OnOk result (out.new.items ≡ out.old.items ++ flat_map (flow_line topology.now) flows.now) }
 {
@@ -99,7 +102,7 @@ fn write_sender(
     name: &[u8],
     class: u8,
     path: &[u32],
-) -> Result<(), NoMemory>
+) -> Result<(), AllocError>
     requires { ArePorts topology.now.ports path.now }
     ensures { OnOk result (out.new.items ≡ out.old.items ++ sender_line topology.now word.now name.now class path.now) }
 {
@@ -113,7 +116,7 @@ fn write_sender(
 }
 
 // The ports of a path, with a space before each.
-fn write_path(out: &mut Vec<u8>, topology: &Topology, path: &[u32]) -> Result<(), NoMemory>
+fn write_path(out: &mut Vec<u8>, topology: &Topology, path: &[u32]) -> Result<(), AllocError>
     requires { ArePorts topology.now.ports path.now }
     ensures { OnOk result (out.new.items ≡ out.old.items ++ path_text topology.now path.now) }
 {
@@ -131,7 +134,7 @@ fn write_totals(
     ports: usize,
     streams: usize,
     flows: usize,
-) -> Result<(), NoMemory>
+) -> Result<(), AllocError>
     ensures { OnOk result (out.new.items ≡ out.old.items ++ totals_line ports streams flows) }
 {
     write_number(out, b"total ports ", ports)?;
@@ -142,7 +145,7 @@ fn write_totals(
 }
 
 // A word, and a number behind it.
-fn write_number<I: Integer + Drop>(out: &mut Vec<u8>, word: &[u8], n: I) -> Result<(), NoMemory>
+fn write_number<I: Integer + Drop>(out: &mut Vec<u8>, word: &[u8], n: I) -> Result<(), AllocError>
     ensures { OnOk result (out.new.items ≡ out.old.items ++ (word.now ++ I.text n)) }
 {
     let mut buffer = Buffer::new();

@@ -7,10 +7,9 @@ ghost use Rattle.ats_tally.specs.Bounds.{AreBounds, bound_given, rows_at};
 
 use crate::place_index::place;
 use ats_certificate::{Certificate, Row};
-use ats_num::NoMemory;
 use ats_streams::Stream;
 use ats_topology::Topology;
-use std::alloc::Global;
+use std::alloc::{AllocError, Global};
 use std::marker::Model;
 
 /// The bounds of a certificate at the ports of a topology, each found at once. Contracts see the number of ports and
@@ -34,12 +33,12 @@ impl<'a> Model for Bounds<'a> {
 
 impl<'a> Bounds<'a> {
     /// The bounds of a certificate at the ports of a topology. It looks at each row once, and passes over rows of other
-    /// ports. `NoMemory` where there is no memory for them.
+    /// ports. `AllocError` where there is no memory for them.
     pub fn new(
         alloc: Global,
         topology: &Topology,
         certificate: &'a Certificate,
-    ) -> Result<Self, NoMemory>
+    ) -> Result<Self, AllocError>
         ensures { IfOk result (λ bounds. bounds ≡ rows_at (length topology.now.ports) certificate.now) }
     {
         let ports = topology.ports().len();
@@ -83,7 +82,7 @@ impl<'a> Bounds<'a> {
 }
 
 // The bounds of rows at so many ports. The last row comes first, so that of rows with one place the first one stays.
-fn table_of(alloc: Global, ports: usize, rows: &[Row]) -> Result<Vec<Option<u128>>, NoMemory>
+fn table_of(alloc: Global, ports: usize, rows: &[Row]) -> Result<Vec<Option<u128>>, AllocError>
     requires few { ports ≤ 4096 }
     requires form { AreRows rows.now }
     ensures { IfOk result (λ table. AreBounds ports rows.now table.items) }

@@ -8,8 +8,7 @@ ghost use Rattle.ats_tally.specs.Delays.{rows_for, sums_for};
 use crate::bounds::Bounds;
 use ats_certificate::Certificate;
 use ats_network::Network;
-use ats_num::NoMemory;
-use std::alloc::Global;
+use std::alloc::{AllocError, Global};
 use std::marker::Model;
 
 /// The bounds that a certificate gives the streams of a network at each hop, and for each stream their sum. Contracts
@@ -33,12 +32,12 @@ impl<'a> Model for Delays<'a> {
 
 impl<'a> Delays<'a> {
     /// The delays by a certificate. It takes time and memory linear in the numbers of ports and rows and the sum of the
-    /// paths' lengths. `NoMemory` where there is no memory for them.
+    /// paths' lengths. `AllocError` where there is no memory for them.
     pub fn new(
         alloc: Global,
         network: &'a Network,
         certificate: &'a Certificate,
-    ) -> Result<Self, NoMemory>
+    ) -> Result<Self, AllocError>
         ensures { IfOk result (λ delays. delays ≡ rows_for network.now certificate.now) }
     {
         let bounds = Bounds::new(alloc, network.topology(), certificate)?;
@@ -74,7 +73,7 @@ impl<'a> Delays<'a> {
 }
 
 // For each stream, in order, the sum of its bounds.
-fn sums_along(alloc: Global, network: &Network, bounds: &Bounds) -> Result<Vec<u128>, NoMemory>
+fn sums_along(alloc: Global, network: &Network, bounds: &Bounds) -> Result<Vec<u128>, AllocError>
     requires { bounds.now.ports ≡ length network.now.topology.ports }
     ensures { IfOk result (λ sums. sums.items ≡ sums_for network.now bounds.now.rows) }
 {

@@ -1,6 +1,6 @@
 //! What a network can't bear.
 
-use ats_num::Name;
+use ats_num::{Fault, Name};
 
 /// What a network can't bear of the rows of a certificate.
 #[derive(Clone, Copy, Debug, PartialEq, Eq)]
@@ -31,3 +31,5 @@ pub enum Reason {
         sum: u128,
     },
 }
+
+impl Fault for Reason {}

@@ -12,8 +12,7 @@ use crate::class_sums::ClassSums;
 use crate::place_index::place;
 use crate::tally::Tally;
 use ats_network::Network;
-use ats_num::NoMemory;
-use std::alloc::Global;
+use std::alloc::{AllocError, Global};
 use std::marker::Model;
 
 /// What the streams and flows of a network make of each port and class, each found at once. Contracts see the network.
@@ -36,7 +35,7 @@ impl<'a> Model for Tallies<'a> {
 
 impl<'a> Tallies<'a> {
     /// What the senders of a network make of its ports and classes. It looks at each path once.
-    pub fn new(alloc: Global, network: &'a Network) -> Result<Self, NoMemory>
+    pub fn new(alloc: Global, network: &'a Network) -> Result<Self, AllocError>
         ensures { IfOk result (λ tallies. tallies ≡ network.now) }
     {
         let table = table_of(alloc, network)?;
@@ -86,7 +85,7 @@ impl<'a> Tallies<'a> {
 }
 
 // What the senders make of each class at each port.
-fn table_of(alloc: Global, network: &Network) -> Result<Vec<Tally>, NoMemory>
+fn table_of(alloc: Global, network: &Network) -> Result<Vec<Tally>, AllocError>
     ensures { IfOk result (λ table. AreCounted network.now table.items) }
 {
     let mut table = vec![in alloc; Tally::new(); 8 * network.topology().ports().len()]?;

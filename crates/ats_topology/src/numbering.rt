@@ -15,8 +15,8 @@ use crate::port_table::PortTable;
 use crate::rates::ps_per_bit;
 use ats_names::NameTable;
 use ats_num::time::PS_PER_NS;
-use ats_num::{Name, NoMemory, Ps};
-use std::alloc::Global;
+use ats_num::{Name, Ps};
+use std::alloc::{AllocError, Global};
 
 /// The ports of links between nodes, two to a link in their order.
 pub(crate) fn ports_of(
@@ -24,7 +24,7 @@ pub(crate) fn ports_of(
     names: &NameTable,
     nodes: &[Node],
     links: &[Link],
-) -> Result<PortTable, NoMemory>
+) -> Result<PortTable, AllocError>
     requires names { names.now ≡ names_of nodes.now }
     requires apart { node_twice nodes.now ≡ None }
     requires joined { link_twice links.now ≡ None }

@@ -13,9 +13,9 @@ use crate::choice::{free_at, highest_class, next_time, take_from};
 use crate::offer::Offer;
 use crate::pick::Pick;
 use crate::sent::Sent;
-use ats_num::{NoMemory, Ps, Tie};
+use ats_num::{Ps, Tie};
 use ats_queue::ClassQueue;
-use std::alloc::Global;
+use std::alloc::{AllocError, Global};
 use std::marker::Model;
 
 /// A port. Contracts see its picoseconds per bit, how many frames of each class it may be offered, its tie, the frames
@@ -48,13 +48,13 @@ impl<T: Tie> Model for Port<T> {
 
 impl<T: Tie> Port<T> {
     /// A free port that holds nothing, on a link of so many picoseconds per bit. Of each class from 0 to 7 it may be
-    /// offered as many frames as its room says; room for all of them is taken here. `NoMemory` where memory runs out.
+    /// offered as many frames as its room says; room for all of them is taken here. `AllocError` where memory runs out.
     pub fn open(
         alloc: Global,
         ps_per_bit: u32,
         rooms: [u32; 8],
         tie: T,
-    ) -> Result<Port<T>, NoMemory>
+    ) -> Result<Port<T>, AllocError>
         ensures value { IfOk result (λ port. port ≡ opened ps_per_bit rooms tie) }
         ensures lawful { IfOk result (IsLawfulPort T.key) }
     {
@@ -147,7 +147,7 @@ impl<T: Tie> Port<T> {
 }
 
 /// An empty queue for each class.
-fn queues_of<T: Tie>(alloc: Global, rooms: &[u32], tie: T) -> Result<Vec<ClassQueue<T>>, NoMemory>
+fn queues_of<T: Tie>(alloc: Global, rooms: &[u32], tie: T) -> Result<Vec<ClassQueue<T>>, AllocError>
     ensures { IfOk result (λ queues. AreEmpty queues.items rooms.now tie) }
 {
     let mut queues = Vec::with_capacity(alloc, rooms.len())?;

@@ -1,6 +1,6 @@
 use Rattle.std.proofs.Common.{ℕ, List, [], Option, lit<}
 use Rattle.std.specs.Global.{Vec}
-use Rattle.ats_command.specs.Answer.{◌>>=◌}
+use Rattle.ats_num.specs.Failure.{◌>>=◌}
 use Rattle.ats_command.specs.Input.{network_in}
 use Rattle.ats_command.specs.Judged.{bound_judged}
 use Rattle.ats_command.specs.Due.{told_bytes, bound_answer}

@@ -4,7 +4,8 @@ use Rattle.ats_topology.specs.Topology.{DeclaredTopology}
 use Rattle.ats_network.specs.Network.{DeclaredNetwork}
 use Rattle.ats_certificate.specs.declared.row.Row.{Row}
 use Rattle.ats_soundness.specs.Sound.{IsSound}
-use Rattle.ats_command.specs.Answer.{Answer, ◌>>=◌}
+use Rattle.ats_num.specs.Failure.{◌>>=◌}
+use Rattle.ats_command.specs.Answer.{Answer}
 use Rattle.ats_command.specs.Command.{Check}
 use Rattle.ats_command.specs.Input.{network_in, rows_in}
 use Rattle.ats_command.specs.Judged.{check_judged}

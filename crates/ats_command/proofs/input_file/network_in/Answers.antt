@@ -1,4 +1,4 @@
-use Rattle.std.proofs.Common.{Result, sym, subst}
+use Rattle.std.proofs.Common.{Result, refl, sym, subst}
 use Rattle.ats_network_file.specs.Reading.{network_of}
 use Rattle.ats_network_file.specs.FaultText.{fault_text}
 use Rattle.ats_network.specs.Network.{DeclaredNetwork}
@@ -17,5 +17,5 @@ returns-in_err-bytes-clause-due g c = λ bytes told.
 pub returns-clause-due : goal.returns-clause-due
 unfolding network_in
 returns-clause-due g c = λ bytes told.
-    declares (λ (network : DeclaredNetwork). network) c.declared_network.result c.args.file.now bytes c.in_ok-bytes.bytes.items c.deref.result.now fault_text network_of
-    (c.in_ok-bytes.ensures.due bytes told) c.deref.ensures.value c.declared_network.ensures.due
+    declares (λ (network : DeclaredNetwork). network) c.declared.result c.args.file.now bytes c.in_ok-bytes.bytes.items c.deref.result.now fault_text network_of
+    (c.in_ok-bytes.ensures.due bytes told) c.deref.ensures.value (c.declared.ensures.due fault_text (network_of c.deref.result.now) (λ fault. refl) c.read_network.ensures)

@@ -1,4 +1,4 @@
-use Rattle.std.proofs.Common.{Result, sym, subst}
+use Rattle.std.proofs.Common.{Result, refl, sym, subst}
 use Rattle.ats_shape.specs.Reading.{shape_of}
 use Rattle.ats_shape.specs.FaultText.{fault_text}
 use Rattle.ats_shape.specs.Shape.{DeclaredShape}
@@ -17,5 +17,5 @@ returns-in_err-bytes-clause-due g c = λ bytes told.
 pub returns-clause-due : goal.returns-clause-due
 unfolding shape_in
 returns-clause-due g c = λ bytes told.
-    declares (λ (shape : DeclaredShape). shape) c.declared_shape.result c.args.file.now bytes c.in_ok-bytes.bytes.items c.deref.result.now fault_text shape_of
-    (c.in_ok-bytes.ensures.due bytes told) c.deref.ensures.value c.declared_shape.ensures.due
+    declares (λ (shape : DeclaredShape). shape) c.declared.result c.args.file.now bytes c.in_ok-bytes.bytes.items c.deref.result.now fault_text shape_of
+    (c.in_ok-bytes.ensures.due bytes told) c.deref.ensures.value (c.declared.ensures.due fault_text (shape_of c.deref.result.now) (λ fault. refl) c.read_shape.ensures)

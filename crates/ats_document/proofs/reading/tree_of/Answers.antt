@@ -1,6 +1,6 @@
 use Rattle.std.proofs.Common.{sym, ap, ◌∙◌}
 use Rattle.toml.specs.Parse.{parse_document}
-use Rattle.ats_document.specs.Steps.{or_fault}
+use Rattle.ats_num.specs.Failure.{or_fault}
 use Rattle.ats_document.specs.declared.fault.DocumentFault.TheVariants.{NotToml}
 use Rattle.ats_document.proofs.Trees.{no_utf8_no_tree, utf8_tree}
 use Rattle.ats_document.proofs.reading.tree_of.Goals as goal
