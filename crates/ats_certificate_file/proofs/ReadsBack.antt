@@ -14,9 +14,9 @@ use Rattle.ats_topology.specs.declared.node.Node.{Node}
 use Rattle.ats_topology.specs.declared.link.Link.{Link}
 use Rattle.ats_port_names.specs.Laws.{AreSound}
 use Rattle.ats_port_names.proofs.ReadsBack.{port_reads_back}
-use Rattle.ats_records.specs.Plain.{IsPlain}
-use Rattle.ats_records.specs.Reading.{same_fields}
-use Rattle.ats_records.proofs.ReadsBack.{plain_reads_back}
+use Rattle.ats_csv.specs.Plain.{IsPlain}
+use Rattle.ats_csv.specs.Reading.{same_fields}
+use Rattle.ats_csv.proofs.ReadsBack.{plain_reads_back}
 use Rattle.ats_certificate.specs.Certificate.{IsBefore}
 use Rattle.ats_certificate.specs.Form.{ComesAfter, IsRow, last_of}
 use Rattle.ats_certificate.specs.declared.row.Row.{Row}

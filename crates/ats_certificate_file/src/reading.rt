@@ -3,14 +3,14 @@
 ghost use Rattle.std.specs.Prelude.{◌≡◌, ◌≤◌, [], length, IsTrue, None, Some};
 ghost use Rattle.ats_num.specs.Failure.{Gives};
 ghost use Rattle.ats_certificate_file.specs.Reading.{header, rows_from, rows_of, rows_under};
-ghost use Rattle.ats_records.specs.Reading.{same_fields};
+ghost use Rattle.ats_csv.specs.Reading.{same_fields};
 
 use crate::fault::CertFault;
 use crate::row::row_after;
 use ats_certificate::Certificate;
 use ats_num::Failure;
 use ats_port_names::PortNames;
-use ats_records::{Records, Taken};
+use ats_csv::{Records, Taken};
 use ats_topology::Topology;
 use std::alloc::Global;
 

@@ -9,7 +9,7 @@ use ats_certificate::{Certificate, Row};
 use ats_num::number;
 use ats_num::wire::MAX_WIRE_BITS;
 use ats_port_names::PortNames;
-use ats_records::Records;
+use ats_csv::Records;
 
 // The row of record n, which has nine fields and is to come after the rows of a certificate.
 #[tactic(auto, unfolding(crate::specs::Reading::row_after))]

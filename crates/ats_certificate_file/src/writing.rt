@@ -1,14 +1,14 @@
 //! The text of a certificate.
 
 ghost use Rattle.std.specs.Prelude.{◌≡◌, ◌++◌, ◌<◌, length, All, IfOk, OnOk};
-ghost use Rattle.ats_records.specs.Plain.{record_text};
+ghost use Rattle.ats_csv.specs.Plain.{record_text};
 ghost use Rattle.ats_certificate.specs.declared.row.Row.{Row};
 ghost use Rattle.ats_certificate_file.specs.Reading.{header};
 ghost use Rattle.ats_certificate_file.specs.Text.{certificate_text, fields_of};
 
 use ats_certificate::{Certificate, Row};
 use ats_port_names::write_port;
-use ats_records::{Field, push_record};
+use ats_csv::{Field, push_record};
 use ats_topology::Topology;
 use std::alloc::{AllocError, Global};
 

@@ -6,7 +6,7 @@ ghost use Rattle.ats_num.specs.IfFault.{IfFault};
 ghost use Rattle.ats_network.specs.Network.{IsNetwork};
 ghost use Rattle.ats_certificate.specs.Certificate.{Holds};
 ghost use Rattle.ats_certificate.specs.Form.{AreRows};
-ghost use Rattle.ats_soundness.specs.Sound.{IsSound};
+ghost use Rattle.ats_soundness_law.specs.Sound.{IsSound};
 ghost use Rattle.ats_tally.specs.Delays.{rows_for};
 ghost use Rattle.ats_checker.specs.Ports.{RefusalInside, RowsInside};
 ghost use Rattle.ats_checker.specs.Refusal.{refusal_of};

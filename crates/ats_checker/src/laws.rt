@@ -2,7 +2,7 @@
 
 ghost use Rattle.ats_checker.specs.Laws.{EachRefusalIsTheFirst, LeastIsAccepted, RefusedUnlessHolding};
 ghost use Rattle.ats_port_law.specs.PortLaw.{PortLaw};
-ghost use Rattle.ats_soundness.specs.Laws.{ShapingForFree, PathLaw, Containment, CertificateIsSound};
+ghost use Rattle.ats_soundness_law.specs.Laws.{ShapingForFree, PathLaw, Containment, CertificateIsSound};
 
 /// A law: rows that ascend by port and then class are refused exactly where they do not hold for the network.
 pub fn refused_unless_holding()
@@ -33,7 +33,7 @@ pub fn port_law()
 pub fn shaping_for_free()
     ensures { ShapingForFree }
 {
-    ats_soundness::laws::shaping_for_free()
+    ats_soundness_law::laws::shaping_for_free()
 }
 
 /// The path law: where a certificate holds, each frame of a stream whose talker keeps its buckets is never discarded,
@@ -41,7 +41,7 @@ pub fn shaping_for_free()
 pub fn path_law()
     ensures { PathLaw }
 {
-    ats_soundness::laws::path_law()
+    ats_soundness_law::laws::path_law()
 }
 
 /// Containment: where a certificate holds, each frame of any stream that the first bridge lets through is never
@@ -49,12 +49,12 @@ pub fn path_law()
 pub fn containment()
     ensures { Containment }
 {
-    ats_soundness::laws::containment()
+    ats_soundness_law::laws::containment()
 }
 
 /// A certificate that holds is sound: in each legal run of the network the path law and containment are kept.
 pub fn certificate_is_sound()
     ensures { CertificateIsSound }
 {
-    ats_soundness::laws::certificate_is_sound()
+    ats_soundness_law::laws::certificate_is_sound()
 }

@@ -20,8 +20,8 @@ use Rattle.ats_bound.proofs.NoneHolds.{reason_leaves_none}
 use Rattle.ats_checker.specs.Refusal.{refusal_of}
 use Rattle.ats_checker.specs.declared.refusal.Refusal.{Refusal}
 use Rattle.ats_checker.proofs.Refused.{refused_unless_holding}
-use Rattle.ats_judgement.specs.Text.{accepted_text, reason_text, refusal_text}
-use Rattle.ats_soundness.proofs.Soundness.{certificate_is_sound}
+use Rattle.ats_verdict_text.specs.Text.{accepted_text, reason_text, refusal_text}
+use Rattle.ats_soundness_law.proofs.Soundness.{certificate_is_sound}
 use Rattle.ats_num.specs.Failure.{◌>>=◌}
 use Rattle.ats_command.specs.Answer.{Answer, input_answer, settled}
 use Rattle.ats_command.specs.Due.{bound_answer, check_answer}

@@ -5,7 +5,7 @@ use Rattle.std.specs.List.{position_from}
 use Rattle.std.proofs.lemmas.List.Elements.{All-push, All-nil}
 use Rattle.ats_topology.specs.Topology.{DeclaredTopology}
 use Rattle.ats_port_names.specs.PortName.{port_named}
-use Rattle.ats_records.specs.Reading.{field_of}
+use Rattle.ats_csv.specs.Reading.{field_of}
 use Rattle.ats_certificate.specs.Form.{last_of}
 use Rattle.ats_certificate.specs.declared.row.Row.{Row}
 use Rattle.ats_checker.specs.Ports.{RowsInside}

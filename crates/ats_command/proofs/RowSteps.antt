@@ -2,7 +2,7 @@
 use Rattle.std.proofs.Common.{◌≡◌, ℕ, ◌+◌, Bool, true, false, cond, List, [], ◌∷◌, ◌++◌, length, Result, Ok, Err, refl, subst}
 use Rattle.std.specs.Prelude.{IfOk, ◌==◌}
 use Rattle.ats_topology.specs.Topology.{DeclaredTopology}
-use Rattle.ats_records.specs.Reading.{records_of, same_fields}
+use Rattle.ats_csv.specs.Reading.{records_of, same_fields}
 use Rattle.ats_certificate.specs.declared.row.Row.{Row}
 use Rattle.ats_num.specs.Failure.{◌>>=◌, ok_where}
 use Rattle.ats_certificate_file.specs.Reading.{row_after, rows_from, rows_under, rows_of, header}

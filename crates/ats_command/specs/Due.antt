@@ -1,7 +1,7 @@
 use Rattle.std.specs.Prelude.{◌≡◌, ℕ, ◌⊎◌, List, [], All, IsSome, IsOk, Option, unwrap_or, Ok}
 use Rattle.ats_io.specs.Outside.{IfTold}
 use Rattle.ats_shape.specs.Text.{text_of}
-use Rattle.ats_show.specs.Text.{show_text}
+use Rattle.ats_network_text.specs.Text.{show_text}
 use Rattle.ats_command.specs.Command.{Command, Shape, Show, Bound, Check, Unknown, file_words}
 use Rattle.ats_num.specs.Failure.{◌>>=◌}
 use Rattle.ats_command.specs.Answer.{Answer, words_answer, settled}

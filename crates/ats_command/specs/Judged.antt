@@ -6,7 +6,7 @@ use Rattle.ats_certificate_file.specs.Text.{certificate_text}
 use Rattle.ats_bound.specs.Least.{least_certificate}
 use Rattle.ats_bound.specs.Reason.{reason_of}
 use Rattle.ats_checker.specs.Refusal.{refusal_of}
-use Rattle.ats_judgement.specs.Text.{accepted_text, reason_text, refusal_text, refused_text}
+use Rattle.ats_verdict_text.specs.Text.{accepted_text, reason_text, refusal_text, refused_text}
 use Rattle.ats_command.specs.Answer.{Answer}
 use Rattle.ats_command.specs.declared.status.Status.TheVariants.{Refused}
 

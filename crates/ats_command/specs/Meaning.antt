@@ -4,7 +4,7 @@ use Rattle.ats_certificate.specs.Certificate.{Holds}
 use Rattle.ats_certificate.specs.declared.row.Row.{Row}
 use Rattle.ats_certificate_file.specs.Text.{certificate_text}
 use Rattle.ats_bound.specs.Least.{least_certificate}
-use Rattle.ats_soundness.specs.Sound.{IsSound}
+use Rattle.ats_soundness_law.specs.Sound.{IsSound}
 use Rattle.ats_command.specs.Input.{network_in, rows_in}
 use Rattle.ats_command.specs.Due.{bound_answer, check_answer}
 use Rattle.ats_command.specs.declared.status.Status.{Status}

@@ -1,7 +1,7 @@
 use Rattle.std.specs.Prelude.{◌≡◌, ℕ, List, Option, Ok}
 use Rattle.ats_network.specs.Network.{DeclaredNetwork}
 use Rattle.ats_certificate.specs.declared.row.Row.{Row}
-use Rattle.ats_soundness.specs.Sound.{IsSound}
+use Rattle.ats_soundness_law.specs.Sound.{IsSound}
 use Rattle.ats_command.specs.Command.{Command, Shape, Show, Bound, Check, Unknown}
 use Rattle.ats_command.specs.Due.{IsTold, told_bytes}
 use Rattle.ats_command.specs.Input.{network_in, rows_in}

@@ -3,7 +3,7 @@
 ghost use Rattle.std.specs.Prelude.{◌≡◌, IfOk, IsErrOf};
 ghost use Rattle.ats_io.specs.Outside.{Continues};
 ghost use Rattle.ats_tally.specs.Reason.{ReasonInside};
-ghost use Rattle.ats_judgement.specs.Text.{reason_text, refused_text};
+ghost use Rattle.ats_verdict_text.specs.Text.{reason_text, refused_text};
 ghost use Rattle.ats_command.specs.Command as table;
 ghost use Rattle.ats_command.specs.Calls.{ReadRose};
 ghost use Rattle.ats_command.specs.Judged.{bound_judged};
@@ -14,7 +14,7 @@ use crate::outcome::Stop;
 use ats_bound::make;
 use ats_certificate_file::write_certificate;
 use ats_io::Files;
-use ats_judgement::write_reason;
+use ats_verdict_text::write_reason;
 use ats_network::Network;
 use ats_num::Failure;
 use ats_tally::Reason;

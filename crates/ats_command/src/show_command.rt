@@ -18,5 +18,5 @@ pub fn show<F: Files>(alloc: Global, net: &str, files: &mut F) -> Result<Vec<u8>
     ensures continues { Continues F.told F.faults files.old files.new }
 {
     let network = network_in(alloc, net, files)?;
-    Ok(ats_show::show(alloc, &network)?)
+    Ok(ats_network_text::show(alloc, &network)?)
 }

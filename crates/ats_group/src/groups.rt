@@ -38,7 +38,7 @@ impl Model for Groups {
 impl Groups {
     /// Opens one group for each maximum residence time (at most 1,000,000,000 ns), and a scheduler for each member. Group
     /// eligibility times are 0 at first, and buckets are full at time 0. Conditions: a member names one of these groups,
-    /// and its declaration keeps the rules of `ats_model`. `AllocError` where memory runs out.
+    /// and its declaration keeps the rules of `ats_streams`. `AllocError` where memory runs out.
     pub fn open(
         alloc: Global,
         residences_ns: &[u32],

@@ -1,6 +1,6 @@
 use Rattle.std.specs.Prelude.{◌≡◌, ℕ, Bool, false, ◌&&◌, ◌==◌, nat_le, if◌then◌else◌, List, [], ◌∷◌, ◌++◌, length, Option, Some, None, is_some}
 use Rattle.std.specs.List.{position_from}
-use Rattle.ats_names.specs.Places.{place_of}
+use Rattle.ats_num.specs.Places.{place_of}
 use Rattle.ats_streams.specs.Stream.{DeclaredStream}
 use Rattle.ats_streams.specs.Flow.{DeclaredFlow}
 use Rattle.ats_network.specs.Network.{DeclaredNetwork, declared_network, senders_of, names_of}

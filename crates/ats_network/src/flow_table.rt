@@ -1,11 +1,11 @@
 //! Flows, found by their names.
 
 ghost use Rattle.std.specs.Prelude.{◌≡◌, ◌<◌, [], ◌∷◌, ◌++◌, length, None, IfSome, OnOk, OnErr};
-ghost use Rattle.ats_names.specs.Places.{place_of};
+ghost use Rattle.ats_num.specs.Places.{place_of};
 ghost use Rattle.ats_network.specs.Tables.{flow_names};
 
 use crate::network::MAX_FLOWS;
-use ats_names::NameTable;
+use ats_num::NameTable;
 use ats_num::Name;
 use ats_streams::Flow;
 use std::alloc::{AllocError, Global};

@@ -1,12 +1,12 @@
 //! Streams, found by their names and by the addresses of their frames.
 
 ghost use Rattle.std.specs.Prelude.{◌≡◌, ◌<◌, ◌^◌, [], ◌∷◌, ◌++◌, length, None, false, IfSome, OnOk, OnErr};
-ghost use Rattle.ats_names.specs.Places.{place_of};
+ghost use Rattle.ats_num.specs.Places.{place_of};
 ghost use Rattle.ats_network.specs.Pushes.{place_identified, is_identity_taken};
 ghost use Rattle.ats_network.specs.Tables.{stream_names, IsUnidentified, Identifies, FindsSame};
 
 use crate::network::MAX_STREAMS;
-use ats_names::NameTable;
+use ats_num::NameTable;
 use ats_num::Name;
 use ats_streams::Stream;
 use std::alloc::{AllocError, Global};

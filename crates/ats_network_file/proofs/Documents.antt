@@ -5,21 +5,21 @@ use Rattle.std.specs.Option.{ForSome}
 use Rattle.std.proofs.lemmas.Bool.{ltb-false}
 use Rattle.std.proofs.lemmas.List.Elements.{All-nil, All-cons}
 use Rattle.toml.specs.Data.{Members, get_member}
-use Rattle.ats_document.specs.Document.{DeclaredDocument, DeclaredRoute, DeclaredStream, DeclaredFlow, IsIdentity}
-use Rattle.ats_document.specs.Entries.{station_in, bridge_in, link_in, stream_in, flow_in, route_at, long_at}
-use Rattle.ats_document.specs.Kinds.{address_in}
-use Rattle.ats_document.specs.Reading.{Arrays, entries_from, entries_in, arrays_in, arrays_read, document_in, document_of, tree_of}
+use Rattle.ats_network_toml.specs.Document.{DeclaredDocument, DeclaredRoute, DeclaredStream, DeclaredFlow, IsIdentity}
+use Rattle.ats_network_toml.specs.Entries.{station_in, bridge_in, link_in, stream_in, flow_in, route_at, long_at}
+use Rattle.ats_network_toml.specs.Kinds.{address_in}
+use Rattle.ats_network_toml.specs.Reading.{Arrays, entries_from, entries_in, arrays_in, arrays_read, document_in, document_of, tree_of}
 use Rattle.ats_num.specs.Failure.{◌>>=◌, or_fault}
-use Rattle.ats_document.specs.Walk.{Entry, has, formed, name_at, whole_at, deadline_at, identity_at, at}
-use Rattle.ats_document.specs.Words.{key_text}
-use Rattle.ats_document.specs.declared.entries.StationEntry.{StationEntry}
-use Rattle.ats_document.specs.declared.entries.BridgeEntry.{BridgeEntry}
-use Rattle.ats_document.specs.declared.entries.LinkEntry.{LinkEntry}
-use Rattle.ats_document.specs.declared.fault.DocumentFault.{DocumentFault}
-use Rattle.ats_document.specs.declared.fault.DocumentFault.TheVariants as fault
-use Rattle.ats_document.specs.declared.key.Key.TheVariants as key
-use Rattle.ats_document.specs.declared.table.Table.{Table}
-use Rattle.ats_document.specs.declared.table.Table.TheVariants as table
+use Rattle.ats_network_toml.specs.Walk.{Entry, has, formed, name_at, whole_at, deadline_at, identity_at, at}
+use Rattle.ats_network_toml.specs.Words.{key_text}
+use Rattle.ats_network_toml.specs.declared.entries.StationEntry.{StationEntry}
+use Rattle.ats_network_toml.specs.declared.entries.BridgeEntry.{BridgeEntry}
+use Rattle.ats_network_toml.specs.declared.entries.LinkEntry.{LinkEntry}
+use Rattle.ats_network_toml.specs.declared.fault.DocumentFault.{DocumentFault}
+use Rattle.ats_network_toml.specs.declared.fault.DocumentFault.TheVariants as fault
+use Rattle.ats_network_toml.specs.declared.key.Key.TheVariants as key
+use Rattle.ats_network_toml.specs.declared.table.Table.{Table}
+use Rattle.ats_network_toml.specs.declared.table.Table.TheVariants as table
 use Rattle.ats_network_file.proofs.Steps.{Both, both, or_fault_ok}
 use Rattle.ats_network_file.proofs.Identities.{address_kept, whole_kept}
 

@@ -1,7 +1,7 @@
 use Rattle.std.proofs.Common.{◌≡◌, ℕ, ◌+◌, ◌≤◌, ◌<◌, Bool, true, false, not, List, [], ◌∷◌, length, Option, Some, None, Result, Ok, Err, refl, sym, ap, subst, ◌∙◌, arith, length-append}
 use Rattle.std.specs.List.{All}
 use Rattle.std.proofs.lemmas.List.Elements.{All-nil, All-head, All-tail}
-use Rattle.ats_names.specs.Places.{place_of}
+use Rattle.ats_num.specs.Places.{place_of}
 use Rattle.ats_topology.specs.Faults.{topology_fault}
 use Rattle.ats_topology.specs.Topology.{DeclaredTopology, IsTopology, topology_of}
 use Rattle.ats_topology.proofs.Rules.{topology_rules}
@@ -13,11 +13,11 @@ use Rattle.ats_network.specs.Network.{DeclaredNetwork, IsNetwork, declared_netwo
 use Rattle.ats_network.specs.Pushes.{with_stream, with_flow, is_name_taken, is_identity_taken}
 use Rattle.ats_network.specs.declared.network.TheConstants.{MAX_STREAMS, MAX_FLOWS}
 use Rattle.ats_network.proofs.Pushed.{pushed_stream, pushed_flow, not_found}
-use Rattle.ats_document.specs.Document as file
-use Rattle.ats_document.specs.Reading.{document_of}
-use Rattle.ats_document.specs.declared.fault.DocumentFault.{DocumentFault}
-use Rattle.ats_document.specs.declared.table.Table.{Table}
-use Rattle.ats_document.specs.declared.table.Table.TheVariants as table
+use Rattle.ats_network_toml.specs.Document as file
+use Rattle.ats_network_toml.specs.Reading.{document_of}
+use Rattle.ats_network_toml.specs.declared.fault.DocumentFault.{DocumentFault}
+use Rattle.ats_network_toml.specs.declared.table.Table.{Table}
+use Rattle.ats_network_toml.specs.declared.table.Table.TheVariants as table
 use Rattle.ats_network_file.specs.Reading.{tables_of, nodes_of, links_of, topology_in, path_in, stream_over, flow_over, stream_made, flow_made, stream_pushed, flow_pushed, stream_added, flow_added, all_added, network_in, network_of}
 use Rattle.ats_network_file.specs.Routes.{ports_of, is_valid}
 use Rattle.ats_num.specs.Failure.{◌>>=◌, or_fault, ok_where}

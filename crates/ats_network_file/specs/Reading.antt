@@ -8,14 +8,14 @@ use Rattle.ats_streams.specs.Stream.{DeclaredStream, declared_stream, stream_fau
 use Rattle.ats_streams.specs.Flow.{DeclaredFlow, declared_flow, flow_fault}
 use Rattle.ats_network.specs.Network.{DeclaredNetwork, declared_network}
 use Rattle.ats_network.specs.Pushes.{with_stream, with_flow, is_name_taken, is_identity_taken}
-use Rattle.ats_document.specs.Document as file
-use Rattle.ats_document.specs.Reading.{document_of}
-use Rattle.ats_document.specs.declared.entries.StationEntry.{StationEntry}
-use Rattle.ats_document.specs.declared.entries.BridgeEntry.{BridgeEntry}
-use Rattle.ats_document.specs.declared.entries.LinkEntry.{LinkEntry}
-use Rattle.ats_document.specs.declared.table.Table.{Table}
-use Rattle.ats_document.specs.declared.table.Table.TheVariants as table
-use Rattle.ats_document.specs.declared.fault.DocumentFault.{DocumentFault}
+use Rattle.ats_network_toml.specs.Document as file
+use Rattle.ats_network_toml.specs.Reading.{document_of}
+use Rattle.ats_network_toml.specs.declared.entries.StationEntry.{StationEntry}
+use Rattle.ats_network_toml.specs.declared.entries.BridgeEntry.{BridgeEntry}
+use Rattle.ats_network_toml.specs.declared.entries.LinkEntry.{LinkEntry}
+use Rattle.ats_network_toml.specs.declared.table.Table.{Table}
+use Rattle.ats_network_toml.specs.declared.table.Table.TheVariants as table
+use Rattle.ats_network_toml.specs.declared.fault.DocumentFault.{DocumentFault}
 use Rattle.ats_num.specs.Failure.{◌>>=◌, or_fault, ok_where, unless}
 use Rattle.ats_network_file.specs.Routes.{ports_of, is_valid}
 use Rattle.ats_network_file.specs.declared.fault.NetFault.{NetFault}

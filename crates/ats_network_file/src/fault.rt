@@ -3,7 +3,7 @@
 ghost use Rattle.std.specs.Prelude.{◌≡◌, Some};
 ghost use Rattle.ats_network_file.specs.FaultText.{fault_text};
 
-use ats_document::{DocumentFault, Table};
+use ats_network_toml::{DocumentFault, Table};
 use ats_num::Fault;
 use ats_streams::StreamFault;
 use ats_topology::TopologyFault;

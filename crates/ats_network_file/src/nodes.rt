@@ -5,7 +5,7 @@ ghost use Rattle.ats_num.specs.Failure.{Gives};
 ghost use Rattle.ats_network_file.specs.Reading.{station_of, bridge_of, link_of, topology_in};
 
 use crate::fault::NetFault;
-use ats_document::{BridgeEntry, Document, LinkEntry, StationEntry};
+use ats_network_toml::{BridgeEntry, Document, LinkEntry, StationEntry};
 use ats_num::Failure;
 use ats_topology::{Kind, Link, Node, Topology};
 use std::alloc::{AllocError, Global};

@@ -7,7 +7,7 @@ use crate::fault::NetFault;
 use crate::flows::add_flows;
 use crate::nodes::topology_in;
 use crate::streams::add_streams;
-use ats_document::{Document, read_document};
+use ats_network_toml::{Document, read_document};
 use ats_network::Network;
 use ats_num::Failure;
 use std::alloc::Global;
@@ -16,7 +16,7 @@ use std::alloc::Global;
 ///
 /// # Errors
 ///
-/// The first fault of this walk. `Form`: the faults of form, as `ats_document::read_document` names them: the text is no
+/// The first fault of this walk. `Form`: the faults of form, as `ats_network_toml::read_document` names them: the text is no
 /// TOML, a key is missing, unknown or of the wrong kind, an array is over its limit. Then `Topology`: the first fault of the
 /// nodes, which are the stations and behind them the bridges, and the links. Then the streams in order and the flows in
 /// order, of each `BadPath`, `Sender`, `SenderTwice` and, for a stream, `IdentityTwice`, in this order.

@@ -4,14 +4,14 @@ ghost use Rattle.std.specs.Prelude.{◌≡◌, ◌↔◌, ℕ, IsTrue, IfOk};
 ghost use Rattle.std.specs.Global.{Vec};
 ghost use Rattle.std.specs.Option.{option_map};
 ghost use Rattle.ats_network.specs.Path.{IsValidPath};
-ghost use Rattle.ats_document.specs.Seen.{route_seen};
-ghost use Rattle.ats_document.specs.Document as file;
+ghost use Rattle.ats_network_toml.specs.Seen.{route_seen};
+ghost use Rattle.ats_network_toml.specs.Document as file;
 ghost use Rattle.ats_num.specs.Failure.{GivesSeen};
 ghost use Rattle.ats_network_file.specs.Routes.{nodes_named, ports_along, ports_of, is_valid};
 ghost use Rattle.ats_network_file.specs.Reading.{path_in};
 
 use crate::fault::NetFault;
-use ats_document::{Route, Table};
+use ats_network_toml::{Route, Table};
 use ats_network::{is_valid_path, shortest};
 use ats_num::{Failure, Name};
 use ats_topology::Topology;

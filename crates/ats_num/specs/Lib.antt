@@ -8,3 +8,4 @@ pub mod Tie
 pub mod ReadsBack
 pub mod Failure
 pub mod IfFault
+pub mod Places

@@ -1,5 +1,5 @@
 use Rattle.std.proofs.Common.{zero, suc, ◌+◌, ◌≤◌, All, refl, arith, lit<}
-use Rattle.ats_transmission.specs.Transmission.{Transmission}
+use Rattle.ats_port_rule.specs.Transmission.{Transmission}
 use Rattle.ats_port_law.specs.PortLaw.{IsDeclared, IsWithinBound}
 use Rattle.ats_port_law.specs.Rows.{with_flow, row_with_flow, with_two, first_row_with_two}
 use Rattle.ats_port_law.specs.Premises.{sent_late, sent_twice, sent_behind_longer, with_longer_flow, sent_by_flow}

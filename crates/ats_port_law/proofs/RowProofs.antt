@@ -7,8 +7,8 @@ use Rattle.std.proofs.lemmas.List.Sorted.{IsPermutation-refl}
 use Rattle.ats_num.specs.declared.time.TheConstants.{PS_PER_SECOND}
 use Rattle.ats_bucket.specs.Conforming.{Frame, times_of, bits_between, time_between, Conforms}
 use Rattle.ats_network.specs.Senders.{sender_at}
-use Rattle.ats_transmission.specs.Transmission.{Transmission}
-use Rattle.ats_transmission.specs.PortRule.{KeepsPortRule, AreApart, IsAhead, StartsAfterGap}
+use Rattle.ats_port_rule.specs.Transmission.{Transmission}
+use Rattle.ats_port_rule.specs.PortRule.{KeepsPortRule, AreApart, IsAhead, StartsAfterGap}
 use Rattle.ats_port_law.specs.PortLaw.{IsDeclared, IsWithinBound, ConformsInOrder, frames_by}
 use Rattle.ats_port_law.specs.Rows.{with_flow, row_with_flow, sent_behind_flow, next_row_with_flow, sent_on_behind_flow, IsWorked, BehindFlow, with_two, first_row_with_two, sent_at_once, AtOnce, row_with_two, sent_in_turn, InTurn}
 use Rattle.ats_port_law.proofs.RowNetworks.{flow_network, two_network}

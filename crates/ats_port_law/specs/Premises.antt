@@ -5,8 +5,8 @@ use Rattle.ats_network.specs.Senders.{sender_at}
 use Rattle.ats_certificate.specs.PortSums.{is_used}
 use Rattle.ats_certificate.specs.Certificate.{Covers}
 use Rattle.ats_certificate.specs.declared.row.Row.{Row}
-use Rattle.ats_transmission.specs.Transmission.{Transmission}
-use Rattle.ats_transmission.specs.PortRule.{KeepsPortRule}
+use Rattle.ats_port_rule.specs.Transmission.{Transmission}
+use Rattle.ats_port_rule.specs.PortRule.{KeepsPortRule}
 use Rattle.ats_port_law.specs.PortLaw.{IsDeclared, IsOffered, ConformsInOrder, frames_by, IsWithinBound}
 use Rattle.ats_port_law.specs.Rows.{with_flow, row_with_flow, with_two, first_row_with_two}
 

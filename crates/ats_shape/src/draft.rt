@@ -10,7 +10,7 @@ use crate::line::{Line, frame_in, residence_line, ruled, stream_in};
 use crate::shape::{Shape, ShapeFrame, ShapeStream};
 use crate::words::word;
 use ats_io::word_at;
-use ats_names::NameTable;
+use ats_num::NameTable;
 use ats_num::Ps;
 use std::alloc::{AllocError, Global};
 use std::marker::Model;

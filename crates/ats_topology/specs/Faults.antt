@@ -1,7 +1,7 @@
 use Rattle.std.specs.Prelude.{ℕ, zero, suc, ◌+◌, Bool, ◌&&◌, ◌||◌, ◌==◌, nat_lt, not, if◌then◌else◌, List, [], length, take, slice_index_or, count_by, Option, Some, None, is_some, is_none}
 use Rattle.std.specs.List.{list_any, position_from}
 use Rattle.std.specs.Option.{option_map, option_or}
-use Rattle.ats_names.specs.Places.{place_of}
+use Rattle.ats_num.specs.Places.{place_of}
 use Rattle.ats_topology.specs.Node.{is_station, processing_of, residence_of, names_of}
 use Rattle.ats_topology.specs.Link.{joins, ends_at, is_self_link}
 use Rattle.ats_topology.specs.Rates.{ps_per_bit_of}

@@ -11,7 +11,7 @@ use crate::fault::TopologyFault;
 use crate::link::{Link, MAX_LINKS, MAX_PROPAGATION_NS};
 use crate::node::{Kind, MAX_NODES, MAX_PROCESSING_NS, MAX_RESIDENCE_NS, Node};
 use crate::rates::ps_per_bit;
-use ats_names::NameTable;
+use ats_num::NameTable;
 use ats_num::Failure;
 use std::alloc::Global;
 use std::collections::BTreeSet;

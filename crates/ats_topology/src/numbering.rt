@@ -1,7 +1,7 @@
 //! The ports of links.
 
 ghost use Rattle.std.specs.Prelude.{◌≡◌, ◌≤◌, None, IfOk, IsSome, length};
-ghost use Rattle.ats_names.specs.Places.{place_of};
+ghost use Rattle.ats_num.specs.Places.{place_of};
 ghost use Rattle.ats_topology.specs.Node.{names_of};
 ghost use Rattle.ats_topology.specs.Rates.{ps_per_bit_of};
 ghost use Rattle.ats_topology.specs.Faults.{node_twice, link_twice, self_link, unknown_node, bad_rate};
@@ -13,7 +13,7 @@ use crate::node::Node;
 use crate::port::Port;
 use crate::port_table::PortTable;
 use crate::rates::ps_per_bit;
-use ats_names::NameTable;
+use ats_num::NameTable;
 use ats_num::time::PS_PER_NS;
 use ats_num::{Name, Ps};
 use std::alloc::{AllocError, Global};

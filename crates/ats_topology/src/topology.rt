@@ -2,7 +2,7 @@
 
 ghost use Rattle.std.specs.Prelude.{◌≡◌, ◌<◌, None, IfOk, IfErr, IfSome, IfNone, OnOk, length};
 ghost use Rattle.ats_num.specs.Failure.{IsDue};
-ghost use Rattle.ats_names.specs.Places.{place_of};
+ghost use Rattle.ats_num.specs.Places.{place_of};
 ghost use Rattle.ats_topology.specs.Node.{names_of};
 ghost use Rattle.ats_topology.specs.Port.{port_between, GoesBetween};
 ghost use Rattle.ats_topology.specs.Faults.{topology_fault};
@@ -18,7 +18,7 @@ use crate::port::Port;
 use crate::port_table::PortTable;
 use crate::stations::check_stations;
 use crate::walks::least_walk;
-use ats_names::NameTable;
+use ats_num::NameTable;
 use ats_num::{Failure, Name};
 use std::alloc::{AllocError, Global};
 use std::marker::Model;

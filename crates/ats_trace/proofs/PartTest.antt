@@ -9,7 +9,7 @@ use Rattle.ats_topology.specs.Port.{port_at}
 use Rattle.ats_topology.specs.declared.port.Port.{Port}
 use Rattle.ats_network.specs.Network.{DeclaredNetwork, senders_of}
 use Rattle.ats_network.specs.Senders.{sender_at}
-use Rattle.ats_transmission.specs.Transmission.{Transmission}
+use Rattle.ats_port_rule.specs.Transmission.{Transmission}
 use Rattle.ats_group.specs.declared.verdict.Verdict.{Verdict}
 use Rattle.ats_group.specs.declared.verdict.Verdict.TheVariants.{Eligible, Late, Size}
 use Rattle.ats_trace.specs.Journey.{Travel, IsWay, GoesOn, IsReleased, arrival_after}

@@ -5,11 +5,11 @@ use Rattle.std.proofs.lemmas.Bool.{cases_eq, cases_lt}
 use Rattle.std.proofs.lemmas.List.{length-map, get_or-map, map-append}
 use Rattle.std.proofs.lemmas.List.Elements.{All-cons, All-head, All-tail, All-push}
 use Rattle.std.proofs.lemmas.List.Sorted.{All-permutation}
-use Rattle.ats_transmission.specs.Transmission.{Transmission}
-use Rattle.ats_transmission.specs.PortRule.{StartsAfterGap}
-use Rattle.ats_transmission.specs.Order.{Precedes, MayFollow, Follows, IsTimely, IsInOrder}
-use Rattle.ats_transmission.proofs.InOrder.{rule_from_order, tie_from_order}
-use Rattle.ats_transmission.proofs.OneMore.{gap-fewer, may_follow-more, in_order-push}
+use Rattle.ats_port_rule.specs.Transmission.{Transmission}
+use Rattle.ats_port_rule.specs.PortRule.{StartsAfterGap}
+use Rattle.ats_port_rule.specs.Order.{Precedes, MayFollow, Follows, IsTimely, IsInOrder}
+use Rattle.ats_port_rule.proofs.InOrder.{rule_from_order, tie_from_order}
+use Rattle.ats_port_rule.proofs.OneMore.{gap-fewer, may_follow-more, in_order-push}
 use Rattle.ats_transmit.specs.declared.offer.Offer.{Offer}
 use Rattle.ats_transmit.specs.declared.sent.Sent.{Sent}
 use Rattle.ats_transmit.specs.Sending.{transmission_of, transmissions, sent_at, begun, never, last_of, last_start}

@@ -10,7 +10,7 @@ use Rattle.ats_num.specs.Wire.{IsFrameSize}
 use Rattle.ats_queue.specs.declared.queued.Queued.{Queued}
 use Rattle.ats_queue.specs.Contents.{Contents}
 use Rattle.ats_queue.specs.Order.{GoesBefore}
-use Rattle.ats_transmission.specs.Order.{Precedes}
+use Rattle.ats_port_rule.specs.Order.{Precedes}
 use Rattle.ats_transmit.specs.declared.offer.Offer.{Offer}
 use Rattle.ats_transmit.specs.declared.sent.Sent.{Sent}
 use Rattle.ats_transmit.specs.Sending.{sent_at, begun, last_end}

@@ -1,6 +1,6 @@
 use Rattle.std.specs.Prelude.{◌≡◌, ℕ, ◌+◌, ◌*◌, ◌<◌, ◌≤◌, true, false, List, [], ◌∷◌, ◌++◌, All, Any, IsPermutation}
 use Rattle.ats_num.specs.Wire.{bits_of}
-use Rattle.ats_transmission.specs.Order.{Precedes}
+use Rattle.ats_port_rule.specs.Order.{Precedes}
 use Rattle.ats_transmit.specs.declared.offer.Offer.{Offer}
 use Rattle.ats_transmit.specs.declared.sent.Sent.{Sent}
 use Rattle.ats_transmit.specs.declared.pick.Pick.{Pick}

@@ -1,8 +1,8 @@
 use Rattle.std.specs.Prelude.{ℕ, ◌+◌, ◌-◌, ◌*◌, List, length, map, slice_index_or, All}
 use Rattle.ats_num.specs.Wire.{bits_of}
-use Rattle.ats_transmission.specs.Transmission.{Transmission}
-use Rattle.ats_transmission.specs.PortRule.{KeepsPortRule, KeepsTie}
-use Rattle.ats_transmission.specs.Order.{MayFollow, IsInOrder}
+use Rattle.ats_port_rule.specs.Transmission.{Transmission}
+use Rattle.ats_port_rule.specs.PortRule.{KeepsPortRule, KeepsTie}
+use Rattle.ats_port_rule.specs.Order.{MayFollow, IsInOrder}
 use Rattle.ats_transmit.specs.declared.offer.Offer.{Offer}
 use Rattle.ats_transmit.specs.declared.sent.Sent.{Sent}
 

@@ -3,7 +3,7 @@ use Rattle.std.specs.Global.{Vec}
 use Rattle.ats_topology.specs.Topology.{DeclaredTopology}
 use Rattle.ats_network.specs.Network.{DeclaredNetwork}
 use Rattle.ats_certificate.specs.declared.row.Row.{Row}
-use Rattle.ats_soundness.specs.Sound.{IsSound}
+use Rattle.ats_soundness_law.specs.Sound.{IsSound}
 use Rattle.ats_num.specs.Failure.{◌>>=◌}
 use Rattle.ats_command.specs.Answer.{Answer}
 use Rattle.ats_command.specs.Command.{Check}

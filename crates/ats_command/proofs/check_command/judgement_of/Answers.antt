@@ -2,10 +2,10 @@ use Rattle.std.proofs.Common.{ap, subst, ◌∙◌}
 use Rattle.ats_num.specs.Failure.{IsDue}
 use Rattle.ats_num.specs.declared.failure.Failure.{Failure}
 use Rattle.ats_tally.specs.Delays.{NetworkRows}
-use Rattle.ats_judgement.specs.Text.{accepted_text}
+use Rattle.ats_verdict_text.specs.Text.{accepted_text}
 use Rattle.ats_checker.specs.Refusal.{refusal_of}
 use Rattle.ats_checker.specs.declared.refusal.Refusal.{Refusal}
-use Rattle.ats_soundness.proofs.Soundness.{certificate_is_sound}
+use Rattle.ats_soundness_law.proofs.Soundness.{certificate_is_sound}
 use Rattle.ats_command.proofs.Judging.{check_text, check_refused}
 use Rattle.ats_command.proofs.check_command.judgement_of.Goals as goal
 

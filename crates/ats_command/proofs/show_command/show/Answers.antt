@@ -1,5 +1,5 @@
 use Rattle.std.proofs.Common.{ℕ, List, [], Option, Ok, lit<, sym, ap, ◌∙◌}
-use Rattle.ats_show.specs.Text.{show_text}
+use Rattle.ats_network_text.specs.Text.{show_text}
 use Rattle.ats_num.specs.Failure.{◌>>=◌}
 use Rattle.ats_command.specs.Input.{network_in}
 use Rattle.ats_command.specs.Due.{told_bytes, show_answer}
