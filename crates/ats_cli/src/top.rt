@@ -44,7 +44,7 @@ pub fn ats<F: Files, O: Sink>(alloc: Global, words: &[String], files: &mut F, ou
     ensures sink { O.faults out.old ≤ O.faults out.new }
 {
     match named_by(words) {
-        Some(command) => carry_out(alloc, &command, files, out),
+        Some(command) => carry_out(alloc, command, files, out),
         None => print(out, Status::Words, b"words\n"),
     }
 }
@@ -52,16 +52,16 @@ pub fn ats<F: Files, O: Sink>(alloc: Global, words: &[String], files: &mut F, ou
 // Carries out a command of the table, and prints its text.
 fn carry_out<F: Files, O: Sink>(
     alloc: Global,
-    command: &Command,
+    command: Command,
     files: &mut F,
     out: &mut O,
 ) -> Status
-    ensures printed { HasText result → Printed (F.told files.old) (view command.now) result (O.held out.old) (O.held out.new) }
+    ensures printed { HasText result → Printed (F.told files.old) (view command.entry) result (O.held out.old) (O.held out.new) }
     ensures no_words { ¬ (result ≡ Status.Words) }
-    ensures sound { result ≡ Status.Done → IsSoundCheck (F.told files.old) (view command.now) }
-    ensures read_failed { result ≡ Status.ReadFailed → ReadRose (F.told files.old) (view command.now) (F.faults files.old) (F.faults files.new) }
+    ensures sound { result ≡ Status.Done → IsSoundCheck (F.told files.old) (view command.entry) }
+    ensures read_failed { result ≡ Status.ReadFailed → ReadRose (F.told files.old) (view command.entry) (F.faults files.old) (F.faults files.new) }
     ensures write_failed { result ≡ Status.WriteFailed → Rose (O.faults out.old) (O.faults out.new) }
-    ensures cut_short { result ≡ Status.WriteFailed → PrintedPrefix (F.told files.old) (view command.now) (O.held out.old) (O.held out.new) }
+    ensures cut_short { result ≡ Status.WriteFailed → PrintedPrefix (F.told files.old) (view command.entry) (O.held out.old) (O.held out.new) }
     ensures silent { (result ≡ Status.ReadFailed) ⊎ (result ≡ Status.NoMemory) → O.held out.new ≡ O.held out.old }
     ensures files { Continues F.told F.faults files.old files.new }
     ensures sink { O.faults out.old ≤ O.faults out.new }
@@ -71,13 +71,13 @@ fn carry_out<F: Files, O: Sink>(
 }
 
 // What a command of the table comes to.
-fn outcome_of<F: Files>(alloc: Global, command: &Command, files: &mut F) -> Result<Vec<u8>, Stop>
-    ensures due { Answers (F.told files.old) (view command.now) result }
-    ensures sound { OnOk result (IsSoundCheck (F.told files.old) (view command.now)) }
-    ensures failed { IsErrOf result Stop.ReadFailed → ReadRose (F.told files.old) (view command.now) (F.faults files.old) (F.faults files.new) }
+fn outcome_of<F: Files>(alloc: Global, command: Command, files: &mut F) -> Result<Vec<u8>, Stop>
+    ensures due { Answers (F.told files.old) (view command.entry) result }
+    ensures sound { OnOk result (IsSoundCheck (F.told files.old) (view command.entry)) }
+    ensures failed { IsErrOf result Stop.ReadFailed → ReadRose (F.told files.old) (view command.entry) (F.faults files.old) (F.faults files.new) }
     ensures continues { Continues F.told F.faults files.old files.new }
 {
-    match *command {
+    match command {
         Command::Shape(file) => shape(alloc, file, files),
         Command::Show(net) => show(alloc, net, files),
         Command::Bound(net) => bound(alloc, net, files),
