@@ -39,7 +39,8 @@ impl Model for Scheduler {
 }
 
 impl Scheduler {
-    /// A scheduler of this committed rate and this burst, of at most 1,000,000,000 bits, whose bucket is full at time 0.
+    /// A scheduler of this committed rate and this burst, of at most 1,000,000,000 bits, whose
+    /// bucket is full at time 0.
     pub fn new(rate: Rate, burst_bits: u64) -> Scheduler
         requires { burst_bits ≤ MAX_BURST_BITS }
         ensures { result

@@ -8,8 +8,8 @@ use std::io::Print;
 use std::test::Fail;
 use std::{fs, io, process};
 
-// Reads a file that it wrote itself in two pieces and past its end, whole, and again from an earlier place, and files that
-// are not there, one of which is no word.
+// Reads a file that it wrote itself in two pieces and past its end, whole, and again from an
+// earlier place, and files that are not there, one of which is no word.
 #[test]
 fn reads_files(rt: HostRuntime) -> Result<(), Fail> {
     let alloc = rt.alloc();

@@ -18,26 +18,32 @@ use std::alloc::Global;
 /// Carries out the command that the words name, over these files, and prints its text to the sink.
 pub fn ats<F: Files, O: Sink>(alloc: Global, words: &[String], files: &mut F, out: &mut O) -> Status
     // Done, Words, Input and Refused have printed a text, whole. Where the files tell their bytes, it is due.
-    ensures printed { HasText result → Printed (F.told files.old) (command_of (texts_of words.now)) result (O.held out.old) (O.held out.new) }
+    ensures printed { HasText result
+        → Printed (F.told files.old) (command_of (texts_of words.now)) result (O.held out.old) (O.held out.new) }
 
     // Words comes exactly where the words are not in the command table, but where writing its line failed.
     ensures words { result ≡ Status.Words → command_of (texts_of words.now) ≡ table.Unknown }
-    ensures unknown { command_of (texts_of words.now) ≡ table.Unknown → (result ≡ Status.Words) ⊎ (result ≡ Status.WriteFailed) }
+    ensures unknown { command_of (texts_of words.now) ≡ table.Unknown
+        → (result ≡ Status.Words) ⊎ (result ≡ Status.WriteFailed) }
 
     // Done to `check NET CERT` means that the bounds of the certificate are sound in each legal run of the network.
     ensures sound { result ≡ Status.Done → IsSoundCheck (F.told files.old) (command_of (texts_of words.now)) }
 
     // ReadFailed and WriteFailed have a cause.
-    ensures read_failed { result ≡ Status.ReadFailed → ReadRose (F.told files.old) (command_of (texts_of words.now)) (F.faults files.old) (F.faults files.new) }
+    ensures read_failed { result ≡ Status.ReadFailed
+        → ReadRose (F.told files.old) (command_of (texts_of words.now)) (F.faults files.old) (F.faults files.new) }
     ensures write_failed { result ≡ Status.WriteFailed → Rose (O.faults out.old) (O.faults out.new) }
 
     // After WriteFailed a front of a due text was printed, and after ReadFailed and NoMemory nothing.
-    ensures cut_short { result ≡ Status.WriteFailed → PrintedPrefix (F.told files.old) (command_of (texts_of words.now)) (O.held out.old) (O.held out.new) }
+    ensures cut_short { result ≡ Status.WriteFailed
+        → PrintedPrefix (F.told files.old) (command_of (texts_of words.now)) (O.held out.old) (O.held out.new) }
     ensures silent { (result ≡ Status.ReadFailed) ⊎ (result ≡ Status.NoMemory) → O.held out.new ≡ O.held out.old }
 
     // Where the files tell their bytes and no fault came, the status that is due comes, or NoMemory.
-    ensures complete { IsTold (F.told files.old) (command_of (texts_of words.now)) → IsCalm (command_of (texts_of words.now)) (F.faults files.old) (F.faults files.new)
-        → ¬ Rose (O.faults out.old) (O.faults out.new) → (result ≡ Status.NoMemory) ⊎ StatusIsDue (F.told files.old) (command_of (texts_of words.now)) result }
+    ensures complete { IsTold (F.told files.old) (command_of (texts_of words.now))
+        → IsCalm (command_of (texts_of words.now)) (F.faults files.old) (F.faults files.new)
+        → ¬ Rose (O.faults out.old) (O.faults out.new)
+        → (result ≡ Status.NoMemory) ⊎ StatusIsDue (F.told files.old) (command_of (texts_of words.now)) result }
 
     // The files hold what they held, and no count of faults fell.
     ensures files { Continues F.told F.faults files.old files.new }
@@ -56,12 +62,15 @@ fn carry_out<F: Files, O: Sink>(
     files: &mut F,
     out: &mut O,
 ) -> Status
-    ensures printed { HasText result → Printed (F.told files.old) (view command.entry) result (O.held out.old) (O.held out.new) }
+    ensures printed { HasText result
+        → Printed (F.told files.old) (view command.entry) result (O.held out.old) (O.held out.new) }
     ensures no_words { ¬ (result ≡ Status.Words) }
     ensures sound { result ≡ Status.Done → IsSoundCheck (F.told files.old) (view command.entry) }
-    ensures read_failed { result ≡ Status.ReadFailed → ReadRose (F.told files.old) (view command.entry) (F.faults files.old) (F.faults files.new) }
+    ensures read_failed { result ≡ Status.ReadFailed
+        → ReadRose (F.told files.old) (view command.entry) (F.faults files.old) (F.faults files.new) }
     ensures write_failed { result ≡ Status.WriteFailed → Rose (O.faults out.old) (O.faults out.new) }
-    ensures cut_short { result ≡ Status.WriteFailed → PrintedPrefix (F.told files.old) (view command.entry) (O.held out.old) (O.held out.new) }
+    ensures cut_short { result ≡ Status.WriteFailed
+        → PrintedPrefix (F.told files.old) (view command.entry) (O.held out.old) (O.held out.new) }
     ensures silent { (result ≡ Status.ReadFailed) ⊎ (result ≡ Status.NoMemory) → O.held out.new ≡ O.held out.old }
     ensures files { Continues F.told F.faults files.old files.new }
     ensures sink { O.faults out.old ≤ O.faults out.new }
@@ -74,7 +83,8 @@ fn carry_out<F: Files, O: Sink>(
 fn outcome_of<F: Files>(alloc: Global, command: Command, files: &mut F) -> Result<Vec<u8>, Stop>
     ensures due { Answers (F.told files.old) (view command.entry) result }
     ensures sound { OnOk result (IsSoundCheck (F.told files.old) (view command.entry)) }
-    ensures failed { IsErrOf result Stop.ReadFailed → ReadRose (F.told files.old) (view command.entry) (F.faults files.old) (F.faults files.new) }
+    ensures failed { IsErrOf result Stop.ReadFailed
+        → ReadRose (F.told files.old) (view command.entry) (F.faults files.old) (F.faults files.new) }
     ensures continues { Continues F.told F.faults files.old files.new }
 {
     match command {

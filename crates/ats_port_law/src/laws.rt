@@ -4,10 +4,11 @@ ghost use Rattle.ats_port_law.specs.PortLaw.{PortLaw};
 ghost use Rattle.ats_port_law.specs.Premises.{ConformingCounts, PortRuleCounts, SizesCount, StreamsCount};
 ghost use Rattle.ats_port_law.specs.Rows.{AtOnce, BehindFlow, InTurn};
 
-/// Where a row covers a port and a class that some stream uses, as each row of a certificate does, and the port keeps the
-/// port rule with transmissions that it may be asked to make, each frame of the class arrives behind the port within the
-/// row's bound of its eligibility. The frames of each stream, of lower classes too, have declared sizes and conform to its
-/// rate and burst; those of a flow have declared sizes, and nothing else is asked of them. Nothing is asked of the order in
+/// Where a row covers a port and a class that some stream uses, as each row of a certificate does,
+/// and the port keeps the port rule with transmissions that it may be asked to make, each frame of
+/// the class arrives behind the port within the row's bound of its eligibility. The frames of each
+/// stream, of lower classes too, have declared sizes and conform to its rate and burst; those of a
+/// flow have declared sizes, and nothing else is asked of them. Nothing is asked of the order in
 /// which the port takes equal frames.
 pub fn port_law()
     ensures { PortLaw }
@@ -23,9 +24,9 @@ pub fn premises_count()
     ensures streams { StreamsCount }
 {}
 
-/// Worked rows, in which what the law asks holds: a frame behind one of a flow, at a station and at a bridge; a frame that
-/// is alone at its station, at two stations; and the second of two equal frames at a bridge. The last three arrive exactly at
-/// the bound.
+/// Worked rows, in which what the law asks holds: a frame behind one of a flow, at a station and at
+/// a bridge; a frame that is alone at its station, at two stations; and the second of two equal
+/// frames at a bridge. The last three arrive exactly at the bound.
 pub fn worked_rows()
     ensures behind_flow { BehindFlow }
     ensures at_once { AtOnce }

@@ -16,13 +16,16 @@ run_hops J P network n (j ∷ run) each all =
     (each n j (All-head J j run all)) (run_hops J P network (n + 1) run each (All-tail J j run all))
 
 -- also where it rests on what was handed on
-pub run_hops_by : (J : Travel → Type 0) (Q : Handed → Type 0) (P : Hop → Type 0) (network : DeclaredNetwork) (n : ℕ) (run : List Travel)
-    → ((n : ℕ) (j : Travel) → J j → All Q (journey_handed network n j) → All P (journey_hops network n j)) → All J run → All Q (handed_from network n run) → All P (hops_from network n run)
+pub run_hops_by : (J : Travel → Type 0) (Q : Handed → Type 0) (P : Hop → Type 0) (network : DeclaredNetwork) (n : ℕ)
+    (run : List Travel)
+    → ((n : ℕ) (j : Travel) → J j → All Q (journey_handed network n j) → All P (journey_hops network n j)) → All J run
+    → All Q (handed_from network n run) → All P (hops_from network n run)
 run_hops_by J Q P network n [] each all handed = All-nil P
 run_hops_by J Q P network n (j ∷ run) each all handed =
     All-append P (journey_hops network n j) (hops_from network (n + 1) run)
     (each n j (All-head J j run all) (all_left Q (journey_handed network n j) (handed_from network (n + 1) run) handed))
-    (run_hops_by J Q P network (n + 1) run each (All-tail J j run all) (all_right Q (journey_handed network n j) (handed_from network (n + 1) run) handed))
+    (run_hops_by J Q P network (n + 1) run each (All-tail J j run all)
+    (all_right Q (journey_handed network n j) (handed_from network (n + 1) run) handed))
 
 -- the same of what was handed on
 pub run_handed : (J : Travel → Type 0) (P : Handed → Type 0) (network : DeclaredNetwork) (n : ℕ) (run : List Travel)
@@ -34,16 +37,21 @@ run_handed J P network n (j ∷ run) each all =
 
 -- and of what was sent, of what was handed on
 pub run_were_sent : (P : Hop → Type 0) (network : DeclaredNetwork) (n : ℕ) (run : List Travel)
-    → ((n : ℕ) (j : Travel) → All P (journey_hops network n j) → All (λ (h : Handed). P h.hop) (journey_handed network n j)) → All P (hops_from network n run) → All (λ (h : Handed). P h.hop) (handed_from network n run)
+    → ((n : ℕ) (j : Travel) → All P (journey_hops network n j)
+    → All (λ (h : Handed). P h.hop) (journey_handed network n j)) → All P (hops_from network n run)
+    → All (λ (h : Handed). P h.hop) (handed_from network n run)
 run_were_sent P network n [] each all = All-nil (λ (h : Handed). P h.hop)
 run_were_sent P network n (j ∷ run) each all =
     All-append (λ (h : Handed). P h.hop) (journey_handed network n j) (handed_from network (n + 1) run)
     (each n j (all_left P (journey_hops network n j) (hops_from network (n + 1) run) all))
-    (run_were_sent P network (n + 1) run each (all_right P (journey_hops network n j) (hops_from network (n + 1) run) all))
+    (run_were_sent P network (n + 1) run each
+    (all_right P (journey_hops network n j) (hops_from network (n + 1) run) all))
 
 -- where the transmissions of each journey weigh no more than what it handed on, so do those of the run
-pub run_hops-le : (J : Travel → Type 0) (f : Hop → ℕ) (g : Handed → ℕ) (network : DeclaredNetwork) (n : ℕ) (run : List Travel)
-    → ((n : ℕ) (j : Travel) → J j → sum_by f (journey_hops network n j) ≤ sum_by g (journey_handed network n j)) → All J run → sum_by f (hops_from network n run) ≤ sum_by g (handed_from network n run)
+pub run_hops-le : (J : Travel → Type 0) (f : Hop → ℕ) (g : Handed → ℕ) (network : DeclaredNetwork) (n : ℕ)
+    (run : List Travel)
+    → ((n : ℕ) (j : Travel) → J j → sum_by f (journey_hops network n j) ≤ sum_by g (journey_handed network n j))
+    → All J run → sum_by f (hops_from network n run) ≤ sum_by g (handed_from network n run)
 run_hops-le J f g network n [] each all = omega arith
 run_hops-le J f g network n (j ∷ run) each all =
     let here = each n j (All-head J j run all) in
@@ -54,18 +62,23 @@ run_hops-le J f g network n (j ∷ run) each all =
 
 -- the other way round
 pub run_handed-le : (f : Hop → ℕ) (network : DeclaredNetwork) (n : ℕ) (run : List Travel)
-    → ((n : ℕ) (j : Travel) → sum_by (λ (h : Handed). f h.hop) (journey_handed network n j) ≤ sum_by f (journey_hops network n j)) → sum_by (λ (h : Handed). f h.hop) (handed_from network n run) ≤ sum_by f (hops_from network n run)
+    → ((n : ℕ) (j : Travel)
+    → sum_by (λ (h : Handed). f h.hop) (journey_handed network n j) ≤ sum_by f (journey_hops network n j))
+    → sum_by (λ (h : Handed). f h.hop) (handed_from network n run) ≤ sum_by f (hops_from network n run)
 run_handed-le f network n [] each = omega arith
 run_handed-le f network n (j ∷ run) each =
     let here = each n j in
     let rest = run_handed-le f network (n + 1) run each in
     let hops = sum_by-append f (journey_hops network n j) (hops_from network (n + 1) run) in
-    let handed = sum_by-append (λ (h : Handed). f h.hop) (journey_handed network n j) (handed_from network (n + 1) run) in
+    let handed =
+    sum_by-append (λ (h : Handed). f h.hop) (journey_handed network n j) (handed_from network (n + 1) run) in
     omega (arith, here, rest, hops, handed)
 
 -- and where they weigh no more than the journey
-pub run_travels-le : (J : Travel → Type 0) (f : Hop → ℕ) (w : Travel → ℕ) (network : DeclaredNetwork) (n : ℕ) (run : List Travel)
-    → ((n : ℕ) (j : Travel) → J j → sum_by f (journey_hops network n j) ≤ w j) → All J run → sum_by f (hops_from network n run) ≤ sum_by w run
+pub run_travels-le : (J : Travel → Type 0) (f : Hop → ℕ) (w : Travel → ℕ) (network : DeclaredNetwork) (n : ℕ)
+    (run : List Travel)
+    → ((n : ℕ) (j : Travel) → J j → sum_by f (journey_hops network n j) ≤ w j) → All J run
+    → sum_by f (hops_from network n run) ≤ sum_by w run
 run_travels-le J f w network n [] each all = omega arith
 run_travels-le J f w network n (j ∷ run) each all =
     let here = each n j (All-head J j run all) in
@@ -80,7 +93,8 @@ pub record Numbered (P : Hop → Type 0) (Q : Handed → Type 0) (network : Decl
   pub hops : All P (journey_hops network number j)
   pub handed : All Q (journey_handed network number j)
 
-at_place : (P : Hop → Type 0) (Q : Handed → Type 0) (network : DeclaredNetwork) (n : ℕ) (run : List Travel) → All P (hops_from network n run) → All Q (handed_from network n run)
+at_place : (P : Hop → Type 0) (Q : Handed → Type 0) (network : DeclaredNetwork) (n : ℕ) (run : List Travel)
+    → All P (hops_from network n run) → All Q (handed_from network n run)
     → (k : ℕ) (d : Travel) → k < length run → Numbered P Q network (get_or run k d)
 at_place P Q network n [] hops handed k d h = absurd (omega arith)
 at_place P Q network n (j ∷ run) hops handed zero d h = record {
@@ -89,7 +103,10 @@ at_place P Q network n (j ∷ run) hops handed zero d h = record {
   handed = all_left Q (journey_handed network n j) (handed_from network (n + 1) run) handed;
 }
 at_place P Q network n (j ∷ run) hops handed (suc k) d h =
-    at_place P Q network (n + 1) run (all_right P (journey_hops network n j) (hops_from network (n + 1) run) hops) (all_right Q (journey_handed network n j) (handed_from network (n + 1) run) handed) k d (omega arith)
+    at_place P Q network (n + 1) run (all_right P (journey_hops network n j) (hops_from network (n + 1) run) hops)
+    (all_right Q (journey_handed network n j) (handed_from network (n + 1) run) handed) k d (omega arith)
 
-pub numbered : (P : Hop → Type 0) (Q : Handed → Type 0) (network : DeclaredNetwork) (run : List Travel) (j : Travel) → Contains run j → All P (hops_from network 0 run) → All Q (handed_from network 0 run) → Numbered P Q network j
-numbered P Q network run j c hops handed = subst (Numbered P Q network) c.2 (at_place P Q network 0 run hops handed c.0 j c.1)
+pub numbered : (P : Hop → Type 0) (Q : Handed → Type 0) (network : DeclaredNetwork) (run : List Travel) (j : Travel)
+    → Contains run j → All P (hops_from network 0 run) → All Q (handed_from network 0 run) → Numbered P Q network j
+numbered P Q network run j c hops handed =
+    subst (Numbered P Q network) c.2 (at_place P Q network 0 run hops handed c.0 j c.1)

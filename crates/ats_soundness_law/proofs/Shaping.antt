@@ -1,4 +1,5 @@
-use Rattle.std.proofs.Common.{◌≡◌, ℕ, ◌+◌, ◌*◌, ◌<◌, ◌≤◌, true, false, List, map, length, get_or, All, refl, sym, ap, ◌∙◌, subst, arith}
+use Rattle.std.proofs.Common.{◌≡◌, ℕ, ◌+◌, ◌*◌, ◌<◌, ◌≤◌, true, false, List, map, length, get_or, All, refl, sym, ap}
+use Rattle.std.proofs.Common.{◌∙◌, subst, arith}
 use Rattle.std.specs.Prelude.{unwrap_or}
 use Rattle.std.specs.Option.{ForSome}
 use Rattle.std.specs.List.{AllZip}
@@ -56,7 +57,8 @@ record AtRow (network : DeclaredNetwork) (run : List Travel) (row : Row) : Type 
   offered : IsOffered network row.port (sent_by network run row.port)
 
 -- the wait is at most the residence of the bridge
-stays : (kind : Kind) (wait : ℕ) → is_station kind ≡ false → ForSome (residence_at kind) (λ ns. wait ≤ PS_PER_NS * ns) → wait ≤ PS_PER_NS * unwrap_or (residence_at kind) 0
+stays : (kind : Kind) (wait : ℕ) → is_station kind ≡ false → ForSome (residence_at kind) (λ ns. wait ≤ PS_PER_NS * ns)
+    → wait ≤ PS_PER_NS * unwrap_or (residence_at kind) 0
 stays Station wait bridge may = absurd (true≢false bridge)
 stays (Bridge processing_ns residence_ns) wait bridge may = may residence_ns refl
 
@@ -67,41 +69,52 @@ record OnTime (network : DeclaredNetwork) (row : Row) (h : Handed) : Type 0 wher
   size : is_declared_size (declared_by network h.hop.sent.sender) h.octets ≡ true
   shaped : 1 ≤ (sender_at network h.hop.sent.sender).class
 
-on_time : (network : DeclaredNetwork) (run : List Travel) (row : Row) → AtRow network run row → (h : Handed) → HasArrived network run row.port row.class h → OnTime network row h
+on_time : (network : DeclaredNetwork) (run : List Travel) (row : Row) → AtRow network run row → (h : Handed)
+    → HasArrived network run row.port row.class h → OnTime network row h
 on_time network run row a h came =
     let port : Port = port_at network.topology.ports row.port in
     let ps : ℕ = port.ps_per_bit in
     let sent : List Transmission = sent_by network run row.port in
     let x : Transmission = h.hop.sent in
     let rule : KeepsPortRule ps sent = a.known.legal.ports row.port a.within in
-    let declared : IsDeclared network row.port x = All-contains (IsDeclared network row.port) sent x a.offered.each came.sent in
-    let within : IsWithinBound network row x = All-contains (IsWithinBound network row) sent x (law network row sent a.known.net a.used a.holds.covers rule a.offered) came.sent in
+    let declared : IsDeclared network row.port x =
+    All-contains (IsDeclared network row.port) sent x a.offered.each came.sent in
+    let within : IsWithinBound network row x = All-contains (IsWithinBound network row) sent x
+    (law network row sent a.known.net a.used a.holds.covers rule a.offered) came.sent in
     let waits = All-contains (λ (y : Transmission). y.eligible ≤ y.start) sent x rule.waits came.sent in
     let takes = All-contains (λ (y : Transmission). y.end ≡ y.start + ps * y.bits) sent x rule.takes came.sent in
-    let arrival = came.told.arrives ∙ ap (λ (q : ℕ). arrival_after (port_at network.topology.ports q) x.end) came.port_is in
+    let arrival =
+    came.told.arrives ∙ ap (λ (q : ℕ). arrival_after (port_at network.topology.ports q) x.end) came.port_is in
     let class : (sender_at network x.sender).class ≡ row.class = sym declared.class ∙ came.class_is in
-    let reaches = least_reaches row.port (is_of row.class) shortest (senders_of network) x.sender no_sender declared.exists declared.uses (eq-eqb (sender_at network x.sender).class row.class class) in
+    let reaches = least_reaches row.port (is_of row.class) shortest (senders_of network)
+    x.sender no_sender declared.exists declared.uses (eq-eqb (sender_at network x.sender).class row.class class) in
     let least : row.least ≤ x.bits = omega (arith, reaches, a.holds.covers.sums.least, declared.least) in
     let product : ps * row.least ≤ ps * x.bits = mul-le-mul_left ps least in
     let stay = stays (node_at network.topology.nodes port.to).kind row.wait a.bridge.bridge a.holds.residence in
     record {
       arrives = omega (arith, arrival, within came.class_is);
       may_stay = omega (arith, arrival, waits, takes, product, stay, a.holds.covers.bound);
-      size = size_of_bits network x.sender h.octets (omega (arith, declared.least, came.told.bits)) (omega (arith, declared.most, came.told.bits));
+      size = size_of_bits network x.sender h.octets (omega (arith, declared.least, came.told.bits))
+          (omega (arith, declared.most, came.told.bits));
       shaped = omega (arith, class, a.shaped);
     }
 
 no_handed : Handed
 no_handed = record {
-  hop = record { port = 0; sent = record { frame = 0; sender = 0; class = 0; bits = 0; eligible = 0; start = 0; end = 0 } };
+  hop = record {
+    port = 0;
+    sent = record { frame = 0; sender = 0; class = 0; bits = 0; eligible = 0; start = 0; end = 0 };
+  };
   octets = 0;
   arrival = 0;
   verdict = Eligible (record { 0 = 0 });
 }
 
 -- the frames come in the order in which they were eligible at the port
-in_order : (network : DeclaredNetwork) (run : List Travel) (row : Row) → AtRow network run row → (arrivals : List Handed) → All (HasArrived network run row.port row.class) arrivals
-    → IsNonDecreasing (map (λ (h : Handed). h.arrival) arrivals) → IsNonDecreasingBy (λ (p : Passage). p.since) (map passage_of arrivals)
+in_order : (network : DeclaredNetwork) (run : List Travel) (row : Row) → AtRow network run row
+    → (arrivals : List Handed) → All (HasArrived network run row.port row.class) arrivals
+    → IsNonDecreasing (map (λ (h : Handed). h.arrival) arrivals)
+    → IsNonDecreasingBy (λ (p : Passage). p.since) (map passage_of arrivals)
 in_order network run row a arrivals came ascends i j d le within =
     let there : j < length arrivals = omega (arith, within, length-map arrivals passage_of) in
     let x : Handed = get_or arrivals i no_handed in
@@ -111,50 +124,77 @@ in_order network run row a arrivals came ascends i j d le within =
     let times = ascends i j 0 le (omega (arith, there, length-map arrivals (λ (h : Handed). h.arrival))) in
     let time_x = get_or-map (λ (h : Handed). h.arrival) arrivals i no_handed 0 (omega arith) in
     let time_y = get_or-map (λ (h : Handed). h.arrival) arrivals j no_handed 0 there in
-    let arrival_x = cx.told.arrives ∙ ap (λ (q : ℕ). arrival_after (port_at network.topology.ports q) x.hop.sent.end) cx.port_is in
-    let arrival_y = cy.told.arrives ∙ ap (λ (q : ℕ). arrival_after (port_at network.topology.ports q) y.hop.sent.end) cy.port_is in
+    let arrival_x =
+    cx.told.arrives ∙ ap (λ (q : ℕ). arrival_after (port_at network.topology.ports q) x.hop.sent.end) cx.port_is in
+    let arrival_y =
+    cy.told.arrives ∙ ap (λ (q : ℕ). arrival_after (port_at network.topology.ports q) y.hop.sent.end) cy.port_is in
     let ends : x.hop.sent.end ≤ y.hop.sent.end = omega (arith, times, time_x, time_y, arrival_x, arrival_y) in
-    let ordered = leave_in_order (port_at network.topology.ports row.port).ps_per_bit (sent_by network run row.port) (a.known.legal.ports row.port a.within)
-    (takes_time network run row.port a.known a.within a.offered) x.hop.sent y.hop.sent cx.sent cy.sent (cx.class_is ∙ sym cy.class_is) ends in
+    let ordered = leave_in_order (port_at network.topology.ports row.port).ps_per_bit (sent_by network run row.port)
+    (a.known.legal.ports row.port a.within)
+    (takes_time network run row.port a.known a.within a.offered) x.hop.sent y.hop.sent cx.sent cy.sent
+    (cx.class_is ∙ sym cy.class_is) ends in
     let since_x = ap (λ (p : Passage). p.since) (get_or-map passage_of arrivals i no_handed d (omega arith)) in
     let since_y = ap (λ (p : Passage). p.since) (get_or-map passage_of arrivals j no_handed d there) in
     omega (arith, ordered, since_x, since_y)
 
 -- so a group delays none of them
-delayed : (network : DeclaredNetwork) (run : List Travel) (row : Row) → AtRow network run row → (j : IsJudged network (residence_behind network row.port) (handed_by network run row.port row.class))
+delayed : (network : DeclaredNetwork) (run : List Travel) (row : Row) → AtRow network run row
+    → (j : IsJudged network (residence_behind network row.port) (handed_by network run row.port row.class))
     → IsDelayed (declared_by network) (residence_behind network row.port) row.bound (map passage_of j.arrivals)
 delayed network run row a j =
     let handed : List Handed = handed_by network run row.port row.class in
     let Came : Handed → Type 0 = HasArrived network run row.port row.class in
-    let came : All Came j.arrivals = All-permutation Came handed j.arrivals j.same (arrived network run row.port row.class a.known) in
-    let timely : All (OnTime network row) j.arrivals = All-weaker Came (OnTime network row) (on_time network run row a) j.arrivals came in
+    let came : All Came j.arrivals =
+    All-permutation Came handed j.arrivals j.same (arrived network run row.port row.class a.known) in
+    let timely : All (OnTime network row) j.arrivals =
+    All-weaker Came (OnTime network row) (on_time network run row a) j.arrivals came in
     record {
       ruled = All-map (λ (p : Passage). IsRuled (declared_by network p.offer.member)) passage_of j.arrivals
-          (λ k d h. sender_ruled network a.known.net (get_or j.arrivals k d).hop.sent.sender (came k d h).told.exists (timely k d h).shaped);
-      sized = All-map (λ (p : Passage). is_declared_size (declared_by network p.offer.member) p.offer.octets ≡ true) passage_of j.arrivals
+          (λ k d h. sender_ruled network a.known.net (get_or j.arrivals k d).hop.sent.sender (came k d h).told.exists
+          (timely k d h).shaped);
+      sized = All-map (λ (p : Passage). is_declared_size (declared_by network p.offer.member) p.offer.octets ≡ true)
+          passage_of j.arrivals
           (λ k d h. (timely k d h).size);
       in_order = in_order network run row a j.arrivals came j.in_order;
-      conformed = All-map (λ (p : Passage). KeepsWindows (declared_by network p.offer.member).rate (declared_by network p.offer.member).burst_bits (frames_before p.offer.member (map passage_of j.arrivals))) passage_of j.arrivals
-          (λ k d h. passages_conform network run row.port row.class a.known a.offered j.arrivals j.same (get_or j.arrivals k d).hop.sent.sender (came k d h).told.exists (timely k d h).shaped);
-      arrives = All-map (λ (p : Passage). p.offer.arrival ≤ p.since + row.bound) passage_of j.arrivals (λ k d h. (timely k d h).arrives);
-      may_stay = All-map (λ (p : Passage). p.since + row.bound ≤ p.offer.arrival + PS_PER_NS * residence_behind network row.port) passage_of j.arrivals (λ k d h. (timely k d h).may_stay);
+      conformed = All-map (λ (p : Passage). KeepsWindows (declared_by network p.offer.member).rate
+          (declared_by network p.offer.member).burst_bits (frames_before p.offer.member (map passage_of j.arrivals)))
+          passage_of j.arrivals
+          (λ k d h. passages_conform network run row.port row.class a.known a.offered j.arrivals j.same
+          (get_or j.arrivals k d).hop.sent.sender (came k d h).told.exists (timely k d h).shaped);
+      arrives = All-map (λ (p : Passage). p.offer.arrival ≤ p.since + row.bound) passage_of j.arrivals
+          (λ k d h. (timely k d h).arrives);
+      may_stay = All-map
+          (λ (p : Passage). p.since + row.bound ≤ p.offer.arrival + PS_PER_NS * residence_behind network row.port)
+          passage_of j.arrivals (λ k d h. (timely k d h).may_stay);
     }
 
 handed_again : (row : Row) (h : Handed) → IsEligibleAgain row.bound (passage_of h) h.verdict → IsHandedOn row h
 handed_again row h again =
-    subst (λ (v : Verdict). IsEligibleBy (h.hop.sent.eligible + row.bound) (λ e. Unit {0}) v) (sym again.1) (again.2, tt)
+    subst (λ (v : Verdict). IsEligibleBy (h.hop.sent.eligible + row.bound) (λ e. Unit {0}) v)
+    (sym again.1) (again.2, tt)
 
 pub shaping_for_free : ShapingForFree
 shaping_for_free network run row net legal used bridge holds offered =
-    let place : IsPlace (length network.topology.ports) row.port row.class = used_place network row.port row.class net used in
+    let place : IsPlace (length network.topology.ports) row.port row.class =
+    used_place network row.port row.class net used in
     let known : Case network run = record { net = net; legal = legal } in
-    let a : AtRow network run row = record { known = known; used = used; within = place.within; bridge = bridge; shaped = place.ranked; holds = holds; offered = offered } in
+    let a : AtRow network run row = record {
+      known = known;
+      used = used;
+      within = place.within;
+      bridge = bridge;
+      shaped = place.ranked;
+      holds = holds;
+      offered = offered;
+    } in
     let handed : List Handed = handed_by network run row.port row.class in
     let residence_ns : ℕ = residence_behind network row.port in
     let j : IsJudged network residence_ns handed = legal.groups row.port row.class place.within place.ranked in
     let Again : Passage → Verdict → Type 0 = IsEligibleAgain row.bound in
-    let free = shaping_free (declared_by network) residence_ns row.bound (map passage_of j.arrivals) (delayed network run row a j) in
-    let ByOffers : List Offer → Type 0 = λ (os : List Offer). AllZip Again (map passage_of j.arrivals) (verdicts_of (declared_by network) residence_ns (first (declared_by network)) os) in
+    let free = shaping_free (declared_by network) residence_ns row.bound (map passage_of j.arrivals)
+    (delayed network run row a j) in
+    let ByOffers : List Offer → Type 0 = λ (os : List Offer). AllZip Again (map passage_of j.arrivals)
+    (verdicts_of (declared_by network) residence_ns (first (declared_by network)) os) in
     let judged : AllZip Again (map passage_of j.arrivals) (map (λ (h : Handed). h.verdict) j.arrivals) =
     subst (AllZip Again (map passage_of j.arrivals)) (sym j.verdicts) (subst ByOffers (offers_are j.arrivals) free) in
     All-permutation (IsHandedOn row) j.arrivals handed (IsPermutation-sym handed j.arrivals j.same)

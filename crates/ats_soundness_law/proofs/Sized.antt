@@ -1,4 +1,5 @@
-use Rattle.std.proofs.Common.{◌≡◌, ℕ, ◌<◌, Bool, true, false, List, [], ◌∷◌, map, length, get_or, All, refl, sym, subst, inl, inr, arith}
+use Rattle.std.proofs.Common.{◌≡◌, ℕ, ◌<◌, Bool, true, false, List, [], ◌∷◌, map, length, get_or, All, refl, sym, subst}
+use Rattle.std.proofs.Common.{inl, inr, arith}
 use Rattle.std.specs.Prelude.{◌==◌, ◌&&◌, if◌then◌else◌}
 use Rattle.std.proofs.lemmas.Bool.{cases_lt, and_from, eq-eqb}
 use Rattle.std.proofs.lemmas.List.Elements.{All-nil, All-cons, All-weaker}
@@ -36,10 +37,12 @@ cons_tail e = cc
 
 -- so of the verdicts of a group
 group_sized : (network : DeclaredNetwork) (residence_ns : ℕ) (state : State) (arrivals : List Handed)
-    → map (λ (h : Handed). h.verdict) arrivals ≡ verdicts_of (declared_by network) residence_ns state (map offer_of arrivals) → All (IsSized network) arrivals
+    → map (λ (h : Handed). h.verdict) arrivals
+    ≡ verdicts_of (declared_by network) residence_ns state (map offer_of arrivals) → All (IsSized network) arrivals
 group_sized network residence_ns state [] same = All-nil (IsSized network)
 group_sized network residence_ns state (h ∷ hs) same =
-    let Sized : Verdict → Type 0 = λ (v : Verdict). OnEligible v (λ e. is_declared_size (declared_by network h.hop.sent.sender) h.octets ≡ true) in
+    let Sized : Verdict → Type 0 =
+    λ (v : Verdict). OnEligible v (λ e. is_declared_size (declared_by network h.hop.sent.sender) h.octets ≡ true) in
     All-cons (IsSized network) h hs
     (subst Sized (sym (cons_head same)) (by_size (is_declared_size (declared_by network h.hop.sent.sender) h.octets) _))
     (group_sized network residence_ns (next (declared_by network) residence_ns state (offer_of h)) hs (cons_tail same))
@@ -47,26 +50,36 @@ group_sized network residence_ns state (h ∷ hs) same =
 -- and of those on flows
 flow_sized : (network : DeclaredNetwork) (h : Handed) → IsPassed network h → IsSized network h
 flow_sized network h passed =
-    let Sized : Verdict → Type 0 = λ (v : Verdict). OnEligible v (λ e. is_declared_size (declared_by network h.hop.sent.sender) h.octets ≡ true) in
-    subst Sized (sym passed) (by_size (is_declared_size (declared_by network h.hop.sent.sender) h.octets) (Eligible (record { 0 = h.arrival })))
+    let Sized : Verdict → Type 0 =
+    λ (v : Verdict). OnEligible v (λ e. is_declared_size (declared_by network h.hop.sent.sender) h.octets ≡ true) in
+    subst Sized (sym passed) (by_size (is_declared_size (declared_by network h.hop.sent.sender) h.octets)
+    (Eligible (record { 0 = h.arrival })))
 
-place_sized : (network : DeclaredNetwork) (run : List Travel) → Case network run → (port class : ℕ) → port < length network.topology.ports → All (IsSized network) (handed_by network run port class)
-place_sized network run c port class within = elim (cases_lt 0 class) as (λ _. All (IsSized network) (handed_by network run port class)) [
-  | inl shaped ↦ (
-      let j : IsJudged network (residence_behind network port) (handed_by network run port class) = c.legal.groups port class within shaped in
-      All-permutation (IsSized network) j.arrivals (handed_by network run port class) (IsPermutation-sym (handed_by network run port class) j.arrivals j.same)
-      (group_sized network (residence_behind network port) (first (declared_by network)) j.arrivals j.verdicts))
-  | inr none ↦ (
-      let zero_class : class ≡ 0 = omega arith in
-      let Goal : ℕ → Type 0 = λ (n : ℕ). All (IsSized network) (handed_by network run port n) in
-      subst Goal (sym zero_class) (All-weaker (IsPassed network) (IsSized network) (flow_sized network) (handed_by network run port 0) (c.legal.flows port within)))
-]
+place_sized : (network : DeclaredNetwork) (run : List Travel) → Case network run → (port class : ℕ)
+    → port < length network.topology.ports → All (IsSized network) (handed_by network run port class)
+place_sized network run c port class within =
+    elim (cases_lt 0 class) as (λ _. All (IsSized network) (handed_by network run port class)) [
+      | inl shaped ↦ (
+          let j : IsJudged network (residence_behind network port) (handed_by network run port class) =
+          c.legal.groups port class within shaped in
+          All-permutation (IsSized network) j.arrivals (handed_by network run port class)
+          (IsPermutation-sym (handed_by network run port class) j.arrivals j.same)
+          (group_sized network (residence_behind network port) (first (declared_by network)) j.arrivals j.verdicts))
+      | inr none ↦ (
+          let zero_class : class ≡ 0 = omega arith in
+          let Goal : ℕ → Type 0 = λ (n : ℕ). All (IsSized network) (handed_by network run port n) in
+          subst Goal (sym zero_class) (All-weaker (IsPassed network) (IsSized network) (flow_sized network)
+          (handed_by network run port 0) (c.legal.flows port within)))
+    ]
 
 -- so of all that is handed on in a legal run
-pub sized : (network : DeclaredNetwork) (run : List Travel) → Case network run → All (IsSized network) (handed_from network 0 run)
+pub sized : (network : DeclaredNetwork) (run : List Travel) → Case network run
+    → All (IsSized network) (handed_from network 0 run)
 sized network run c k d h =
     let one : Handed = get_or (handed_from network 0 run) k d in
     let known : IsTold network one = told network run c k d h in
-    All-from_filter (λ (h : Handed). h.hop.port == one.hop.port && h.hop.sent.class == one.hop.sent.class) (IsSized network) (handed_from network 0 run)
+    All-from_filter (λ (h : Handed). h.hop.port == one.hop.port && h.hop.sent.class == one.hop.sent.class)
+    (IsSized network) (handed_from network 0 run)
     (place_sized network run c one.hop.port one.hop.sent.class known.within)
-    k d h (and_from (one.hop.port == one.hop.port) (one.hop.sent.class == one.hop.sent.class) (eq-eqb one.hop.port one.hop.port refl) (eq-eqb one.hop.sent.class one.hop.sent.class refl))
+    k d h (and_from (one.hop.port == one.hop.port) (one.hop.sent.class == one.hop.sent.class)
+    (eq-eqb one.hop.port one.hop.port refl) (eq-eqb one.hop.sent.class one.hop.sent.class refl))

@@ -19,14 +19,15 @@ IsEligibleBy limit next (Eligible e) = (e.0 ≤ limit) × next e.0
 IsEligibleBy limit next (Late e) = ⊥
 IsEligibleBy limit next Size = ⊥
 
--- from a port on a frame is eligible at each port, and at each within the bound of the port before since it was eligible
--- there; at the next by this time, and behind the last port it arrives
+-- from a port on a frame is eligible at each port, and at each within the bound of the port before since it was
+-- eligible there; at the next by this time, and behind the last port it arrives
 abbrev pub IsPrompt : (ℕ → ℕ) → ℕ → List ℕ → List HopRecord → Ending → Type 0
 IsPrompt bound limit [] [] (Sink at) = at.0 ≤ limit
 IsPrompt bound limit [] [] Discard = ⊥
 IsPrompt bound limit [] (hop ∷ hops) ending = ⊥
 IsPrompt bound limit (p ∷ path) [] ending = ⊥
-IsPrompt bound limit (p ∷ path) (hop ∷ hops) ending = IsEligibleBy limit (λ e. IsPrompt bound (e + bound p) path hops ending) hop.verdict
+IsPrompt bound limit (p ∷ path) (hop ∷ hops) ending =
+    IsEligibleBy limit (λ e. IsPrompt bound (e + bound p) path hops ending) hop.verdict
 
 -- the frame arrives at its listener by this time
 abbrev pub ArrivesBy : ℕ → Ending → Type 0
@@ -37,7 +38,8 @@ ArrivesBy limit Discard = ⊥
 abbrev pub bounds_of : List Row → Sender → ℕ → ℕ
 bounds_of rows sender port = bound_at rows port (class_at sender port)
 
--- a frame is never discarded, is eligible at each next hop within the bound of the hop before, and arrives within the sum
+-- a frame is never discarded, is eligible at each next hop within the bound of the hop before, and arrives within the
+-- sum
 pub record IsServed (rows : List Row) (sender : Sender) (journey : Travel) : Type 0 where
   pub prompt : IsPrompt (bounds_of rows sender) journey.release.at.0 sender.path journey.hops journey.ending
   pub arrives : ArrivesBy (journey.release.at.0 + sum_by (bounds_of rows sender) sender.path) journey.ending
@@ -52,7 +54,8 @@ OnEligible Size next = Unit {0}
 abbrev pub IsPromptOnce : (ℕ → ℕ) → List ℕ → List HopRecord → Ending → Type 0
 IsPromptOnce bound [] hops ending = Unit {0}
 IsPromptOnce bound (p ∷ path) [] ending = Unit {0}
-IsPromptOnce bound (p ∷ path) (hop ∷ hops) ending = OnEligible hop.verdict (λ e. IsPrompt bound (e + bound p) path hops ending)
+IsPromptOnce bound (p ∷ path) (hop ∷ hops) ending =
+    OnEligible hop.verdict (λ e. IsPrompt bound (e + bound p) path hops ending)
 
 -- the ports after the first
 abbrev pub later_ports : List ℕ → List ℕ
@@ -66,10 +69,11 @@ later_hops (hop ∷ hops) = hops
 
 -- whatever its own talker does, a frame that the first bridge lets through is prompt from there on
 abbrev pub IsContained : List Row → Sender → Travel → Type 0
-IsContained rows sender journey = IsPromptOnce (bounds_of rows sender) (later_ports sender.path) (later_hops journey.hops) journey.ending
+IsContained rows sender journey =
+    IsPromptOnce (bounds_of rows sender) (later_ports sender.path) (later_hops journey.hops) journey.ending
 
--- the bounds of these rows are sound: in each legal run, each frame of a stream whose talker keeps its buckets is served, and
--- each frame of any stream is contained
+-- the bounds of these rows are sound: in each legal run, each frame of a stream whose talker keeps its buckets is
+-- served, and each frame of any stream is contained
 pub record IsSound (network : DeclaredNetwork) (rows : List Row) : Type 0 where
   pub served : (run : List Travel) → IsLegal network run → (journey : Travel) → Contains run journey
       → 0 < (sender_at network journey.release.sender).class

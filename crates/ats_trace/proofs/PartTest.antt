@@ -1,4 +1,5 @@
-use Rattle.std.proofs.Common.{◌≡◌, ◌≢◌, ℕ, ◌<◌, ◌≤◌, Bool, true, false, ◌&&◌, ◌||◌, List, [], ◌∷◌, length, map, get_or, lit<, Option, Some, None, All, refl, sym, ap, subst, ◌∙◌, inl, inr}
+use Rattle.std.proofs.Common.{◌≡◌, ◌≢◌, ℕ, ◌<◌, ◌≤◌, Bool, true, false, ◌&&◌, ◌||◌, List, [], ◌∷◌, length, map, get_or}
+use Rattle.std.proofs.Common.{lit<, Option, Some, None, All, refl, sym, ap, subst, ◌∙◌, inl, inr}
 use Rattle.std.specs.Prelude.{nat_le, nat_lt, ◌==◌}
 use Rattle.std.specs.List.{list_all}
 use Rattle.std.proofs.lemmas.Bool.{and_parts, false≢true}
@@ -18,10 +19,13 @@ use Rattle.ats_trace.specs.declared.journey.Release.{Release}
 use Rattle.ats_trace.specs.declared.journey.HopRecord.{HopRecord}
 use Rattle.ats_trace.specs.declared.journey.Ending.{Ending}
 use Rattle.ats_trace.specs.declared.journey.Ending.TheVariants.{Sink, Discard}
-use Rattle.ats_trace.specs.Parts.{Part, in_order, octets, way, released, waits, takes, apart, chosen, prompt, groups, flows, Keeps}
+use Rattle.ats_trace.specs.Parts.{Part, in_order, octets, way, released, waits, takes, apart, chosen, prompt, groups}
+use Rattle.ats_trace.specs.Parts.{flows, Keeps}
 use Rattle.ats_trace.proofs.Tests.{le_of, lt_of, eq_of, either, all_by, pairs_pass}
-use Rattle.ats_trace.proofs.PortTest.{waits_pass, takes_pass, apart_pass, chosen_pass, prompt_pass, waits_by, takes_by, all_apart_by, all_chosen_by, all_prompt_by}
-use Rattle.ats_trace.proofs.LegalTest.{ascending_by, each_port_passes, each_port_by, groups_pass, groups_by, flows_pass, flows_by, same_verdict, verdict_is}
+use Rattle.ats_trace.proofs.PortTest.{waits_pass, takes_pass, apart_pass, chosen_pass, prompt_pass, waits_by, takes_by}
+use Rattle.ats_trace.proofs.PortTest.{all_apart_by, all_chosen_by, all_prompt_by}
+use Rattle.ats_trace.proofs.LegalTest.{ascending_by, each_port_passes, each_port_by, groups_pass, groups_by, flows_pass}
+use Rattle.ats_trace.proofs.LegalTest.{flows_by, same_verdict, verdict_is}
 
 -- Tests of the parts of a legal run on closed networks and runs.
 
@@ -38,9 +42,12 @@ goes_way ports due [] [] Discard = false
 goes_way ports due [] (hop ∷ hops) ending = false
 goes_way ports due (p ∷ path) [] ending = false
 goes_way ports due (p ∷ path) (hop ∷ hops) ending =
-    hop.arrival.0 == due && goes_on (λ at. goes_way ports at path hops ending) (port_at ports p) hop.verdict hop.sent hops ending
+    hop.arrival.0
+    == due && goes_on (λ at. goes_way ports at path hops ending) (port_at ports p) hop.verdict hop.sent hops ending
 
-goes_on_by : (Onward : ℕ → Type 0) (onward : ℕ → Bool) → ((at : ℕ) → onward at ≡ true → Onward at) → (port : Port) (verdict : Verdict) (sent : Option (Ps × Ps)) (hops : List HopRecord) (ending : Ending) → goes_on onward port verdict sent hops ending ≡ true → GoesOn Onward port verdict sent hops ending
+goes_on_by : (Onward : ℕ → Type 0) (onward : ℕ → Bool) → ((at : ℕ) → onward at ≡ true → Onward at)
+    → (port : Port) (verdict : Verdict) (sent : Option (Ps × Ps)) (hops : List HopRecord) (ending : Ending)
+    → goes_on onward port verdict sent hops ending ≡ true → GoesOn Onward port verdict sent hops ending
 goes_on_by Onward onward shows port (Eligible e) (Some times) hops ending h = shows (arrival_after port times.1.0) h
 goes_on_by Onward onward shows port (Eligible e) None hops ending h = absurd (false≢true h)
 goes_on_by Onward onward shows port (Late e) (Some times) hops ending h = absurd (false≢true h)
@@ -52,15 +59,21 @@ goes_on_by Onward onward shows port Size None [] (Sink at) h = absurd (false≢t
 goes_on_by Onward onward shows port (Late e) None (hop ∷ hops) ending h = absurd (false≢true h)
 goes_on_by Onward onward shows port Size None (hop ∷ hops) ending h = absurd (false≢true h)
 
-way_by : (ports : List Port) (due : ℕ) (path : List ℕ) (hops : List HopRecord) (ending : Ending) → goes_way ports due path hops ending ≡ true → IsWay ports due path hops ending
+way_by : (ports : List Port) (due : ℕ) (path : List ℕ) (hops : List HopRecord) (ending : Ending)
+    → goes_way ports due path hops ending ≡ true → IsWay ports due path hops ending
 way_by ports due [] [] (Sink at) h = eq_of at.0 due h
 way_by ports due [] [] Discard h = absurd (false≢true h)
 way_by ports due [] (hop ∷ hops) ending h = absurd (false≢true h)
 way_by ports due (p ∷ path) [] ending h = absurd (false≢true h)
 way_by ports due (p ∷ path) (hop ∷ hops) ending h =
-    let parts : ((hop.arrival.0 == due) ≡ true) × (goes_on (λ at. goes_way ports at path hops ending) (port_at ports p) hop.verdict hop.sent hops ending ≡ true)
-    = and_parts (hop.arrival.0 == due) (goes_on (λ at. goes_way ports at path hops ending) (port_at ports p) hop.verdict hop.sent hops ending) h in
-    (eq_of hop.arrival.0 due parts.0, goes_on_by (λ at. IsWay ports at path hops ending) (λ at. goes_way ports at path hops ending) (λ at g. way_by ports at path hops ending g) (port_at ports p) hop.verdict hop.sent hops ending parts.1)
+    let parts : ((hop.arrival.0 == due) ≡ true)
+    × (goes_on (λ at. goes_way ports at path hops ending) (port_at ports p) hop.verdict hop.sent hops ending ≡ true)
+    = and_parts (hop.arrival.0 == due)
+    (goes_on (λ at. goes_way ports at path hops ending) (port_at ports p) hop.verdict hop.sent hops ending) h in (
+      eq_of hop.arrival.0 due parts.0,
+      goes_on_by (λ at. IsWay ports at path hops ending) (λ at. goes_way ports at path hops ending)
+          (λ at g. way_by ports at path hops ending g) (port_at ports p) hop.verdict hop.sent hops ending parts.1,
+    )
 
 abbrev pub is_released : Release → List HopRecord → Bool
 is_released release [] = false
@@ -72,20 +85,28 @@ released_by release (hop ∷ hops) h = verdict_is hop.verdict (Eligible release.
 
 abbrev pub has_way : DeclaredNetwork → Travel → Bool
 has_way network j =
-    nat_lt j.release.sender (length (senders_of network)) && goes_way network.topology.ports j.release.at.0 (sender_at network j.release.sender).path j.hops j.ending
+    nat_lt j.release.sender (length (senders_of network))
+    && goes_way network.topology.ports j.release.at.0 (sender_at network j.release.sender).path j.hops j.ending
 
-has_way_by : (network : DeclaredNetwork) (j : Travel) → has_way network j ≡ true → (j.release.sender < length (senders_of network)) × IsWay network.topology.ports j.release.at.0 (sender_at network j.release.sender).path j.hops j.ending
+has_way_by : (network : DeclaredNetwork) (j : Travel) → has_way network j ≡ true
+    → (j.release.sender < length (senders_of network))
+    × IsWay network.topology.ports j.release.at.0 (sender_at network j.release.sender).path j.hops j.ending
 has_way_by network j h =
-    let goes : Bool = goes_way network.topology.ports j.release.at.0 (sender_at network j.release.sender).path j.hops j.ending in
-    let parts : (nat_lt j.release.sender (length (senders_of network)) ≡ true) × (goes ≡ true) = and_parts (nat_lt j.release.sender (length (senders_of network))) goes h in
-    (lt_of j.release.sender (length (senders_of network)) parts.0, way_by network.topology.ports j.release.at.0 (sender_at network j.release.sender).path j.hops j.ending parts.1)
+    let goes : Bool =
+    goes_way network.topology.ports j.release.at.0 (sender_at network j.release.sender).path j.hops j.ending in
+    let parts : (nat_lt j.release.sender (length (senders_of network)) ≡ true) × (goes ≡ true) =
+    and_parts (nat_lt j.release.sender (length (senders_of network))) goes h in (
+      lt_of j.release.sender (length (senders_of network)) parts.0,
+      way_by network.topology.ports j.release.at.0 (sender_at network j.release.sender).path j.hops j.ending parts.1,
+    )
 
 abbrev pub is_frame : Travel → Bool
 is_frame j = nat_le 64 j.release.octets && nat_le j.release.octets 2000
 
 frame_by : (j : Travel) → is_frame j ≡ true → IsFrameSize j.release.octets
 frame_by j h =
-    let parts : (nat_le 64 j.release.octets ≡ true) × (nat_le j.release.octets 2000 ≡ true) = and_parts (nat_le 64 j.release.octets) (nat_le j.release.octets 2000) h in
+    let parts : (nat_le 64 j.release.octets ≡ true) × (nat_le j.release.octets 2000 ≡ true) =
+    and_parts (nat_le 64 j.release.octets) (nat_le j.release.octets 2000) h in
     record { least = le_of 64 j.release.octets parts.0; most = le_of j.release.octets 2000 parts.1 }
 
 -- the run keeps a part
@@ -102,13 +123,18 @@ passes prompt network run = each_port_passes prompt_pass network run
 passes groups network run = groups_pass network run
 passes flows network run = flows_pass network run
 
-pub kept_by : (part : Part) (network : DeclaredNetwork) (run : List Travel) → passes part network run ≡ true → Keeps part network run
+pub kept_by : (part : Part) (network : DeclaredNetwork) (run : List Travel) → passes part network run ≡ true
+    → Keeps part network run
 kept_by in_order network run h = ascending_by (map (λ (r : Release). r.at.0) (releases_of run)) h
 kept_by octets network run h = all_by (λ (j : Travel). IsFrameSize j.release.octets) is_frame frame_by run h
 kept_by way network run h =
-    all_by (λ (j : Travel). (j.release.sender < length (senders_of network)) × IsWay network.topology.ports j.release.at.0 (sender_at network j.release.sender).path j.hops j.ending) (has_way network) (has_way_by network) run h
-kept_by released network run h = all_by (λ (j : Travel). IsReleased j.release j.hops) (λ (j : Travel). is_released j.release j.hops) (λ j. released_by j.release j.hops) run h
-kept_by waits network run h = each_port_by (λ ps sent. All (λ (x : Transmission). x.eligible ≤ x.start) sent) waits_pass waits_by network run h
+    all_by (λ (j : Travel). (j.release.sender < length (senders_of network))
+    × IsWay network.topology.ports j.release.at.0 (sender_at network j.release.sender).path j.hops j.ending)
+    (has_way network) (has_way_by network) run h
+kept_by released network run h = all_by (λ (j : Travel). IsReleased j.release j.hops)
+    (λ (j : Travel). is_released j.release j.hops) (λ j. released_by j.release j.hops) run h
+kept_by waits network run h =
+    each_port_by (λ ps sent. All (λ (x : Transmission). x.eligible ≤ x.start) sent) waits_pass waits_by network run h
 kept_by takes network run h = each_port_by _ takes_pass takes_by network run h
 kept_by apart network run h = each_port_by _ apart_pass all_apart_by network run h
 kept_by chosen network run h = each_port_by _ chosen_pass all_chosen_by network run h
@@ -163,22 +189,27 @@ below flows = lit< tt
 abbrev pub all_pass : DeclaredNetwork → List Travel → Bool
 all_pass network run = list_all (λ part. passes part network run) parts
 
-pub all_kept : (network : DeclaredNetwork) (run : List Travel) → all_pass network run ≡ true → (part : Part) → Keeps part network run
+pub all_kept : (network : DeclaredNetwork) (run : List Travel) → all_pass network run ≡ true → (part : Part)
+    → Keeps part network run
 all_kept network run h part =
     let test : Part → Bool = λ part. passes part network run in
-    let there : test (get_or parts (number_of part) flows) ≡ true = AllPass-from_list_all test parts h (number_of part) flows (below part) in
+    let there : test (get_or parts (number_of part) flows) ≡ true =
+    AllPass-from_list_all test parts h (number_of part) flows (below part) in
     kept_by part network run (subst (λ (q : Part). test q ≡ true) (own part) there)
 
 -- the run keeps each part but this one
 abbrev pub others_pass : Part → DeclaredNetwork → List Travel → Bool
 others_pass part network run = list_all (λ other. number_of other == number_of part || passes other network run) parts
 
-pub others_by : (part : Part) (network : DeclaredNetwork) (run : List Travel) → others_pass part network run ≡ true → (other : Part) → other ≢ part → Keeps other network run
+pub others_by : (part : Part) (network : DeclaredNetwork) (run : List Travel) → others_pass part network run ≡ true
+    → (other : Part) → other ≢ part → Keeps other network run
 others_by part network run h other differ =
     let test : Part → Bool = λ other. number_of other == number_of part || passes other network run in
-    let there : test (get_or parts (number_of other) flows) ≡ true = AllPass-from_list_all test parts h (number_of other) flows (below other) in
+    let there : test (get_or parts (number_of other) flows) ≡ true =
+    AllPass-from_list_all test parts h (number_of other) flows (below other) in
     let here : test other ≡ true = subst (λ (q : Part). test q ≡ true) (own other) there in
     elim (either (number_of other == number_of part) (passes other network run) here) [
-      | inl same ↦ absurd (differ (sym (own other) ∙ ap (λ (n : ℕ). get_or parts n flows) (eq_of (number_of other) (number_of part) same) ∙ own part))
+      | inl same ↦ absurd (differ (sym (own other)
+          ∙ ap (λ (n : ℕ). get_or parts n flows) (eq_of (number_of other) (number_of part) same) ∙ own part))
       | inr passed ↦ kept_by other network run passed
     ]

@@ -11,7 +11,8 @@ use Rattle.ats_trace.specs.Projections.{Handed}
 
 -- what a sender declares of its rate, burst and sizes
 abbrev pub declared_of : Sender → Declared
-declared_of s = record { rate = s.rate; burst_bits = s.burst_bits; min_octets = s.min_octets; max_octets = s.max_octets }
+declared_of s =
+    record { rate = s.rate; burst_bits = s.burst_bits; min_octets = s.min_octets; max_octets = s.max_octets }
 
 -- the same of the sender with a number, by which its scheduler in each group is known
 abbrev pub declared_by : DeclaredNetwork → ℕ → Declared
@@ -21,12 +22,14 @@ declared_by network i = declared_of (sender_at network i)
 abbrev pub offer_of : Handed → Offer
 offer_of h = record { member = h.hop.sent.sender; arrival = h.arrival; octets = h.octets }
 
--- frames of one port and class get their verdicts from one group of schedulers, which takes them in order of their arrivals
+-- frames of one port and class get their verdicts from one group of schedulers, which takes them in order of their
+-- arrivals
 pub record IsJudged (network : DeclaredNetwork) (residence_ns : ℕ) (handed : List Handed) : Type 0 where
   pub arrivals : List Handed
   pub same : IsPermutation handed arrivals
   pub in_order : IsNonDecreasing (map (λ (h : Handed). h.arrival) arrivals)
-  pub verdicts : map (λ (h : Handed). h.verdict) arrivals ≡ verdicts_of (declared_by network) residence_ns (first (declared_by network)) (map offer_of arrivals)
+  pub verdicts : map (λ (h : Handed). h.verdict) arrivals
+      ≡ verdicts_of (declared_by network) residence_ns (first (declared_by network)) (map offer_of arrivals)
 
 -- the maximum residence time behind a port, in nanoseconds; 0 behind a port to a station
 abbrev pub residence_behind : DeclaredNetwork → ℕ → ℕ
@@ -35,4 +38,5 @@ residence_behind network port = unwrap_or (residence_after network.topology port
 -- a flow's frame behind a port: eligible at its arrival where it has a declared size, else discarded for its size
 abbrev pub IsPassed : DeclaredNetwork → Handed → Type 0
 IsPassed network h =
-    h.verdict ≡ (if is_declared_size (declared_by network h.hop.sent.sender) h.octets then Eligible (record { 0 = h.arrival }) else Size)
+    h.verdict ≡ (if is_declared_size (declared_by network h.hop.sent.sender) h.octets
+    then Eligible (record { 0 = h.arrival }) else Size)

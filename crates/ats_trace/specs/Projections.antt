@@ -50,7 +50,12 @@ abbrev pub handed_at : ℕ → ℕ → Option Transmission → List HopRecord �
 handed_at octets port None next = []
 handed_at octets port (Some sent) [] = []
 handed_at octets port (Some sent) (next ∷ hops) =
-    record { hop = record { port = port; sent = sent }; octets = octets; arrival = next.arrival.0; verdict = next.verdict } ∷ []
+    record {
+      hop = record { port = port; sent = sent };
+      octets = octets;
+      arrival = next.arrival.0;
+      verdict = next.verdict;
+    } ∷ []
 
 -- the transmissions of a frame along what is left of its path
 abbrev pub hops_along : ℕ → Release → Sender → List ℕ → List HopRecord → List Hop
@@ -64,14 +69,17 @@ abbrev pub handed_along : ℕ → Release → Sender → List ℕ → List HopRe
 handed_along frame release sender [] hops = []
 handed_along frame release sender (p ∷ path) [] = []
 handed_along frame release sender (p ∷ path) (hop ∷ hops) =
-    handed_at release.octets p (transmission_of frame release (class_at sender p) hop) hops ++ handed_along frame release sender path hops
+    handed_at release.octets p (transmission_of frame release (class_at sender p) hop) hops
+    ++ handed_along frame release sender path hops
 
 -- of the journey with this number
 abbrev pub journey_hops : DeclaredNetwork → ℕ → Travel → List Hop
-journey_hops network frame j = hops_along frame j.release (sender_at network j.release.sender) (sender_at network j.release.sender).path j.hops
+journey_hops network frame j =
+    hops_along frame j.release (sender_at network j.release.sender) (sender_at network j.release.sender).path j.hops
 
 abbrev pub journey_handed : DeclaredNetwork → ℕ → Travel → List Handed
-journey_handed network frame j = handed_along frame j.release (sender_at network j.release.sender) (sender_at network j.release.sender).path j.hops
+journey_handed network frame j =
+    handed_along frame j.release (sender_at network j.release.sender) (sender_at network j.release.sender).path j.hops
 
 -- of journeys that are numbered from this number on
 abbrev pub hops_from : DeclaredNetwork → ℕ → List Travel → List Hop
@@ -88,4 +96,5 @@ sent_by network run port = map (λ (h : Hop). h.sent) (filter (λ (h : Hop). h.p
 
 -- the frames of a class that a port has handed on in a run
 abbrev pub handed_by : DeclaredNetwork → List Travel → ℕ → ℕ → List Handed
-handed_by network run port class = filter (λ (h : Handed). h.hop.port == port && h.hop.sent.class == class) (handed_from network 0 run)
+handed_by network run port class =
+    filter (λ (h : Handed). h.hop.port == port && h.hop.sent.class == class) (handed_from network 0 run)

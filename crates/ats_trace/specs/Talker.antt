@@ -30,9 +30,10 @@ frames_of i releases = map frame_of (filter (λ (r : Release). r.sender == i) re
 abbrev pub IsDeclaredSize : DeclaredNetwork → Release → Type 0
 IsDeclaredSize network r = IsTrue (is_declared_size (declared_by network r.sender) r.octets)
 
--- a station keeps its buckets: the releases of each stream that begins there conform to the stream's rate and burst, and
--- each release of a stream or flow that begins there has a declared size
+-- a station keeps its buckets: the releases of each stream that begins there conform to the stream's rate and burst,
+-- and each release of a stream or flow that begins there has a declared size
 pub record KeepsBuckets (network : DeclaredNetwork) (releases : List Release) (station : ℕ) : Type 0 where
   pub streams : (i : ℕ) → i < length network.streams → talker_of network i ≡ station
       → Conforms (sender_at network i).rate (sender_at network i).burst_bits (frames_of i releases)
-  pub sizes : All (λ (r : Release). r.sender < length (senders_of network) → talker_of network r.sender ≡ station → IsDeclaredSize network r) releases
+  pub sizes : All (λ (r : Release). r.sender < length (senders_of network) → talker_of network r.sender ≡ station
+      → IsDeclaredSize network r) releases

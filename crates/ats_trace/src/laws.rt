@@ -7,17 +7,17 @@ ghost use Rattle.ats_trace.specs.Parts.{EachPartCounts, LegalIsEachPart};
 ghost use Rattle.ats_trace.specs.Regulated.{RegulatedAreLegal};
 ghost use Rattle.ats_trace.specs.TalkerExamples.{TalkersOfExamples};
 
-/// One frame over one bridge, a frame that is discarded for its size, a frame behind one of a flow, and two frames that
-/// become eligible at the same time, in either order. And a frame that the bridge holds back, one that is late, and what
-/// becomes of another stream's frame behind each: it waits for one of its group that is held back, and for no late one and
-/// none of another class.
+/// One frame over one bridge, a frame that is discarded for its size, a frame behind one of a flow,
+/// and two frames that become eligible at the same time, in either order. And a frame that the
+/// bridge holds back, one that is late, and what becomes of another stream's frame behind each: it
+/// waits for one of its group that is held back, and for no late one and none of another class.
 pub fn examples_are_legal()
     ensures plain { ExamplesAreLegal }
     ensures regulated { RegulatedAreLegal }
 {}
 
-/// Runs that are not legal: for each field of a legal run, of a journey and of the port rule one of the legal examples with
-/// one number changed, and runs that break one part alone.
+/// Runs that are not legal: for each field of a legal run, of a journey and of the port rule one of
+/// the legal examples with one number changed, and runs that break one part alone.
 pub fn changed_examples_are_not()
     ensures changed { ChangedExamplesAreNot }
     ensures alone { EachBreaksAlone }
@@ -33,8 +33,8 @@ pub fn each_part_counts()
     ensures { EachPartCounts }
 {}
 
-/// A talker that sends its burst, and again as soon as its rate allows, keeps its bucket; 1 ps sooner it breaks it, as does
-/// one with a frame that is too long.
+/// A talker that sends its burst, and again as soon as its rate allows, keeps its bucket; 1 ps
+/// sooner it breaks it, as does one with a frame that is too long.
 pub fn talkers_of_examples()
     ensures { TalkersOfExamples }
 {}

@@ -19,6 +19,7 @@ drive-requires g c =
     let one : InTime entry = (omega arith, omega arith) in (
       omega arith,
       omega (arith, ap length empty, c.insert.ensures.count),
-      All-permutation InTime (entry ∷ before) c.insert.new.self.entries i.entries (All-cons InTime entry before one none),
+      All-permutation InTime (entry ∷ before) c.insert.new.self.entries i.entries
+          (All-cons InTime entry before one none),
       omega arith,
     )
