@@ -4,3 +4,6 @@ pub mod NoneHolds
 pub mod LeastHolds
 pub mod OneLeast
 pub mod Beginnings
+pub mod Breaches
+pub mod FoundReason
+pub mod FirstReason

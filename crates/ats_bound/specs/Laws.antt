@@ -1,4 +1,4 @@
-use Rattle.std.specs.Prelude.{◌≡◌, ℕ, ◌≤◌, true, List, Some, None}
+use Rattle.std.specs.Prelude.{◌≡◌, ◌↔◌, ℕ, ◌≤◌, true, List, Some, None}
 use Rattle.ats_num.specs.declared.time.TheConstants.{PS_PER_SECOND}
 use Rattle.ats_network.specs.Network.{DeclaredNetwork, IsNetwork}
 use Rattle.ats_certificate.specs.PortSums.{is_used}
@@ -7,6 +7,7 @@ use Rattle.ats_certificate.specs.Least.{IsLeastRow, IsLeastCertificate}
 use Rattle.ats_certificate.specs.declared.row.Row.{Row}
 use Rattle.ats_bound.specs.Least.{least_row, least_certificate}
 use Rattle.ats_bound.specs.Reason.{load_at, reason_of}
+use Rattle.ats_bound.specs.First.{IsFirstReason}
 use Rattle.ats_tally.specs.declared.reason.Reason.{Reason}
 
 -- where a network has no reason against it, its least certificate is one, and holds
@@ -22,6 +23,18 @@ abbrev pub ReasonLeavesNone : Type 0
 ReasonLeavesNone =
     (network : DeclaredNetwork) (reason : Reason) (rows : List Row) → IsNetwork network
     → reason_of network ≡ Some reason → ¬ Holds network rows
+
+-- a reason is given exactly where it is the first
+abbrev pub EachReasonIsTheFirst : Type 0
+EachReasonIsTheFirst =
+    (network : DeclaredNetwork) (reason : Reason) → IsNetwork network
+    → reason_of network ≡ Some reason ↔ IsFirstReason network reason
+
+-- so no more than one reason is the first
+abbrev pub FirstReasonIsOne : Type 0
+FirstReasonIsOne =
+    (network : DeclaredNetwork) (a b : Reason) → IsNetwork network → IsFirstReason network a → IsFirstReason network b
+    → a ≡ b
 
 -- a network has no other least certificate than the one that is computed
 abbrev pub LeastCertificateIsOne : Type 0

@@ -1,5 +1,6 @@
 pub mod Least
 pub mod Reason
+pub mod First
 pub mod Laws
 pub mod Row
 pub mod Begun

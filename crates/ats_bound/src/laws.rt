@@ -1,7 +1,7 @@
 //! Laws of the definitions.
 
-ghost use Rattle.ats_bound.specs.Laws.{ComputedRowIsLeast, LeastCertificateHolds, LeastCertificateIsOne};
-ghost use Rattle.ats_bound.specs.Laws.{ReasonLeavesNone};
+ghost use Rattle.ats_bound.specs.Laws.{ComputedRowIsLeast, EachReasonIsTheFirst, FirstReasonIsOne};
+ghost use Rattle.ats_bound.specs.Laws.{LeastCertificateHolds, LeastCertificateIsOne, ReasonLeavesNone};
 
 /// A law: where a network has no reason against it, the certificate that is computed is the least, and holds.
 pub fn least_certificate_holds()
@@ -11,6 +11,18 @@ pub fn least_certificate_holds()
 /// A law: where a network has a reason against it, no certificate holds for it.
 pub fn reason_leaves_none()
     ensures { ReasonLeavesNone }
+{}
+
+/// A law: a reason is given against a network exactly where it is the first: the first port and class whose load is
+/// more than the link; where there is none, the first row of the least certificate that waits longer than a frame may
+/// stay behind its port; where there is none either, the first stream that is late by the least certificate.
+pub fn each_reason_is_the_first()
+    ensures { EachReasonIsTheFirst }
+{}
+
+/// A law: no more than one reason is the first.
+pub fn first_reason_is_one()
+    ensures { FirstReasonIsOne }
 {}
 
 /// A law: a network has one least certificate at most, the one that is computed.

@@ -1,0 +1,142 @@
+-- A reason is found exactly where it is the first, so no more than one is.
+use Rattle.std.proofs.Common.{◌≡◌, ℕ, ◌*◌, ◌≤◌, true, List, Option, Some, None, refl, sym, ap, subst, ◌∙◌, inl, inr}
+use Rattle.std.proofs.Common.{get_or, arith}
+use Rattle.std.specs.Prelude.{nat_lt}
+use Rattle.std.specs.List.{All}
+use Rattle.ats_num.specs.declared.time.TheConstants.{PS_PER_SECOND, PS_PER_NS}
+use Rattle.ats_network.specs.Network.{DeclaredNetwork, IsNetwork}
+use Rattle.ats_network.specs.Residence.{residence_after}
+use Rattle.ats_certificate.specs.PortSums.{is_used}
+use Rattle.ats_certificate.specs.Certificate.{IsInTime, bound_along, is_row_of, row_of}
+use Rattle.ats_certificate.specs.Least.{IsLeastRow, IsLeastCertificate}
+use Rattle.ats_certificate.specs.Used.{places_of}
+use Rattle.ats_certificate.specs.declared.row.Row.{Row}
+use Rattle.ats_tally.specs.Reason.{first_some, overstay_by, overstay, late}
+use Rattle.ats_tally.specs.declared.reason.Reason.{Reason}
+use Rattle.ats_tally.specs.declared.reason.Reason.TheVariants.{Overloaded, Residence, Deadline}
+use Rattle.ats_tally.proofs.Firsts.{some_is}
+use Rattle.ats_tally.proofs.Lists.{All-found, IsFound, found_is, option_cases}
+use Rattle.ats_tally.proofs.Places.{Precedes, places_used}
+use Rattle.ats_bound.specs.First.{IsFirstOverload, IsFirstOverstay, IsFirstLate, IsFirstReason, RowMayStay}
+use Rattle.ats_bound.specs.Laws.{EachReasonIsTheFirst, FirstReasonIsOne}
+use Rattle.ats_bound.specs.Least.{least_certificate}
+use Rattle.ats_bound.specs.Reason.{load_at, overload, reason_of}
+use Rattle.ats_bound.proofs.Breaches.{none_given, given_at, at_some, or_past, true_if, not_less}
+use Rattle.ats_bound.proofs.FoundReason.{FitsAt, load_tests, stay_tests, time_tests, each_fits, of_load, found_is_first}
+use Rattle.ats_bound.proofs.NoneHolds.{no_none, row_at}
+use Rattle.ats_bound.proofs.OneLeast.{least_certificate_is_one}
+use Rattle.ats_bound.proofs.Waits.{Fits, load-is}
+
+module _ (network : DeclaredNetwork) (is : IsNetwork network) where
+  -- of two places that are the first overloaded neither comes before the other
+  not_before : (p c l port class load : ℕ) → IsFirstOverload network p c l → IsFirstOverload network port class load
+      → Precedes (p, c) (port, class) → ⊥
+  not_before p c l port class load a b less =
+      let fits : load_at network (p, c) ≤ PS_PER_SECOND = b.before p c a.used less in
+      omega (arith, fits, a.over, a.load_is)
+
+  one_load : (p c l port class load : ℕ) → IsFirstOverload network p c l → IsFirstOverload network port class load
+      → Overloaded p c l ≡ Overloaded port class load
+  one_load p c l port class load a b =
+      let port_most : port ≤ p = not_less p port (λ h. not_before p c l port class load a b (inl h)) in
+      let port_least : p ≤ port = not_less port p (λ h. not_before port class load p c l b a (inl h)) in
+      let port_is : p ≡ port = omega (arith, port_most, port_least) in
+      let class_most : class ≤ c =
+      not_less c class (λ h. not_before p c l port class load a b (inr (port_is, h))) in
+      let class_least : c ≤ class =
+      not_less class c (λ h. not_before port class load p c l b a (inr (sym port_is, h))) in
+      let class_is : c ≡ class = omega (arith, class_most, class_least) in
+      let load_is : l ≡ load = sym a.load_is ∙ ap (λ (n : ℕ). load_at network (n, c)) port_is
+      ∙ ap (λ (n : ℕ). load_at network (port, n)) class_is ∙ b.load_is in
+      ap (λ (n : ℕ). Overloaded n c l) port_is ∙ ap (λ (n : ℕ). Overloaded port n l) class_is
+      ∙ ap (λ (n : ℕ). Overloaded port class n) load_is
+
+  by_load : (port class load : ℕ) → IsFirstOverload network port class load
+      → first_some (overload network) (places_of network) ≡ Some (Overloaded port class load)
+  by_load port class load first = elim (option_cases (first_some (overload network) (places_of network))) as (λ _.
+      first_some (overload network) (places_of network) ≡ Some (Overloaded port class load)) [
+        | inl none ↦ absurd (
+            let fits : load_at network (port, class) ≤ PS_PER_SECOND =
+            each_fits network is none port class first.used in
+            omega (arith, fits, first.over, first.load_is))
+        | inr some ↦ some.1 ∙ ap (λ (r : Reason). Some r) (of_load network is
+            (λ (r : Reason). r ≡ Overloaded port class load) (λ p c l other. one_load p c l port class load other first)
+            some.0 some.1)
+      ]
+
+  -- where there is the least certificate, each place that is used fits its link
+  fits_least : (rows : List Row) → IsLeastCertificate network rows → (port class : ℕ)
+      → is_used network port class ≡ true → Fits network port class
+  fits_least rows least port class used = elim (option_cases (row_of rows port class)) as (λ _.
+      Fits network port class) [
+        | inl none ↦ absurd (no_none (row_of rows port class) none (least.rows_of.complete port class used))
+        | inr some ↦ (
+            let row : Row = some.0 in
+            let f : IsFound (is_row_of port class) rows row = found_is (is_row_of port class) rows row some.1 in
+            let at = row_at row port class f.passes in
+            let of : IsLeastRow network row =
+            All-found (IsLeastRow network) (is_row_of port class) rows row least.each some.1 in
+            subst (λ (n : ℕ). Fits network n class) at.0
+            (subst (λ (n : ℕ). Fits network row.port n) at.1 (load-is network row of.covers)))
+      ]
+
+  no_load : (rows : List Row) → IsLeastCertificate network rows
+      → first_some (overload network) (places_of network) ≡ None
+  no_load rows least =
+      none_given (overload network) (FitsAt network) (places_of network) (load_tests network (places_of network))
+      (λ k d h. (
+      let at = get_or (places_of network) k d in
+      fits_least rows least at.0 at.1 (places_used network k d h)))
+
+  -- what is found in the least certificate is found in the one that is computed
+  stays_over : (row : Row) (residence : Option ℕ) → (overstay_by row residence ≡ None → ⊥)
+      → overstay_by row residence ≡ Some (Residence row.port row.class row.wait)
+  stays_over row None some = absurd (some refl)
+  stays_over row (Some residence_ns) some =
+      true_if (nat_lt (PS_PER_NS * residence_ns) row.wait) (Residence row.port row.class row.wait) some
+
+  by_stay : (port class wait : ℕ) → IsFirstOverstay network port class wait
+      → first_some (overstay network) (least_certificate network) ≡ Some (Residence port class wait)
+  by_stay port class wait o =
+      ap (λ (rows : List Row). first_some (overstay network) rows)
+      (sym (least_certificate_is_one network o.rows is o.least))
+      ∙ given_at (overstay network) (RowMayStay network) o.rows o.row (Residence port class wait)
+      (stay_tests network o.rows) o.first
+      (λ some. stays_over o.row (residence_after network.topology o.row.port) some
+      ∙ ap (λ (n : ℕ). Some (Residence n o.row.class o.row.wait)) o.port_is
+      ∙ ap (λ (n : ℕ). Some (Residence port n o.row.wait)) o.class_is
+      ∙ ap (λ (n : ℕ). Some (Residence port class n)) o.wait_is)
+
+  no_stay : (rows : List Row) → IsLeastCertificate network rows → All (RowMayStay network) rows
+      → first_some (overstay network) (least_certificate network) ≡ None
+  no_stay rows least stay =
+      ap (λ (rs : List Row). first_some (overstay network) rs) (sym (least_certificate_is_one network rows is least))
+      ∙ none_given (overstay network) (RowMayStay network) rows (stay_tests network rows) stay
+
+  by_late : (name : List ℕ) (along : ℕ) → IsFirstLate network name along
+      → first_some (late (least_certificate network)) network.streams ≡ Some (Deadline name along)
+  by_late name along l =
+      ap (λ (rows : List Row). first_some (late rows) network.streams)
+      (sym (least_certificate_is_one network l.rows is l.least))
+      ∙ given_at (late l.rows) (IsInTime l.rows) network.streams l.stream (Deadline name along)
+      (time_tests network l.rows) l.first
+      (λ some. true_if (nat_lt (PS_PER_NS * l.stream.deadline_ns) (bound_along l.rows l.stream))
+      (Deadline l.stream.name (bound_along l.rows l.stream)) some
+      ∙ ap (λ (n : List ℕ). Some (Deadline n (bound_along l.rows l.stream))) l.name_is
+      ∙ ap (λ (n : ℕ). Some (Deadline name n)) l.along_is)
+
+  first_is_found : (reason : Reason) → IsFirstReason network reason → reason_of network ≡ Some reason
+  first_is_found (Overloaded port class load) o = at_some _ _ _ (by_load port class load o)
+  first_is_found (Residence port class wait) o =
+      or_past _ _ _ (no_load o.rows o.least) (at_some _ _ _ (by_stay port class wait o))
+  first_is_found (Deadline name along) l =
+      or_past _ _ _ (no_load l.rows l.least)
+      (or_past _ _ _ (no_stay l.rows l.least l.stay) (by_late name along l))
+
+pub each_reason_is_the_first : EachReasonIsTheFirst
+each_reason_is_the_first network reason is =
+    (found_is_first network is reason, first_is_found network is reason)
+
+pub first_reason_is_one : FirstReasonIsOne
+first_reason_is_one network a b is first second =
+    some_is a b (sym (first_is_found network is a first) ∙ first_is_found network is b second)

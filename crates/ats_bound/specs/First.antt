@@ -1,0 +1,60 @@
+use Rattle.std.specs.Prelude.{◌≡◌, ◌⊎◌, ℕ, ◌<◌, ◌≤◌, IsTrue, List, ◌∷◌, ◌++◌, All}
+use Rattle.ats_num.specs.declared.time.TheConstants.{PS_PER_SECOND}
+use Rattle.ats_streams.specs.Stream.{DeclaredStream}
+use Rattle.ats_network.specs.Network.{DeclaredNetwork}
+use Rattle.ats_certificate.specs.PortSums.{is_used}
+use Rattle.ats_certificate.specs.Certificate.{MayStay, IsInTime, bound_along}
+use Rattle.ats_certificate.specs.Least.{IsLeastCertificate}
+use Rattle.ats_certificate.specs.declared.row.Row.{Row}
+use Rattle.ats_tally.specs.declared.reason.Reason.{Reason}
+use Rattle.ats_tally.specs.declared.reason.Reason.TheVariants.{Overloaded, Residence, Deadline}
+use Rattle.ats_bound.specs.Reason.{load_at}
+
+-- the first of a list that breaks a rule: each before it keeps the rule
+pub record IsFirstBreach {A : Type 0} (Rule : A → Type 0) (xs : List A) (x : A) : Type 0 where
+  pub before : List A
+  pub after : List A
+  pub cut : before ++ x ∷ after ≡ xs
+  pub kept : All Rule before
+  pub breaks : ¬ Rule x
+
+-- a frame may stay behind a row's port for the row's wait
+abbrev pub RowMayStay : DeclaredNetwork → Row → Type 0
+RowMayStay network row = MayStay network row.port row.wait
+
+-- some stream of the class uses the port, and the load there is this one, more than the whole link; that of each used
+-- port and class that comes before fits the link
+pub record IsFirstOverload (network : DeclaredNetwork) (port class load : ℕ) : Type 0 where
+  pub used : IsTrue (is_used network port class)
+  pub load_is : load_at network (port, class) ≡ load
+  pub over : PS_PER_SECOND < load
+  pub before : (p c : ℕ) → IsTrue (is_used network p c) → (p < port) ⊎ ((p ≡ port) × (c < class))
+      → load_at network (p, c) ≤ PS_PER_SECOND
+
+-- there is the least certificate, whose rows cover all ports and classes that are used, so none is overloaded; its row
+-- of this port and class, with this wait, is the first that waits longer than a frame may stay behind its port
+pub record IsFirstOverstay (network : DeclaredNetwork) (port class wait : ℕ) : Type 0 where
+  pub rows : List Row
+  pub least : IsLeastCertificate network rows
+  pub row : Row
+  pub port_is : row.port ≡ port
+  pub class_is : row.class ≡ class
+  pub wait_is : row.wait ≡ wait
+  pub first : IsFirstBreach (RowMayStay network) rows row
+
+-- there is the least certificate, and a frame may stay behind each row's port for its wait; the stream of this name is
+-- the first whose bounds are together over its deadline, and this is their sum
+pub record IsFirstLate (network : DeclaredNetwork) (name : List ℕ) (along : ℕ) : Type 0 where
+  pub rows : List Row
+  pub least : IsLeastCertificate network rows
+  pub stay : All (RowMayStay network) rows
+  pub stream : DeclaredStream
+  pub name_is : stream.name ≡ name
+  pub along_is : bound_along rows stream ≡ along
+  pub first : IsFirstBreach (IsInTime rows) network.streams stream
+
+-- a reason is the first against a network
+abbrev pub IsFirstReason : DeclaredNetwork → Reason → Type 0
+IsFirstReason network (Overloaded port class load) = IsFirstOverload network port class load
+IsFirstReason network (Residence port class need) = IsFirstOverstay network port class need
+IsFirstReason network (Deadline stream sum) = IsFirstLate network stream sum
