@@ -22,7 +22,7 @@ const CERTIFICATE: &[u8] =
 const MOST: usize = 16;
 
 // Each command with the number of its reads and the text that is due.
-const COMMANDS: [(&[&str], u32, &[u8]); 4] = [
+const COMMANDS: &[(&[&str], u32, &[u8])] = &[
     (
         &["shape", "s"],
         2,
@@ -62,34 +62,66 @@ fn files(alloc: Global) -> Result<Vec<(String, Vec<u8>)>, Fail> {
     Ok(held)
 }
 
-// The end of a call with these words and what it printed: the read and the write of these numbers
-// fail, none of them where the number is 0, and the sink has room for so many bytes.
+// These files, where the read of this number fails, or none where it is 0.
+fn failing_files(alloc: Global, read: u32) -> Result<MemFiles, Fail> {
+    Ok(MemFiles::new(alloc, files(alloc)?, vec![in alloc; read]?)?)
+}
+
+// A sink with room for so many bytes, where the write of this number fails, or none where it is 0.
+fn failing_sink(alloc: Global, write: u32, room: usize) -> Result<MemSink, Fail> {
+    Ok(MemSink::new(alloc, room, MOST, vec![in alloc; write]?)?)
+}
+
+// The end of a call with these words over such files and such a sink, and the sink after it.
 fn call(
     alloc: Global,
     words: &[&str],
     read: u32,
+    mut out: MemSink,
+) -> Result<(Status, MemSink), Fail> {
+    let words = owned(alloc, words)?;
+    let mut files = failing_files(alloc, read)?;
+    let status = ats(alloc, &words, &mut files, &mut out);
+    Ok((status, out))
+}
+
+// Whether the call ends with the status, and prints the text, where the read of this number fails.
+fn read_ends(
+    alloc: Global,
+    words: &[&str],
+    read: u32,
+    due: Status,
+    text: &[u8],
+) -> Result<bool, Fail> {
+    let (status, out) = call(alloc, words, read, failing_sink(alloc, 0, 4096)?)?;
+    Ok(status == due && out.bytes() == text)
+}
+
+// Whether the call ends with the status, and prints the text, where the write of this number fails
+// and there is so much room.
+fn write_ends(
+    alloc: Global,
+    words: &[&str],
     write: u32,
     room: usize,
-) -> Result<(Status, Vec<u8>), Fail> {
-    let words = owned(alloc, words)?;
-    let mut files = MemFiles::new(alloc, files(alloc)?, vec![in alloc; read]?)?;
-    let mut out = MemSink::new(alloc, room, MOST, vec![in alloc; write]?)?;
-    let status = ats(alloc, &words, &mut files, &mut out);
-    Ok((status, Vec::from_slice(alloc, out.bytes())?))
+    due: Status,
+    text: &[u8],
+) -> Result<bool, Fail> {
+    let (status, out) = call(alloc, words, 0, failing_sink(alloc, write, room)?)?;
+    Ok(status == due && out.bytes() == text)
 }
 
 #[test]
 fn each_read_fails(rt: HostRuntime) -> Result<(), Fail> {
     for (words, reads, text) in COMMANDS {
         for read in 1..7u32 {
-            let (status, printed) = call(rt.alloc(), words, read, 0, 4096)?;
-            if read <= reads {
-                assert_eq!(rt; status, Status::ReadFailed);
-                assert!(rt; printed.is_empty());
+            let (due, printed) = if read <= *reads {
+                (Status::ReadFailed, b"".as_slice())
             } else {
-                assert_eq!(rt; status, Status::Done);
-                assert!(rt; printed.as_slice() == text);
-            }
+                (Status::Done, *text)
+            };
+            let ends = read_ends(rt.alloc(), words, read, due, printed)?;
+            assert!(rt; ends);
         }
     }
     Ok(())
@@ -99,15 +131,14 @@ fn each_read_fails(rt: HostRuntime) -> Result<(), Fail> {
 fn each_write_fails(rt: HostRuntime) -> Result<(), Fail> {
     for (words, _, text) in COMMANDS {
         for taken in 0..8u32 {
-            let (status, printed) = call(rt.alloc(), words, 0, taken + 1, 4096)?;
             let front = text.len().min(taken as usize * MOST);
             let due = if front < text.len() {
                 Status::WriteFailed
             } else {
                 Status::Done
             };
-            assert_eq!(rt; status, due);
-            assert!(rt; printed.as_slice() == &text[..front]);
+            let ends = write_ends(rt.alloc(), words, taken + 1, 4096, due, &text[..front])?;
+            assert!(rt; ends);
         }
     }
     Ok(())
@@ -115,27 +146,31 @@ fn each_write_fails(rt: HostRuntime) -> Result<(), Fail> {
 
 #[test]
 fn words_are_not_written(rt: HostRuntime) -> Result<(), Fail> {
-    let (status, printed) = call(rt.alloc(), &[], 0, 1, 4096)?;
-    assert_eq!(rt; status, Status::WriteFailed);
-    assert!(rt; printed.is_empty());
+    let ends = write_ends(rt.alloc(), &[], 1, 4096, Status::WriteFailed, b"")?;
+    assert!(rt; ends);
     Ok(())
 }
 
 #[test]
 fn room_ends(rt: HostRuntime) -> Result<(), Fail> {
-    let (status, printed) = call(rt.alloc(), &["bound", "n"], 0, 0, 20)?;
-    assert_eq!(rt; status, Status::WriteFailed);
-    assert!(rt; printed.as_slice() == &CERTIFICATE[..20]);
+    let (words, front) = (["bound", "n"], &CERTIFICATE[..20]);
+    let ends = write_ends(rt.alloc(), &words, 0, 20, Status::WriteFailed, front)?;
+    assert!(rt; ends);
     Ok(())
+}
+
+// Whether the call over files and a sink that never fail is done.
+fn is_surely_done(alloc: Global, words: &[&str]) -> Result<bool, Fail> {
+    let words = owned(alloc, words)?;
+    let mut files = SureFiles::new(files(alloc)?);
+    Ok(ats_surely(alloc, &words, &mut files, &mut SureSink::new()) == Status::Done)
 }
 
 #[test]
 fn surely_answers(rt: HostRuntime) -> Result<(), Fail> {
     for (words, _, _) in COMMANDS {
-        let words = owned(rt.alloc(), words)?;
-        let mut held = SureFiles::new(files(rt.alloc())?);
-        let status = ats_surely(rt.alloc(), &words, &mut held, &mut SureSink::new());
-        assert_eq!(rt; status, Status::Done);
+        let done = is_surely_done(rt.alloc(), words)?;
+        assert!(rt; done);
     }
     Ok(())
 }
