@@ -47,7 +47,7 @@ not_later at b port class (inl h) (inr k) p c = omega (arith, h, k.0, p, c)
 not_later at b port class (inr h) (inl k) p c = omega (arith, h.0, k, p, c)
 not_later at b port class (inr h) (inr k) p c = omega (arith, h.0, h.1, k.0, k.1, p, c)
 
-not_from : (before : List (ℕ × ℕ)) (at : ℕ × ℕ) (after : List (ℕ × ℕ)) (port class : ℕ)
+pub not_from : (before : List (ℕ × ℕ)) (at : ℕ × ℕ) (after : List (ℕ × ℕ)) (port class : ℕ)
     → AllPairs Precedes (before ++ at ∷ after) → Precedes (port, class) at
     → list_any (is_at port class) (at ∷ after) ≡ true → ⊥
 not_from before at after port class ordered less any =

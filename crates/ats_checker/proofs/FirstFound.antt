@@ -1,17 +1,17 @@
 -- The refusal that is found is the first that is due.
-use Rattle.std.proofs.Common.{◌≡◌, ℕ, ◌+◌, ◌-◌, ◌*◌, true, false, List, [], ◌∷◌, ◌++◌, get_or, Option, Some, None, refl}
+use Rattle.std.proofs.Common.{◌≡◌, ℕ, ◌+◌, ◌-◌, ◌*◌, true, false, List, ◌∷◌, ◌++◌, get_or, Option, Some, None, refl}
 use Rattle.std.proofs.Common.{sym, ap, subst, ◌∙◌, inl, inr, eqb, arith}
 use Rattle.std.specs.Prelude.{nat_lt, is_some}
 use Rattle.std.specs.List.{All, AllPairs, list_any}
 use Rattle.std.specs.Option.{option_or}
 use Rattle.std.proofs.lemmas.Bool.{and_from, and_parts, eqb-true, eq-eqb, or_cases}
-use Rattle.std.proofs.lemmas.List.Elements.{All-cons, All-head}
+use Rattle.std.proofs.lemmas.List.Elements.{All-head}
 use Rattle.std.proofs.lemmas.List.Folds.{list_any-append}
 use Rattle.ats_num.specs.declared.time.TheConstants.{PS_PER_SECOND, PS_PER_NS}
 use Rattle.ats_topology.specs.Port.{port_at}
 use Rattle.ats_network.specs.Network.{DeclaredNetwork, IsNetwork}
 use Rattle.ats_network.specs.Residence.{residence_after}
-use Rattle.ats_network.proofs.Appended.{all_right, pairs_head, pairs_tail}
+use Rattle.ats_network.proofs.Appended.{all_right}
 use Rattle.ats_certificate.specs.PortSums.{PortSums, port_sums, is_used}
 use Rattle.ats_certificate.specs.Used.{places_of}
 use Rattle.ats_certificate.specs.Certificate.{HasRows, HasSums, FitsLink, IsEnough, MayStay, Covers, RowHolds, IsInTime}
@@ -22,12 +22,13 @@ use Rattle.ats_tally.specs.Waits.{least_wait}
 use Rattle.ats_tally.specs.Reason.{first_some, overload_in, overstay_by, overstay, late}
 use Rattle.ats_tally.specs.declared.reason.Reason.{Reason}
 use Rattle.ats_tally.specs.declared.reason.Reason.TheVariants.{Overloaded, Residence, Deadline}
-use Rattle.ats_tally.proofs.Reasons.{stays_by, by_stay, in_time_from, by_time}
-use Rattle.ats_tally.proofs.Lists.{any_gives}
 use Rattle.ats_tally.proofs.Places.{IsPlace, IsUsedAt, Precedes, is_at, is_place, places_used, places_ordered}
 use Rattle.ats_tally.proofs.Places.{places_have}
+use Rattle.ats_bound.proofs.Breaches.{StandsAt, stands_at, it_keeps, Tests, all_kept, breach_at, or_else, if_true}
+use Rattle.ats_bound.proofs.FoundReason.{not_from, stay_tests, time_tests}
 use Rattle.ats_bound.proofs.Waits.{work-is, least_wait-is, least_wait-le}
-use Rattle.ats_checker.specs.First.{IsFirst, IsFirstReason, IsUsed, IsRight, fields, said, due, IsMissing, IsRowAtFault}
+use Rattle.ats_checker.specs.First.{IsFirst, IsFirstReasonOfRows, IsUsed, IsRight, fields, said, due, IsMissing}
+use Rattle.ats_checker.specs.First.{IsRowAtFault}
 use Rattle.ats_checker.specs.Refusal.{missing, stray, wrong, wrong_in, short, of_network, refusal_of}
 use Rattle.ats_checker.specs.declared.refusal.Field.{Field}
 use Rattle.ats_checker.specs.declared.refusal.Field.TheVariants as field
@@ -38,8 +39,7 @@ use Rattle.ats_checker.proofs.Refused.{is_given, by_given, passes, by_pass, has_
 use Rattle.ats_checker.proofs.Refused.{by_right, fits_from, by_fits, no_reason, place_fits, long_from, by_long}
 use Rattle.ats_checker.proofs.Refused.{enough_from}
 use Rattle.ats_checker.proofs.Inside.{by_network}
-use Rattle.ats_checker.proofs.Breaches.{StandsAt, stands_at, Tests, all_kept, breach_at, it_keeps, or_else, or_none}
-use Rattle.ats_checker.proofs.Breaches.{if_false, if_true}
+use Rattle.ats_checker.proofs.Breaches.{or_none, if_false}
 
 -- the rules of a row and of a field, by name
 abbrev pub IsFitting : DeclaredNetwork → Row → Type 0
@@ -96,19 +96,6 @@ module _ (network : DeclaredNetwork) (rows : List Row) (is : IsNetwork network) 
             (record { sums = fits.0.sums; bound = fits.0.bound; load = fits.1; wait = enough })),
       ))
 
-  pub stay_tests : Tests (overstay network) (Stays network) rows
-  stay_tests = λ k d h. (
-      let row : Row = get_or rows k d in (
-        λ none. stays_by row (residence_after network.topology row.port) none,
-        λ stays. by_stay row (residence_after network.topology row.port) stays,
-      ))
-
-  pub time_tests : Tests (late rows) (IsInTime rows) network.streams
-  time_tests = λ k d h. (
-    λ none. in_time_from rows (get_or network.streams k d) none,
-    λ time. by_time rows (get_or network.streams k d) time,
-  )
-
   -- a row that is found at fault
   pub at_fault : {Before Rule : Row → Type 0} {B : Type 0} (given : Row → Option B) (found : B) → HasRows network rows
       → All Before rows → Tests given Rule rows
@@ -140,38 +127,6 @@ field_tests network row = λ k d h. (
       λ same. by_given row f (said row f) (due network row f) same,
     ))
 
--- places in order: what comes before a place does not stand from it on
-pub not_here : (at : ℕ × ℕ) (port class : ℕ) → Precedes (port, class) at → at.0 ≡ port → at.1 ≡ class → ⊥
-not_here at port class (inl h) p c = omega (arith, h, p, c)
-not_here at port class (inr h) p c = omega (arith, h.1, p, c)
-
-pub not_later : (at b : ℕ × ℕ) (port class : ℕ) → Precedes (port, class) at → Precedes at b → b.0 ≡ port
-    → b.1 ≡ class → ⊥
-not_later at b port class (inl h) (inl k) p c = omega (arith, h, k, p, c)
-not_later at b port class (inl h) (inr k) p c = omega (arith, h, k.0, p, c)
-not_later at b port class (inr h) (inl k) p c = omega (arith, h.0, k, p, c)
-not_later at b port class (inr h) (inr k) p c = omega (arith, h.0, h.1, k.0, k.1, p, c)
-
-pub pairs_right : {X : Type 0} (R : X → X → Type 0) (xs ys : List X) → AllPairs R (xs ++ ys) → AllPairs R ys
-pairs_right R [] ys h = h
-pairs_right R (x ∷ xs) ys h = pairs_right R xs ys (pairs_tail R x (xs ++ ys) h)
-
-pub not_from : (before : List (ℕ × ℕ)) (at : ℕ × ℕ) (after : List (ℕ × ℕ)) (port class : ℕ)
-    → AllPairs Precedes (before ++ at ∷ after) → Precedes (port, class) at
-    → list_any (is_at port class) (at ∷ after) ≡ true → ⊥
-not_from before at after port class ordered less any =
-    let ahead : All (Precedes at) after =
-    pairs_head Precedes at after (pairs_right Precedes before (at ∷ after) ordered) in
-    any_gives (is_at port class) ⊥ (at ∷ after)
-    (All-cons (λ (b : ℕ × ℕ). is_at port class b ≡ true → ⊥) at after
-    (λ e. (let parts = and_parts (eqb at.0 port) (eqb at.1 class) e in
-    not_here at port class less (eqb-true at.0 port parts.0) (eqb-true at.1 class parts.1)))
-    (λ k d h e. (
-    let b = get_or after k d in
-    let parts = and_parts (eqb b.0 port) (eqb b.1 class) e in
-    not_later at b port class less (ahead k d h) (eqb-true b.0 port parts.0) (eqb-true b.1 class parts.1))))
-    any
-
 -- an option that holds nothing
 pub not_some : {X : Type 0} (o : Option X) → is_some o ≡ false → o ≡ None
 not_some None h = refl
@@ -194,12 +149,12 @@ module _ (network : DeclaredNetwork) (rows : List Row) (is : IsNetwork network) 
 
   pub of_load : (found : Reason) → HasRows network rows → All (IsRight network) rows
       → first_some overload_in rows ≡ Some found
-      → IsFirstReason network rows found
+      → IsFirstReasonOfRows network rows found
   of_load found rows_of right e =
       let at = stands_at overload_in rows found e in
-      if_true (IsFirstReason network rows) (nat_lt PS_PER_SECOND (at.it.higher + at.it.equal))
+      if_true (IsFirstReasonOfRows network rows) (nat_lt PS_PER_SECOND (at.it.higher + at.it.equal))
       (Overloaded at.it.port at.it.class (at.it.higher + at.it.equal)) found
-      (record {
+      (λ _. record {
         row = at.it;
         fault = at_fault network rows is overload_in found rows_of right (fit_tests network rows is) at;
         is = refl;
@@ -207,37 +162,37 @@ module _ (network : DeclaredNetwork) (rows : List Row) (is : IsNetwork network) 
       at.gives
 
   pub over_by : (row : Row) (residence : Option ℕ) (found : Reason)
-      → IsFirstReason network rows (Residence row.port row.class row.wait)
-      → overstay_by row residence ≡ Some found → IsFirstReason network rows found
+      → IsFirstReasonOfRows network rows (Residence row.port row.class row.wait)
+      → overstay_by row residence ≡ Some found → IsFirstReasonOfRows network rows found
   over_by row None found first h = absurd (none_some found h)
-  over_by row (Some residence_ns) found first h = if_true (IsFirstReason network rows)
-      (nat_lt (PS_PER_NS * residence_ns) row.wait) (Residence row.port row.class row.wait) found first h
+  over_by row (Some residence_ns) found first h = if_true (IsFirstReasonOfRows network rows)
+      (nat_lt (PS_PER_NS * residence_ns) row.wait) (Residence row.port row.class row.wait) found (λ _. first) h
 
   pub of_stay : (found : Reason) → HasRows network rows → All (Covers network) rows
       → first_some (overstay network) rows ≡ Some found
-      → IsFirstReason network rows found
+      → IsFirstReasonOfRows network rows found
   of_stay found rows_of covers e =
       let at = stands_at (overstay network) rows found e in
       over_by at.it (residence_after network.topology at.it.port) found
       (record {
         row = at.it;
-        fault = at_fault network rows is (overstay network) found rows_of covers (stay_tests network rows is) at;
+        fault = at_fault network rows is (overstay network) found rows_of covers (stay_tests network rows) at;
         is = refl;
       })
       at.gives
 
   pub of_late : (found : Reason) → HasRows network rows → All (RowHolds network) rows
-      → first_some (late rows) network.streams ≡ Some found → IsFirstReason network rows found
+      → first_some (late rows) network.streams ≡ Some found → IsFirstReasonOfRows network rows found
   of_late found rows_of holds e =
       let at = stands_at (late rows) network.streams found e in
-      if_true (IsFirstReason network rows) (nat_lt (PS_PER_NS * at.it.deadline_ns) (bound_along rows at.it))
+      if_true (IsFirstReasonOfRows network rows) (nat_lt (PS_PER_NS * at.it.deadline_ns) (bound_along rows at.it))
       (Deadline at.it.name (bound_along rows at.it)) found
-      (record {
+      (λ _. record {
         rows_of = rows_of;
         kept = holds;
         stream = at.it;
         named = refl;
-        first = breach_at (late rows) (IsInTime rows) network.streams found (time_tests network rows is) at;
+        first = breach_at (late rows) (IsInTime rows) network.streams found (time_tests network rows) at;
         is = refl;
       })
       at.gives
@@ -323,7 +278,7 @@ module _ (network : DeclaredNetwork) (rows : List Row) (is : IsNetwork network) 
       let used : IsUsed network row = it_keeps (short network) (IsUsed network) rows found rows_of.used at in
       let fits : IsFitting network row = it_keeps (short network) (IsFitting network) rows found fitting at in
       if_true (IsFirst network rows) (nat_lt row.wait least) (WaitTooSmall row.port row.class least) found
-      (record {
+      (λ _. record {
         row = row;
         fault = at_fault network rows is (short network) found rows_of fitting
             (enough_tests network rows is rows_of.used fitting) at;
@@ -360,6 +315,6 @@ module _ (network : DeclaredNetwork) (rows : List Row) (is : IsNetwork network) 
       (λ reason. of_stay reason rows_of covers)) (λ no_overstay.
       let stays : first_some (overstay network) rows ≡ None =
       no_reason (first_some (overstay network) rows) no_overstay in
-      let stay = all_kept (overstay network) (Stays network) rows (stay_tests network rows is) stays in
+      let stay = all_kept (overstay network) (Stays network) rows (stay_tests network rows) stays in
       by_network (IsFirst network rows) (first_some (late rows) network.streams) found
       (λ reason. of_late reason rows_of (λ k d h. record { covers = covers k d h; residence = stay k d h }))))))))

@@ -17,6 +17,8 @@ use Rattle.ats_tally.specs.Reason.{first_some, overload_in, overstay_by, oversta
 use Rattle.ats_tally.specs.declared.reason.Reason.TheVariants.{Overloaded, Residence, Deadline}
 use Rattle.ats_tally.proofs.Lists.{option_cases}
 use Rattle.ats_tally.proofs.Places.{Precedes, is_place}
+use Rattle.ats_bound.proofs.Breaches.{none_given, given_at, or_past, at_some, true_if, not_less}
+use Rattle.ats_bound.proofs.FoundReason.{stay_tests, time_tests}
 use Rattle.ats_bound.proofs.Waits.{least_row-only}
 use Rattle.ats_checker.specs.First.{IsFirst, IsUsed, IsRight, fields, said, due, IsMissing, IsStray, IsWrong}
 use Rattle.ats_checker.specs.First.{IsOverload, IsShort, IsOverstay, IsLate}
@@ -26,12 +28,10 @@ use Rattle.ats_checker.specs.declared.refusal.Refusal.{Refusal}
 use Rattle.ats_checker.specs.declared.refusal.Refusal.TheVariants.{RowMissing, RowStray, FieldWrong, WaitTooSmall}
 use Rattle.ats_checker.specs.declared.refusal.Refusal.TheVariants.{Network}
 use Rattle.ats_checker.proofs.Refused.{complete_from, none_missing}
-use Rattle.ats_checker.proofs.Breaches.{none_given, breach_keeps, given_at, or_past, at_some, false_if, true_if}
-use Rattle.ats_checker.proofs.Breaches.{not_less}
+use Rattle.ats_checker.proofs.Breaches.{breach_keeps, false_if}
 use Rattle.ats_checker.specs.Laws.{EachRefusalIsTheFirst}
 use Rattle.ats_checker.proofs.FirstFound.{IsSaid, Stays, Waits, enough_tests, field_tests, field_wrong, fields_are}
-use Rattle.ats_checker.proofs.FirstFound.{first_from, fit_tests, missing_where, place_is, right_tests, stay_tests}
-use Rattle.ats_checker.proofs.FirstFound.{time_tests, used_tests}
+use Rattle.ats_checker.proofs.FirstFound.{first_from, fit_tests, missing_where, place_is, right_tests, used_tests}
 
 -- the first that is due is the refusal
 module _ (network : DeclaredNetwork) (rows : List Row) (is : IsNetwork network) where
@@ -123,7 +123,7 @@ module _ (network : DeclaredNetwork) (rows : List Row) (is : IsNetwork network) 
       → first_some (overstay network) rows ≡ Some (Residence port class wait)
   by_overstay port class wait o =
       given_at (overstay network) (Stays network) rows o.row (Residence port class wait)
-      (stay_tests network rows is) o.fault.first
+      (stay_tests network rows) o.fault.first
       (λ some. stays_over o.row (residence_after network.topology o.row.port) some
       ∙ place_is (λ p c. Some (Residence p c o.row.wait)) port class o.row o.fault.place
       ∙ ap (λ (n : ℕ). Some (Residence port class n)) (sym o.is))
@@ -132,7 +132,7 @@ module _ (network : DeclaredNetwork) (rows : List Row) (is : IsNetwork network) 
       → first_some (late rows) network.streams ≡ Some (Deadline name along)
   by_late name along l =
       given_at (late rows) (IsInTime rows) network.streams l.stream (Deadline name along)
-      (time_tests network rows is) l.first
+      (time_tests network rows) l.first
       (λ some. true_if (nat_lt (PS_PER_NS * l.stream.deadline_ns) (bound_along rows l.stream))
       (Deadline l.stream.name (bound_along rows l.stream)) some
       ∙ ap (λ (n : List ℕ). Some (Deadline n (bound_along rows l.stream))) l.named
@@ -160,7 +160,7 @@ module _ (network : DeclaredNetwork) (rows : List Row) (is : IsNetwork network) 
 
   no_overstay : All (RowHolds network) rows → first_some (overstay network) rows ≡ None
   no_overstay holds =
-      none_given (overstay network) (Stays network) rows (stay_tests network rows is) (λ k d h. (holds k d h).residence)
+      none_given (overstay network) (Stays network) rows (stay_tests network rows) (λ k d h. (holds k d h).residence)
 
   covers_right : All (Covers network) rows → All (IsRight network) rows
   covers_right covers = λ k d h. record { sums = (covers k d h).sums; bound = (covers k d h).bound }

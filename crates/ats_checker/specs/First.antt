@@ -1,4 +1,4 @@
-use Rattle.std.specs.Prelude.{◌≡◌, ◌⊎◌, ℕ, ◌+◌, ◌<◌, IsTrue, IsSome, List, [], ◌∷◌, ◌++◌, All, None}
+use Rattle.std.specs.Prelude.{◌≡◌, ◌⊎◌, ℕ, ◌+◌, ◌<◌, IsTrue, IsSome, List, [], ◌∷◌, All, None}
 use Rattle.ats_topology.specs.Port.{port_at}
 use Rattle.ats_streams.specs.Stream.{DeclaredStream}
 use Rattle.ats_network.specs.Network.{DeclaredNetwork}
@@ -9,19 +9,12 @@ use Rattle.ats_certificate.specs.Least.{IsLeastRow}
 use Rattle.ats_certificate.specs.declared.row.Row.{Row}
 use Rattle.ats_tally.specs.declared.reason.Reason.{Reason}
 use Rattle.ats_tally.specs.declared.reason.Reason.TheVariants.{Overloaded, Residence, Deadline}
+use Rattle.ats_bound.specs.First.{IsFirstBreach}
 use Rattle.ats_checker.specs.declared.refusal.Field.{Field}
 use Rattle.ats_checker.specs.declared.refusal.Field.TheVariants.{Higher, Equal, Bursts, Lower, Least, Bound}
 use Rattle.ats_checker.specs.declared.refusal.Refusal.{Refusal}
 use Rattle.ats_checker.specs.declared.refusal.Refusal.TheVariants.{RowMissing, RowStray, FieldWrong, WaitTooSmall}
 use Rattle.ats_checker.specs.declared.refusal.Refusal.TheVariants.{Network}
-
--- the first of a list that breaks a rule: each before it keeps the rule
-pub record IsFirstBreach {A : Type 0} (Rule : A → Type 0) (xs : List A) (x : A) : Type 0 where
-  pub before : List A
-  pub after : List A
-  pub cut : before ++ x ∷ after ≡ xs
-  pub kept : All Rule before
-  pub breaks : ¬ Rule x
 
 -- a row's port is used by some stream of its class
 abbrev pub IsUsed : DeclaredNetwork → Row → Type 0
@@ -116,10 +109,10 @@ pub record IsLate (network : DeclaredNetwork) (rows : List Row) (name : List ℕ
   pub is : along ≡ bound_along rows stream
 
 -- what each reason of the network says of rows
-abbrev pub IsFirstReason : DeclaredNetwork → List Row → Reason → Type 0
-IsFirstReason network rows (Overloaded port class load) = IsOverload network rows port class load
-IsFirstReason network rows (Residence port class need) = IsOverstay network rows port class need
-IsFirstReason network rows (Deadline stream sum) = IsLate network rows stream sum
+abbrev pub IsFirstReasonOfRows : DeclaredNetwork → List Row → Reason → Type 0
+IsFirstReasonOfRows network rows (Overloaded port class load) = IsOverload network rows port class load
+IsFirstReasonOfRows network rows (Residence port class need) = IsOverstay network rows port class need
+IsFirstReasonOfRows network rows (Deadline stream sum) = IsLate network rows stream sum
 
 -- what each refusal says of them
 abbrev pub IsFirst : DeclaredNetwork → List Row → Refusal → Type 0
@@ -127,4 +120,4 @@ IsFirst network rows (RowMissing port class) = IsMissing network rows port class
 IsFirst network rows (RowStray port class) = IsStray network rows port class
 IsFirst network rows (FieldWrong port class field right) = IsWrong network rows port class field right
 IsFirst network rows (WaitTooSmall port class least) = IsShort network rows port class least
-IsFirst network rows (Network reason) = IsFirstReason network rows reason
+IsFirst network rows (Network reason) = IsFirstReasonOfRows network rows reason
