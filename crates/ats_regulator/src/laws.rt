@@ -2,6 +2,8 @@
 
 ghost use Rattle.ats_regulator.specs.Laws.{ConformingByWindows, EligibilityIsLeast, LateTimeIsLeast, GroupTimeIsLast, OutputConforms, OutputConformsByWindows, OutputAscends, FoldIsFullFold};
 ghost use Rattle.ats_regulator.specs.GroupsLaws.{GroupsOutputConforms, GroupsOutputAscends, GroupsEligibilityIsLeast};
+ghost use Rattle.ats_regulator.specs.Regulator.{AtsIsRegulator};
+ghost use Rattle.ats_regulator.specs.Renaming.{VerdictsAreKept};
 ghost use Rattle.ats_regulator.specs.Shaping.{ShapingIsFree};
 ghost use Rattle.ats_regulator.specs.Rows.{BucketEmptied, RoundedUp};
 
@@ -79,4 +81,16 @@ pub fn shaping_is_free()
 pub fn worked_rows()
     ensures bucket_emptied { BucketEmptied }
     ensures rounded_up { RoundedUp }
+{}
+
+/// The schedulers and groups of Asynchronous Traffic Shaping are a regulator, whatever their members declare: they let
+/// frames through at declared sizes only, what they let through of a member conforms, and shaping is free.
+pub fn ats_is_regulator()
+    ensures { AtsIsRegulator }
+{}
+
+/// A group's verdicts do not depend on its members' numbers: where each gets another one of its own, under which the same
+/// is declared, the verdicts stay.
+pub fn verdicts_are_kept()
+    ensures { VerdictsAreKept }
 {}
