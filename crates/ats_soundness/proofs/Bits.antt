@@ -44,11 +44,11 @@ through_bits i from to h = bits_within (own_through i (offer_of h) h.verdict) fr
 
 -- where it comes from this port and is of this class
 abbrev pub handed_bits : ℕ → ℕ → ℕ → ℕ → ℕ → Handed → ℕ
-handed_bits i port class from to h = cond (h.hop.port == port && h.hop.sent.class == class) (through_bits i from to h) 0
+handed_bits i port class from to h = cond (h.crossing.port == port && h.crossing.sent.class == class) (through_bits i from to h) 0
 
 pub group_bits : (network : DeclaredNetwork) (run : List Travel) (i port class from to : ℕ) → sum_by (through_bits i from to) (handed_by network run port class) ≡ sum_by (handed_bits i port class from to) (handed_from network 0 run)
 group_bits network run i port class from to =
-    sum_by-filter (through_bits i from to) (λ (h : Handed). h.hop.port == port && h.hop.sent.class == class) (handed_from network 0 run)
+    sum_by-filter (through_bits i from to) (λ (h : Handed). h.crossing.port == port && h.crossing.sent.class == class) (handed_from network 0 run)
 
 -- the bits of a release where it is of this sender and in the window
 abbrev pub release_bits : ℕ → ℕ → ℕ → Travel → ℕ

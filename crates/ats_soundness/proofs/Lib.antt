@@ -3,6 +3,7 @@ pub mod Arrivals
 pub mod Behind
 pub mod Bits
 pub mod Bridge
+pub mod EachRule
 pub mod Example
 pub mod Known
 pub mod Lifts

@@ -16,7 +16,7 @@ use Rattle.ats_group.specs.Group.{is_declared_size}
 use Rattle.ats_regulator.specs.Windows.{KeepsWindows, bits_within}
 use Rattle.ats_regulator.proofs.WindowParts.{KeepsWindows-fewer}
 use Rattle.ats_regulator.proofs.WindowPlaces.{windows_from_places}
-use Rattle.ats_port_law.specs.PortLaw.{IsDeclared, frames_by}
+use Rattle.ats_port_law.specs.PortLaw.{IsDeclared, IsOffered, frames_by}
 use Rattle.ats_port_law.proofs.Sums.{sum_by-none}
 use Rattle.ats_trace.specs.Journey.{Travel, IsJourney, IsReleased, class_at}
 use Rattle.ats_trace.specs.Projections.{Hop, hops_along, journey_hops, sent_by, hop_at, transmission_of}
@@ -25,6 +25,8 @@ use Rattle.ats_trace.specs.Run.{releases_of}
 use Rattle.ats_trace.specs.Talker.{talker_of, start_of, KeepsBuckets, frames_of}
 use Rattle.ats_trace.specs.declared.journey.Release.{Release}
 use Rattle.ats_trace.specs.declared.journey.HopRecord.{HopRecord}
+use Rattle.ats_regulator.specs.Regulator.{Judge}
+use Rattle.ats_regulator.proofs.Regulator.{ats_is_regulator}
 use Rattle.ats_soundness.specs.Laws.{StationIsOffered}
 use Rattle.ats_soundness.proofs.Along.{AtPort, hop_by, all_hops}
 use Rattle.ats_soundness.proofs.Bits.{hop_bits, frames_bits, release_bits, releases_bits, counted-none, counted-le, counted-neither}
@@ -35,8 +37,8 @@ use Rattle.ats_soundness.proofs.Paths.{sender_is, not_both, later_bridges, uses_
 use Rattle.ats_soundness.proofs.Weights.{first-le}
 
 -- a port that leaves a station, in a legal run
-record AtStation (network : DeclaredNetwork) (run : List Travel) (port : ℕ) : Type 0 where
-  known : Case network run
+record AtStation (judge : Judge) (network : DeclaredNetwork) (run : List Travel) (port : ℕ) : Type 0 where
+  known : Case judge network run
   station : IsStationAt network.topology (port_at network.topology.ports port).from
 
 -- a journey, of which the release has a declared size where its talker is this station
@@ -44,7 +46,7 @@ record Paced (network : DeclaredNetwork) (station : ℕ) (j : Travel) : Type 0 w
   is : IsJourney network j
   size : talker_of network j.release.sender ≡ station → is_declared_size (declared_by network j.release.sender) j.release.octets ≡ true
 
-paced : (network : DeclaredNetwork) (run : List Travel) (station : ℕ) → Case network run → KeepsBuckets network (releases_of run) station → All (Paced network station) run
+paced : {judge : Judge} (network : DeclaredNetwork) (run : List Travel) (station : ℕ) → Case judge network run → KeepsBuckets network (releases_of run) station → All (Paced network station) run
 paced network run station c keeps k d h =
     let j : Travel = get_or run k d in
     let is : IsJourney network j = c.legal.journeys k d h in
@@ -53,7 +55,7 @@ paced network run station c keeps k d h =
     record { is = is; size = size is.sender }
 
 -- at each port of a path: what is sent there is declared, where it is this port
-declared_along : (network : DeclaredNetwork) (run : List Travel) (port : ℕ) → AtStation network run port → (n : ℕ) (r : Release) → r.sender < length (senders_of network)
+declared_along : {judge : Judge} (network : DeclaredNetwork) (run : List Travel) (port : ℕ) → AtStation judge network run port → (n : ℕ) (r : Release) → r.sender < length (senders_of network)
     → (path : List ℕ) → AllNeighbours (MeetAtBridge network.topology) path → All (λ (p : ℕ). uses p (sender_at network r.sender) ≡ true) path
     → (start_of network.topology.ports path ≡ (port_at network.topology.ports port).from → is_declared_size (declared_by network r.sender) r.octets ≡ true)
     → All (AtPort (DeclaredAt network port) n r (sender_at network r.sender).class) path
@@ -75,7 +77,7 @@ declared_along network run port a n r exists (p ∷ path) meet used size =
     (subst (λ (q : ℕ). IsBridgeAt network.topology (port_at network.topology.ports q).from) same (later_bridges network.topology p path meet k d h))
     (IsDeclared network port (hop_by n r s.class (get_or path k d) e times).sent))
 
-journey_declared : (network : DeclaredNetwork) (run : List Travel) (port : ℕ) → AtStation network run port → (n : ℕ) (j : Travel) → Paced network (port_at network.topology.ports port).from j → All (DeclaredAt network port) (journey_hops network n j)
+journey_declared : {judge : Judge} (network : DeclaredNetwork) (run : List Travel) (port : ℕ) → AtStation judge network run port → (n : ℕ) (j : Travel) → Paced network (port_at network.topology.ports port).from j → All (DeclaredAt network port) (journey_hops network n j)
 journey_declared network run port a n j paced =
     let s : Sender = sender_at network j.release.sender in
     let keeps : IsSender network.topology s = sender_is network a.known.net j.release.sender paced.is.sender in
@@ -83,7 +85,7 @@ journey_declared network run port a n j paced =
     (declared_along network run port a n j.release paced.is.sender s.path keeps.bridges (uses_own s) paced.size)
 
 -- a frame's bits at the port are those of its release, at the first port of its path
-bits_along : (network : DeclaredNetwork) (run : List Travel) (i port from to most : ℕ) → AtStation network run port → (n : ℕ) (r : Release) (s : Sender) (path : List ℕ) (hops : List HopRecord)
+bits_along : {judge : Judge} (network : DeclaredNetwork) (run : List Travel) (i port from to most : ℕ) → AtStation judge network run port → (n : ℕ) (r : Release) (s : Sender) (path : List ℕ) (hops : List HopRecord)
     → AllNeighbours (MeetAtBridge network.topology) path → IsReleased r hops
     → ((p : ℕ) (times : Ps × Ps) → start_of network.topology.ports path ≡ (port_at network.topology.ports p).from → hop_bits i port from to (hop_by n r s.class p r.at times) ≤ most)
     → sum_by (hop_bits i port from to) (hops_along n r s path hops) ≤ most
@@ -91,7 +93,7 @@ bits_along network run i port from to most a n r s [] hops meet released first =
 bits_along network run i port from to most a n r s (p ∷ path) [] meet released first = omega arith
 bits_along network run i port from to most a n r s (p ∷ path) (hop ∷ hops) meet released first =
     let f : Hop → ℕ = hop_bits i port from to in
-    let here = first-le f most n r s.class p hop.verdict hop.sent released (λ times. first p times refl) in
+    let here = first-le f most n r s.class p hop.verdict hop.sent released.1 (λ times. first p times refl) in
     let none = sum_by-none f (hops_along n r s path hops)
     (all_hops (λ (g : Hop). f g ≤ 0) n r s path hops
     (λ k d h e times. counted-none (get_or path k d == port) _ (λ same.
@@ -102,7 +104,7 @@ bits_along network run i port from to most a n r s (p ∷ path) (hop ∷ hops) m
     omega (arith, here, none, all)
 
 -- no window of a stream's frames at the port holds more than one of its releases, where it begins at the station
-own_bits : (network : DeclaredNetwork) (run : List Travel) (i port from to : ℕ) → AtStation network run port
+own_bits : {judge : Judge} (network : DeclaredNetwork) (run : List Travel) (i port from to : ℕ) → AtStation judge network run port
     → bits_within (frames_by i (sent_by network run port)) from to ≤ bits_within (frames_of i (releases_of run)) from to
 own_bits network run i port from to a =
     let each = run_travels-le (IsJourney network) (hop_bits i port from to) (release_bits i from to) network 0 run
@@ -113,7 +115,7 @@ own_bits network run i port from to a =
     omega (arith, each, frames_bits network run i port from to, releases_bits run i from to)
 
 -- a stream that begins elsewhere has no frames there
-other_bits : (network : DeclaredNetwork) (run : List Travel) (i port from to : ℕ) → AtStation network run port → (talker_of network i ≡ (port_at network.topology.ports port).from → ⊥)
+other_bits : {judge : Judge} (network : DeclaredNetwork) (run : List Travel) (i port from to : ℕ) → AtStation judge network run port → (talker_of network i ≡ (port_at network.topology.ports port).from → ⊥)
     → bits_within (frames_by i (sent_by network run port)) from to ≤ 0
 other_bits network run i port from to a other =
     let each = run_travels-le (IsJourney network) (hop_bits i port from to) (λ (j : Travel). 0) network 0 run
@@ -125,10 +127,11 @@ other_bits network run i port from to a other =
     let none = sum_by-none (λ (j : Travel). 0) run (λ k d h. omega arith) in
     omega (arith, each, none, frames_bits network run i port from to)
 
-pub station_offered : StationIsOffered
-station_offered network run port net legal within station keeps =
-    let known : Case network run = record { net = net; legal = legal } in
-    let a : AtStation network run port = record { known = known; station = station } in
+pub station_offered_by : {judge : Judge} (network : DeclaredNetwork) (run : List Travel) (port : ℕ) → Case judge network run
+    → IsStationAt network.topology (port_at network.topology.ports port).from
+    → KeepsBuckets network (releases_of run) (port_at network.topology.ports port).from → IsOffered network port (sent_by network run port)
+station_offered_by {judge} network run port known station keeps =
+    let a : AtStation judge network run port = record { known = known; station = station } in
     let from : ℕ = (port_at network.topology.ports port).from in
     offered network run port
     (run_hops (Paced network from) (DeclaredAt network port) network 0 run (journey_declared network run port a) (paced network run from known keeps))
@@ -140,3 +143,7 @@ station_offered network run port net legal within station keeps =
           (windows_from_places s.rate s.burst_bits (frames_of i (releases_of run)) (keeps.streams i h begins)).windows
       | inr other ↦ no_bits s.rate s.burst_bits (frames_by i (sent_by network run port)) (λ first last. other_bits network run i port first last a other)
     ])
+
+pub station_offered : StationIsOffered
+station_offered network run port net legal within station keeps =
+    station_offered_by network run port (record { regulator = ats_is_regulator (declared_by network); net = net; legal = legal }) station keeps

@@ -1,5 +1,5 @@
 pub mod Sound
+pub mod Rules
 pub mod Laws
 pub mod Example
-pub mod Rules
 pub mod RuleExamples

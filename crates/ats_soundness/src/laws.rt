@@ -3,7 +3,7 @@
 ghost use Rattle.ats_soundness.specs.Example.{LawsAreMet};
 ghost use Rattle.ats_soundness.specs.RuleExamples.{EachRuleCounts};
 ghost use Rattle.ats_soundness.specs.Rules.{HoldsIsEachRule};
-ghost use Rattle.ats_soundness.specs.Laws.{StationIsOffered, BridgeIsOffered, ShapingForFree, PathLaw, Containment, CertificateIsSound};
+ghost use Rattle.ats_soundness.specs.Laws.{StationIsOffered, BridgeIsOffered, ShapingForFree, PathLaw, Containment, SoundByRules, CertificateIsSound};
 
 /// A port that leaves a station that keeps its buckets is asked to send no more than the port law wants: frames of declared
 /// sizes, and those of each stream conform to its rate and burst.
@@ -33,6 +33,12 @@ pub fn path_law()
 /// from there on, and is eligible at each next hop within the bound of the hop before.
 pub fn containment()
     ensures { Containment }
+{}
+
+/// Ten rules make bounds sound, and nothing else is asked of a certificate: neither deadlines, nor the order of its rows, nor
+/// that it has no more of them. So it is for any groups that regulate what the senders declare.
+pub fn sound_by_rules()
+    ensures { SoundByRules }
 {}
 
 /// A certificate that holds is sound: in each legal run of the network the path law and containment are kept, whatever other

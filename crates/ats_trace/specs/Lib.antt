@@ -1,7 +1,9 @@
 pub mod Journey
 pub mod Projections
+pub mod Links
 pub mod Eligibility
 pub mod Run
+pub mod ExactLinks
 pub mod Stored
 pub mod Talker
 pub mod Examples

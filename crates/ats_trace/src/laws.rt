@@ -1,6 +1,7 @@
 //! What is proved of the definitions themselves: runs of small networks, written out in full, that are legal or not.
 
 ghost use Rattle.ats_trace.specs.Changes.{ChangedExamplesAreNot};
+ghost use Rattle.ats_trace.specs.ExactLinks.{LinksAreExact};
 ghost use Rattle.ats_trace.specs.LegalExamples.{ExamplesAreLegal};
 ghost use Rattle.ats_trace.specs.MoreChanges.{EachBreaksAlone};
 ghost use Rattle.ats_trace.specs.Parts.{EachPartCounts, LegalIsEachPart};
@@ -31,6 +32,12 @@ pub fn legal_is_each_part()
 /// No part follows from the others: for each there is a run that breaks it alone.
 pub fn each_part_counts()
     ensures { EachPartCounts }
+{}
+
+/// Where each port has one latency, as in each network so far, a run is legal exactly where each frame arrives behind each
+/// port that sends it when its transmission has ended and the port's latency is over.
+pub fn links_are_exact()
+    ensures { LinksAreExact }
 {}
 
 /// A talker that sends its burst, and again as soon as its rate allows, keeps its bucket; 1 ps sooner it breaks it, as does
