@@ -13,14 +13,15 @@ use Rattle.ats_certificate.specs.Certificate.{IsBefore}
 use Rattle.ats_certificate.specs.Form.{ComesAfter}
 use Rattle.ats_certificate.specs.declared.row.Row.{Row}
 use Rattle.ats_bound.specs.Begun.{rows_at, overload_at, IsBegun}
-use Rattle.ats_bound.specs.Due.{IsDue}
+use Rattle.ats_num.specs.Failure.{IsDue}
+use Rattle.ats_num.specs.declared.failure.Failure.{Failure}
+use Rattle.ats_num.specs.declared.failure.Failure.TheVariants.{Fault, NoMemory}
 use Rattle.ats_bound.specs.Least.{least_row, least_certificate}
-use Rattle.ats_bound.specs.Reason.{first_some, load_at, overload}
+use Rattle.ats_tally.specs.Reason.{first_some}
+use Rattle.ats_bound.specs.Reason.{load_at, overload}
 use Rattle.ats_bound.specs.Row.{row_or_load}
-use Rattle.ats_bound.specs.declared.reason.NoBound.{NoBound}
-use Rattle.ats_bound.specs.declared.reason.NoBound.TheVariants as answer
-use Rattle.ats_bound.specs.declared.reason.Reason.{Reason}
-use Rattle.ats_bound.specs.declared.reason.Reason.TheVariants.{Overloaded}
+use Rattle.ats_tally.specs.declared.reason.Reason.{Reason}
+use Rattle.ats_tally.specs.declared.reason.Reason.TheVariants.{Overloaded}
 use Rattle.ats_bound.proofs.LeastHolds.{least_rows}
 
 -- what a row, and a load, say of a place
@@ -75,10 +76,10 @@ begun_next network at rows new left begun more fits = by (is_used network at.0 a
       loads = begun.loads;
     }
 
-pub begun_due : (network : DeclaredNetwork) (at : ℕ × ℕ) (rows : List Row) (left : List (ℕ × ℕ)) (answered : NoBound) → IsBegun network rows (with_place network at left)
+pub begun_due : (network : DeclaredNetwork) (at : ℕ × ℕ) (rows : List Row) (left : List (ℕ × ℕ)) (answered : Failure Reason) → IsBegun network rows (with_place network at left)
     → IsDue answered (overload_at network at) → IsDue answered (first_some (overload network) (places_of network))
-begun_due network at rows left answer.NoMemory begun due = tt
-begun_due network at rows left (answer.Reason reason) begun due = by (is_used network at.0 at.1) begun due
+begun_due network at rows left NoMemory begun due = tt
+begun_due network at rows left (Fault reason) begun due = by (is_used network at.0 at.1) begun due
   where
     by : (b : Bool) → IsBegun network rows (cond b (at ∷ left) left) → cond b (overload network at) None ≡ Some reason → first_some (overload network) (places_of network) ≡ Some reason
     by true begun due = sym begun.loads ∙ ap (λ (o : Option Reason). option_or o (first_some (overload network) left)) due

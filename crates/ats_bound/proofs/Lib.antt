@@ -1,14 +1,6 @@
-pub mod Lists
-pub mod Ceiling
-pub mod Places
 pub mod Waits
 pub mod Reasons
 pub mod NoneHolds
 pub mod LeastHolds
 pub mod OneLeast
-pub mod Tallies
-pub mod Network
-pub mod Gathering
-pub mod UsedLists
 pub mod Beginnings
-pub mod Delaying

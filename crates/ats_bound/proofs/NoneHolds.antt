@@ -12,13 +12,16 @@ use Rattle.ats_certificate.specs.Used.{places_of}
 use Rattle.ats_certificate.specs.Certificate.{Holds, RowHolds, MayStay, IsInTime, is_row_of, row_of, bound_at}
 use Rattle.ats_certificate.specs.declared.row.Row.{Row}
 use Rattle.ats_bound.specs.Least.{least_row, least_certificate}
-use Rattle.ats_bound.specs.Reason.{reason_of, first_some, overload, overstay, delay}
+use Rattle.ats_tally.specs.Reason.{first_some, overstay, late}
+use Rattle.ats_bound.specs.Reason.{reason_of, overload}
 use Rattle.ats_bound.specs.Laws.{ReasonLeavesNone}
-use Rattle.ats_bound.specs.declared.reason.Reason.{Reason}
-use Rattle.ats_bound.proofs.Lists.{All-found, IsFound, found_is, option_cases, first_some-none}
-use Rattle.ats_bound.proofs.Places.{IsPlace, is_place, places_used}
+use Rattle.ats_tally.specs.declared.reason.Reason.{Reason}
+use Rattle.ats_tally.proofs.Lists.{All-found, IsFound, found_is, option_cases, first_some-none}
+use Rattle.ats_tally.proofs.Places.{IsPlace, is_place, places_used}
 use Rattle.ats_bound.proofs.Waits.{Fits, load-is, least_wait-le, least_bound-le}
-use Rattle.ats_bound.proofs.Reasons.{overload-none, overstay-none, delay-none}
+use Rattle.ats_network.specs.Residence.{residence_after}
+use Rattle.ats_tally.proofs.Reasons.{by_stay, by_time}
+use Rattle.ats_bound.proofs.Reasons.{overload-none}
 
 -- a row of a certificate that holds, for a port and a class
 pub record IsHeld (network : DeclaredNetwork) (rows : List Row) (port class : ℕ) : Type 0 where
@@ -102,12 +105,12 @@ in_time_held network rows stream is h late =
     let le = sum_by-le-sum_by (λ port. bound_at (least_certificate network) port stream.class) (λ port. bound_at rows port stream.class) stream.path (λ port. bound_at-le network rows port stream.class is h) in
     omega (arith, le, late)
 
--- no overload, no overstay and no delay leave no reason
+-- no overload, no overstay and no late stream leave no reason
 pub reason_of-none : (network : DeclaredNetwork) → first_some (overload network) (places_of network) ≡ None → first_some (overstay network) (least_certificate network) ≡ None
-    → first_some (delay (least_certificate network)) network.streams ≡ None → reason_of network ≡ None
+    → first_some (late (least_certificate network)) network.streams ≡ None → reason_of network ≡ None
 reason_of-none network loads stays times =
-    ap (λ (o : Option Reason). option_or o (option_or (first_some (overstay network) (least_certificate network)) (first_some (delay (least_certificate network)) network.streams))) loads
-    ∙ ap (λ (o : Option Reason). option_or o (first_some (delay (least_certificate network)) network.streams)) stays
+    ap (λ (o : Option Reason). option_or o (option_or (first_some (overstay network) (least_certificate network)) (first_some (late (least_certificate network)) network.streams))) loads
+    ∙ ap (λ (o : Option Reason). option_or o (first_some (late (least_certificate network)) network.streams)) stays
     ∙ times
 
 -- a certificate that holds leaves no reason
@@ -119,11 +122,13 @@ no_reason_held network rows is h =
     let stays : first_some (overstay network) (least_certificate network) ≡ None =
     first_some-none (overstay network) (least_certificate network)
     (All-map (λ (row : Row). overstay network row ≡ None) (least_row network) (places_of network)
-    (λ k d within. overstay-none network (least_row network (get_or (places_of network) k d))
-    (stays_held network rows (get_or (places_of network) k d).0 (get_or (places_of network) k d).1 is h (places_used network k d within)))) in
-    let times : first_some (delay (least_certificate network)) network.streams ≡ None =
-    first_some-none (delay (least_certificate network)) network.streams
-    (λ k d within. delay-none (least_certificate network) (get_or network.streams k d) (in_time_held network rows (get_or network.streams k d) is h (h.deadlines k d within))) in
+    (λ k d within. (
+    let at = get_or (places_of network) k d in
+    by_stay (least_row network at) (residence_after network.topology at.0)
+    (stays_held network rows at.0 at.1 is h (places_used network k d within))))) in
+    let times : first_some (late (least_certificate network)) network.streams ≡ None =
+    first_some-none (late (least_certificate network)) network.streams
+    (λ k d within. by_time (least_certificate network) (get_or network.streams k d) (in_time_held network rows (get_or network.streams k d) is h (h.deadlines k d within))) in
     reason_of-none network loads stays times
 
 none_some : {X : Type 0} (x : X) → None ≡ Some x → ⊥

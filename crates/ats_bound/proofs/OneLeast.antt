@@ -8,8 +8,8 @@ use Rattle.ats_certificate.specs.Least.{IsLeastRow, IsLeastCertificate}
 use Rattle.ats_certificate.specs.declared.row.Row.{Row}
 use Rattle.ats_bound.specs.Least.{least_row, least_certificate}
 use Rattle.ats_bound.specs.Laws.{LeastCertificateIsOne}
-use Rattle.ats_bound.proofs.Lists.{IsFound, found_is, All-found, Contains-found, option_cases, same_in_order}
-use Rattle.ats_bound.proofs.Places.{is_place}
+use Rattle.ats_tally.proofs.Lists.{IsFound, found_is, All-found, Contains-found, option_cases, same_in_order}
+use Rattle.ats_tally.proofs.Places.{is_place}
 use Rattle.ats_bound.proofs.Waits.{least_row-only}
 use Rattle.ats_bound.proofs.NoneHolds.{IsLeastOf, each_least, row_at, no_none}
 use Rattle.ats_bound.proofs.LeastHolds.{least_rows}

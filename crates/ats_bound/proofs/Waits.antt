@@ -10,10 +10,11 @@ use Rattle.ats_certificate.specs.PortSums.{PortSums, port_sums, is_of, sum_where
 use Rattle.ats_certificate.specs.Certificate.{Covers, HasSums, bound_of}
 use Rattle.ats_certificate.specs.Least.{IsLeastRow}
 use Rattle.ats_certificate.specs.declared.row.Row.{Row}
-use Rattle.ats_bound.specs.Least.{least_wait, least_row}
+use Rattle.ats_tally.specs.Waits.{least_wait}
+use Rattle.ats_bound.specs.Least.{least_row}
 use Rattle.ats_bound.specs.Reason.{load_at}
-use Rattle.ats_bound.proofs.Ceiling.{ceiling-is}
-use Rattle.ats_bound.proofs.Places.{IsPlace}
+use Rattle.ats_tally.proofs.Ceiling.{ceiling-is}
+use Rattle.ats_tally.proofs.Places.{IsPlace}
 
 -- the load of a place is within its link
 abbrev pub Fits : DeclaredNetwork → ℕ → ℕ → Type 0

@@ -1,5 +1,4 @@
-use Rattle.std.specs.Prelude.{ℕ, ◌+◌, ◌-◌, ◌*◌, ◌/◌, List, map}
-use Rattle.ats_num.specs.declared.time.TheConstants.{PS_PER_SECOND}
+use Rattle.std.specs.Prelude.{ℕ, List, map}
 use Rattle.ats_topology.specs.Port.{port_at}
 use Rattle.ats_topology.specs.declared.port.Port.{Port}
 use Rattle.ats_network.specs.Network.{DeclaredNetwork}
@@ -7,15 +6,7 @@ use Rattle.ats_certificate.specs.PortSums.{PortSums, port_sums}
 use Rattle.ats_certificate.specs.Certificate.{bound_of}
 use Rattle.ats_certificate.specs.Used.{places_of}
 use Rattle.ats_certificate.specs.declared.row.Row.{Row}
-
--- n divided by d, rounded up
-abbrev pub ceiling : ℕ → ℕ → ℕ
-ceiling n d = (n + (d - 1)) / d
-
--- the least wait that is enough for these sums: the time in which the longest lower frame and all bursts but the shortest
--- frame are sent, at the rate that the higher classes leave
-abbrev pub least_wait : Port → PortSums → ℕ
-least_wait port sums = ceiling (PS_PER_SECOND * (port.ps_per_bit * (sums.lower + sums.bursts - sums.least))) (PS_PER_SECOND - sums.higher)
+use Rattle.ats_tally.specs.Waits.{least_wait}
 
 -- the row of a port and a class with these sums and this wait
 abbrev pub row_with : Port → ℕ → ℕ → PortSums → ℕ → Row

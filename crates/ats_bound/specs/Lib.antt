@@ -2,8 +2,4 @@ pub mod Least
 pub mod Reason
 pub mod Laws
 pub mod Row
-pub mod Due
-pub mod Tally
-pub mod Gathered
 pub mod Begun
-pub mod Delays

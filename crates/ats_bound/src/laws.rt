@@ -17,9 +17,9 @@ pub fn least_certificate_is_one()
     ensures { LeastCertificateIsOne }
 {}
 
-/// A law: the row that is computed for a port and a class has the least wait that is enough, where some stream of the class
-/// uses the port, and the class and those above it fit the link. It is what `row` gives there, and what the numbers in a
-/// reason or a refusal speak of.
+/// A law: the row that is computed for a port and a class has the least wait that is enough, where some stream of the
+/// class uses the port, and the class and those above it fit the link. It is what `row` gives there, and what the
+/// numbers in a reason or a refusal speak of.
 pub fn computed_row_is_least()
     ensures { ComputedRowIsLeast }
 {}

@@ -1,23 +1,21 @@
 //! Rows with the least waits.
 
-ghost use Rattle.std.specs.Prelude.{◌≡◌, ◌&&◌, ◌-◌, ◌+◌, ◌*◌, ◌<◌, ◌≤◌, length, map, unwrap_or, All, IfOk, IsTrue};
+ghost use Rattle.std.specs.Prelude.{◌≡◌, ◌&&◌, ◌≤◌, IfOk, IsTrue};
 ghost use Rattle.std.specs.List.{list_any};
-ghost use Rattle.ats_num.specs.declared.time.TheConstants.{PS_PER_SECOND};
 ghost use Rattle.ats_topology.specs.Rates.{IsPsPerBit};
 ghost use Rattle.ats_network.specs.Network.{senders_of};
 ghost use Rattle.ats_network.specs.Sender.{stream_sender};
 ghost use Rattle.ats_certificate.specs.Form.{IsRow};
 ghost use Rattle.ats_certificate.specs.PortSums.{is_of, is_used, senders_at, uses};
-ghost use Rattle.ats_bound.specs.Least.{ceiling};
+ghost use Rattle.ats_tally.specs.Tally.{IsTally, IsWithin, sums_of};
 ghost use Rattle.ats_bound.specs.Row.{row_from, row_or_load};
-ghost use Rattle.ats_bound.specs.Tally.{IsTally, IsWithin, sums_of};
 
-use crate::tally::{MAX_SENDERS, Tally};
 use ats_certificate::Row;
 use ats_network::Network;
-use ats_num::ceil_div;
 use ats_num::time::PS_PER_SECOND;
 use ats_streams::Stream;
+use ats_tally::tally::MAX_SENDERS;
+use ats_tally::{ClassSums, Tally, least_wait};
 use ats_topology::Port;
 
 /// Whether some stream of the class uses the port. It takes no memory.
@@ -27,8 +25,8 @@ pub fn is_used(network: &Network, port: u32, class: u8) -> bool
     is_used_by(network.streams(), port, class)
 }
 
-/// The row of a port and a class that some stream uses there: what the streams and flows make of them, the least wait that
-/// is enough, and its bound. It takes no memory, and looks at each path of the network once. `is_used` tests
+/// The row of a port and a class that some stream uses there: what the streams and flows make of them, the least wait
+/// that is enough, and its bound. It takes no memory, and looks at each path of the network once. `is_used` tests
 /// whether some stream does.
 ///
 /// # Errors
@@ -86,36 +84,21 @@ fn row_from(port: &Port, number: u32, class: u8, tally: Tally) -> Result<Row, u1
     ensures form { IfOk result IsRow }
 {
     let ps = u128::from(port.ps_per_bit);
-    let higher = ps * u128::from(tally.above);
-    let equal = ps * u128::from(tally.equal);
-    if higher + equal > u128::from(PS_PER_SECOND) {
-        return Err(higher + equal);
+    let sums = ClassSums::of(tally, port.ps_per_bit);
+    let load = sums.higher + sums.equal;
+    if load > u128::from(PS_PER_SECOND) {
+        return Err(load);
     }
-    let least = tally.least.unwrap_or(0);
-    let wait = least_wait(ps, higher, tally);
+    let wait = least_wait(ps, sums.higher, tally);
     Ok(Row {
         port: number,
         class,
-        higher,
-        equal,
-        bursts: u128::from(tally.bursts),
-        lower: tally.lower,
-        least,
+        higher: sums.higher,
+        equal: sums.equal,
+        bursts: sums.bursts,
+        lower: sums.lower,
+        least: sums.least,
         wait,
-        bound: wait + ps * u128::from(least) + u128::from(port.latency.0),
+        bound: wait + ps * u128::from(sums.least) + u128::from(port.latency.0),
     })
-}
-
-/// The least wait that is enough, in picoseconds, where a bit takes `ps` picoseconds, the higher classes take `higher`
-/// picoseconds of each second, and the senders make so much of a class.
-pub fn least_wait(ps: u128, higher: u128, tally: Tally) -> u128
-    requires ps { ps ≤ 100000 }
-    requires higher { higher < PS_PER_SECOND }
-    requires tally { IsWithin MAX_SENDERS tally }
-    ensures wait { result ≡ ceiling (PS_PER_SECOND * (ps * (tally.lower + tally.bursts - unwrap_or tally.least 0))) (PS_PER_SECOND - higher) }
-    ensures most { result ≤ 1000000000000000000000000000000 }
-{
-    let second = u128::from(PS_PER_SECOND);
-    let bits = (tally.lower + tally.bursts).saturating_sub(tally.least.unwrap_or(0));
-    ceil_div(second * (ps * u128::from(bits)), second - higher)
 }

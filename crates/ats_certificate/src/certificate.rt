@@ -4,8 +4,7 @@ ghost use Rattle.std.specs.Prelude.{◌≡◌, [], ◌∷◌, ◌++◌, OnOk, On
 ghost use Rattle.ats_certificate.specs.Form.{AreRows, ComesAfter, IsRow};
 
 use crate::row::Row;
-use ats_num::NoMemory;
-use std::alloc::Global;
+use std::alloc::{AllocError, Global};
 use std::marker::Model;
 
 /// The rows of a certificate of delay bounds, each for a port and a class. They ascend strictly by port and then class, and
@@ -39,8 +38,8 @@ impl Certificate {
         }
     }
 
-    /// Adds a row, which is in form and comes after the last one. `NoMemory` leaves the certificate as it was.
-    pub fn push(&mut self, row: Row) -> Result<(), NoMemory>
+    /// Adds a row, which is in form and comes after the last one. `AllocError` leaves the certificate as it was.
+    pub fn push(&mut self, row: Row) -> Result<(), AllocError>
         requires form { IsRow row }
         requires after { ComesAfter self.old row }
         ensures ok { OnOk result (self.new ≡ self.old ++ row ∷ []) }

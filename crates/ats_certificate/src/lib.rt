@@ -6,6 +6,3 @@ pub mod row;
 
 pub use certificate::Certificate;
 pub use row::Row;
-
-#[cfg(test)]
-mod tests;

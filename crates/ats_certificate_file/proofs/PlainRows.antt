@@ -16,7 +16,7 @@ use Rattle.ats_topology.specs.declared.link.Link.{Link}
 use Rattle.ats_topology.proofs.Rules.{topology_rules}
 use Rattle.ats_port_names.specs.Laws.{AreSound}
 use Rattle.ats_port_names.specs.PortName.{port_name}
-use Rattle.ats_records.specs.Plain.{IsPlain, IsPlainByte}
+use Rattle.ats_csv.specs.Plain.{IsPlain, IsPlainByte}
 use Rattle.ats_certificate.specs.Form.{IsRow}
 use Rattle.ats_certificate.specs.declared.row.Row.{Row}
 use Rattle.ats_certificate_file.specs.Reading.{header}

@@ -14,15 +14,15 @@ use Rattle.ats_topology.specs.declared.node.Node.{Node}
 use Rattle.ats_topology.specs.declared.link.Link.{Link}
 use Rattle.ats_port_names.specs.Laws.{AreSound}
 use Rattle.ats_port_names.proofs.ReadsBack.{port_reads_back}
-use Rattle.ats_records.specs.Plain.{IsPlain}
-use Rattle.ats_records.specs.Reading.{same_fields}
-use Rattle.ats_records.proofs.ReadsBack.{plain_reads_back}
+use Rattle.ats_csv.specs.Plain.{IsPlain}
+use Rattle.ats_csv.specs.Reading.{same_fields}
+use Rattle.ats_csv.proofs.ReadsBack.{plain_reads_back}
 use Rattle.ats_certificate.specs.Certificate.{IsBefore}
 use Rattle.ats_certificate.specs.Form.{ComesAfter, IsRow, last_of}
 use Rattle.ats_certificate.specs.declared.row.Row.{Row}
 use Rattle.ats_certificate_file.specs.Laws.{CertificateReadsBack}
 use Rattle.ats_certificate_file.specs.Reading.{comes_after, header, is_before, number_in, number_within, row_after, row_in, rows_from, rows_under}
-use Rattle.ats_certificate_file.specs.Steps.{◌>>=◌, ok_where, or_fault}
+use Rattle.ats_num.specs.Failure.{◌>>=◌, ok_where, or_fault}
 use Rattle.ats_certificate_file.specs.Text.{fields_of}
 use Rattle.ats_certificate_file.specs.declared.fault.CertFault.{CertFault}
 use Rattle.ats_certificate_file.specs.declared.fault.CertFault.TheVariants.{BadNumber, BadRow, RowOrder, UnknownPort}

@@ -3,7 +3,7 @@ use Rattle.std.proofs.Common.{◌≡◌, ◌∙◌, ℕ, ◌+◌, ◌<◌, List,
 use Rattle.std.proofs.lemmas.Grind.{flat_map-append}
 use Rattle.std.proofs.lemmas.List.{map_more}
 use Rattle.ats_topology.specs.Topology.{DeclaredTopology}
-use Rattle.ats_records.specs.Plain.{record_text, text_of}
+use Rattle.ats_csv.specs.Plain.{record_text, text_of}
 use Rattle.ats_certificate.specs.declared.row.Row.{Row}
 use Rattle.ats_certificate_file.specs.Reading.{header}
 use Rattle.ats_certificate_file.specs.Text.{certificate_text, fields_of}

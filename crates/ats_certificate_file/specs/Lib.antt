@@ -1,5 +1,4 @@
 pub mod FaultText
 pub mod Laws
 pub mod Reading
-pub mod Steps
 pub mod Text

@@ -3,10 +3,10 @@ use Rattle.ats_num.specs.Number.{number_of}
 use Rattle.ats_num.specs.declared.wire.TheConstants.{MAX_WIRE_BITS}
 use Rattle.ats_topology.specs.Topology.{DeclaredTopology}
 use Rattle.ats_port_names.specs.PortName.{port_named}
-use Rattle.ats_records.specs.Reading.{field_of, records_of, same_fields}
+use Rattle.ats_csv.specs.Reading.{field_of, records_of, same_fields}
 use Rattle.ats_certificate.specs.Form.{last_of}
 use Rattle.ats_certificate.specs.declared.row.Row.{Row}
-use Rattle.ats_certificate_file.specs.Steps.{◌>>=◌, or_fault, ok_where}
+use Rattle.ats_num.specs.Failure.{◌>>=◌, or_fault, ok_where}
 use Rattle.ats_certificate_file.specs.declared.fault.CertFault.{CertFault}
 use Rattle.ats_certificate_file.specs.declared.fault.CertFault.TheVariants.{BadRow, UnknownPort, BadNumber, RowOrder}
 

@@ -1,7 +1,7 @@
 use Rattle.std.specs.Prelude.{ℕ, List, [], ◌∷◌, map, decimal}
 use Rattle.ats_topology.specs.Topology.{DeclaredTopology}
 use Rattle.ats_port_names.specs.PortName.{port_name}
-use Rattle.ats_records.specs.Plain.{text_of}
+use Rattle.ats_csv.specs.Plain.{text_of}
 use Rattle.ats_certificate.specs.declared.row.Row.{Row}
 use Rattle.ats_certificate_file.specs.Reading.{header}
 

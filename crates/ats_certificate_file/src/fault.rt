@@ -1,14 +1,14 @@
 //! Why a file is no certificate file.
 
-ghost use Rattle.std.specs.Prelude.{◌≡◌, ◌++◌, decimal, OnOk};
+ghost use Rattle.std.specs.Prelude.{Some};
 ghost use Rattle.ats_certificate_file.specs.FaultText.{fault_text};
 
-use ats_num::NoMemory as OutOfMemory;
-use itoa::Buffer;
-use std::alloc::{AllocError, AllocFailed};
+use ats_num::Fault;
+use std::fmt;
 
 /// The first fault of a file that is no certificate file, with its record. Records are counted from 1, and the header is
-/// record 1. A record with several faults has the one that stands first here.
+/// record 1. A record with several faults has the one that stands first here. It is displayed as the word for the fault and
+/// the record.
 #[derive(Clone, Copy, Debug, PartialEq, Eq)]
 pub enum CertFault {
     /// The first record is not the header, or a record has another number of fields than nine. A file without a record has
@@ -20,62 +20,19 @@ pub enum CertFault {
     BadNumber(u32),
     /// The row does not come after the one before, by port and then class.
     RowOrder(u32),
-    /// Memory ran out.
-    NoMemory,
 }
 
-impl From<AllocError> for CertFault {
-    ghost use Rattle.std.specs.Prelude.{◌≡◌};
-    ghost use Rattle.ats_certificate_file.specs.declared.fault.CertFault.TheVariants.{NoMemory};
+impl Fault for CertFault {}
 
-    ghost from_gives = { λ _ e. e ≡ NoMemory };
+impl fmt::Display for CertFault {
+    ghost output = { λ fault. Some (fault_text fault) };
 
-    fn from(_e: AllocError) -> CertFault {
-        CertFault::NoMemory
+    fn fmt<W: fmt::Write>(&self, f: &mut fmt::Formatter<W>) -> fmt::Result {
+        match self {
+            CertFault::BadRow(n) => write!(f, "bad-row {n}"),
+            CertFault::UnknownPort(n) => write!(f, "unknown-port {n}"),
+            CertFault::BadNumber(n) => write!(f, "bad-number {n}"),
+            CertFault::RowOrder(n) => write!(f, "row-order {n}"),
+        }
     }
-}
-
-impl<T: Drop> From<AllocFailed<T>> for CertFault {
-    ghost use Rattle.std.specs.Prelude.{◌≡◌};
-    ghost use Rattle.ats_certificate_file.specs.declared.fault.CertFault.TheVariants.{NoMemory};
-
-    ghost from_gives = { λ _ e. e ≡ NoMemory };
-
-    fn from(_e: AllocFailed<T>) -> CertFault {
-        CertFault::NoMemory
-    }
-}
-
-impl From<OutOfMemory> for CertFault {
-    ghost use Rattle.std.specs.Prelude.{◌≡◌};
-    ghost use Rattle.ats_certificate_file.specs.declared.fault.CertFault.TheVariants.{NoMemory};
-
-    ghost from_gives = { λ _ e. e ≡ NoMemory };
-
-    fn from(_e: OutOfMemory) -> CertFault {
-        CertFault::NoMemory
-    }
-}
-
-/// Appends the word for a fault and its record. After `NoMemory` nothing is said of `out`.
-pub fn write_fault(out: &mut Vec<u8>, fault: &CertFault) -> Result<(), OutOfMemory>
-    ensures { OnOk result (out.new.items ≡ out.old.items ++ fault_text fault.now) }
-{
-    match fault {
-        CertFault::BadRow(n) => write_word(out, b"bad-row ", *n),
-        CertFault::UnknownPort(n) => write_word(out, b"unknown-port ", *n),
-        CertFault::BadNumber(n) => write_word(out, b"bad-number ", *n),
-        CertFault::RowOrder(n) => write_word(out, b"row-order ", *n),
-        CertFault::NoMemory => Ok(out.extend_from_slice(b"no-memory")?),
-    }
-}
-
-// A word, and a number behind it.
-fn write_word(out: &mut Vec<u8>, word: &[u8], n: u32) -> Result<(), OutOfMemory>
-    ensures { OnOk result (out.new.items ≡ out.old.items ++ (word.now ++ decimal n)) }
-{
-    let mut buffer = Buffer::new();
-    out.extend_from_slice(word)?;
-    out.extend_from_slice(buffer.format(n).as_bytes())?;
-    Ok(())
 }

@@ -7,9 +7,6 @@ pub mod reading;
 mod row;
 pub mod writing;
 
-pub use fault::{CertFault, write_fault};
+pub use fault::CertFault;
 pub use reading::read_certificate;
 pub use writing::write_certificate;
-
-#[cfg(test)]
-mod tests;

@@ -1,15 +1,16 @@
 //! Certificate files as bytes.
 
-ghost use Rattle.std.specs.Prelude.{◌≡◌, ◌≤◌, [], length, IsTrue, MatchResult, None, Ok, Some};
-ghost use Rattle.ats_certificate_file.specs.Steps.{Fails};
+ghost use Rattle.std.specs.Prelude.{◌≡◌, ◌≤◌, [], length, IsTrue, None, Some};
+ghost use Rattle.ats_num.specs.Failure.{Gives};
 ghost use Rattle.ats_certificate_file.specs.Reading.{header, rows_from, rows_of, rows_under};
-ghost use Rattle.ats_records.specs.Reading.{same_fields};
+ghost use Rattle.ats_csv.specs.Reading.{same_fields};
 
 use crate::fault::CertFault;
 use crate::row::row_after;
 use ats_certificate::Certificate;
+use ats_num::Failure;
 use ats_port_names::PortNames;
-use ats_records::{Records, Taken};
+use ats_csv::{Records, Taken};
 use ats_topology::Topology;
 use std::alloc::Global;
 
@@ -19,14 +20,13 @@ const HEADER: [&[u8]; 9] = [
 ];
 
 /// The certificate that a file declares for the ports of a topology, or its first fault with its record, counted from 1.
-/// `NoMemory` where memory runs out.
 pub fn read_certificate(
     alloc: Global,
     bytes: &[u8],
     topology: &Topology,
-) -> Result<Certificate, CertFault>
+) -> Result<Certificate, Failure<CertFault>>
     requires { length bytes.now ≤ 16777216 }
-    ensures { MatchResult result (λ rows. rows_of topology.now bytes.now ≡ Ok rows) (λ e. Fails e (rows_of topology.now bytes.now)) }
+    ensures { Gives result (rows_of topology.now bytes.now) }
 {
     let names = PortNames::new(alloc, topology)?;
     let mut records = Records::open(alloc, bytes);
@@ -38,14 +38,14 @@ fn rows_under(
     alloc: Global,
     names: &PortNames,
     records: &mut Records,
-) -> Result<Certificate, CertFault>
+) -> Result<Certificate, Failure<CertFault>>
     requires few { length records.old.left ≤ 16777217 }
     requires width { records.old.width ≡ None }
-    ensures { MatchResult result (λ rows. rows_under names.now records.old.left ≡ Ok rows) (λ e. Fails e (rows_under names.now records.old.left)) }
+    ensures { Gives result (rows_under names.now records.old.left) }
 {
     match records.advance()? {
         Taken::Record if has_header(records) => rows_from(alloc, names, records),
-        _ => Err(CertFault::BadRow(1)),
+        _ => Err(Failure::Fault(CertFault::BadRow(1))),
     }
 }
 
@@ -63,17 +63,17 @@ fn rows_from(
     alloc: Global,
     names: &PortNames,
     records: &mut Records,
-) -> Result<Certificate, CertFault>
+) -> Result<Certificate, Failure<CertFault>>
     requires few { length records.old.left ≤ 16777216 }
     requires width { records.old.width ≡ Some 9 }
-    ensures { MatchResult result (λ rows. rows_from names.now [] 2 records.old.left ≡ Ok rows) (λ e. Fails e (rows_from names.now [] 2 records.old.left)) }
+    ensures { Gives result (rows_from names.now [] 2 records.old.left) }
 {
     let mut certificate = Certificate::new(alloc);
     let mut number = 2;
     loop {
         match records.advance()? {
             Taken::Record => certificate.push(row_after(&certificate, names, number, records)?)?,
-            Taken::OtherWidth => return Err(CertFault::BadRow(number)),
+            Taken::OtherWidth => return Err(Failure::Fault(CertFault::BadRow(number))),
             Taken::End => return Ok(certificate),
         }
         number += 1;

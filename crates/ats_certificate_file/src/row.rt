@@ -2,7 +2,6 @@
 
 ghost use Rattle.std.specs.Prelude.{◌≡◌, ◌≤◌, ◌<◌, ◌^◌, length, IfOk};
 ghost use Rattle.ats_certificate.specs.Form.{ComesAfter, IsRow};
-ghost use Rattle.ats_certificate_file.specs.Steps.{Gives};
 ghost use Rattle.ats_certificate_file.specs.Reading.{number_in, number_within, row_after, row_in};
 
 use crate::fault::CertFault;
@@ -10,7 +9,7 @@ use ats_certificate::{Certificate, Row};
 use ats_num::number;
 use ats_num::wire::MAX_WIRE_BITS;
 use ats_port_names::PortNames;
-use ats_records::Records;
+use ats_csv::Records;
 
 // The row of record n, which has nine fields and is to come after the rows of a certificate.
 #[tactic(auto, unfolding(crate::specs::Reading::row_after))]
@@ -21,7 +20,7 @@ pub(crate) fn row_after(
     records: &Records,
 ) -> Result<Row, CertFault>
     requires { length records.now.fields ≡ 9 }
-    ensures due { Gives result (row_after names.now certificate.now n records.now.fields) }
+    ensures due { result ≡ row_after names.now certificate.now n records.now.fields }
     ensures form { IfOk result IsRow }
     ensures after { IfOk result (ComesAfter certificate.now) }
 {
@@ -36,7 +35,7 @@ pub(crate) fn row_after(
 #[tactic(auto, unfolding(crate::specs::Reading::row_in))]
 fn row_in(names: &PortNames, n: u32, records: &Records) -> Result<Row, CertFault>
     requires { length records.now.fields ≡ 9 }
-    ensures due { Gives result (row_in names.now n records.now.fields) }
+    ensures due { result ≡ row_in names.now n records.now.fields }
     ensures form { IfOk result IsRow }
 {
     let port = names
@@ -66,7 +65,7 @@ fn row_in(names: &PortNames, n: u32, records: &Records) -> Result<Row, CertFault
 // The number that a text in record n writes.
 #[tactic(auto, using(crate::proofs::Numbers::few_digits))]
 fn number_in(n: u32, text: &[u8]) -> Result<u128, CertFault>
-    ensures due { Gives result (number_in n text.now) }
+    ensures due { result ≡ number_in n text.now }
     ensures digits { IfOk result (λ number. number < 10 ^ 36) }
 {
     number(text).ok_or(CertFault::BadNumber(n))
@@ -74,7 +73,7 @@ fn number_in(n: u32, text: &[u8]) -> Result<u128, CertFault>
 
 // The same for a number that is to be at least and at most so much.
 fn number_within(n: u32, least: u64, most: u64, text: &[u8]) -> Result<u128, CertFault>
-    ensures due { Gives result (number_within n least most text.now) }
+    ensures due { result ≡ number_within n least most text.now }
     ensures least { IfOk result (λ number. least ≤ number) }
     ensures most { IfOk result (λ number. number ≤ most) }
 {

@@ -1,17 +1,16 @@
 //! The text of a certificate.
 
 ghost use Rattle.std.specs.Prelude.{◌≡◌, ◌++◌, ◌<◌, length, All, IfOk, OnOk};
-ghost use Rattle.ats_records.specs.Plain.{record_text};
+ghost use Rattle.ats_csv.specs.Plain.{record_text};
 ghost use Rattle.ats_certificate.specs.declared.row.Row.{Row};
 ghost use Rattle.ats_certificate_file.specs.Reading.{header};
 ghost use Rattle.ats_certificate_file.specs.Text.{certificate_text, fields_of};
 
 use ats_certificate::{Certificate, Row};
-use ats_num::NoMemory;
 use ats_port_names::write_port;
-use ats_records::{Field, push_record};
+use ats_csv::{Field, push_record};
 use ats_topology::Topology;
-use std::alloc::Global;
+use std::alloc::{AllocError, Global};
 
 // The text of the first record.
 const HEADER_LINE: &[u8] = b"port,class,higher,equal,bursts,lower,least,wait,bound\n";
@@ -22,7 +21,7 @@ pub fn write_certificate(
     alloc: Global,
     certificate: &Certificate,
     topology: &Topology,
-) -> Result<Vec<u8>, NoMemory>
+) -> Result<Vec<u8>, AllocError>
     requires { All (λ (row : Row). row.port < length topology.now.ports) certificate.now }
     ensures { IfOk result (λ text. text.items ≡ certificate_text topology.now certificate.now) }
 {
@@ -36,7 +35,7 @@ pub fn write_certificate(
 
 // Appends the record of the header.
 #[tactic(auto, unfolding(crate::specs::Reading::header))]
-fn write_header(out: &mut Vec<u8>) -> Result<(), NoMemory>
+fn write_header(out: &mut Vec<u8>) -> Result<(), AllocError>
     ensures { OnOk result (out.new.items ≡ out.old.items ++ record_text header) }
 {
     Ok(out.extend_from_slice(HEADER_LINE)?)
@@ -48,7 +47,7 @@ fn write_row(
     out: &mut Vec<u8>,
     row: &Row,
     topology: &Topology,
-) -> Result<(), NoMemory>
+) -> Result<(), AllocError>
     requires { row.now.port < length topology.now.ports }
     ensures { OnOk result (out.new.items ≡ out.old.items ++ record_text (fields_of topology.now row.now)) }
 {

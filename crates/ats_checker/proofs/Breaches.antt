@@ -5,12 +5,11 @@ use Rattle.std.specs.Option.{option_or}
 use Rattle.std.proofs.lemmas.Bool.{cases_lt}
 use Rattle.std.proofs.lemmas.List.Elements.{All-nil, All-cons, All-head}
 use Rattle.ats_network.proofs.Appended.{all_left, all_right}
-use Rattle.ats_bound.specs.Reason.{first_some}
-use Rattle.ats_bound.proofs.Lists.{first_some-none, none_first}
+use Rattle.ats_tally.specs.Reason.{first_some}
+use Rattle.ats_tally.proofs.Lists.{first_some-none, none_first}
 use Rattle.ats_checker.specs.First.{IsFirstBreach}
-use Rattle.ats_checker.proofs.Firsts.{first_append}
-use Rattle.ats_checker.proofs.Inside.{none_some, some_is}
-use Rattle.ats_checker.proofs.Refused.{some_none}
+use Rattle.ats_tally.proofs.Firsts.{first_append, none_some, some_is}
+use Rattle.ats_tally.proofs.Reasons.{some_none}
 
 -- where along a list the first value stands
 pub record StandsAt {A B : Type 0} (given : A → Option B) (xs : List A) (found : B) : Type 0 where

@@ -16,19 +16,23 @@ use Rattle.ats_certificate.specs.Used.{places_of}
 use Rattle.ats_certificate.specs.Certificate.{HasRows, HasSums, FitsLink, IsEnough, MayStay, Covers, RowHolds, IsInTime, IsBefore, is_row_of, row_of, bound_of, bound_along}
 use Rattle.ats_certificate.specs.Least.{IsLeastRow}
 use Rattle.ats_certificate.specs.declared.row.Row.{Row}
-use Rattle.ats_bound.specs.Least.{least_wait}
-use Rattle.ats_bound.specs.Reason.{first_some}
-use Rattle.ats_bound.proofs.Lists.{any_gives}
-use Rattle.ats_bound.proofs.Places.{IsPlace, IsUsedAt, Precedes, is_at, is_place, places_used, places_ordered, places_have}
+use Rattle.ats_tally.specs.Waits.{least_wait}
+use Rattle.ats_tally.specs.Reason.{first_some, overload_in, overstay_by, overstay, late}
+use Rattle.ats_tally.specs.declared.reason.Reason.{Reason}
+use Rattle.ats_tally.specs.declared.reason.Reason.TheVariants.{Overloaded, Residence, Deadline}
+use Rattle.ats_tally.proofs.Reasons.{stays_by, by_stay, in_time_from, by_time}
+use Rattle.ats_tally.proofs.Lists.{any_gives}
+use Rattle.ats_tally.proofs.Places.{IsPlace, IsUsedAt, Precedes, is_at, is_place, places_used, places_ordered, places_have}
 use Rattle.ats_bound.proofs.Waits.{work-is, least_wait-is, least_wait-le}
-use Rattle.ats_checker.specs.First.{IsFirst, IsUsed, IsRight, fields, said, due, IsMissing, IsRowAtFault}
-use Rattle.ats_checker.specs.Refusal.{missing, stray, wrong, wrong_in, overloaded, short, overstay_by, overstay, late, refusal_of}
+use Rattle.ats_checker.specs.First.{IsFirst, IsFirstReason, IsUsed, IsRight, fields, said, due, IsMissing, IsRowAtFault}
+use Rattle.ats_checker.specs.Refusal.{missing, stray, wrong, wrong_in, short, of_network, refusal_of}
 use Rattle.ats_checker.specs.declared.refusal.Field.{Field}
 use Rattle.ats_checker.specs.declared.refusal.Field.TheVariants as field
 use Rattle.ats_checker.specs.declared.refusal.Refusal.{Refusal}
-use Rattle.ats_checker.specs.declared.refusal.Refusal.TheVariants.{RowMissing, RowStray, FieldWrong, Overloaded, WaitTooSmall, Residence, Deadline}
-use Rattle.ats_checker.proofs.Inside.{none_some}
-use Rattle.ats_checker.proofs.Refused.{is_given, by_given, passes, by_pass, has_row_among, complete_from, right_from, by_right, fits_from, by_fit, place_fits, long_from, by_long, enough_from, stays_by, by_stay, in_time_from, by_time}
+use Rattle.ats_checker.specs.declared.refusal.Refusal.TheVariants.{RowMissing, RowStray, FieldWrong, WaitTooSmall}
+use Rattle.ats_tally.proofs.Firsts.{none_some}
+use Rattle.ats_checker.proofs.Refused.{is_given, by_given, passes, by_pass, has_row_among, complete_from, right_from, by_right, fits_from, by_fits, no_reason, place_fits, long_from, by_long, enough_from}
+use Rattle.ats_checker.proofs.Inside.{by_network}
 use Rattle.ats_checker.proofs.Breaches.{StandsAt, stands_at, Tests, all_kept, breach_at, it_keeps, or_else, or_none, if_false, if_true}
 
 -- the rules of a row and of a field, by name
@@ -66,8 +70,8 @@ module _ (network : DeclaredNetwork) (rows : List Row) (is : IsNetwork network) 
   pub right_tests : Tests (wrong_in network) (IsRight network) rows
   right_tests = λ k d h. (λ none. right_from network (get_or rows k d) none, λ right. by_right network (get_or rows k d) right)
 
-  pub fit_tests : Tests overloaded FitsLink rows
-  fit_tests = λ k d h. (λ none. fits_from (get_or rows k d) none, λ fits. by_fit (get_or rows k d) fits)
+  pub fit_tests : Tests overload_in FitsLink rows
+  fit_tests = λ k d h. (λ none. fits_from (get_or rows k d) none, λ fits. by_fits (get_or rows k d) fits)
 
   pub enough_tests : All (IsUsed network) rows → All (IsFitting network) rows → Tests (short network) (Waits network) rows
   enough_tests used fitting = λ k d h. (
@@ -87,9 +91,9 @@ module _ (network : DeclaredNetwork) (rows : List Row) (is : IsNetwork network) 
   time_tests = λ k d h. (λ none. in_time_from rows (get_or network.streams k d) none, λ time. by_time rows (get_or network.streams k d) time)
 
   -- a row that is found at fault
-  pub at_fault : {Before Rule : Row → Type 0} (given : Row → Option Refusal) (found : Refusal) → HasRows network rows → All Before rows → Tests given Rule rows
+  pub at_fault : {Before Rule : Row → Type 0} {B : Type 0} (given : Row → Option B) (found : B) → HasRows network rows → All Before rows → Tests given Rule rows
       → (at : StandsAt given rows found) → IsRowAtFault network rows Before Rule at.it.port at.it.class at.it
-  at_fault {Before} {Rule} given found rows_of kept tests at =
+  at_fault {Before} {Rule} {B} given found rows_of kept tests at =
       record { rows_of = rows_of; kept = kept; place = own_place at.it; first = breach_at given Rule rows found tests at }
 
 -- the judgement of a row goes through its fields, one after another
@@ -149,28 +153,32 @@ module _ (network : DeclaredNetwork) (rows : List Row) (is : IsNetwork network) 
       (λ f. record { complete = complete; row = at.it; place = own_place at.it; first = breach_at (stray network) (IsUsed network) rows found (used_tests network rows is) at })
       at.gives
 
-  pub of_load : (found : Refusal) → HasRows network rows → All (IsRight network) rows → first_some overloaded rows ≡ Some found → IsFirst network rows found
+  pub of_load : (found : Reason) → HasRows network rows → All (IsRight network) rows → first_some overload_in rows ≡ Some found
+      → IsFirstReason network rows found
   of_load found rows_of right e =
-      let at = stands_at overloaded rows found e in
-      if_true (IsFirst network rows) (nat_lt PS_PER_SECOND (at.it.higher + at.it.equal)) (Overloaded at.it.port at.it.class (at.it.higher + at.it.equal)) found
-      (record { row = at.it; fault = at_fault network rows is overloaded found rows_of right (fit_tests network rows is) at; is = refl })
+      let at = stands_at overload_in rows found e in
+      if_true (IsFirstReason network rows) (nat_lt PS_PER_SECOND (at.it.higher + at.it.equal)) (Overloaded at.it.port at.it.class (at.it.higher + at.it.equal)) found
+      (record { row = at.it; fault = at_fault network rows is overload_in found rows_of right (fit_tests network rows is) at; is = refl })
       at.gives
 
-  pub over_by : (row : Row) (residence : Option ℕ) (found : Refusal) → IsFirst network rows (Residence row.port row.class row.wait) → overstay_by row residence ≡ Some found → IsFirst network rows found
+  pub over_by : (row : Row) (residence : Option ℕ) (found : Reason) → IsFirstReason network rows (Residence row.port row.class row.wait)
+      → overstay_by row residence ≡ Some found → IsFirstReason network rows found
   over_by row None found first h = absurd (none_some found h)
-  over_by row (Some residence_ns) found first h = if_true (IsFirst network rows) (nat_lt (PS_PER_NS * residence_ns) row.wait) (Residence row.port row.class row.wait) found first h
+  over_by row (Some residence_ns) found first h = if_true (IsFirstReason network rows) (nat_lt (PS_PER_NS * residence_ns) row.wait) (Residence row.port row.class row.wait) found first h
 
-  pub of_stay : (found : Refusal) → HasRows network rows → All (Covers network) rows → first_some (overstay network) rows ≡ Some found → IsFirst network rows found
+  pub of_stay : (found : Reason) → HasRows network rows → All (Covers network) rows → first_some (overstay network) rows ≡ Some found
+      → IsFirstReason network rows found
   of_stay found rows_of covers e =
       let at = stands_at (overstay network) rows found e in
       over_by at.it (residence_after network.topology at.it.port) found
       (record { row = at.it; fault = at_fault network rows is (overstay network) found rows_of covers (stay_tests network rows is) at; is = refl })
       at.gives
 
-  pub of_late : (found : Refusal) → HasRows network rows → All (RowHolds network) rows → first_some (late rows) network.streams ≡ Some found → IsFirst network rows found
+  pub of_late : (found : Reason) → HasRows network rows → All (RowHolds network) rows
+      → first_some (late rows) network.streams ≡ Some found → IsFirstReason network rows found
   of_late found rows_of holds e =
       let at = stands_at (late rows) network.streams found e in
-      if_true (IsFirst network rows) (nat_lt (PS_PER_NS * at.it.deadline_ns) (bound_along rows at.it)) (Deadline at.it.name (bound_along rows at.it)) found
+      if_true (IsFirstReason network rows) (nat_lt (PS_PER_NS * at.it.deadline_ns) (bound_along rows at.it)) (Deadline at.it.name (bound_along rows at.it)) found
       (record { rows_of = rows_of; kept = holds; stream = at.it; named = refl; first = breach_at (late rows) (IsInTime rows) network.streams found (time_tests network rows is) at; is = refl })
       at.gives
 
@@ -247,12 +255,17 @@ module _ (network : DeclaredNetwork) (rows : List Row) (is : IsNetwork network) 
       let rows_of : HasRows network rows = record { complete = complete; used = used; ordered = ordered } in
       or_else (first_some (wrong_in network) rows) _ found (of_field found rows_of) (λ no_wrong.
       let right : All (IsRight network) rows = all_kept (wrong_in network) (IsRight network) rows (right_tests network rows is) no_wrong in
-      or_else (first_some overloaded rows) _ found (of_load found rows_of right) (λ no_overload.
-      let fits : All FitsLink rows = all_kept overloaded FitsLink rows (fit_tests network rows is) no_overload in
+      or_else (of_network (first_some overload_in rows)) _ found
+      (by_network (IsFirst network rows) (first_some overload_in rows) found (λ reason. of_load reason rows_of right)) (λ no_overload.
+      let loads : first_some overload_in rows ≡ None = no_reason (first_some overload_in rows) no_overload in
+      let fits : All FitsLink rows = all_kept overload_in FitsLink rows (fit_tests network rows is) loads in
       let fitting : All (IsFitting network) rows = λ k d h. (right k d h, fits k d h) in
       or_else (first_some (short network) rows) _ found (of_wait found rows_of fitting) (λ no_short.
       let enough = all_kept (short network) (Waits network) rows (enough_tests network rows is used fitting) no_short in
       let covers : All (Covers network) rows = λ k d h. record { sums = (right k d h).sums; bound = (right k d h).bound; load = fits k d h; wait = enough k d h } in
-      or_else (first_some (overstay network) rows) _ found (of_stay found rows_of covers) (λ no_overstay.
-      let stay = all_kept (overstay network) (Stays network) rows (stay_tests network rows is) no_overstay in
-      of_late found rows_of (λ k d h. record { covers = covers k d h; residence = stay k d h })))))))
+      or_else (of_network (first_some (overstay network) rows)) _ found
+      (by_network (IsFirst network rows) (first_some (overstay network) rows) found (λ reason. of_stay reason rows_of covers)) (λ no_overstay.
+      let stays : first_some (overstay network) rows ≡ None = no_reason (first_some (overstay network) rows) no_overstay in
+      let stay = all_kept (overstay network) (Stays network) rows (stay_tests network rows is) stays in
+      by_network (IsFirst network rows) (first_some (late rows) network.streams) found
+      (λ reason. of_late reason rows_of (λ k d h. record { covers = covers k d h; residence = stay k d h }))))))))

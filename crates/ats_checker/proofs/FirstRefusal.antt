@@ -10,16 +10,17 @@ use Rattle.ats_certificate.specs.PortSums.{port_sums, is_used}
 use Rattle.ats_certificate.specs.Used.{places_of}
 use Rattle.ats_certificate.specs.Certificate.{HasRows, FitsLink, Covers, RowHolds, IsInTime, row_of, bound_of, bound_along}
 use Rattle.ats_certificate.specs.declared.row.Row.{Row}
-use Rattle.ats_bound.specs.Least.{least_wait}
-use Rattle.ats_bound.specs.Reason.{first_some}
-use Rattle.ats_bound.proofs.Lists.{option_cases}
-use Rattle.ats_bound.proofs.Places.{Precedes, is_place}
+use Rattle.ats_tally.specs.Waits.{least_wait}
+use Rattle.ats_tally.specs.Reason.{first_some, overload_in, overstay_by, overstay, late}
+use Rattle.ats_tally.specs.declared.reason.Reason.TheVariants.{Overloaded, Residence, Deadline}
+use Rattle.ats_tally.proofs.Lists.{option_cases}
+use Rattle.ats_tally.proofs.Places.{Precedes, is_place}
 use Rattle.ats_bound.proofs.Waits.{least_row-only}
 use Rattle.ats_checker.specs.First.{IsFirst, IsUsed, IsRight, fields, said, due, IsMissing, IsStray, IsWrong, IsOverload, IsShort, IsOverstay, IsLate}
-use Rattle.ats_checker.specs.Refusal.{missing, stray, wrong_in, overloaded, short, overstay_by, overstay, late, refusal_of}
+use Rattle.ats_checker.specs.Refusal.{missing, stray, wrong_in, short, of_network, refusal_of}
 use Rattle.ats_checker.specs.declared.refusal.Field.{Field}
 use Rattle.ats_checker.specs.declared.refusal.Refusal.{Refusal}
-use Rattle.ats_checker.specs.declared.refusal.Refusal.TheVariants.{RowMissing, RowStray, FieldWrong, Overloaded, WaitTooSmall, Residence, Deadline, NoMemory}
+use Rattle.ats_checker.specs.declared.refusal.Refusal.TheVariants.{RowMissing, RowStray, FieldWrong, WaitTooSmall, Network}
 use Rattle.ats_checker.proofs.Refused.{complete_from, none_missing}
 use Rattle.ats_checker.proofs.Breaches.{none_given, breach_keeps, given_at, or_past, at_some, false_if, true_if, not_less}
 use Rattle.ats_checker.specs.Laws.{EachRefusalIsTheFirst}
@@ -67,9 +68,9 @@ module _ (network : DeclaredNetwork) (rows : List Row) (is : IsNetwork network) 
       ∙ place_is (λ p c. Some (FieldWrong p c f (due network w.row f))) port class w.row w.fault.place
       ∙ ap (λ (n : ℕ). Some (FieldWrong port class f n)) (sym w.is)))
 
-  by_overload : (port class load : ℕ) → IsOverload network rows port class load → first_some overloaded rows ≡ Some (Overloaded port class load)
+  by_overload : (port class load : ℕ) → IsOverload network rows port class load → first_some overload_in rows ≡ Some (Overloaded port class load)
   by_overload port class load o =
-      given_at overloaded FitsLink rows o.row (Overloaded port class load) (fit_tests network rows is) o.fault.first
+      given_at overload_in FitsLink rows o.row (Overloaded port class load) (fit_tests network rows is) o.fault.first
       (λ some. true_if (nat_lt PS_PER_SECOND (o.row.higher + o.row.equal)) (Overloaded o.row.port o.row.class (o.row.higher + o.row.equal)) some
       ∙ place_is (λ p c. Some (Overloaded p c (o.row.higher + o.row.equal))) port class o.row o.fault.place
       ∙ ap (λ (n : ℕ). Some (Overloaded port class n)) (sym o.is))
@@ -114,8 +115,8 @@ module _ (network : DeclaredNetwork) (rows : List Row) (is : IsNetwork network) 
   no_wrong : All (IsRight network) rows → first_some (wrong_in network) rows ≡ None
   no_wrong right = none_given (wrong_in network) (IsRight network) rows (right_tests network rows is) right
 
-  no_overload : All FitsLink rows → first_some overloaded rows ≡ None
-  no_overload fits = none_given overloaded FitsLink rows (fit_tests network rows is) fits
+  no_overload : All FitsLink rows → first_some overload_in rows ≡ None
+  no_overload fits = none_given overload_in FitsLink rows (fit_tests network rows is) fits
 
   no_short : HasRows network rows → All (Covers network) rows → first_some (short network) rows ≡ None
   no_short rows_of covers =
@@ -134,22 +135,21 @@ module _ (network : DeclaredNetwork) (rows : List Row) (is : IsNetwork network) 
   refusal_by (RowStray port class) s = or_past _ _ _ (none_missing network rows s.complete) (at_some _ _ _ (by_stray port class s))
   refusal_by (FieldWrong port class f right) w =
       or_past _ _ _ (no_missing w.fault.rows_of) (or_past _ _ _ (no_stray w.fault.rows_of) (at_some _ _ _ (by_wrong port class f right w)))
-  refusal_by (Overloaded port class load) o =
+  refusal_by (Network (Overloaded port class load)) o =
       or_past _ _ _ (no_missing o.fault.rows_of) (or_past _ _ _ (no_stray o.fault.rows_of) (or_past _ _ _ (no_wrong o.fault.kept)
-      (at_some _ _ _ (by_overload port class load o))))
+      (at_some _ _ _ (ap of_network (by_overload port class load o)))))
   refusal_by (WaitTooSmall port class wait) s =
       or_past _ _ _ (no_missing s.fault.rows_of) (or_past _ _ _ (no_stray s.fault.rows_of) (or_past _ _ _ (no_wrong (λ k d h. (s.fault.kept k d h).0))
-      (or_past _ _ _ (no_overload (λ k d h. (s.fault.kept k d h).1)) (at_some _ _ _ (by_short port class wait s)))))
-  refusal_by (Residence port class wait) o =
+      (or_past _ _ _ (ap of_network (no_overload (λ k d h. (s.fault.kept k d h).1))) (at_some _ _ _ (by_short port class wait s)))))
+  refusal_by (Network (Residence port class wait)) o =
       or_past _ _ _ (no_missing o.fault.rows_of) (or_past _ _ _ (no_stray o.fault.rows_of) (or_past _ _ _ (no_wrong (covers_right o.fault.kept))
-      (or_past _ _ _ (no_overload (λ k d h. (o.fault.kept k d h).load)) (or_past _ _ _ (no_short o.fault.rows_of o.fault.kept)
-      (at_some _ _ _ (by_overstay port class wait o))))))
-  refusal_by (Deadline name along) l =
+      (or_past _ _ _ (ap of_network (no_overload (λ k d h. (o.fault.kept k d h).load))) (or_past _ _ _ (no_short o.fault.rows_of o.fault.kept)
+      (at_some _ _ _ (ap of_network (by_overstay port class wait o)))))))
+  refusal_by (Network (Deadline name along)) l =
       let covers : All (Covers network) rows = λ k d h. (l.kept k d h).covers in
       or_past _ _ _ (no_missing l.rows_of) (or_past _ _ _ (no_stray l.rows_of) (or_past _ _ _ (no_wrong (covers_right covers))
-      (or_past _ _ _ (no_overload (λ k d h. (covers k d h).load)) (or_past _ _ _ (no_short l.rows_of covers)
-      (or_past _ _ _ (no_overstay l.kept) (by_late name along l))))))
-  refusal_by NoMemory none = absurd none
+      (or_past _ _ _ (ap of_network (no_overload (λ k d h. (covers k d h).load))) (or_past _ _ _ (no_short l.rows_of covers)
+      (or_past _ _ _ (ap of_network (no_overstay l.kept)) (ap of_network (by_late name along l)))))))
 
 pub each_refusal_is_the_first : EachRefusalIsTheFirst
 each_refusal_is_the_first network rows refusal is ordered = (first_from network rows is ordered refusal, refusal_by network rows is refusal)

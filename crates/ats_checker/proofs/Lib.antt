@@ -1,10 +1,7 @@
 pub mod Refused
-pub mod Placed
-pub mod Counted
-pub mod Firsts
+pub mod Inside
 pub mod PlaceOrder
 pub mod Judged
-pub mod Inside
 pub mod Breaches
 pub mod FirstFound
 pub mod FirstRefusal

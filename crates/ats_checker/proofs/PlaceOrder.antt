@@ -7,10 +7,10 @@ use Rattle.ats_network.specs.Network.{DeclaredNetwork}
 use Rattle.ats_certificate.specs.PortSums.{is_used}
 use Rattle.ats_certificate.specs.Used.{classes, place, places_at, places_from}
 use Rattle.ats_certificate.specs.declared.row.Row.{Row}
-use Rattle.ats_bound.specs.Reason.{first_some}
+use Rattle.ats_tally.specs.Reason.{first_some}
 use Rattle.ats_checker.specs.Refusal.{missing, missing_at}
 use Rattle.ats_checker.specs.declared.refusal.Refusal.{Refusal}
-use Rattle.ats_checker.proofs.Firsts.{first_step, first_found, first_end, first_append}
+use Rattle.ats_tally.proofs.Firsts.{first_step, first_found, first_end, first_append}
 
 class_at : (i : ℕ) → i < 7 → get_or classes i 0 ≡ i + 1
 class_at zero h = refl

@@ -2,49 +2,41 @@
 use Rattle.std.proofs.Common.{◌≡◌, ℕ, ◌+◌, ◌-◌, ◌*◌, ◌≤◌, Bool, true, false, cond, List, get_or, Option, Some, None, refl, sym, ap, ◌∙◌, eqb, arith}
 use Rattle.std.specs.Prelude.{nat_lt, is_some}
 use Rattle.std.specs.List.{All, AllPairs, list_any}
-use Rattle.std.specs.Option.{option_or, ForSome}
+use Rattle.std.specs.Option.{option_or}
 use Rattle.std.proofs.Math.Nat.{mul-le-mul_right}
 use Rattle.std.proofs.lemmas.Bool.{and_parts, eqb-true, eq-eqb, ltb-false, le-ltb}
-use Rattle.ats_num.specs.declared.time.TheConstants.{PS_PER_SECOND, PS_PER_NS}
+use Rattle.ats_num.specs.declared.time.TheConstants.{PS_PER_SECOND}
 use Rattle.ats_topology.specs.Port.{port_at}
 use Rattle.ats_topology.specs.declared.port.Port.{Port}
-use Rattle.ats_streams.specs.Stream.{DeclaredStream}
 use Rattle.ats_network.specs.Network.{DeclaredNetwork, IsNetwork}
 use Rattle.ats_network.specs.Residence.{residence_after}
 use Rattle.ats_certificate.specs.PortSums.{PortSums, port_sums, is_used}
 use Rattle.ats_certificate.specs.Used.{places_of}
-use Rattle.ats_certificate.specs.Certificate.{Holds, FitsLink, IsEnough, IsInTime, IsBefore, row_of, bound_of, bound_along}
+use Rattle.ats_certificate.specs.Certificate.{Holds, FitsLink, IsEnough, IsBefore, row_of, bound_of}
 use Rattle.ats_certificate.specs.declared.row.Row.{Row}
-use Rattle.ats_bound.specs.Least.{least_wait, least_row, least_certificate}
-use Rattle.ats_bound.specs.Reason.{first_some}
-use Rattle.ats_bound.proofs.Lists.{any_gives, option_or-none, none_first, first_some-none}
-use Rattle.ats_bound.proofs.Places.{IsPlace, is_at, is_place, places_used, places_have}
+use Rattle.ats_tally.specs.Waits.{least_wait}
+use Rattle.ats_bound.specs.Least.{least_row, least_certificate}
+use Rattle.ats_tally.specs.Reason.{first_some, overload_in, overstay, late}
+use Rattle.ats_tally.specs.declared.reason.Reason.{Reason}
+use Rattle.ats_tally.proofs.Reasons.{some_none, fails, by_fail, fits_by, by_fit, stays_by, by_stay, in_time_from, by_time}
+use Rattle.ats_tally.proofs.Lists.{any_gives, option_or-none, none_first, first_some-none}
+use Rattle.ats_tally.proofs.Places.{IsPlace, is_at, is_place, places_used, places_have}
 use Rattle.ats_bound.proofs.Waits.{Fits, work, work-is, least_wait-is, least_wait-le}
 use Rattle.ats_bound.proofs.LeastHolds.{least_certificate_holds}
 use Rattle.ats_checker.specs.First.{IsRight}
 use Rattle.ats_checker.specs.Laws.{RefusedUnlessHolding, LeastIsAccepted}
-use Rattle.ats_checker.specs.Refusal.{missing, stray, wrong, wrong_in, overloaded, short, overstay_by, overstay, late, refusal_of}
+use Rattle.ats_checker.specs.Refusal.{missing, stray, wrong, wrong_in, short, of_network, refusal_of}
 use Rattle.ats_checker.specs.declared.refusal.Field.{Field}
 use Rattle.ats_checker.specs.declared.refusal.Field.TheVariants as field
-use Rattle.ats_checker.specs.declared.refusal.Refusal.TheVariants.{RowMissing, RowStray, FieldWrong, Overloaded, WaitTooSmall, Residence, Deadline}
+use Rattle.ats_checker.specs.declared.refusal.Refusal.TheVariants.{RowMissing, RowStray, FieldWrong, WaitTooSmall, Network}
 
-pub some_none : {X : Type 0} (x : X) → Some x ≡ None → ⊥
-some_none x h = cc
-
--- a test that gives no refusal where it passes, and one that gives none where it fails
+-- a test that gives no refusal where it passes
 pub passes : {X : Type 0} (b : Bool) (x : X) → cond b None (Some x) ≡ None → b ≡ true
 passes true x h = refl
 passes false x h = absurd (some_none x h)
 
 pub by_pass : {X : Type 0} (b : Bool) (x : X) → b ≡ true → cond b None (Some x) ≡ None
 by_pass b x e = ap (λ (t : Bool). cond t None (Some x)) e
-
-pub fails : {X : Type 0} (b : Bool) (x : X) → cond b (Some x) None ≡ None → b ≡ false
-fails true x h = absurd (some_none x h)
-fails false x h = refl
-
-pub by_fail : {X : Type 0} (b : Bool) (x : X) → b ≡ false → cond b (Some x) None ≡ None
-by_fail b x e = ap (λ (t : Bool). cond t (Some x) None) e
 
 pub both_none : {X : Type 0} (a b : Option X) → a ≡ None → b ≡ None → option_or a b ≡ None
 both_none {X} a b e f = ap (λ (o : Option X). option_or o b) e ∙ f
@@ -112,11 +104,11 @@ by_right network row h =
     (both_none _ _ (by_given row field.Least row.least sums.least h.sums.least)
     (by_given row field.Bound row.bound (bound_of (port_at network.topology.ports row.port) row.wait row.least) h.bound)))))
 
-pub fits_from : (row : Row) → overloaded row ≡ None → FitsLink row
-fits_from row h = ltb-false PS_PER_SECOND (row.higher + row.equal) (fails (nat_lt PS_PER_SECOND (row.higher + row.equal)) (Overloaded row.port row.class (row.higher + row.equal)) h)
+pub fits_from : (row : Row) → overload_in row ≡ None → FitsLink row
+fits_from row = fits_by row.port row.class (row.higher + row.equal)
 
-pub by_fit : (row : Row) → FitsLink row → overloaded row ≡ None
-by_fit row h = by_fail (nat_lt PS_PER_SECOND (row.higher + row.equal)) (Overloaded row.port row.class (row.higher + row.equal)) (le-ltb PS_PER_SECOND (row.higher + row.equal) h)
+pub by_fits : (row : Row) → FitsLink row → overload_in row ≡ None
+by_fits row = by_fit row.port row.class (row.higher + row.equal)
 
 -- a right row that fits its link fits the sums of its place
 pub place_fits : (network : DeclaredNetwork) (row : Row) → IsRight network row → FitsLink row → Fits network row.port row.class
@@ -144,31 +136,17 @@ enough_from network row at right fits long =
     let reach : work port sums ≤ least_wait port sums * (PS_PER_SECOND - sums.higher) = c.reaches in
     omega (arith, reach, more, sent, left)
 
-pub stays_by : (row : Row) (residence : Option ℕ) → overstay_by row residence ≡ None → ForSome residence (λ ns. row.wait ≤ PS_PER_NS * ns)
-stays_by row None h ns is = absurd (let no : None ≡ Some ns = is in cc)
-stays_by row (Some residence_ns) h ns is =
-    let same : residence_ns ≡ ns = cc is in
-    let le = ltb-false (PS_PER_NS * residence_ns) row.wait (fails (nat_lt (PS_PER_NS * residence_ns) row.wait) (Residence row.port row.class row.wait) h) in
-    omega (arith, le, same)
-
-pub by_stay : (row : Row) (residence : Option ℕ) → ForSome residence (λ ns. row.wait ≤ PS_PER_NS * ns) → overstay_by row residence ≡ None
-by_stay row None h = refl
-by_stay row (Some residence_ns) h = by_fail (nat_lt (PS_PER_NS * residence_ns) row.wait) (Residence row.port row.class row.wait) (le-ltb (PS_PER_NS * residence_ns) row.wait (h residence_ns refl))
-
-pub in_time_from : (rows : List Row) (stream : DeclaredStream) → late rows stream ≡ None → IsInTime rows stream
-in_time_from rows stream h =
-    ltb-false (PS_PER_NS * stream.deadline_ns) (bound_along rows stream) (fails (nat_lt (PS_PER_NS * stream.deadline_ns) (bound_along rows stream)) (Deadline stream.name (bound_along rows stream)) h)
-
-pub by_time : (rows : List Row) (stream : DeclaredStream) → IsInTime rows stream → late rows stream ≡ None
-by_time rows stream h =
-    by_fail (nat_lt (PS_PER_NS * stream.deadline_ns) (bound_along rows stream)) (Deadline stream.name (bound_along rows stream)) (le-ltb (PS_PER_NS * stream.deadline_ns) (bound_along rows stream) h)
+-- a reason of the network, as a refusal
+pub no_reason : (reason : Option Reason) → of_network reason ≡ None → reason ≡ None
+no_reason None h = refl
+no_reason (Some reason) h = absurd (some_none (Network reason) h)
 
 -- what no refusal says of rows, clause by clause
 pub record AreClear (network : DeclaredNetwork) (rows : List Row) : Type 0 where
   pub missing : first_some (missing rows) (places_of network) ≡ None
   pub stray : first_some (stray network) rows ≡ None
   pub wrong : first_some (wrong_in network) rows ≡ None
-  pub overloaded : first_some overloaded rows ≡ None
+  pub overload : first_some overload_in rows ≡ None
   pub short : first_some (short network) rows ≡ None
   pub overstay : first_some (overstay network) rows ≡ None
   pub late : first_some (late rows) network.streams ≡ None
@@ -176,17 +154,26 @@ pub record AreClear (network : DeclaredNetwork) (rows : List Row) : Type 0 where
 pub clear_none : (network : DeclaredNetwork) (rows : List Row) → AreClear network rows → refusal_of network rows ≡ None
 clear_none network rows clear =
     both_none _ _ clear.missing (both_none _ _ clear.stray (both_none _ _ clear.wrong
-    (both_none _ _ clear.overloaded (both_none _ _ clear.short (both_none _ _ clear.overstay clear.late)))))
+    (both_none _ _ (ap of_network clear.overload) (both_none _ _ clear.short
+    (both_none _ _ (ap of_network clear.overstay) (ap of_network clear.late))))))
 
 pub none_clear : (network : DeclaredNetwork) (rows : List Row) → refusal_of network rows ≡ None → AreClear network rows
 none_clear network rows none =
     let a = option_or-none (first_some (missing rows) (places_of network)) _ none in
     let b = option_or-none (first_some (stray network) rows) _ a.1 in
     let c = option_or-none (first_some (wrong_in network) rows) _ b.1 in
-    let d = option_or-none (first_some overloaded rows) _ c.1 in
+    let d = option_or-none (of_network (first_some overload_in rows)) _ c.1 in
     let e = option_or-none (first_some (short network) rows) _ d.1 in
-    let f = option_or-none (first_some (overstay network) rows) _ e.1 in
-    record { missing = a.0; stray = b.0; wrong = c.0; overloaded = d.0; short = e.0; overstay = f.0; late = f.1 }
+    let f = option_or-none (of_network (first_some (overstay network) rows)) _ e.1 in
+    record {
+      missing = a.0;
+      stray = b.0;
+      wrong = c.0;
+      overload = no_reason (first_some overload_in rows) d.0;
+      short = e.0;
+      overstay = no_reason (first_some (overstay network) rows) f.0;
+      late = no_reason (first_some (late rows) network.streams) f.1;
+    }
 
 -- where no row is stray, each is used
 pub all_used : (network : DeclaredNetwork) (rows : List Row) → first_some (stray network) rows ≡ None → All (λ (row : Row). is_used network row.port row.class ≡ true) rows
@@ -198,7 +185,7 @@ pub clear_holds : (network : DeclaredNetwork) (rows : List Row) → IsNetwork ne
 clear_holds network rows is ordered clear =
     let used = all_used network rows clear.stray in
     let right = none_first (wrong_in network) rows clear.wrong in
-    let fit = none_first overloaded rows clear.overloaded in
+    let fit = none_first overload_in rows clear.overload in
     let long = none_first (short network) rows clear.short in
     let stay = none_first (overstay network) rows clear.overstay in
     let time = none_first (late rows) network.streams clear.late in
@@ -228,7 +215,7 @@ holds_clear network rows is holds =
           (λ k d h. (let row : Row = get_or rows k d in by_pass (is_used network row.port row.class) (RowStray row.port row.class) (holds.rows_of.used k d h)));
       wrong = first_some-none (wrong_in network) rows
           (λ k d h. (let covers = (holds.each k d h).covers in by_right network (get_or rows k d) (record { sums = covers.sums; bound = covers.bound })));
-      overloaded = first_some-none overloaded rows (λ k d h. by_fit (get_or rows k d) (holds.each k d h).covers.load);
+      overload = first_some-none overload_in rows (λ k d h. by_fits (get_or rows k d) (holds.each k d h).covers.load);
       short = first_some-none (short network) rows
           (λ k d h. (let row : Row = get_or rows k d in
           by_long network row (least_wait-le network row (is_place network row.port row.class is (holds.rows_of.used k d h)) (holds.each k d h).covers)));

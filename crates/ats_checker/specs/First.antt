@@ -3,13 +3,16 @@ use Rattle.ats_topology.specs.Port.{port_at}
 use Rattle.ats_streams.specs.Stream.{DeclaredStream}
 use Rattle.ats_network.specs.Network.{DeclaredNetwork}
 use Rattle.ats_certificate.specs.PortSums.{port_sums, is_used}
-use Rattle.ats_certificate.specs.Certificate.{HasRows, HasSums, FitsLink, IsEnough, MayStay, Covers, RowHolds, IsInTime, is_row_of, row_of, bound_of, bound_along}
+use Rattle.ats_certificate.specs.Certificate.{HasRows, HasSums, FitsLink, IsEnough, MayStay, Covers, RowHolds, IsInTime}
+use Rattle.ats_certificate.specs.Certificate.{is_row_of, row_of, bound_of, bound_along}
 use Rattle.ats_certificate.specs.Least.{IsLeastRow}
 use Rattle.ats_certificate.specs.declared.row.Row.{Row}
+use Rattle.ats_tally.specs.declared.reason.Reason.{Reason}
+use Rattle.ats_tally.specs.declared.reason.Reason.TheVariants.{Overloaded, Residence, Deadline}
 use Rattle.ats_checker.specs.declared.refusal.Field.{Field}
 use Rattle.ats_checker.specs.declared.refusal.Field.TheVariants.{Higher, Equal, Bursts, Lower, Least, Bound}
 use Rattle.ats_checker.specs.declared.refusal.Refusal.{Refusal}
-use Rattle.ats_checker.specs.declared.refusal.Refusal.TheVariants.{RowMissing, RowStray, FieldWrong, Overloaded, WaitTooSmall, Residence, Deadline, NoMemory}
+use Rattle.ats_checker.specs.declared.refusal.Refusal.TheVariants.{RowMissing, RowStray, FieldWrong, WaitTooSmall, Network}
 
 -- the first of a list that breaks a rule: each before it keeps the rule
 pub record IsFirstBreach {A : Type 0} (Rule : A → Type 0) (xs : List A) (x : A) : Type 0 where
@@ -52,7 +55,8 @@ due network row Bound = bound_of (port_at network.topology.ports row.port) row.w
 pub record IsMissing (network : DeclaredNetwork) (rows : List Row) (port class : ℕ) : Type 0 where
   pub used : IsTrue (is_used network port class)
   pub none : row_of rows port class ≡ None
-  pub before : (p c : ℕ) → IsTrue (is_used network p c) → (p < port) ⊎ ((p ≡ port) × (c < class)) → IsSome (row_of rows p c)
+  pub before : (p c : ℕ) → IsTrue (is_used network p c)
+      → (p < port) ⊎ ((p ≡ port) × (c < class)) → IsSome (row_of rows p c)
 
 -- each used port and class has its row; the row of this port and class is the first that no stream uses
 pub record IsStray (network : DeclaredNetwork) (rows : List Row) (port class : ℕ) : Type 0 where
@@ -61,16 +65,18 @@ pub record IsStray (network : DeclaredNetwork) (rows : List Row) (port class : �
   pub place : IsTrue (is_row_of port class row)
   pub first : IsFirstBreach (IsUsed network) rows row
 
--- what the next four share: the rows are those of the network, and each keeps the rules that come before; the row of this
--- port and class is the first that breaks the rule
-pub record IsRowAtFault (network : DeclaredNetwork) (rows : List Row) (Earlier Rule : Row → Type 0) (port class : ℕ) (row : Row) : Type 0 where
+-- what the next four share: the rows are those of the network, and each keeps the rules that come before; the row of
+-- this port and class is the first that breaks the rule
+pub record IsRowAtFault (network : DeclaredNetwork) (rows : List Row) (Earlier Rule : Row → Type 0)
+    (port class : ℕ) (row : Row) : Type 0 where
   pub rows_of : HasRows network rows
   pub kept : All Earlier rows
   pub place : IsTrue (is_row_of port class row)
   pub first : IsFirstBreach Rule rows row
 
 -- a row is not right; this field is the first that does not say what it should, which is this
-pub record IsWrong (network : DeclaredNetwork) (rows : List Row) (port class : ℕ) (field : Field) (right : ℕ) : Type 0 where
+pub record IsWrong (network : DeclaredNetwork) (rows : List Row)
+    (port class : ℕ) (field : Field) (right : ℕ) : Type 0 where
   pub row : Row
   pub fault : IsRowAtFault network rows (IsUsed network) (IsRight network) port class row
   pub first : IsFirstBreach (λ (f : Field). said row f ≡ due network row f) fields field
@@ -82,12 +88,16 @@ pub record IsOverload (network : DeclaredNetwork) (rows : List Row) (port class 
   pub fault : IsRowAtFault network rows (IsRight network) FitsLink port class row
   pub is : load ≡ row.higher + row.equal
 
--- each is right and fits; one has a wait that is not enough. This is the least wait that is: with it, and the bound that
--- follows, the row would cover its port and class, and with no shorter one
+-- each is right and fits; one has a wait that is not enough. This is the least wait that is: with it, and the bound
+-- that follows, the row would cover its port and class, and with no shorter one
 pub record IsShort (network : DeclaredNetwork) (rows : List Row) (port class wait : ℕ) : Type 0 where
   pub row : Row
-  pub fault : IsRowAtFault network rows (λ (r : Row). IsRight network r × FitsLink r) (λ (r : Row). IsEnough (port_at network.topology.ports r.port) r) port class row
-  pub is : IsLeastRow network (record row { wait = wait; bound = bound_of (port_at network.topology.ports row.port) wait row.least })
+  pub fault : IsRowAtFault network rows (λ (r : Row). IsRight network r × FitsLink r)
+      (λ (r : Row). IsEnough (port_at network.topology.ports r.port) r) port class row
+  pub is : IsLeastRow network (record row {
+    wait = wait;
+    bound = bound_of (port_at network.topology.ports row.port) wait row.least;
+  })
 
 -- each covers its port and class; one has a wait that is longer than a frame may stay behind its port
 pub record IsOverstay (network : DeclaredNetwork) (rows : List Row) (port class wait : ℕ) : Type 0 where
@@ -104,13 +114,16 @@ pub record IsLate (network : DeclaredNetwork) (rows : List Row) (name : List ℕ
   pub first : IsFirstBreach (IsInTime rows) network.streams stream
   pub is : along ≡ bound_along rows stream
 
--- what each refusal says of rows
+-- what each reason of the network says of rows
+abbrev pub IsFirstReason : DeclaredNetwork → List Row → Reason → Type 0
+IsFirstReason network rows (Overloaded port class load) = IsOverload network rows port class load
+IsFirstReason network rows (Residence port class need) = IsOverstay network rows port class need
+IsFirstReason network rows (Deadline stream sum) = IsLate network rows stream sum
+
+-- what each refusal says of them
 abbrev pub IsFirst : DeclaredNetwork → List Row → Refusal → Type 0
 IsFirst network rows (RowMissing port class) = IsMissing network rows port class
 IsFirst network rows (RowStray port class) = IsStray network rows port class
 IsFirst network rows (FieldWrong port class field right) = IsWrong network rows port class field right
-IsFirst network rows (Overloaded port class load) = IsOverload network rows port class load
 IsFirst network rows (WaitTooSmall port class least) = IsShort network rows port class least
-IsFirst network rows (Residence port class need) = IsOverstay network rows port class need
-IsFirst network rows (Deadline stream sum) = IsLate network rows stream sum
-IsFirst network rows NoMemory = ⊥
+IsFirst network rows (Network reason) = IsFirstReason network rows reason

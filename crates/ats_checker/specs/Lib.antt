@@ -1,9 +1,5 @@
 pub mod Refusal
 pub mod Laws
-pub mod Due
 pub mod Ports
-pub mod Bounds
-pub mod Tallies
-pub mod Sums
 pub mod Rows
 pub mod First

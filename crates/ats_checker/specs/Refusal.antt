@@ -1,20 +1,18 @@
-use Rattle.std.specs.Prelude.{ℕ, ◌+◌, ◌*◌, ◌==◌, nat_lt, List, Option, Some, None, is_some, if◌then◌else◌}
-use Rattle.std.specs.Option.{option_or}
-use Rattle.ats_num.specs.declared.time.TheConstants.{PS_PER_SECOND, PS_PER_NS}
+use Rattle.std.specs.Prelude.{ℕ, ◌==◌, nat_lt, List, Option, Some, None, is_some, if◌then◌else◌}
+use Rattle.std.specs.Option.{option_map, option_or}
 use Rattle.ats_topology.specs.Port.{port_at}
-use Rattle.ats_streams.specs.Stream.{DeclaredStream}
 use Rattle.ats_network.specs.Network.{DeclaredNetwork}
-use Rattle.ats_network.specs.Residence.{residence_after}
 use Rattle.ats_certificate.specs.PortSums.{PortSums, port_sums, is_used}
-use Rattle.ats_certificate.specs.Certificate.{row_of, bound_of, bound_along}
+use Rattle.ats_certificate.specs.Certificate.{row_of, bound_of}
 use Rattle.ats_certificate.specs.Used.{places_of}
 use Rattle.ats_certificate.specs.declared.row.Row.{Row}
-use Rattle.ats_bound.specs.Least.{least_wait}
-use Rattle.ats_bound.specs.Reason.{first_some}
+use Rattle.ats_tally.specs.Waits.{least_wait}
+use Rattle.ats_tally.specs.Reason.{first_some, overload_in, overstay, late}
+use Rattle.ats_tally.specs.declared.reason.Reason.{Reason}
 use Rattle.ats_checker.specs.declared.refusal.Field.{Field}
 use Rattle.ats_checker.specs.declared.refusal.Field.TheVariants as field
 use Rattle.ats_checker.specs.declared.refusal.Refusal.{Refusal}
-use Rattle.ats_checker.specs.declared.refusal.Refusal.TheVariants.{RowMissing, RowStray, FieldWrong, Overloaded, WaitTooSmall, Residence, Deadline}
+use Rattle.ats_checker.specs.declared.refusal.Refusal.TheVariants.{RowMissing, RowStray, FieldWrong, WaitTooSmall, Network}
 
 -- a port and a class without a row
 abbrev pub missing : List Row → ℕ × ℕ → Option Refusal
@@ -32,8 +30,8 @@ stray network row = if is_used network row.port row.class then None else Some (R
 abbrev pub wrong : Row → Field → ℕ → ℕ → Option Refusal
 wrong row field given right = if given == right then None else Some (FieldWrong row.port row.class field right)
 
--- the first field of a row that is wrong, where the senders make these sums of its port and class and its bound is to be
--- this one
+-- the first field of a row that is wrong, where the senders make these sums of its port and class and its bound is to
+-- be this one
 abbrev pub wrong_by : Row → PortSums → ℕ → Option Refusal
 wrong_by row sums bound =
     option_or (wrong row field.Higher row.higher sums.higher)
@@ -46,11 +44,8 @@ wrong_by row sums bound =
 -- the first field of a row that is wrong for a network
 abbrev pub wrong_in : DeclaredNetwork → Row → Option Refusal
 wrong_in network row =
-    wrong_by row (port_sums network row.port row.class) (bound_of (port_at network.topology.ports row.port) row.wait row.least)
-
--- a row of an overloaded port and class
-abbrev pub overloaded : Row → Option Refusal
-overloaded row = if nat_lt PS_PER_SECOND (row.higher + row.equal) then Some (Overloaded row.port row.class (row.higher + row.equal)) else None
+    wrong_by row (port_sums network row.port row.class)
+    (bound_of (port_at network.topology.ports row.port) row.wait row.least)
 
 -- a row with a wait that is too short
 abbrev pub short : DeclaredNetwork → Row → Option Refusal
@@ -58,26 +53,18 @@ short network row =
     let least = least_wait (port_at network.topology.ports row.port) (port_sums network row.port row.class) in
     if nat_lt row.wait least then Some (WaitTooSmall row.port row.class least) else None
 
--- a row with a wait that is longer than the maximum residence time behind its port
-abbrev pub overstay_by : Row → Option ℕ → Option Refusal
-overstay_by row None = None
-overstay_by row (Some residence_ns) = if nat_lt (PS_PER_NS * residence_ns) row.wait then Some (Residence row.port row.class row.wait) else None
+-- a reason of the network as a refusal
+abbrev pub of_network : Option Reason → Option Refusal
+of_network = option_map Network
 
-abbrev pub overstay : DeclaredNetwork → Row → Option Refusal
-overstay network row = overstay_by row (residence_after network.topology row.port)
-
--- a stream whose bounds are together over its deadline
-abbrev pub late : List Row → DeclaredStream → Option Refusal
-late rows stream = if nat_lt (PS_PER_NS * stream.deadline_ns) (bound_along rows stream) then Some (Deadline stream.name (bound_along rows stream)) else None
-
--- why rows do not hold for a network, if they don't: of the clauses the first that fails, and there the first place, row,
--- field or stream
+-- why rows do not hold for a network, if they don't: of the clauses the first that fails, and there the first place,
+-- row, field or stream
 abbrev pub refusal_of : DeclaredNetwork → List Row → Option Refusal
 refusal_of network rows =
     option_or (first_some (missing rows) (places_of network))
     (option_or (first_some (stray network) rows)
     (option_or (first_some (wrong_in network) rows)
-    (option_or (first_some overloaded rows)
+    (option_or (of_network (first_some overload_in rows))
     (option_or (first_some (short network) rows)
-    (option_or (first_some (overstay network) rows)
-    (first_some (late rows) network.streams))))))
+    (option_or (of_network (first_some (overstay network) rows))
+    (of_network (first_some (late rows) network.streams)))))))

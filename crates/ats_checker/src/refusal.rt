@@ -1,7 +1,7 @@
 //! Why a certificate does not hold for a network.
 
-use ats_num::{Name, NoMemory as OutOfMemory};
-use std::alloc::{AllocError, AllocFailed};
+use ats_num::Fault;
+use ats_tally::Reason;
 
 /// A column of a certificate that follows from the network, or from the network and the wait.
 #[derive(Clone, Copy, Debug, PartialEq, Eq)]
@@ -20,8 +20,10 @@ pub enum Field {
     Bound,
 }
 
-/// Why a certificate does not hold: the first clause that fails, in the order of the variants, and there the first row in
-/// the order of ports and classes, the first field or the first stream.
+/// Why a certificate does not hold: the first clause that fails, and there the first row in the order of ports and
+/// classes, the first field or the first stream. The clauses are asked in this order: a row is missing, a row is stray,
+/// a field is wrong, a load is more than the link can carry, a wait is too small, a wait is longer than the maximum
+/// residence time, a sum is over its stream's deadline.
 #[derive(Clone, Copy, Debug, PartialEq, Eq)]
 pub enum Refusal {
     /// Some stream of the class uses the port, and there is no row for them.
@@ -49,15 +51,6 @@ pub enum Refusal {
         /// The right value.
         right: u128,
     },
-    /// The rates of the class and those above it are more than the link can carry.
-    Overloaded {
-        /// The number of the port.
-        port: u32,
-        /// The class.
-        class: u8,
-        /// The part of a second that they take, in picoseconds.
-        load: u128,
-    },
     /// The wait is too short.
     WaitTooSmall {
         /// The number of the port.
@@ -67,55 +60,8 @@ pub enum Refusal {
         /// The least wait that is enough, in picoseconds.
         least_wait: u128,
     },
-    /// The wait is longer than the maximum residence time of the bridge behind the port.
-    Residence {
-        /// The number of the port.
-        port: u32,
-        /// The class.
-        class: u8,
-        /// The wait, in picoseconds.
-        need: u128,
-    },
-    /// The bounds along a stream's path are together over its deadline.
-    Deadline {
-        /// The stream's name.
-        stream: Name,
-        /// Their sum, in picoseconds.
-        sum: u128,
-    },
-    /// Memory ran out.
-    NoMemory,
+    /// A load, a wait or a sum is more than the network can bear.
+    Network(Reason),
 }
 
-impl From<AllocError> for Refusal {
-    ghost use Rattle.std.specs.Prelude.{◌≡◌};
-    ghost use Rattle.ats_checker.specs.declared.refusal.Refusal.TheVariants.{NoMemory};
-
-    ghost from_gives = { λ _ e. e ≡ NoMemory };
-
-    fn from(_e: AllocError) -> Refusal {
-        Refusal::NoMemory
-    }
-}
-
-impl<T: Drop> From<AllocFailed<T>> for Refusal {
-    ghost use Rattle.std.specs.Prelude.{◌≡◌};
-    ghost use Rattle.ats_checker.specs.declared.refusal.Refusal.TheVariants.{NoMemory};
-
-    ghost from_gives = { λ _ e. e ≡ NoMemory };
-
-    fn from(_e: AllocFailed<T>) -> Refusal {
-        Refusal::NoMemory
-    }
-}
-
-impl From<OutOfMemory> for Refusal {
-    ghost use Rattle.std.specs.Prelude.{◌≡◌};
-    ghost use Rattle.ats_checker.specs.declared.refusal.Refusal.TheVariants.{NoMemory};
-
-    ghost from_gives = { λ _ e. e ≡ NoMemory };
-
-    fn from(_e: OutOfMemory) -> Refusal {
-        Refusal::NoMemory
-    }
-}
+impl Fault for Refusal {}

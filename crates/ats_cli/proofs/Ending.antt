@@ -2,15 +2,15 @@ use Rattle.std.proofs.Common.{◌≡◌, ℕ, List, [], Option, Some, None, Resu
 use Rattle.std.specs.Prelude.{IfSome, OnOk, ◌⊎◌, codes}
 use Rattle.std.specs.Global.{Vec}
 use Rattle.ats_io.specs.Outside.{Rose, TakesPrefix}
-use Rattle.ats_cli.specs.Command.{Command, Shape, Show, Bound, Check, Unknown}
-use Rattle.ats_cli.specs.Answer.{Answer, HasText, words_answer}
-use Rattle.ats_cli.specs.Due.{IsAnswer, IsDue, IsTold, told_bytes}
-use Rattle.ats_cli.specs.Calls.{Printed, PrintedPrefix, ReadRose, IsCalm, StatusIsDue}
-use Rattle.ats_cli.specs.Outcome.{Answers, Prints, PrintsFront, answer_of}
-use Rattle.ats_cli.specs.declared.outcome.Stop.{Stop}
-use Rattle.ats_cli.specs.declared.outcome.Stop.TheVariants as stop
-use Rattle.ats_cli.specs.declared.status.Status.{Status}
-use Rattle.ats_cli.specs.declared.status.Status.TheVariants.{Done, Words, Input, Refused, ReadFailed, WriteFailed, NoMemory}
+use Rattle.ats_command.specs.Command.{Command, Shape, Show, Bound, Check, Unknown}
+use Rattle.ats_command.specs.Answer.{Answer, HasText, words_answer}
+use Rattle.ats_command.specs.Due.{IsAnswer, IsDue, IsTold, told_bytes}
+use Rattle.ats_command.specs.Calls.{Printed, PrintedPrefix, ReadRose, IsCalm, StatusIsDue}
+use Rattle.ats_command.specs.Outcome.{Answers, Prints, PrintsFront, answer_of}
+use Rattle.ats_command.specs.declared.outcome.Stop.{Stop}
+use Rattle.ats_command.specs.declared.outcome.Stop.TheVariants as stop
+use Rattle.ats_command.specs.declared.status.Status.{Status}
+use Rattle.ats_command.specs.declared.status.Status.TheVariants.{Done, Words, Input, Refused, ReadFailed, WriteFailed, NoMemory}
 
 -- the answer that an outcome makes is due, where the files tell their bytes
 made_due : (told : List ℕ → Option (List ℕ)) (command : Command) (outcome : Result (Vec ℕ) Stop) (answer : Answer)

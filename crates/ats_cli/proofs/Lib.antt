@@ -1,9 +1,2 @@
-pub mod RowSteps
-pub mod RowPorts
-pub mod RowOrder
-pub mod Judging
-pub mod Steps
 pub mod Ending
-pub mod OneAnswer
-pub mod Meanings
 pub mod Surely

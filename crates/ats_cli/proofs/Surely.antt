@@ -1,9 +1,9 @@
 use Rattle.std.proofs.Common.{◌≡◌, ℕ, List, Option, Some, get_or, refl, arith}
 use Rattle.std.specs.Prelude.{IsSome}
 use Rattle.ats_io.specs.Outside.{Rose}
-use Rattle.ats_cli.specs.Command.{Command, file_words}
-use Rattle.ats_cli.specs.Due.{IsTold}
-use Rattle.ats_cli.specs.Calls.{IsCalm}
+use Rattle.ats_command.specs.Command.{Command, file_words}
+use Rattle.ats_command.specs.Due.{IsTold}
+use Rattle.ats_command.specs.Calls.{IsCalm}
 
 told_some : (o : Option (List ℕ)) (bytes : List ℕ) → o ≡ Some bytes → IsSome o
 told_some o bytes h = rw h refl

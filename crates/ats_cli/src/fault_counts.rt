@@ -2,8 +2,7 @@
 
 ghost use Rattle.std.specs.Prelude.{◌≡◌, ℕ, ◌≤◌, List, length, IfOk, vec_len};
 
-use ats_num::NoMemory;
-use std::alloc::Global;
+use std::alloc::{AllocError, Global};
 
 /// A count of faults for each word of the program's call, from 0 to the last value of 64 bits, and one for all names that
 /// are no word. Names are compared byte for byte, and words that are the same share the first one's count.
@@ -19,8 +18,8 @@ impl<'a> FaultCounts<'a> {
     ghost use Rattle.ats_cli.specs.Words.{place_of};
     ghost use Rattle.ats_cli.specs.Faults.{faults_of, Raises};
 
-    /// No fault yet, for these words. `NoMemory` where there is no memory for the counts.
-    pub fn new(alloc: Global, words: &'a [String]) -> Result<Self, NoMemory>
+    /// No fault yet, for these words. `AllocError` where there is no memory for the counts.
+    pub fn new(alloc: Global, words: &'a [String]) -> Result<Self, AllocError>
         ensures words { IfOk result (λ made. made.words.now ≡ words.entry.now) }
         ensures none { IfOk result (λ made. (name : List ℕ) → faults_of made name ≡ 0) }
     {

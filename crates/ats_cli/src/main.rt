@@ -4,33 +4,19 @@
 
 ghost use Rattle.std.specs.Prelude.{◌≡◌, ◌≢◌, ◌⊎◌, IfErr};
 
-mod bound_command;
-mod check_command;
-mod command;
 mod fault_counts;
-mod input_file;
 #[cfg(test)]
-mod larger_rows;
+mod fault_tests;
 mod laws;
-#[cfg(test)]
-mod network_rows;
-mod outcome;
 mod real_files;
 mod real_sink;
-#[cfg(test)]
-mod row_tests;
-#[cfg(test)]
-mod rows;
-mod shape_command;
-mod show_command;
-mod status;
 #[cfg(test)]
 mod tests;
 mod top;
 
 use crate::real_files::RealFiles;
 use crate::real_sink::RealSink;
-use crate::status::Status;
+use ats_command::Status;
 use std::env;
 use std::io::ErrorKind;
 use std::process::ExitCode;

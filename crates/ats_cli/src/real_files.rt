@@ -10,8 +10,7 @@ ghost use Rattle.ats_cli.specs.Open.{Stands};
 use crate::fault_counts::FaultCounts;
 use ats_io::Failed;
 use ats_io::files::MAX_PLACE;
-use ats_num::NoMemory;
-use std::alloc::Global;
+use std::alloc::{AllocError, Global};
 use std::fs::File;
 use std::io;
 use std::io::{Read, Seek, SeekFrom};
@@ -41,9 +40,9 @@ struct OpenWord<F> {
 }
 
 impl<'a, R: Files + Drop> RealFiles<'a, R> {
-    /// The files, none of them open, with no fault yet, and a count for each of these words. `NoMemory` where there is no
+    /// The files, none of them open, with no fault yet, and a count for each of these words. `AllocError` where there is no
     /// memory for the counts.
-    pub fn new(alloc: Global, rt: R, words: &'a [String]) -> Result<Self, NoMemory>
+    pub fn new(alloc: Global, rt: R, words: &'a [String]) -> Result<Self, AllocError>
         ensures words { IfOk result (λ made. made.faults.words.now ≡ words.entry.now) }
         ensures faults { IfOk result (λ made. (name : List ℕ) → ⟦<RealFiles<'a, R> as ats_io::Files>⟧.faults made name ≡ 0) }
     {

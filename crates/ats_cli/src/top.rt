@@ -2,22 +2,16 @@
 
 ghost use Rattle.std.specs.Prelude.{◌≡◌, ◌≤◌, ◌⊎◌, IsErrOf, OnOk};
 ghost use Rattle.ats_io.specs.Outside.{Rose, Continues};
-ghost use Rattle.ats_cli.specs.Command.{command_of};
-ghost use Rattle.ats_cli.specs.Command as table;
-ghost use Rattle.ats_cli.specs.Named.{texts_of, view};
-ghost use Rattle.ats_cli.specs.Answer.{HasText};
-ghost use Rattle.ats_cli.specs.Due.{IsTold};
-ghost use Rattle.ats_cli.specs.Outcome.{Answers};
-ghost use Rattle.ats_cli.specs.Soundness.{IsSoundCheck};
-ghost use Rattle.ats_cli.specs.Calls.{Printed, PrintedPrefix, ReadRose, IsCalm, StatusIsDue};
+ghost use Rattle.ats_command.specs.Command.{command_of};
+ghost use Rattle.ats_command.specs.Command as table;
+ghost use Rattle.ats_command.specs.Named.{texts_of, view};
+ghost use Rattle.ats_command.specs.Answer.{HasText};
+ghost use Rattle.ats_command.specs.Due.{IsTold};
+ghost use Rattle.ats_command.specs.Outcome.{Answers};
+ghost use Rattle.ats_command.specs.Soundness.{IsSoundCheck};
+ghost use Rattle.ats_command.specs.Calls.{Printed, PrintedPrefix, ReadRose, IsCalm, StatusIsDue};
 
-use crate::bound_command::bound;
-use crate::check_command::check;
-use crate::command::{Command, named_by};
-use crate::outcome::{Stop, finish, print};
-use crate::shape_command::shape;
-use crate::show_command::show;
-use crate::status::Status;
+use ats_command::{Command, Status, Stop, bound, check, finish, named_by, print, shape, show};
 use ats_io::{Files, Sink};
 use std::alloc::Global;
 

@@ -8,8 +8,7 @@ ghost use Rattle.ats_events.specs.Inside.{AreDistinct, AreInRange, IsFirstOf};
 
 use crate::moment::Moment;
 use crate::order::{TimeOrder, is_before};
-use ats_num::NoMemory;
-use std::alloc::Global;
+use std::alloc::{AllocError, Global};
 use std::marker::Model;
 
 /// The events that are still to happen, each at a moment of its own, all after the moment that was popped last: callers see to
@@ -38,8 +37,8 @@ impl<O: TimeOrder, E: Copy> Model for Agenda<O, E> {
 }
 
 impl<O: TimeOrder, E: Copy> Agenda<O, E> {
-    /// An empty agenda with room for so many entries, whose moments stand in this order. `NoMemory` where memory runs out.
-    pub fn open(alloc: Global, capacity: u32, order: O) -> Result<Agenda<O, E>, NoMemory>
+    /// An empty agenda with room for so many entries, whose moments stand in this order. `AllocError` where memory runs out.
+    pub fn open(alloc: Global, capacity: u32, order: O) -> Result<Agenda<O, E>, AllocError>
         ensures { IfOk result (λ agenda. agenda ≡ opened capacity order) }
     {
         Ok(Agenda {

@@ -13,6 +13,3 @@ pub use actor::{Actor, drive};
 pub use agenda::Agenda;
 pub use moment::Moment;
 pub use order::{Down, Scrambled, TimeOrder, Up};
-
-#[cfg(test)]
-mod tests;

@@ -2,7 +2,7 @@ use Rattle.std.specs.Prelude.{ℕ, ◌+◌, ◌*◌, ◌<◌, ◌≤◌, Bool, �
 use Rattle.ats_num.specs.declared.time.TheConstants.{PS_PER_SECOND, PS_PER_NS, END}
 use Rattle.ats_num.specs.declared.wire.TheConstants.{MAX_WIRE_BITS}
 use Rattle.ats_num.specs.Wire.{bits_of}
-use Rattle.ats_model.specs.Rules.{KeepsRules}
+use Rattle.ats_streams.specs.Rules.{KeepsRules}
 use Rattle.ats_bucket.specs.Scheduler.{first_empty, eligibility_time, empty_after}
 use Rattle.ats_group.specs.declared.member.Declared.{Declared}
 use Rattle.ats_group.specs.declared.verdict.Verdict.{Verdict}

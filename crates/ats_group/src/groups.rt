@@ -10,8 +10,8 @@ ghost use Rattle.ats_group.specs.Seat.{IsSeat, standing_of, members_of, empties_
 use crate::member::Member;
 use crate::seat::Seat;
 use crate::verdict::Verdict;
-use ats_num::{NoMemory, Ps};
-use std::alloc::Global;
+use ats_num::Ps;
+use std::alloc::{AllocError, Global};
 use std::marker::Model;
 
 /// The groups of schedulers of a network. Contracts see the residences and the members as they were given, the group
@@ -38,12 +38,12 @@ impl Model for Groups {
 impl Groups {
     /// Opens one group for each maximum residence time (at most 1,000,000,000 ns), and a scheduler for each member. Group
     /// eligibility times are 0 at first, and buckets are full at time 0. Conditions: a member names one of these groups,
-    /// and its declaration keeps the rules of `ats_model`. `NoMemory` where memory runs out.
+    /// and its declaration keeps the rules of `ats_streams`. `AllocError` where memory runs out.
     pub fn open(
         alloc: Global,
         residences_ns: &[u32],
         members: &[Member],
-    ) -> Result<Groups, NoMemory>
+    ) -> Result<Groups, AllocError>
         requires residences { All (λ (r : ℕ). r ≤ MAX_RESIDENCE_NS) residences_ns.now }
         requires members { AreMembers (length residences_ns.now) members.now }
         ensures value { IfOk result (λ groups. groups ≡ opened residences_ns.now members.now) }
@@ -91,7 +91,7 @@ impl Groups {
     }
 }
 
-fn seats_of(alloc: Global, members: &[Member]) -> Result<Vec<Seat>, NoMemory>
+fn seats_of(alloc: Global, members: &[Member]) -> Result<Vec<Seat>, AllocError>
     requires { AreRuled members.now }
     ensures members { IfOk result (λ seats. members_of seats.items ≡ members.now) }
     ensures empties { IfOk result (λ seats. empties_of seats.items ≡ first_empties members.now) }
@@ -131,147 +131,4 @@ fn judge(
         seats[member] = seat.after(eligible, octets);
     }
     verdict
-}
-
-#[cfg(test)]
-mod tests {
-    use super::*;
-    use crate::member::Declared;
-    use ats_num::Rate;
-    use std::test::Fail;
-
-    #[test]
-    fn opens_without_members(rt: HostRuntime) -> Result<(), Fail> {
-        let groups = Groups::open(rt.alloc(), &[1_000_000], &[])?;
-        assert_eq!(rt; groups.group_time(0), Ps(0));
-        Ok(())
-    }
-
-    #[test]
-    fn empties_the_bucket_exactly(rt: HostRuntime) -> Result<(), Fail> {
-        let rate = Rate::new(100_000_000).expect(&rt, "a rate");
-        let x = Member {
-            group: 0,
-            declared: Declared {
-                rate,
-                burst_bits: 12_336,
-                min_octets: 64,
-                max_octets: 1522,
-            },
-        };
-        let mut groups = Groups::open(rt.alloc(), &[1_000_000], &[x])?;
-        assert_eq!(rt; groups.process(0, Ps(0), 1522), Verdict::Eligible(Ps(0)));
-        assert_eq!(rt;
-            groups.process(0, Ps(12_336_000), 1522),
-            Verdict::Eligible(Ps(123_360_000))
-        );
-        Ok(())
-    }
-
-    #[test]
-    fn rounds_up(rt: HostRuntime) -> Result<(), Fail> {
-        let rate = Rate::new(11_000_000).expect(&rt, "a rate");
-        let x = Member {
-            group: 0,
-            declared: Declared {
-                rate,
-                burst_bits: 672,
-                min_octets: 64,
-                max_octets: 64,
-            },
-        };
-        let mut groups = Groups::open(rt.alloc(), &[1_000_000], &[x])?;
-        assert_eq!(rt; groups.process(0, Ps(0), 64), Verdict::Eligible(Ps(0)));
-        assert_eq!(rt;
-            groups.process(0, Ps(672_000), 64),
-            Verdict::Eligible(Ps(61_090_910))
-        );
-        assert_eq!(rt;
-            groups.process(0, Ps(1_344_000), 64),
-            Verdict::Eligible(Ps(122_181_820))
-        );
-        Ok(())
-    }
-
-    #[test]
-    fn keeps_the_order_of_a_group(rt: HostRuntime) -> Result<(), Fail> {
-        let rate = Rate::new(100_000_000).expect(&rt, "a rate");
-        let x = Member {
-            group: 0,
-            declared: Declared {
-                rate,
-                burst_bits: 12_336,
-                min_octets: 64,
-                max_octets: 1522,
-            },
-        };
-        let y = Member {
-            group: 0,
-            declared: Declared {
-                rate,
-                burst_bits: 12_336,
-                min_octets: 64,
-                max_octets: 1522,
-            },
-        };
-        let mut groups = Groups::open(rt.alloc(), &[1_000_000], &[x, y])?;
-        assert_eq!(rt; groups.process(0, Ps(0), 1522), Verdict::Eligible(Ps(0)));
-        assert_eq!(rt;
-            groups.process(0, Ps(12_336_000), 1522),
-            Verdict::Eligible(Ps(123_360_000))
-        );
-        assert_eq!(rt;
-            groups.process(1, Ps(13_000_000), 1522),
-            Verdict::Eligible(Ps(123_360_000))
-        );
-        assert_eq!(rt; groups.group_time(0), Ps(123_360_000));
-        Ok(())
-    }
-
-    #[test]
-    fn lets_a_frame_stay_for_the_residence(rt: HostRuntime) -> Result<(), Fail> {
-        let rate = Rate::new(100_000_000).expect(&rt, "a rate");
-        let x = Member {
-            group: 0,
-            declared: Declared {
-                rate,
-                burst_bits: 12_336,
-                min_octets: 64,
-                max_octets: 1522,
-            },
-        };
-        let mut groups = Groups::open(rt.alloc(), &[111_024], &[x])?;
-        assert_eq!(rt; groups.process(0, Ps(0), 1522), Verdict::Eligible(Ps(0)));
-        assert_eq!(rt;
-            groups.process(0, Ps(12_336_000), 1522),
-            Verdict::Eligible(Ps(123_360_000))
-        );
-        Ok(())
-    }
-
-    #[test]
-    fn discards_after_the_residence(rt: HostRuntime) -> Result<(), Fail> {
-        let rate = Rate::new(100_000_000).expect(&rt, "a rate");
-        let x = Member {
-            group: 0,
-            declared: Declared {
-                rate,
-                burst_bits: 12_336,
-                min_octets: 64,
-                max_octets: 1522,
-            },
-        };
-        let mut groups = Groups::open(rt.alloc(), &[111_023], &[x])?;
-        assert_eq!(rt; groups.process(0, Ps(0), 1522), Verdict::Eligible(Ps(0)));
-        assert_eq!(rt;
-            groups.process(0, Ps(12_336_000), 1522),
-            Verdict::Late(Ps(123_360_000))
-        );
-        assert_eq!(rt; groups.process(0, Ps(12_337_000), 1523), Verdict::Size);
-        assert_eq!(rt;
-            groups.process(0, Ps(12_337_000), 1522),
-            Verdict::Eligible(Ps(123_360_000))
-        );
-        Ok(())
-    }
 }

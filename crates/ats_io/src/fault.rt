@@ -2,8 +2,7 @@
 
 ghost use Rattle.std.specs.Prelude.{◌≡◌};
 
-use ats_num::NoMemory;
-use std::alloc::{AllocError, AllocFailed};
+use ats_num::{Failure, Fault};
 use thiserror::Error;
 
 /// The outside failed: a read or a write was not carried out. No cause is known.
@@ -20,47 +19,17 @@ pub enum ReadFault {
     /// The file has more bytes than the limit.
     #[error("the file is too long")]
     TooLong,
-    /// Memory ran out.
-    #[error("out of memory")]
-    NoMemory,
 }
 
-impl From<Failed> for ReadFault {
+impl Fault for ReadFault {}
+
+impl From<Failed> for Failure<ReadFault> {
+    ghost use Rattle.ats_num.specs.declared.failure.Failure.TheVariants.{Fault};
     ghost use Rattle.ats_io.specs.declared.fault.ReadFault.TheVariants.{Failed};
 
-    ghost from_gives = { λ _ e. e ≡ Failed };
+    ghost from_gives = { λ _ e. e ≡ Fault Failed };
 
-    fn from(_e: Failed) -> ReadFault {
-        ReadFault::Failed
-    }
-}
-
-impl From<NoMemory> for ReadFault {
-    ghost use Rattle.ats_io.specs.declared.fault.ReadFault.TheVariants.{NoMemory};
-
-    ghost from_gives = { λ _ e. e ≡ NoMemory };
-
-    fn from(_e: NoMemory) -> ReadFault {
-        ReadFault::NoMemory
-    }
-}
-
-impl From<AllocError> for ReadFault {
-    ghost use Rattle.ats_io.specs.declared.fault.ReadFault.TheVariants.{NoMemory};
-
-    ghost from_gives = { λ _ e. e ≡ NoMemory };
-
-    fn from(_e: AllocError) -> ReadFault {
-        ReadFault::NoMemory
-    }
-}
-
-impl<T: Drop> From<AllocFailed<T>> for ReadFault {
-    ghost use Rattle.ats_io.specs.declared.fault.ReadFault.TheVariants.{NoMemory};
-
-    ghost from_gives = { λ _ e. e ≡ NoMemory };
-
-    fn from(_e: AllocFailed<T>) -> ReadFault {
-        ReadFault::NoMemory
+    fn from(_e: Failed) -> Failure<ReadFault> {
+        Failure::Fault(ReadFault::Failed)
     }
 }

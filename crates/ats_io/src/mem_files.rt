@@ -7,8 +7,7 @@ ghost use Rattle.ats_io.specs.Memory.{pairs_of, bytes_of, count_at, count_of, ne
 use crate::fault::Failed;
 use crate::files::{Files, MAX_PLACE};
 use crate::plan;
-use ats_num::NoMemory;
-use std::alloc::Global;
+use std::alloc::{AllocError, Global};
 use std::marker::Model;
 
 /// Files for tests: lists of bytes under names, where reads fail when a test wants them to.
@@ -38,13 +37,13 @@ impl Model for MemFiles {
 }
 
 impl MemFiles {
-    /// These files, with no fault yet; the calls with the numbers in `fails` are to fail. `NoMemory` where there is no
+    /// These files, with no fault yet; the calls with the numbers in `fails` are to fail. `AllocError` where there is no
     /// memory for the counts.
     pub fn new(
         alloc: Global,
         files: Vec<(String, Vec<u8>)>,
         fails: Vec<u32>,
-    ) -> Result<Self, NoMemory>
+    ) -> Result<Self, AllocError>
         ensures told { IfOk result (λ made. (name : List ℕ) → ⟦<MemFiles as Files>⟧.told made name ≡ bytes_of (pairs_of files.items) name) }
         ensures faults { IfOk result (λ made. (name : List ℕ) → ⟦<MemFiles as Files>⟧.faults made name ≡ 0) }
         ensures held { IfOk result (λ made. made.files ≡ pairs_of files.items) }

@@ -7,8 +7,7 @@ ghost use Rattle.ats_io.specs.Memory.{next_count, is_planned};
 use crate::fault::Failed;
 use crate::plan;
 use crate::sink::Sink;
-use ats_num::NoMemory;
-use std::alloc::Global;
+use std::alloc::{AllocError, Global};
 use std::marker::Model;
 
 /// A sink for tests: a buffer that takes its memory at the start, tells what it took, and fails when a test wants it to.
@@ -39,8 +38,8 @@ impl Model for MemSink {
 
 impl MemSink {
     /// An empty sink with room for so many bytes, which takes at most `most` bytes a call, and at least 1; the calls with
-    /// the numbers in `fails` are to fail. `NoMemory` where there is no memory for the buffer.
-    pub fn new(alloc: Global, room: usize, most: usize, fails: Vec<u32>) -> Result<Self, NoMemory>
+    /// the numbers in `fails` are to fail. `AllocError` where there is no memory for the buffer.
+    pub fn new(alloc: Global, room: usize, most: usize, fails: Vec<u32>) -> Result<Self, AllocError>
         requires { 0 < most }
         ensures held { IfOk result (λ made. ⟦<MemSink as Sink>⟧.held made ≡ Some []) }
         ensures faults { IfOk result (λ made. ⟦<MemSink as Sink>⟧.faults made ≡ 0) }

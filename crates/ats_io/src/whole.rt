@@ -1,14 +1,15 @@
 //! Reads of whole files and writes of whole texts.
 
-ghost use Rattle.std.specs.Prelude.{◌≡◌, ◌+◌, ◌-◌, ◌<◌, ◌≤◌, ◌⊎◌, [], length, take, IfOk, OnOk, OnErr, IsOk, IsErrOf, IsOkUnless, vec_len};
+ghost use Rattle.std.specs.Prelude.{◌≡◌, ◌+◌, ◌-◌, ◌<◌, ◌≤◌, [], Err, length, take, IfOk, OnOk, OnErr, IsOk, IsErrOf, IsOkUnless, vec_len};
+ghost use Rattle.ats_num.specs.Failure.{Gives};
 ghost use Rattle.ats_io.specs.Outside.{Rose, IfTold, Continues, TakesPrefix, appended};
 ghost use Rattle.ats_io.specs.declared.files.TheConstants.{MAX_PLACE};
 
 use crate::fault::{Failed, ReadFault};
 use crate::files::Files;
 use crate::sink::Sink;
-use ats_num::NoMemory;
-use std::alloc::Global;
+use ats_num::Failure;
+use std::alloc::{AllocError, Global};
 
 /// The most bytes that one call asks of a file.
 const PIECE: usize = 65_536;
@@ -17,20 +18,25 @@ const PIECE: usize = 65_536;
 /// one byte past the limit is read.
 ///
 /// `Failed`: a read failed, and the count of faults of the name rose. `TooLong`: the file has more bytes than the limit.
-/// `NoMemory`: memory ran out.
+/// `Failure::NoMemory`: memory ran out.
 pub fn read_whole<F: Files>(
     alloc: Global,
     files: &mut F,
     name: &str,
     limit: u64,
-) -> Result<Vec<u8>, ReadFault>
+) -> Result<Vec<u8>, Failure<ReadFault>>
     requires { limit ≤ MAX_PLACE }
     ensures within { IfOk result (λ whole. length whole.items ≤ limit) }
     ensures whole { IfOk result (λ whole. IfTold (F.told files.old name.now) (λ bytes. whole.items ≡ bytes)) }
-    ensures too_long { IsErrOf result ReadFault.TooLong → IfTold (F.told files.old name.now) (λ bytes. limit < length bytes) }
-    ensures failed { IsErrOf result ReadFault.Failed → Rose (F.faults files.old name.now) (F.faults files.new name.now) }
-    ensures whole_due { IfTold (F.told files.old name.now) (λ bytes. length bytes ≤ limit → ¬ Rose (F.faults files.old name.now) (F.faults files.new name.now) → IsOkUnless result ReadFault.NoMemory) }
-    ensures long_due { IfTold (F.told files.old name.now) (λ bytes. limit < length bytes → ¬ Rose (F.faults files.old name.now) (F.faults files.new name.now) → IsErrOf result ReadFault.TooLong ⊎ IsErrOf result ReadFault.NoMemory) }
+    ensures too_long { IsErrOf result (Failure.Fault ReadFault.TooLong)
+        → IfTold (F.told files.old name.now) (λ bytes. limit < length bytes) }
+    ensures failed { IsErrOf result (Failure.Fault ReadFault.Failed)
+        → Rose (F.faults files.old name.now) (F.faults files.new name.now) }
+    ensures whole_due { IfTold (F.told files.old name.now) (λ bytes. length bytes ≤ limit
+        → ¬ Rose (F.faults files.old name.now) (F.faults files.new name.now) → IsOkUnless result Failure.NoMemory) }
+    ensures long_due { IfTold (F.told files.old name.now) (λ bytes. limit < length bytes
+        → ¬ Rose (F.faults files.old name.now) (F.faults files.new name.now)
+        → Gives result (Err ReadFault.TooLong)) }
     ensures continues { Continues F.told F.faults files.old files.new }
 {
     let mut buffer = new_buffer(alloc)?;
@@ -44,13 +50,13 @@ pub fn read_whole<F: Files>(
         }
         whole.extend_from_slice(&piece[..count])?;
         if whole.len() as u64 > limit {
-            return Err(ReadFault::TooLong);
+            return Err(Failure::Fault(ReadFault::TooLong));
         }
     }
 }
 
 // The room for one piece.
-fn new_buffer(alloc: Global) -> Result<Vec<u8>, NoMemory>
+fn new_buffer(alloc: Global) -> Result<Vec<u8>, AllocError>
     ensures { IfOk result (λ buffer. 0 < vec_len buffer) }
 {
     let buffer = vec![in alloc; 0u8; PIECE]?;

@@ -5,7 +5,7 @@ use Rattle.std.specs.Str.{bytes_eq}
 use Rattle.std.proofs.lemmas.List.{map-append, get_or_default, length-map}
 use Rattle.std.proofs.lemmas.List.Elements.{All-weaker}
 use Rattle.std.proofs.lemmas.Slice.Eq.{bytes_eq-Decides}
-use Rattle.ats_names.specs.Places.{place_of}
+use Rattle.ats_num.specs.Places.{place_of}
 use Rattle.ats_topology.specs.Node.{AreApart}
 use Rattle.ats_topology.proofs.PositionLemmas.{all_fail}
 use Rattle.ats_streams.specs.Stream.{DeclaredStream}

@@ -8,7 +8,7 @@ use Rattle.std.specs.declared.cmp.Ordering.{Ordering}
 use Rattle.std.specs.declared.cmp.Ordering.TheVariants.{Less, Equal}
 use Rattle.std.proofs.lemmas.Bool.{cases_eq, cases_lt, eqb-true, eq-eqb}
 use Rattle.std.proofs.lemmas.Bool.Decides.{nat_tests}
-use Rattle.ats_num.specs.declared.memory.NoMemory.{NoMemory}
+use Rattle.std.specs.declared.alloc.AllocError.{AllocError}
 use Rattle.ats_topology.specs.Port.{port_at, leaving}
 use Rattle.ats_topology.specs.Topology.{DeclaredTopology, IsTopology}
 use Rattle.ats_topology.specs.Walks.{IsWalk, IsLeastWalk, NoWalk}
@@ -142,7 +142,7 @@ found_is topology a b (Some walk) is in_a in_b least none = by (shortest_of topo
     by None e = absurd ((shortest_least topology a b is in_a in_b).none e walk.items least.walk_is)
     by (Some other) e = ap Some (walk_is_one topology.ports a b walk.items other least (computed_least topology a b other e)) ∙ sym e
 
-pub result_is : (topology : DeclaredTopology) (a b : ℕ) (result : Result (Option (Vec ℕ)) NoMemory) → IsTopology topology → a < length topology.nodes → b < length topology.nodes
+pub result_is : (topology : DeclaredTopology) (a b : ℕ) (result : Result (Option (Vec ℕ)) AllocError) → IsTopology topology → a < length topology.nodes → b < length topology.nodes
     → IfOk result (λ found. IfSome found (λ walk. IsLeastWalk topology.ports a b walk.items)) → IfOk result (λ found. IfNone found (NoWalk topology.ports a b))
     → IfOk result (λ found. option_map (λ (walk : Vec ℕ). walk.items) found ≡ shortest_of topology a b)
 result_is topology a b (Ok found) is in_a in_b walk none = found_is topology a b found is in_a in_b walk none

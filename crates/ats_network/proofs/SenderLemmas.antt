@@ -2,7 +2,7 @@ use Rattle.std.proofs.Common.{◌≡◌, ◌≢◌, ℕ, ◌-◌, ◌<◌, ◌�
 use Rattle.std.specs.List.{All, AllPairs}
 use Rattle.std.proofs.lemmas.List.{get_or-append_right, get_or-map, length-map}
 use Rattle.std.proofs.lemmas.List.Elements.{All-nil, All-cons, All-head, All-tail, All-append}
-use Rattle.ats_model.specs.Rules.{AreSizes, KeepsRules}
+use Rattle.ats_streams.specs.Rules.{AreSizes, KeepsRules}
 use Rattle.ats_streams.specs.Path.{IsPath}
 use Rattle.ats_streams.specs.Stream.{DeclaredStream, IsStream}
 use Rattle.ats_streams.specs.Flow.{DeclaredFlow, IsFlow}

@@ -1,12 +1,12 @@
 use Rattle.std.specs.Prelude.{◌≡◌, ℕ, Bool, false, ◌&&◌, ◌==◌, nat_le, if◌then◌else◌, List, [], ◌∷◌, ◌++◌, length, Option, Some, None, is_some}
 use Rattle.std.specs.List.{position_from}
-use Rattle.ats_names.specs.Places.{place_of}
+use Rattle.ats_num.specs.Places.{place_of}
 use Rattle.ats_streams.specs.Stream.{DeclaredStream}
 use Rattle.ats_streams.specs.Flow.{DeclaredFlow}
 use Rattle.ats_network.specs.Network.{DeclaredNetwork, declared_network, senders_of, names_of}
 use Rattle.ats_network.specs.declared.network.TheConstants.{MAX_STREAMS, MAX_FLOWS}
 use Rattle.ats_network.specs.declared.fault.PushFault.{PushFault}
-use Rattle.ats_network.specs.declared.fault.PushFault.TheVariants.{NameTaken, IdentityTaken, Limit, NoMemory}
+use Rattle.ats_network.specs.declared.fault.PushFault.TheVariants.{NameTaken, IdentityTaken, Limit}
 
 -- the network with one stream more, the last of them
 abbrev pub with_stream : DeclaredNetwork → DeclaredStream → DeclaredNetwork
@@ -52,10 +52,3 @@ flow_push_fault network flow =
     if is_name_taken network flow.name then Some NameTaken
     else if nat_le MAX_FLOWS (length network.flows) then Some Limit
     else None
-
--- a call answered this fault: it is the one that is due, or memory ran out where none is due
-abbrev pub IsDue : PushFault → Option PushFault → Type 0
-IsDue NameTaken due = due ≡ Some NameTaken
-IsDue IdentityTaken due = due ≡ Some IdentityTaken
-IsDue Limit due = due ≡ Some Limit
-IsDue NoMemory due = due ≡ None

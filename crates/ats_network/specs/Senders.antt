@@ -1,6 +1,6 @@
 use Rattle.std.specs.Prelude.{◌≢◌, ℕ, ◌≤◌, List, [], ◌∷◌, AllPairs, slice_index_or}
 use Rattle.ats_num.specs.declared.wire.TheConstants.{MIN_OCTETS}
-use Rattle.ats_model.specs.Rules.{AreSizes, KeepsRules}
+use Rattle.ats_streams.specs.Rules.{AreSizes, KeepsRules}
 use Rattle.ats_streams.specs.Path.{IsPath}
 use Rattle.ats_streams.specs.declared.stream.TheConstants.{MAX_CLASS}
 use Rattle.ats_topology.specs.Topology.{DeclaredTopology}

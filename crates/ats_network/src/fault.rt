@@ -1,7 +1,6 @@
 //! Why a stream or a flow can't be added to a network.
 
-use ats_num::NoMemory as OutOfMemory;
-use std::alloc::{AllocError, AllocFailed};
+use ats_num::Fault;
 use std::error::Error;
 use std::fmt;
 
@@ -14,42 +13,9 @@ pub enum PushFault {
     IdentityTaken,
     /// As many streams, or flows, are there as a network may have.
     Limit,
-    /// Memory ran out.
-    NoMemory,
 }
 
-impl From<AllocError> for PushFault {
-    ghost use Rattle.std.specs.Prelude.{◌≡◌};
-    ghost use Rattle.ats_network.specs.declared.fault.PushFault.TheVariants.{NoMemory};
-
-    ghost from_gives = { λ _ e. e ≡ NoMemory };
-
-    fn from(_e: AllocError) -> PushFault {
-        PushFault::NoMemory
-    }
-}
-
-impl<T: Drop> From<AllocFailed<T>> for PushFault {
-    ghost use Rattle.std.specs.Prelude.{◌≡◌};
-    ghost use Rattle.ats_network.specs.declared.fault.PushFault.TheVariants.{NoMemory};
-
-    ghost from_gives = { λ _ e. e ≡ NoMemory };
-
-    fn from(_e: AllocFailed<T>) -> PushFault {
-        PushFault::NoMemory
-    }
-}
-
-impl From<OutOfMemory> for PushFault {
-    ghost use Rattle.std.specs.Prelude.{◌≡◌};
-    ghost use Rattle.ats_network.specs.declared.fault.PushFault.TheVariants.{NoMemory};
-
-    ghost from_gives = { λ _ e. e ≡ NoMemory };
-
-    fn from(_e: OutOfMemory) -> PushFault {
-        PushFault::NoMemory
-    }
-}
+impl Fault for PushFault {}
 
 impl fmt::Display for PushFault {
     ghost use Rattle.std.specs.Prelude.{Some};
@@ -62,7 +28,6 @@ impl fmt::Display for PushFault {
             PushFault::NameTaken => "name-taken",
             PushFault::IdentityTaken => "identity-taken",
             PushFault::Limit => "limit",
-            PushFault::NoMemory => "no-memory",
         })
     }
 }

@@ -1,14 +1,14 @@
 //! Flows, found by their names.
 
 ghost use Rattle.std.specs.Prelude.{◌≡◌, ◌<◌, [], ◌∷◌, ◌++◌, length, None, IfSome, OnOk, OnErr};
-ghost use Rattle.ats_names.specs.Places.{place_of};
+ghost use Rattle.ats_num.specs.Places.{place_of};
 ghost use Rattle.ats_network.specs.Tables.{flow_names};
 
 use crate::network::MAX_FLOWS;
-use ats_names::NameTable;
-use ats_num::{Name, NoMemory};
+use ats_num::NameTable;
+use ats_num::Name;
 use ats_streams::Flow;
-use std::alloc::Global;
+use std::alloc::{AllocError, Global};
 use std::marker::Model;
 
 /// Flows of different names, numbered from 0 in the order in which they came. Contracts see the list of them.
@@ -56,8 +56,8 @@ impl FlowTable {
         self.names.place(name)
     }
 
-    /// Adds a flow at the end. `NoMemory` leaves the table as it was.
-    pub(crate) fn push(&mut self, flow: Flow) -> Result<(), NoMemory>
+    /// Adds a flow at the end. `AllocError` leaves the table as it was.
+    pub(crate) fn push(&mut self, flow: Flow) -> Result<(), AllocError>
         requires absent { place_of flow.name (flow_names self.old) ≡ None }
         requires room { length self.old < MAX_FLOWS }
         ensures ok { OnOk result (self.new ≡ self.old ++ flow ∷ []) }

@@ -13,6 +13,3 @@ pub use fault::PushFault;
 pub use network::Network;
 pub use paths::is_valid_path;
 pub use routes::shortest;
-
-#[cfg(test)]
-mod tests;

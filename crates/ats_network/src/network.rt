@@ -1,18 +1,19 @@
 //! Networks.
 
-ghost use Rattle.std.specs.Prelude.{◌≡◌, ◌↔◌, ◌<◌, ◌≤◌, [], length, None, IsTrue, IsNone, IfSome, IfErr, OnOk, OnErr};
-ghost use Rattle.ats_names.specs.Places.{place_of};
+ghost use Rattle.std.specs.Prelude.{◌≡◌, ◌↔◌, ◌<◌, ◌≤◌, [], length, None, IsTrue, IsNone, IfSome, IfErr, IsErrOf, OnOk, OnErr};
+ghost use Rattle.ats_num.specs.Failure.{IsDue};
+ghost use Rattle.ats_num.specs.Places.{place_of};
 ghost use Rattle.ats_network.specs.Network.{IsNetwork, declared_network, senders_of, names_of};
 ghost use Rattle.ats_network.specs.Path.{IsValidPath};
 ghost use Rattle.ats_network.specs.Senders.{sender_at};
 ghost use Rattle.ats_network.specs.Residence.{residence_after, leads_to_station};
-ghost use Rattle.ats_network.specs.Pushes.{with_stream, with_flow, place_identified, is_identity_taken, stream_push_fault, flow_push_fault, IsDue};
+ghost use Rattle.ats_network.specs.Pushes.{with_stream, with_flow, place_identified, is_identity_taken, stream_push_fault, flow_push_fault};
 
 use crate::fault::PushFault;
 use crate::flow_table::FlowTable;
 use crate::paths::is_valid_path;
 use crate::stream_table::StreamTable;
-use ats_num::Name;
+use ats_num::{Failure, Name};
 use ats_streams::{Flow, Stream};
 use ats_topology::{Kind, Topology};
 use std::alloc::Global;
@@ -189,22 +190,23 @@ impl Network {
     ///
     /// The network stays as it was. The first of these, in this order: `NameTaken` exactly where a stream or a flow has the
     /// name; `IdentityTaken` exactly where a stream has the same destination address and VLAN identifier; `Limit` exactly
-    /// where 4096 streams are there; `NoMemory` where memory runs out.
-    pub fn push_stream(&mut self, stream: Stream) -> Result<(), PushFault>
+    /// where 4096 streams are there; `Failure::NoMemory` where memory runs out.
+    pub fn push_stream(&mut self, stream: Stream) -> Result<(), Failure<PushFault>>
         requires { IsValidPath self.old.topology stream.path }
         ensures ok { OnOk result (self.new ≡ with_stream self.old stream) }
         ensures sound { OnOk result (stream_push_fault self.old stream ≡ None) }
         ensures fault { IfErr result (λ fault. IsDue fault (stream_push_fault self.old stream)) }
+        ensures memory { IsErrOf result Failure.NoMemory → stream_push_fault self.old stream ≡ None }
         ensures err { OnErr result (self.new ≡ self.old) }
     {
         if self.sender_named(&stream.name()).is_some() {
-            return Err(PushFault::NameTaken);
+            return Err(Failure::Fault(PushFault::NameTaken));
         }
         if self.is_identity_taken(stream.identity()) {
-            return Err(PushFault::IdentityTaken);
+            return Err(Failure::Fault(PushFault::IdentityTaken));
         }
         if self.streams().len() >= MAX_STREAMS {
-            return Err(PushFault::Limit);
+            return Err(Failure::Fault(PushFault::Limit));
         }
         self.stream_table.push(stream)?;
         Ok(())
@@ -215,19 +217,20 @@ impl Network {
     /// # Errors
     ///
     /// The network stays as it was. The first of these, in this order: `NameTaken` exactly where a stream or a flow has the
-    /// name; `Limit` exactly where 1024 flows are there; `NoMemory` where memory runs out.
-    pub fn push_flow(&mut self, flow: Flow) -> Result<(), PushFault>
+    /// name; `Limit` exactly where 1024 flows are there; `Failure::NoMemory` where memory runs out.
+    pub fn push_flow(&mut self, flow: Flow) -> Result<(), Failure<PushFault>>
         requires { IsValidPath self.old.topology flow.path }
         ensures ok { OnOk result (self.new ≡ with_flow self.old flow) }
         ensures sound { OnOk result (flow_push_fault self.old flow ≡ None) }
         ensures fault { IfErr result (λ fault. IsDue fault (flow_push_fault self.old flow)) }
+        ensures memory { IsErrOf result Failure.NoMemory → flow_push_fault self.old flow ≡ None }
         ensures err { OnErr result (self.new ≡ self.old) }
     {
         if self.sender_named(&flow.name()).is_some() {
-            return Err(PushFault::NameTaken);
+            return Err(Failure::Fault(PushFault::NameTaken));
         }
         if self.flows().len() >= MAX_FLOWS {
-            return Err(PushFault::Limit);
+            return Err(Failure::Fault(PushFault::Limit));
         }
         self.flow_table.push(flow)?;
         Ok(())

@@ -5,9 +5,8 @@ ghost use Rattle.std.specs.Global.{Vec};
 ghost use Rattle.std.specs.Option.{option_map};
 ghost use Rattle.ats_network.specs.Shortest.{shortest_of};
 
-use ats_num::NoMemory;
 use ats_topology::Topology;
-use std::alloc::Global;
+use std::alloc::{AllocError, Global};
 
 /// The ports of the walk from node `a` to node `b`, which are node numbers: of the walks of fewest ports the first in
 /// lexicographic order of port numbers, and `None` exactly where no walk leads there. It is what `Topology::shortest`
@@ -15,13 +14,13 @@ use std::alloc::Global;
 ///
 /// # Errors
 ///
-/// `NoMemory` where memory runs out.
+/// `AllocError` where memory runs out.
 pub fn shortest(
     alloc: Global,
     topology: &Topology,
     a: u32,
     b: u32,
-) -> Result<Option<Vec<u32>>, NoMemory>
+) -> Result<Option<Vec<u32>>, AllocError>
     requires a { a < length topology.now.nodes }
     requires b { b < length topology.now.nodes }
     ensures { IfOk result (λ found. option_map (λ (walk : Vec ℕ). walk.items) found ≡ shortest_of topology.now a b) }

@@ -1,15 +1,15 @@
 //! Streams, found by their names and by the addresses of their frames.
 
 ghost use Rattle.std.specs.Prelude.{◌≡◌, ◌<◌, ◌^◌, [], ◌∷◌, ◌++◌, length, None, false, IfSome, OnOk, OnErr};
-ghost use Rattle.ats_names.specs.Places.{place_of};
+ghost use Rattle.ats_num.specs.Places.{place_of};
 ghost use Rattle.ats_network.specs.Pushes.{place_identified, is_identity_taken};
 ghost use Rattle.ats_network.specs.Tables.{stream_names, IsUnidentified, Identifies, FindsSame};
 
 use crate::network::MAX_STREAMS;
-use ats_names::NameTable;
-use ats_num::{Name, NoMemory};
+use ats_num::NameTable;
+use ats_num::Name;
 use ats_streams::Stream;
-use std::alloc::Global;
+use std::alloc::{AllocError, Global};
 use std::collections::BTreeMap;
 use std::marker::Model;
 
@@ -68,8 +68,8 @@ impl StreamTable {
         self.identities.get(&(address, vlan)).copied()
     }
 
-    /// Adds a stream at the end. `NoMemory` leaves the table as it was.
-    pub(crate) fn push(&mut self, stream: Stream) -> Result<(), NoMemory>
+    /// Adds a stream at the end. `AllocError` leaves the table as it was.
+    pub(crate) fn push(&mut self, stream: Stream) -> Result<(), AllocError>
         requires absent { place_of stream.name (stream_names self.old) ≡ None }
         requires other { is_identity_taken self.old stream.identity ≡ false }
         requires room { length self.old < MAX_STREAMS }
@@ -84,14 +84,14 @@ impl StreamTable {
     }
 }
 
-// Gives this number to a stream's identity, where it has one, and adds its name to the names. `NoMemory` leaves both
+// Gives this number to a stream's identity, where it has one, and adds its name to the names. `AllocError` leaves both
 // tables as they were.
 fn number(
     names: &mut NameTable,
     identities: &mut BTreeMap<(u64, u16), u32>,
     stream: &Stream,
     place: u32,
-) -> Result<(), NoMemory>
+) -> Result<(), AllocError>
     requires absent { place_of stream.now.name names.old ≡ None }
     requires other { IsUnidentified identities.old stream.now.identity }
     requires room { length names.old < 2 ^ 32 }
@@ -106,7 +106,7 @@ fn number(
     identities.insert(identity, place)?;
     if names.push(stream.name()).is_err() {
         identities.remove(&identity);
-        return Err(NoMemory);
+        return Err(AllocError);
     }
     Ok(())
 }

@@ -5,21 +5,22 @@ use Rattle.std.specs.Option.{ForSome}
 use Rattle.std.proofs.lemmas.Bool.{ltb-false}
 use Rattle.std.proofs.lemmas.List.Elements.{All-nil, All-cons}
 use Rattle.toml.specs.Data.{Members, get_member}
-use Rattle.ats_document.specs.Document.{DeclaredDocument, DeclaredRoute, DeclaredStream, DeclaredFlow, IsIdentity}
-use Rattle.ats_document.specs.Entries.{station_in, bridge_in, link_in, stream_in, flow_in, route_at, long_at}
-use Rattle.ats_document.specs.Kinds.{address_in}
-use Rattle.ats_document.specs.Reading.{Arrays, entries_from, entries_in, arrays_in, arrays_read, document_in, document_of, tree_of}
-use Rattle.ats_document.specs.Steps.{◌>>=◌, or_fault}
-use Rattle.ats_document.specs.Walk.{Entry, has, formed, name_at, whole_at, deadline_at, identity_at, at}
-use Rattle.ats_document.specs.Words.{key_text}
-use Rattle.ats_document.specs.declared.entries.StationEntry.{StationEntry}
-use Rattle.ats_document.specs.declared.entries.BridgeEntry.{BridgeEntry}
-use Rattle.ats_document.specs.declared.entries.LinkEntry.{LinkEntry}
-use Rattle.ats_document.specs.declared.fault.DocumentFault.{DocumentFault}
-use Rattle.ats_document.specs.declared.fault.DocumentFault.TheVariants as fault
-use Rattle.ats_document.specs.declared.key.Key.TheVariants as key
-use Rattle.ats_document.specs.declared.table.Table.{Table}
-use Rattle.ats_document.specs.declared.table.Table.TheVariants as table
+use Rattle.ats_network_toml.specs.Document.{DeclaredDocument, DeclaredRoute, DeclaredStream, DeclaredFlow, IsIdentity}
+use Rattle.ats_network_toml.specs.Entries.{station_in, bridge_in, link_in, stream_in, flow_in, route_at, long_at}
+use Rattle.ats_network_toml.specs.Kinds.{address_in}
+use Rattle.ats_network_toml.specs.Reading.{Arrays, entries_from, entries_in, arrays_in, arrays_read, document_in, document_of, tree_of}
+use Rattle.ats_num.specs.Failure.{◌>>=◌, or_fault}
+use Rattle.ats_network_toml.specs.Walk.{Entry, has, formed, name_at, whole_at, deadline_at, identity_at, at}
+use Rattle.ats_network_toml.specs.Words.{key_text}
+use Rattle.ats_network_toml.specs.declared.entries.StationEntry.{StationEntry}
+use Rattle.ats_network_toml.specs.declared.entries.BridgeEntry.{BridgeEntry}
+use Rattle.ats_network_toml.specs.declared.entries.LinkEntry.{LinkEntry}
+use Rattle.ats_network_toml.specs.declared.fault.DocumentFault.{DocumentFault}
+use Rattle.ats_network_toml.specs.declared.fault.DocumentFault.TheVariants as fault
+use Rattle.ats_network_toml.specs.declared.key.Key.TheVariants as key
+use Rattle.ats_network_toml.specs.declared.table.Table.{Table}
+use Rattle.ats_network_toml.specs.declared.table.Table.TheVariants as table
+use Rattle.ats_network_file.proofs.Steps.{Both, both, or_fault_ok}
 use Rattle.ats_network_file.proofs.Identities.{address_kept, whole_kept}
 
 -- What a document that is read keeps: its streams' identities, and the limits on its streams and flows.
@@ -27,10 +28,6 @@ use Rattle.ats_network_file.proofs.Identities.{address_kept, whole_kept}
 -- the identity of an entry, where it has one, is one
 abbrev pub Identified : DeclaredStream → Type 0
 Identified stream = ForSome stream.identity IsIdentity
-
-or_fault_ok : {A : Type 0} (e : DocumentFault) (o : Option A) (x : A) → or_fault e o ≡ Ok x → o ≡ Some x
-or_fault_ok e None x h = cc
-or_fault_ok e (Some y) x h = cc
 
 identity_from : (given : Bool) (address vlan : Result ℕ DocumentFault) → ((a : ℕ) → address ≡ Ok a → a < 2 ^ 48) → ((v : ℕ) → vlan ≡ Ok v → (1 ≤ v) × (v ≤ 4094))
     → (o : Option (ℕ × ℕ)) → cond given (address >>= λ a. vlan >>= λ v. Ok (Some (a, v))) (Ok None) ≡ Ok o → ForSome o IsIdentity
@@ -71,16 +68,6 @@ stream_kept : (e : Entry) (s : DeclaredStream) → stream_in e ≡ Ok s → Iden
 stream_kept e s h =
     identity_kept e s.identity
     (stream_identity (formed e) (name_at e key.Name) (route_at e) (long_at e key.Class) (long_at e key.RateBps) (long_at e key.BurstBits) (long_at e key.MinOctets) (long_at e key.MaxOctets) (deadline_at e) (identity_at e) s h)
-
--- one after another: both parts were read
-record Both {A B : Type 0} (r : Result A DocumentFault) (f : A → Result B DocumentFault) (y : B) : Type 0 where
-  first : A
-  is : r ≡ Ok first
-  then : f first ≡ Ok y
-
-both : {A B : Type 0} (r : Result A DocumentFault) (f : A → Result B DocumentFault) (y : B) → (r >>= f) ≡ Ok y → Both r f y
-both (Err e) f y h = cc
-both (Ok x) f y h = record { first = x; is = refl; then = h }
 
 -- entries that are read are as many as the tables, and each keeps what an entry keeps
 record Entries {A : Type 0} (P : A → Type 0) (most : ℕ) (xs : List A) : Type 0 where

@@ -1,3 +1,4 @@
+pub mod Steps
 pub mod ValidPaths
 pub mod Identities
 pub mod Documents

@@ -1,7 +1,7 @@
 use Rattle.std.proofs.Common.{◌≡◌, ℕ, ◌+◌, ◌≤◌, ◌<◌, Bool, true, false, not, List, [], ◌∷◌, length, Option, Some, None, Result, Ok, Err, refl, sym, ap, subst, ◌∙◌, arith, length-append}
 use Rattle.std.specs.List.{All}
 use Rattle.std.proofs.lemmas.List.Elements.{All-nil, All-head, All-tail}
-use Rattle.ats_names.specs.Places.{place_of}
+use Rattle.ats_num.specs.Places.{place_of}
 use Rattle.ats_topology.specs.Faults.{topology_fault}
 use Rattle.ats_topology.specs.Topology.{DeclaredTopology, IsTopology, topology_of}
 use Rattle.ats_topology.proofs.Rules.{topology_rules}
@@ -13,52 +13,21 @@ use Rattle.ats_network.specs.Network.{DeclaredNetwork, IsNetwork, declared_netwo
 use Rattle.ats_network.specs.Pushes.{with_stream, with_flow, is_name_taken, is_identity_taken}
 use Rattle.ats_network.specs.declared.network.TheConstants.{MAX_STREAMS, MAX_FLOWS}
 use Rattle.ats_network.proofs.Pushed.{pushed_stream, pushed_flow, not_found}
-use Rattle.ats_document.specs.Document as file
-use Rattle.ats_document.specs.Reading.{document_of}
-use Rattle.ats_document.specs.declared.fault.DocumentFault.{DocumentFault}
-use Rattle.ats_document.specs.declared.table.Table.{Table}
-use Rattle.ats_document.specs.declared.table.Table.TheVariants as table
+use Rattle.ats_network_toml.specs.Document as file
+use Rattle.ats_network_toml.specs.Reading.{document_of}
+use Rattle.ats_network_toml.specs.declared.fault.DocumentFault.{DocumentFault}
+use Rattle.ats_network_toml.specs.declared.table.Table.{Table}
+use Rattle.ats_network_toml.specs.declared.table.Table.TheVariants as table
 use Rattle.ats_network_file.specs.Reading.{tables_of, nodes_of, links_of, topology_in, path_in, stream_over, flow_over, stream_made, flow_made, stream_pushed, flow_pushed, stream_added, flow_added, all_added, network_in, network_of}
 use Rattle.ats_network_file.specs.Routes.{ports_of, is_valid}
-use Rattle.ats_network_file.specs.Steps.{◌>>=◌, or_fault, ok_where, unless}
-use Rattle.ats_network_file.specs.declared.fault.NetFault.{NetFault}
+use Rattle.ats_num.specs.Failure.{◌>>=◌, or_fault, ok_where}
 use Rattle.ats_network_file.specs.declared.fault.NetFault.TheVariants as net
+use Rattle.ats_network_file.proofs.Steps.{Both, both, or_fault_ok, Given, ok_where_ok, Sound, unless_ok}
 use Rattle.ats_network_file.proofs.Documents.{Identified, Kept, document_kept}
 use Rattle.ats_network_file.proofs.Senders.{stream_keeps, flow_keeps}
 use Rattle.ats_network_file.proofs.ValidPaths.{valid_passed}
 
 -- What a text declares is a network.
-
--- one after another: both steps went well
-record Both {A B : Type 0} (r : Result A NetFault) (f : A → Result B NetFault) (y : B) : Type 0 where
-  first : A
-  is : r ≡ Ok first
-  then : f first ≡ Ok y
-
-both : {A B : Type 0} (r : Result A NetFault) (f : A → Result B NetFault) (y : B) → (r >>= f) ≡ Ok y → Both r f y
-both (Err e) f y h = cc
-both (Ok x) f y h = record { first = x; is = refl; then = h }
-
-or_fault_ok : {A : Type 0} (e : NetFault) (o : Option A) (x : A) → or_fault e o ≡ Ok x → o ≡ Some x
-or_fault_ok e None x h = cc
-or_fault_ok e (Some y) x h = cc
-
--- the test passed, and the value is the one that was given
-record Given {A : Type 0} (passes : Bool) (x y : A) : Type 0 where
-  passed : passes ≡ true
-  same : x ≡ y
-
-ok_where_ok : {A : Type 0} (passes : Bool) (e : NetFault) (x y : A) → ok_where passes e x ≡ Ok y → Given passes x y
-ok_where_ok true e x y h = record { passed = refl; same = cc }
-ok_where_ok false e x y h = cc
-
-record Sound {A F : Type 0} (fault : Option F) (x y : A) : Type 0 where
-  none : fault ≡ None
-  same : x ≡ y
-
-unless_ok : {A F : Type 0} (wrap : F → NetFault) (fault : Option F) (x y : A) → unless wrap fault x ≡ Ok y → Sound fault x y
-unless_ok wrap None x y h = record { none = refl; same = cc }
-unless_ok wrap (Some e) x y h = cc
 
 not_true : (b : Bool) → not b ≡ true → b ≡ false
 not_true true h = sym h

@@ -5,7 +5,7 @@ use Rattle.std.proofs.lemmas.Bool.{or_parts, ltb-false}
 use Rattle.ats_num.specs.Wire.{bits_of}
 use Rattle.ats_num.specs.declared.rate.TheConstants.{MAX_BPS, MAX_BURST_BITS}
 use Rattle.ats_num.specs.declared.wire.TheConstants.{MIN_OCTETS, MAX_OCTETS}
-use Rattle.ats_model.specs.Rules.{KeepsRules}
+use Rattle.ats_streams.specs.Rules.{KeepsRules}
 use Rattle.ats_streams.specs.Fault.{rules_fault}
 use Rattle.ats_streams.specs.Flow.{DeclaredFlow, IsFlow, flow_fault}
 use Rattle.ats_streams.specs.Stream.{DeclaredStream, IsStream, MayIdentify, stream_fault, limit_fault}

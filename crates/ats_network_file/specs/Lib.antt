@@ -1,4 +1,3 @@
-pub mod Steps
 pub mod Routes
 pub mod Reading
 pub mod FaultText

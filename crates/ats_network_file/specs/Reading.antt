@@ -4,44 +4,27 @@ use Rattle.ats_topology.specs.Topology.{DeclaredTopology, topology_of}
 use Rattle.ats_topology.specs.declared.node.Kind.TheVariants.{Station, Bridge}
 use Rattle.ats_topology.specs.declared.node.Node.{Node}
 use Rattle.ats_topology.specs.declared.link.Link.{Link}
-use Rattle.ats_topology.specs.declared.fault.TopologyFault.{TopologyFault}
-use Rattle.ats_topology.specs.declared.fault.TopologyFault.TheVariants as topology
 use Rattle.ats_streams.specs.Stream.{DeclaredStream, declared_stream, stream_fault}
 use Rattle.ats_streams.specs.Flow.{DeclaredFlow, declared_flow, flow_fault}
 use Rattle.ats_network.specs.Network.{DeclaredNetwork, declared_network}
 use Rattle.ats_network.specs.Pushes.{with_stream, with_flow, is_name_taken, is_identity_taken}
-use Rattle.ats_document.specs.Document as file
-use Rattle.ats_document.specs.Reading.{document_of}
-use Rattle.ats_document.specs.declared.entries.StationEntry.{StationEntry}
-use Rattle.ats_document.specs.declared.entries.BridgeEntry.{BridgeEntry}
-use Rattle.ats_document.specs.declared.entries.LinkEntry.{LinkEntry}
-use Rattle.ats_document.specs.declared.table.Table.{Table}
-use Rattle.ats_document.specs.declared.table.Table.TheVariants as table
-use Rattle.ats_document.specs.declared.fault.DocumentFault.{DocumentFault}
-use Rattle.ats_document.specs.declared.fault.DocumentFault.TheVariants as form
-use Rattle.ats_network_file.specs.Steps.{◌>>=◌, or_fault, ok_where, unless}
+use Rattle.ats_network_toml.specs.Document as file
+use Rattle.ats_network_toml.specs.Reading.{document_of}
+use Rattle.ats_network_toml.specs.declared.entries.StationEntry.{StationEntry}
+use Rattle.ats_network_toml.specs.declared.entries.BridgeEntry.{BridgeEntry}
+use Rattle.ats_network_toml.specs.declared.entries.LinkEntry.{LinkEntry}
+use Rattle.ats_network_toml.specs.declared.table.Table.{Table}
+use Rattle.ats_network_toml.specs.declared.table.Table.TheVariants as table
+use Rattle.ats_network_toml.specs.declared.fault.DocumentFault.{DocumentFault}
+use Rattle.ats_num.specs.Failure.{◌>>=◌, or_fault, ok_where, unless}
 use Rattle.ats_network_file.specs.Routes.{ports_of, is_valid}
 use Rattle.ats_network_file.specs.declared.fault.NetFault.{NetFault}
-use Rattle.ats_network_file.specs.declared.fault.NetFault.TheVariants.{NotToml, Missing, Unknown, WrongKind, Limit, Topology, BadPath, Sender, SenderTwice, IdentityTwice, NoMemory}
-
--- a fault of form as a fault of the file
-abbrev pub form_fault : DocumentFault → NetFault
-form_fault form.NotToml = NotToml
-form_fault (form.Missing t n k) = Missing t n k
-form_fault (form.Unknown t n) = Unknown t n
-form_fault (form.WrongKind t n k) = WrongKind t n k
-form_fault (form.Limit t) = Limit t
-form_fault form.NoMemory = NoMemory
-
--- a fault of nodes and links as a fault of the file
-abbrev pub topology_failed : TopologyFault → NetFault
-topology_failed topology.NoMemory = NoMemory
-topology_failed fault = Topology fault
+use Rattle.ats_network_file.specs.declared.fault.NetFault.TheVariants.{Form, Topology, BadPath, Sender, SenderTwice, IdentityTwice}
 
 -- what the text declares in its tables, or its first fault of form
 abbrev pub tables_of : Result file.DeclaredDocument DocumentFault → Result file.DeclaredDocument NetFault
 tables_of (Ok document) = Ok document
-tables_of (Err fault) = Err (form_fault fault)
+tables_of (Err fault) = Err (Form fault)
 
 -- a station, a bridge and a link as declared
 abbrev pub station_of : StationEntry → Node

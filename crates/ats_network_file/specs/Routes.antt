@@ -1,13 +1,13 @@
 use Rattle.std.specs.Prelude.{ℕ, Bool, true, false, ◌&&◌, ◌==◌, nat_lt, not, List, [], ◌∷◌, Option, Some, None, option_and_then, length}
 use Rattle.std.specs.List.{list_any}
-use Rattle.ats_names.specs.Places.{place_of}
+use Rattle.ats_num.specs.Places.{place_of}
 use Rattle.ats_topology.specs.Node.{is_station, names_of}
 use Rattle.ats_topology.specs.Port.{port_at, port_between}
 use Rattle.ats_topology.specs.Topology.{DeclaredTopology, node_at}
 use Rattle.ats_topology.specs.declared.port.Port.{Port}
 use Rattle.ats_network.specs.Path.{nodes_along}
 use Rattle.ats_network.specs.Shortest.{shortest_of}
-use Rattle.ats_document.specs.Document as file
+use Rattle.ats_network_toml.specs.Document as file
 
 -- what stands in front of a list
 abbrev pub in_front : {A : Type 0} → Option A → Option (List A) → Option (List A)

@@ -1,49 +1,21 @@
 //! Why a text declares no network.
 
-ghost use Rattle.std.specs.Prelude.{◌≡◌};
+ghost use Rattle.std.specs.Prelude.{◌≡◌, Some};
+ghost use Rattle.ats_network_file.specs.FaultText.{fault_text};
 
-use ats_document::{DocumentFault, Key, Table};
-use ats_num::NoMemory as OutOfMemory;
+use ats_network_toml::{DocumentFault, Table};
+use ats_num::Fault;
 use ats_streams::StreamFault;
 use ats_topology::TopologyFault;
-use std::alloc::{AllocError, AllocFailed};
+use std::fmt;
 
-/// The first fault of a text that declares no network. The entries of an array are counted from 1; the top table's entry
-/// is 0.
+/// The first fault of a text that declares no network. The entries of an array are counted from 1. It is displayed as the
+/// words for a fault of form, those for a fault of the topology, `bad-path TABLE ENTRY`, `TABLE ENTRY FAULT` with the words
+/// for a fault of a stream, `sender-twice TABLE ENTRY` or `identity-twice ENTRY`.
 #[derive(Clone, Copy, Debug, PartialEq, Eq)]
 pub enum NetFault {
-    /// The text is no TOML document, or no UTF-8.
-    NotToml,
-    /// A key that has to stand in the table does not.
-    Missing {
-        /// The table.
-        table: Table,
-        /// Its number among those of its array.
-        entry: u32,
-        /// The key.
-        key: Key,
-    },
-    /// A key stands in the table that is none of its keys.
-    Unknown {
-        /// The table.
-        table: Table,
-        /// Its number among those of its array.
-        entry: u32,
-    },
-    /// What stands with the key is not of its kind, or a path stands beside one of its ends.
-    WrongKind {
-        /// The table.
-        table: Table,
-        /// Its number among those of its array.
-        entry: u32,
-        /// The key.
-        key: Key,
-    },
-    /// The array of this table has more entries than its limit.
-    Limit {
-        /// The table.
-        table: Table,
-    },
+    /// The text does not have the form of a network file.
+    Form(DocumentFault),
     /// The nodes and links have a fault; stations are counted before bridges.
     Topology(TopologyFault),
     /// The route of a stream or flow has an unknown node, no link between neighbours, no walk between its ends, or is no
@@ -75,73 +47,47 @@ pub enum NetFault {
         /// The number of the stream.
         entry: u32,
     },
-    /// Memory ran out.
-    NoMemory,
 }
 
-impl From<AllocError> for NetFault {
-    ghost use Rattle.std.specs.Prelude.{◌≡◌};
-    ghost use Rattle.ats_network_file.specs.declared.fault.NetFault.TheVariants.{NoMemory};
-
-    ghost from_gives = { λ _ e. e ≡ NoMemory };
-
-    fn from(_e: AllocError) -> NetFault {
-        NetFault::NoMemory
-    }
-}
-
-impl<T: Drop> From<AllocFailed<T>> for NetFault {
-    ghost use Rattle.std.specs.Prelude.{◌≡◌};
-    ghost use Rattle.ats_network_file.specs.declared.fault.NetFault.TheVariants.{NoMemory};
-
-    ghost from_gives = { λ _ e. e ≡ NoMemory };
-
-    fn from(_e: AllocFailed<T>) -> NetFault {
-        NetFault::NoMemory
-    }
-}
-
-impl From<OutOfMemory> for NetFault {
-    ghost use Rattle.std.specs.Prelude.{◌≡◌};
-    ghost use Rattle.ats_network_file.specs.declared.fault.NetFault.TheVariants.{NoMemory};
-
-    ghost from_gives = { λ _ e. e ≡ NoMemory };
-
-    fn from(_e: OutOfMemory) -> NetFault {
-        NetFault::NoMemory
-    }
-}
+impl Fault for NetFault {}
 
 impl From<DocumentFault> for NetFault {
-    ghost use Rattle.std.specs.Prelude.{◌≡◌};
-    ghost use Rattle.ats_network_file.specs.Reading.{form_fault};
+    ghost use Rattle.ats_network_file.specs.declared.fault.NetFault.TheVariants.{Form};
 
-    ghost from_gives = { λ fault e. e ≡ form_fault fault };
+    ghost from_gives = { λ fault e. e ≡ Form fault };
 
     fn from(fault: DocumentFault) -> NetFault {
-        match fault {
-            DocumentFault::NotToml => NetFault::NotToml,
-            DocumentFault::Missing { table, entry, key } => NetFault::Missing { table, entry, key },
-            DocumentFault::Unknown { table, entry } => NetFault::Unknown { table, entry },
-            DocumentFault::WrongKind { table, entry, key } => {
-                NetFault::WrongKind { table, entry, key }
-            }
-            DocumentFault::Limit { table } => NetFault::Limit { table },
-            DocumentFault::NoMemory => NetFault::NoMemory,
-        }
+        NetFault::Form(fault)
     }
 }
 
 impl From<TopologyFault> for NetFault {
-    ghost use Rattle.std.specs.Prelude.{◌≡◌};
-    ghost use Rattle.ats_network_file.specs.Reading.{topology_failed};
+    ghost use Rattle.ats_network_file.specs.declared.fault.NetFault.TheVariants.{Topology};
 
-    ghost from_gives = { λ fault e. e ≡ topology_failed fault };
+    ghost from_gives = { λ fault e. e ≡ Topology fault };
 
     fn from(fault: TopologyFault) -> NetFault {
-        match fault {
-            TopologyFault::NoMemory => NetFault::NoMemory,
-            fault => NetFault::Topology(fault),
+        NetFault::Topology(fault)
+    }
+}
+
+impl fmt::Display for NetFault {
+    ghost output = { λ fault. Some (fault_text fault) };
+
+    fn fmt<W: fmt::Write>(&self, f: &mut fmt::Formatter<W>) -> fmt::Result {
+        match self {
+            NetFault::Form(fault) => write!(f, "{fault}"),
+            NetFault::Topology(fault) => write!(f, "{fault}"),
+            NetFault::BadPath { table, entry } => write!(f, "bad-path {} {entry}", table.text()),
+            NetFault::Sender {
+                table,
+                entry,
+                fault,
+            } => write!(f, "{} {entry} {fault}", table.text()),
+            NetFault::SenderTwice { table, entry } => {
+                write!(f, "sender-twice {} {entry}", table.text())
+            }
+            NetFault::IdentityTwice { entry } => write!(f, "identity-twice {entry}"),
         }
     }
 }

@@ -3,13 +3,14 @@
 ghost use Rattle.std.specs.Prelude.{◌≡◌, ◌<◌, ◌≤◌, ◌+◌, [], length, IfOk, OnOk};
 ghost use Rattle.ats_network.specs.Path.{IsValidPath};
 ghost use Rattle.ats_network.specs.declared.network.TheConstants.{MAX_FLOWS};
-ghost use Rattle.ats_network_file.specs.Steps.{GivesSeen};
+ghost use Rattle.ats_num.specs.Failure.{GivesSeen};
 ghost use Rattle.ats_network_file.specs.Reading.{flow_over, flow_made, flow_pushed, flow_added, all_added};
 
 use crate::fault::NetFault;
 use crate::routes::path_in;
-use ats_document::{FlowEntry, Table};
+use ats_network_toml::{FlowEntry, Table};
 use ats_network::{Network, PushFault};
+use ats_num::Failure;
 use ats_streams::Flow;
 use std::alloc::Global;
 
@@ -18,7 +19,7 @@ pub(crate) fn add_flows(
     alloc: Global,
     network: &mut Network,
     entries: &[FlowEntry],
-) -> Result<(), NetFault>
+) -> Result<(), Failure<NetFault>>
     requires none { network.old.flows ≡ [] }
     requires few { length entries.now ≤ MAX_FLOWS }
     ensures { GivesSeen (λ _. network.new) result (all_added flow_added network.old 1 entries.now) }
@@ -35,7 +36,7 @@ fn add_flow(
     network: &mut Network,
     number: u32,
     entry: &FlowEntry,
-) -> Result<(), NetFault>
+) -> Result<(), Failure<NetFault>>
     requires room { length network.old.flows < MAX_FLOWS }
     ensures value { GivesSeen (λ _. network.new) result (flow_added network.old number entry.now) }
     ensures count { OnOk result (length network.new.flows ≡ length network.old.flows + 1) }
@@ -61,7 +62,7 @@ fn flow_over(path: Vec<u32>, number: u32, entry: &FlowEntry) -> Result<Flow, Net
 }
 
 // Adds a flow, which comes from the entry with this number.
-fn push_flow(network: &mut Network, number: u32, flow: Flow) -> Result<(), NetFault>
+fn push_flow(network: &mut Network, number: u32, flow: Flow) -> Result<(), Failure<NetFault>>
     requires path { IsValidPath network.old.topology flow.path }
     requires room { length network.old.flows < MAX_FLOWS }
     ensures value { GivesSeen (λ _. network.new) result (flow_pushed network.old number flow) }
@@ -69,12 +70,12 @@ fn push_flow(network: &mut Network, number: u32, flow: Flow) -> Result<(), NetFa
 {
     match network.push_flow(flow) {
         Ok(()) => Ok(()),
-        Err(PushFault::NameTaken) => Err(NetFault::SenderTwice {
+        Err(Failure::Fault(PushFault::NameTaken)) => Err(Failure::Fault(NetFault::SenderTwice {
             table: Table::Flow,
             entry: number,
-        }),
-        Err(PushFault::IdentityTaken) => unreachable!(),
-        Err(PushFault::Limit) => unreachable!(),
-        Err(PushFault::NoMemory) => Err(NetFault::NoMemory),
+        })),
+        Err(Failure::Fault(PushFault::IdentityTaken)) => unreachable!(),
+        Err(Failure::Fault(PushFault::Limit)) => unreachable!(),
+        Err(Failure::NoMemory) => Err(Failure::NoMemory),
     }
 }

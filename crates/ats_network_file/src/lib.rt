@@ -5,11 +5,9 @@ pub mod fault;
 mod flows;
 pub mod laws;
 mod nodes;
-pub mod printing;
 pub mod reading;
 mod routes;
 mod streams;
 
 pub use fault::NetFault;
-pub use printing::write_fault;
 pub use reading::read_network;

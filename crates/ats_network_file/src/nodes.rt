@@ -1,22 +1,22 @@
 //! The nodes and links that a network file declares.
 
 ghost use Rattle.std.specs.Prelude.{◌≡◌, ◌++◌, map, IfOk};
-ghost use Rattle.ats_network_file.specs.Steps.{Gives};
+ghost use Rattle.ats_num.specs.Failure.{Gives};
 ghost use Rattle.ats_network_file.specs.Reading.{station_of, bridge_of, link_of, topology_in};
 
 use crate::fault::NetFault;
-use ats_document::{BridgeEntry, Document, LinkEntry, StationEntry};
-use ats_num::NoMemory;
+use ats_network_toml::{BridgeEntry, Document, LinkEntry, StationEntry};
+use ats_num::Failure;
 use ats_topology::{Kind, Link, Node, Topology};
-use std::alloc::Global;
+use std::alloc::{AllocError, Global};
 
 /// The topology of the nodes and links of a document, or their first fault. The stations come before the bridges.
-pub(crate) fn topology_in(alloc: Global, document: &Document) -> Result<Topology, NetFault>
+pub(crate) fn topology_in(alloc: Global, document: &Document) -> Result<Topology, Failure<NetFault>>
     ensures { Gives result (topology_in document.now) }
 {
     let nodes = nodes_of(alloc, document.stations(), document.bridges())?;
     let links = links_of(alloc, document.links())?;
-    Ok(Topology::new(alloc, nodes, links)?)
+    Topology::new(alloc, nodes, links).map_err(Failure::within)
 }
 
 // The nodes: the stations, then the bridges.
@@ -24,7 +24,7 @@ fn nodes_of(
     alloc: Global,
     stations: &[StationEntry],
     bridges: &[BridgeEntry],
-) -> Result<Vec<Node>, NoMemory>
+) -> Result<Vec<Node>, AllocError>
     ensures { IfOk result (λ nodes. nodes.items ≡ map station_of stations.now ++ map bridge_of bridges.now) }
 {
     let nodes = stations
@@ -35,7 +35,7 @@ fn nodes_of(
     Ok(nodes)
 }
 
-fn links_of(alloc: Global, links: &[LinkEntry]) -> Result<Vec<Link>, NoMemory>
+fn links_of(alloc: Global, links: &[LinkEntry]) -> Result<Vec<Link>, AllocError>
     ensures { IfOk result (λ made. made.items ≡ map link_of links.now) }
 {
     let made = links.iter().map(link_of).collect(alloc)?;

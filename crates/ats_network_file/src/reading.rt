@@ -1,33 +1,34 @@
 //! Networks from the bytes of a file.
 
-ghost use Rattle.ats_network_file.specs.Steps.{Gives};
+ghost use Rattle.ats_num.specs.Failure.{Gives};
 ghost use Rattle.ats_network_file.specs.Reading.{network_in, network_of};
 
 use crate::fault::NetFault;
 use crate::flows::add_flows;
 use crate::nodes::topology_in;
 use crate::streams::add_streams;
-use ats_document::{Document, read_document};
+use ats_network_toml::{Document, read_document};
 use ats_network::Network;
+use ats_num::Failure;
 use std::alloc::Global;
 
 /// The network that a text declares, or its first fault.
 ///
 /// # Errors
 ///
-/// The first fault of this walk. The faults of form, as `ats_document::read_document` names them: the text is no TOML, a key
-/// is missing, unknown or of the wrong kind, an array is over its limit. Then `Topology`: the first fault of the nodes, which
-/// are the stations and behind them the bridges, and the links. Then the streams in order and the flows in order, of each
-/// `BadPath`, `Sender`, `SenderTwice` and, for a stream, `IdentityTwice`, in this order. `NoMemory` where memory runs out.
-pub fn read_network(alloc: Global, bytes: &[u8]) -> Result<Network, NetFault>
+/// The first fault of this walk. `Form`: the faults of form, as `ats_network_toml::read_document` names them: the text is no
+/// TOML, a key is missing, unknown or of the wrong kind, an array is over its limit. Then `Topology`: the first fault of the
+/// nodes, which are the stations and behind them the bridges, and the links. Then the streams in order and the flows in
+/// order, of each `BadPath`, `Sender`, `SenderTwice` and, for a stream, `IdentityTwice`, in this order.
+pub fn read_network(alloc: Global, bytes: &[u8]) -> Result<Network, Failure<NetFault>>
     ensures { Gives result (network_of bytes.now) }
 {
-    let document = read_document(alloc, bytes)?;
+    let document = read_document(alloc, bytes).map_err(Failure::within::<NetFault>)?;
     network_in(alloc, &document)
 }
 
 // The network of a document.
-fn network_in(alloc: Global, document: &Document) -> Result<Network, NetFault>
+fn network_in(alloc: Global, document: &Document) -> Result<Network, Failure<NetFault>>
     ensures { Gives result (network_in document.now) }
 {
     let topology = topology_in(alloc, document)?;

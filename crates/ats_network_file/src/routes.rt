@@ -4,18 +4,18 @@ ghost use Rattle.std.specs.Prelude.{◌≡◌, ◌↔◌, ℕ, IsTrue, IfOk};
 ghost use Rattle.std.specs.Global.{Vec};
 ghost use Rattle.std.specs.Option.{option_map};
 ghost use Rattle.ats_network.specs.Path.{IsValidPath};
-ghost use Rattle.ats_document.specs.Seen.{route_seen};
-ghost use Rattle.ats_document.specs.Document as file;
-ghost use Rattle.ats_network_file.specs.Steps.{GivesSeen};
+ghost use Rattle.ats_network_toml.specs.Seen.{route_seen};
+ghost use Rattle.ats_network_toml.specs.Document as file;
+ghost use Rattle.ats_num.specs.Failure.{GivesSeen};
 ghost use Rattle.ats_network_file.specs.Routes.{nodes_named, ports_along, ports_of, is_valid};
 ghost use Rattle.ats_network_file.specs.Reading.{path_in};
 
 use crate::fault::NetFault;
-use ats_document::{Route, Table};
+use ats_network_toml::{Route, Table};
 use ats_network::{is_valid_path, shortest};
-use ats_num::{Name, NoMemory};
+use ats_num::{Failure, Name};
 use ats_topology::Topology;
-use std::alloc::Global;
+use std::alloc::{AllocError, Global};
 
 /// The ports of the route of an entry of a table, or `BadPath` where they make no valid path.
 pub(crate) fn path_in(
@@ -24,16 +24,16 @@ pub(crate) fn path_in(
     table: Table,
     entry: u32,
     route: &Route,
-) -> Result<Vec<u32>, NetFault>
+) -> Result<Vec<u32>, Failure<NetFault>>
     ensures value { GivesSeen (λ path. path.items) result (path_in topology.now table entry (route_seen route.now)) }
     ensures valid { IfOk result (λ path. IsValidPath topology.now path.items) }
 {
     let fault = NetFault::BadPath { table, entry };
     let Some(path) = ports_of(alloc, topology, route)? else {
-        return Err(fault);
+        return Err(Failure::Fault(fault));
     };
     if !is_valid(topology, &path) {
-        return Err(fault);
+        return Err(Failure::Fault(fault));
     }
     Ok(path)
 }
@@ -51,7 +51,11 @@ fn is_valid(topology: &Topology, path: &[u32]) -> bool
 }
 
 // The ports of a route: through the nodes that it names, or by the least walk between its ends.
-fn ports_of(alloc: Global, topology: &Topology, route: &Route) -> Result<Option<Vec<u32>>, NoMemory>
+fn ports_of(
+    alloc: Global,
+    topology: &Topology,
+    route: &Route,
+) -> Result<Option<Vec<u32>>, AllocError>
     ensures { IfOk result (λ found. option_map (λ (path : Vec ℕ). path.items) found ≡ ports_of topology.now (route_seen route.now)) }
 {
     match route {
@@ -65,7 +69,7 @@ fn ports_through(
     alloc: Global,
     topology: &Topology,
     names: &[Name],
-) -> Result<Option<Vec<u32>>, NoMemory>
+) -> Result<Option<Vec<u32>>, AllocError>
     ensures { IfOk result (λ found. option_map (λ (path : Vec ℕ). path.items) found ≡ ports_of topology.now (file.path names.now)) }
 {
     match nodes_named(alloc, topology, names)? {
@@ -80,7 +84,7 @@ fn ports_between(
     topology: &Topology,
     from: &Name,
     to: &Name,
-) -> Result<Option<Vec<u32>>, NoMemory>
+) -> Result<Option<Vec<u32>>, AllocError>
     ensures { IfOk result (λ found. option_map (λ (path : Vec ℕ). path.items) found ≡ ports_of topology.now (file.ends from.now to.now)) }
 {
     let Some(a) = topology.node_named(from) else {
@@ -97,7 +101,7 @@ fn nodes_named(
     alloc: Global,
     topology: &Topology,
     names: &[Name],
-) -> Result<Option<Vec<u32>>, NoMemory>
+) -> Result<Option<Vec<u32>>, AllocError>
     ensures { IfOk result (λ found. option_map (λ (nodes : Vec ℕ). nodes.items) found ≡ nodes_named topology.now names.now) }
 {
     let mut nodes = Vec::new(alloc);
@@ -115,7 +119,7 @@ fn ports_along(
     alloc: Global,
     topology: &Topology,
     nodes: &[u32],
-) -> Result<Option<Vec<u32>>, NoMemory>
+) -> Result<Option<Vec<u32>>, AllocError>
     ensures { IfOk result (λ found. option_map (λ (path : Vec ℕ). path.items) found ≡ ports_along topology.now.ports nodes.now) }
 {
     let Some((first, rest)) = nodes.split_first() else {

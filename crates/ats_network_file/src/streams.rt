@@ -3,13 +3,14 @@
 ghost use Rattle.std.specs.Prelude.{◌≡◌, ◌<◌, ◌≤◌, ◌+◌, [], length, IfOk, OnOk};
 ghost use Rattle.ats_network.specs.Path.{IsValidPath};
 ghost use Rattle.ats_network.specs.declared.network.TheConstants.{MAX_STREAMS};
-ghost use Rattle.ats_network_file.specs.Steps.{GivesSeen};
+ghost use Rattle.ats_num.specs.Failure.{GivesSeen};
 ghost use Rattle.ats_network_file.specs.Reading.{stream_over, stream_made, stream_pushed, stream_added, all_added};
 
 use crate::fault::NetFault;
 use crate::routes::path_in;
-use ats_document::{StreamEntry, Table};
+use ats_network_toml::{StreamEntry, Table};
 use ats_network::{Network, PushFault};
+use ats_num::Failure;
 use ats_streams::Stream;
 use std::alloc::Global;
 
@@ -18,7 +19,7 @@ pub(crate) fn add_streams(
     alloc: Global,
     network: &mut Network,
     entries: &[StreamEntry],
-) -> Result<(), NetFault>
+) -> Result<(), Failure<NetFault>>
     requires none { network.old.streams ≡ [] }
     requires few { length entries.now ≤ MAX_STREAMS }
     ensures value { GivesSeen (λ _. network.new) result (all_added stream_added network.old 1 entries.now) }
@@ -36,7 +37,7 @@ fn add_stream(
     network: &mut Network,
     number: u32,
     entry: &StreamEntry,
-) -> Result<(), NetFault>
+) -> Result<(), Failure<NetFault>>
     requires room { length network.old.streams < MAX_STREAMS }
     ensures value { GivesSeen (λ _. network.new) result (stream_added network.old number entry.now) }
     ensures count { OnOk result (length network.new.streams ≡ length network.old.streams + 1) }
@@ -80,7 +81,7 @@ fn stream_over(path: Vec<u32>, number: u32, entry: &StreamEntry) -> Result<Strea
 }
 
 // Adds a stream, which comes from the entry with this number.
-fn push_stream(network: &mut Network, number: u32, stream: Stream) -> Result<(), NetFault>
+fn push_stream(network: &mut Network, number: u32, stream: Stream) -> Result<(), Failure<NetFault>>
     requires path { IsValidPath network.old.topology stream.path }
     requires room { length network.old.streams < MAX_STREAMS }
     ensures value { GivesSeen (λ _. network.new) result (stream_pushed network.old number stream) }
@@ -89,12 +90,14 @@ fn push_stream(network: &mut Network, number: u32, stream: Stream) -> Result<(),
 {
     match network.push_stream(stream) {
         Ok(()) => Ok(()),
-        Err(PushFault::NameTaken) => Err(NetFault::SenderTwice {
+        Err(Failure::Fault(PushFault::NameTaken)) => Err(Failure::Fault(NetFault::SenderTwice {
             table: Table::Stream,
             entry: number,
-        }),
-        Err(PushFault::IdentityTaken) => Err(NetFault::IdentityTwice { entry: number }),
-        Err(PushFault::Limit) => unreachable!(),
-        Err(PushFault::NoMemory) => Err(NetFault::NoMemory),
+        })),
+        Err(Failure::Fault(PushFault::IdentityTaken)) => Err(Failure::Fault(
+            NetFault::IdentityTwice { entry: number },
+        )),
+        Err(Failure::Fault(PushFault::Limit)) => unreachable!(),
+        Err(Failure::NoMemory) => Err(Failure::NoMemory),
     }
 }

@@ -6,3 +6,6 @@ pub mod Name
 pub mod NameInside
 pub mod Tie
 pub mod ReadsBack
+pub mod Failure
+pub mod IfFault
+pub mod Places

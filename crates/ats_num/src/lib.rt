@@ -2,9 +2,10 @@
 #![tactic(auto)]
 
 pub mod division;
+pub mod failure;
 pub mod laws;
-pub mod memory;
 pub mod name;
+pub mod name_table;
 pub mod numbers;
 pub mod rate;
 pub mod tie;
@@ -12,13 +13,11 @@ pub mod time;
 pub mod wire;
 
 pub use division::ceil_div;
-pub use memory::NoMemory;
+pub use failure::{Failure, Fault};
 pub use name::Name;
+pub use name_table::NameTable;
 pub use numbers::number;
 pub use rate::Rate;
 pub use tie::{Early, Late, Mixed, Tie};
 pub use time::Ps;
 pub use wire::wire_bits;
-
-#[cfg(test)]
-mod tests;

@@ -11,9 +11,9 @@ use Rattle.ats_network.specs.Senders.{sender_at, no_sender}
 use Rattle.ats_certificate.specs.PortSums.{is_above, is_of, is_below, longest, shortest, sum_where, senders_at}
 use Rattle.ats_certificate.specs.Certificate.{Covers}
 use Rattle.ats_certificate.specs.declared.row.Row.{Row}
-use Rattle.ats_transmission.specs.Transmission.{Transmission}
-use Rattle.ats_transmission.specs.PortRule.{KeepsPortRule}
-use Rattle.ats_regulator.proofs.WindowBits.{bits_in-inside}
+use Rattle.ats_port_rule.specs.Transmission.{Transmission}
+use Rattle.ats_port_rule.specs.PortRule.{KeepsPortRule}
+use Rattle.ats_group_law.proofs.WindowBits.{bits_in-inside}
 use Rattle.ats_port_law.specs.PortLaw.{frame_of, IsOffered, IsWithinBound, PortLaw}
 use Rattle.ats_port_law.proofs.Numbers.{Walk, ends_within}
 use Rattle.ats_port_law.proofs.Pairs.{TakesTime, eligible_no_later}

@@ -2,8 +2,8 @@ use Rattle.std.proofs.Common.{◌≡◌, ℕ, suc, ◌+◌, ◌*◌, ◌<◌, �
 use Rattle.std.specs.Prelude.{◌≢◌, ◌⊎◌}
 use Rattle.std.proofs.lemmas.Bool.{cases_order, cases_eq, cases_lt}
 use Rattle.std.proofs.lemmas.List.Elements.{All-cons}
-use Rattle.ats_transmission.specs.Transmission.{Transmission}
-use Rattle.ats_transmission.specs.PortRule.{AreApart, KeepsPortRule}
+use Rattle.ats_port_rule.specs.Transmission.{Transmission}
+use Rattle.ats_port_rule.specs.PortRule.{AreApart, KeepsPortRule}
 
 -- a transmission takes some time
 abbrev pub TakesTime : ℕ → List Transmission → Type 0

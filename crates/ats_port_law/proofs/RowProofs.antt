@@ -7,14 +7,14 @@ use Rattle.std.proofs.lemmas.List.Sorted.{IsPermutation-refl}
 use Rattle.ats_num.specs.declared.time.TheConstants.{PS_PER_SECOND}
 use Rattle.ats_bucket.specs.Conforming.{Frame, times_of, bits_between, time_between, Conforms}
 use Rattle.ats_network.specs.Senders.{sender_at}
-use Rattle.ats_transmission.specs.Transmission.{Transmission}
-use Rattle.ats_transmission.specs.PortRule.{KeepsPortRule, AreApart, IsAhead, StartsAfterGap}
+use Rattle.ats_port_rule.specs.Transmission.{Transmission}
+use Rattle.ats_port_rule.specs.PortRule.{KeepsPortRule, AreApart, IsAhead, StartsAfterGap}
 use Rattle.ats_port_law.specs.PortLaw.{IsDeclared, IsWithinBound, ConformsInOrder, frames_by}
 use Rattle.ats_port_law.specs.Rows.{with_flow, row_with_flow, sent_behind_flow, next_row_with_flow, sent_on_behind_flow, IsWorked, BehindFlow, with_two, first_row_with_two, sent_at_once, AtOnce, row_with_two, sent_in_turn, InTurn}
 use Rattle.ats_port_law.proofs.RowNetworks.{flow_network, two_network}
 
 -- of two elements
-all_two : {X : Type 0} (P : X → Type 0) (a b : X) → P a → P b → All P (a ∷ b ∷ [])
+pub all_two : {X : Type 0} (P : X → Type 0) (a b : X) → P a → P b → All P (a ∷ b ∷ [])
 all_two P a b p q = All-cons P a (b ∷ []) p (All-cons P b [] q (All-nil P))
 
 pair_of_two : {X : Type 0} (R : X → X → Type 0) (a b : X) → R a b → AllPairs R (a ∷ b ∷ [])
@@ -41,11 +41,13 @@ one_within rate burst f h (suc i) j order k = absurd (omega arith)
 one_conforms : (rate burst : ℕ) (f : Frame) → f.bits ≤ burst → Conforms rate burst (f ∷ [])
 one_conforms rate burst f h = record { in_order = one_ascends f; within = one_within rate burst f h }
 
-one_in_order : (rate burst : ℕ) (f : Frame) → f.bits ≤ burst → ConformsInOrder rate burst (f ∷ [])
+pub one_in_order : (rate burst : ℕ) (f : Frame) → f.bits ≤ burst → ConformsInOrder rate burst (f ∷ [])
 one_in_order rate burst f h = record { order = f ∷ []; same = IsPermutation-refl (f ∷ []); conforms = one_conforms rate burst f h }
 
 -- of two transmissions of which the second starts where the first ends
-rule_of_two : (ps : ℕ) (x y : Transmission) → x.eligible ≤ x.start → y.eligible ≤ y.start → x.end ≡ x.start + ps * x.bits → y.end ≡ y.start + ps * y.bits → x.end ≡ y.start → 1 ≤ ps * x.bits → 1 ≤ ps * y.bits
+pub rule_of_two : (ps : ℕ) (x y : Transmission) → x.eligible ≤ x.start → y.eligible ≤ y.start
+    → x.end ≡ x.start + ps * x.bits → y.end ≡ y.start + ps * y.bits → x.end ≡ y.start
+    → 1 ≤ ps * x.bits → 1 ≤ ps * y.bits
     → (x.start < y.start → y.eligible ≤ x.start → IsAhead x y) → x.start ≤ x.eligible → x.start ≤ y.eligible → KeepsPortRule ps (x ∷ y ∷ [])
 rule_of_two ps x y wx wy tx ty next lx ly chosen px py =
     let sent : List Transmission = x ∷ y ∷ [] in
@@ -60,10 +62,11 @@ rule_of_two ps x y wx wy tx ty next lx ly chosen px py =
     }
 
 -- of one transmission
-all_one : {X : Type 0} (P : X → Type 0) (a : X) → P a → All P (a ∷ [])
+pub all_one : {X : Type 0} (P : X → Type 0) (a : X) → P a → All P (a ∷ [])
 all_one P a p = All-cons P a [] p (All-nil P)
 
-rule_of_one : (ps : ℕ) (x : Transmission) → x.eligible ≤ x.start → x.end ≡ x.start + ps * x.bits → x.start ≤ x.eligible → KeepsPortRule ps (x ∷ [])
+pub rule_of_one : (ps : ℕ) (x : Transmission) → x.eligible ≤ x.start → x.end ≡ x.start + ps * x.bits
+    → x.start ≤ x.eligible → KeepsPortRule ps (x ∷ [])
 rule_of_one ps x wx tx px =
     record {
       waits = all_one (λ (z : Transmission). z.eligible ≤ z.start) x wx;
@@ -76,7 +79,7 @@ rule_of_one ps x wx tx px =
     }
 
 -- no frame conforms at all
-none_in_order : (rate burst : ℕ) → ConformsInOrder rate burst []
+pub none_in_order : (rate burst : ℕ) → ConformsInOrder rate burst []
 none_in_order rate burst =
     record {
       order = [];
@@ -88,7 +91,7 @@ flow_streams : (i : ℕ) → i < length with_flow.streams → ConformsInOrder (s
 flow_streams zero h = one_in_order 100000000 12336 (record { at = 1; bits = 12336 }) (omega arith)
 flow_streams (suc i) h = absurd (omega arith)
 
-at_station : IsWorked with_flow row_with_flow sent_behind_flow
+pub at_station : IsWorked with_flow row_with_flow sent_behind_flow
 at_station = record {
   valid = flow_network;
   used = refl;
@@ -169,7 +172,7 @@ streams_at_s1 zero h = one_in_order 100000000 12336 (record { at = 0; bits = 123
 streams_at_s1 (suc zero) h = none_in_order 100000000 12336
 streams_at_s1 (suc (suc i)) h = absurd (omega arith)
 
-at_s1 : IsWorked with_two (first_row_with_two 0) (sent_at_once 0)
+pub at_s1 : IsWorked with_two (first_row_with_two 0) (sent_at_once 0)
 at_s1 = record {
   valid = two_network;
   used = refl;

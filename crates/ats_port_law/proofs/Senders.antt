@@ -3,7 +3,7 @@ use Rattle.std.specs.Prelude.{◌==◌, nat_lt}
 use Rattle.std.proofs.lemmas.Bool.{cases_Bool, cases_lt, cases_order, cond-true, cond-false, eqb-true, eq-eqb, ne_eqb, lt-ltb, le-ltb, true≢false}
 use Rattle.std.proofs.lemmas.List.{get_or-map, length-map, get_or_append_left, get_or-append_right}
 use Rattle.ats_num.specs.declared.time.TheConstants.{PS_PER_SECOND}
-use Rattle.ats_transmission.specs.Transmission.{Transmission}
+use Rattle.ats_port_rule.specs.Transmission.{Transmission}
 use Rattle.ats_streams.specs.Stream.{DeclaredStream}
 use Rattle.ats_streams.specs.Flow.{DeclaredFlow}
 use Rattle.ats_network.specs.Sender.{Sender, stream_sender, flow_sender}

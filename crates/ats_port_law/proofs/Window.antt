@@ -1,10 +1,10 @@
 use Rattle.std.proofs.Common.{ℕ, ◌+◌, ◌-◌, ◌*◌, ◌≤◌, cond, List, filter, sum_by, arith}
 use Rattle.std.specs.Prelude.{◌==◌}
 use Rattle.ats_num.specs.declared.time.TheConstants.{PS_PER_SECOND}
-use Rattle.ats_transmission.specs.Transmission.{Transmission}
-use Rattle.ats_regulator.proofs.WindowBits.{bits_in, bits_within-permutation}
-use Rattle.ats_regulator.proofs.WindowParts.{bits_within-map}
-use Rattle.ats_regulator.proofs.WindowPlaces.{windows_from_places}
+use Rattle.ats_port_rule.specs.Transmission.{Transmission}
+use Rattle.ats_group_law.proofs.WindowBits.{bits_in, bits_within-permutation}
+use Rattle.ats_group_law.proofs.WindowParts.{bits_within-map}
+use Rattle.ats_group_law.proofs.WindowPlaces.{windows_from_places}
 use Rattle.ats_port_law.specs.PortLaw.{frame_of, frames_by, ConformsInOrder}
 use Rattle.ats_port_law.proofs.Sums.{sum_by-filter}
 

@@ -1,2 +1,3 @@
 pub mod PortLaw
 pub mod Rows
+pub mod Premises

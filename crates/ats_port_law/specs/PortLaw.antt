@@ -5,8 +5,8 @@ use Rattle.ats_certificate.specs.PortSums.{uses, longest, shortest, is_used}
 use Rattle.ats_certificate.specs.Certificate.{Covers}
 use Rattle.ats_certificate.specs.declared.row.Row.{Row}
 use Rattle.ats_bucket.specs.Conforming.{Frame, Conforms}
-use Rattle.ats_transmission.specs.Transmission.{Transmission}
-use Rattle.ats_transmission.specs.PortRule.{KeepsPortRule}
+use Rattle.ats_port_rule.specs.Transmission.{Transmission}
+use Rattle.ats_port_rule.specs.PortRule.{KeepsPortRule}
 use Rattle.ats_network.specs.Senders.{sender_at}
 
 -- a transmission of a frame that a sender of the port may send: of its class, with a size that it declares

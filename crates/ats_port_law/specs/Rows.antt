@@ -9,8 +9,8 @@ use Rattle.ats_network.specs.Network.{DeclaredNetwork, IsNetwork, declared_netwo
 use Rattle.ats_certificate.specs.PortSums.{is_used}
 use Rattle.ats_certificate.specs.Certificate.{Covers}
 use Rattle.ats_certificate.specs.declared.row.Row.{Row}
-use Rattle.ats_transmission.specs.Transmission.{Transmission}
-use Rattle.ats_transmission.specs.PortRule.{KeepsPortRule}
+use Rattle.ats_port_rule.specs.Transmission.{Transmission}
+use Rattle.ats_port_rule.specs.PortRule.{KeepsPortRule}
 use Rattle.ats_port_law.specs.PortLaw.{IsOffered, IsWithinBound}
 
 -- two stations and more with a bridge between them, 1000 Mb/s, 500 ns of propagation and 1000 ns of processing

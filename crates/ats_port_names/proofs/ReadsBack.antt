@@ -9,7 +9,7 @@ use Rattle.std.proofs.lemmas.List.{get_or-map, length-map}
 use Rattle.std.proofs.lemmas.List.Elements.{All-head, All-tail}
 use Rattle.std.proofs.lemmas.Slice.Eq.{bytes_eq-Decides}
 use Rattle.ats_num.specs.Name.{is_name, is_name_byte}
-use Rattle.ats_names.specs.Places.{place_of}
+use Rattle.ats_num.specs.Places.{place_of}
 use Rattle.ats_topology.specs.Node.{AreApart, names_of}
 use Rattle.ats_topology.specs.Port.{goes, no_port, port_at}
 use Rattle.ats_topology.specs.Topology.{DeclaredTopology, IsPort, IsTopology, no_node, node_at, ports_of, topology_of}

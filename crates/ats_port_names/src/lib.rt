@@ -7,6 +7,3 @@ pub mod writing;
 
 pub use port_names::PortNames;
 pub use writing::write_port;
-
-#[cfg(test)]
-mod tests;

@@ -5,9 +5,8 @@ ghost use Rattle.ats_port_names.specs.PortName.{port_name, port_named};
 ghost use Rattle.ats_port_names.specs.Inside.{IsNumbering, number_in};
 
 use crate::writing::write_port;
-use ats_num::NoMemory;
 use ats_topology::Topology;
-use std::alloc::Global;
+use std::alloc::{AllocError, Global};
 use std::collections::BTreeMap;
 use std::marker::Model;
 
@@ -30,8 +29,8 @@ impl<'a> Model for PortNames<'a> {
 }
 
 impl<'a> PortNames<'a> {
-    /// The names of all ports of a topology. `NoMemory` where there is no memory for them.
-    pub fn new(alloc: Global, topology: &'a Topology) -> Result<Self, NoMemory>
+    /// The names of all ports of a topology. `AllocError` where there is no memory for them.
+    pub fn new(alloc: Global, topology: &'a Topology) -> Result<Self, AllocError>
         ensures { IfOk result (λ names. names ≡ topology.now) }
     {
         let numbers = numbered(alloc, topology)?;
@@ -47,7 +46,7 @@ impl<'a> PortNames<'a> {
 }
 
 // The number of each port by its name. The last port comes first, so that of ports with one name the first one stays.
-fn numbered(alloc: Global, topology: &Topology) -> Result<BTreeMap<Vec<u8>, u32>, NoMemory>
+fn numbered(alloc: Global, topology: &Topology) -> Result<BTreeMap<Vec<u8>, u32>, AllocError>
     ensures { IfOk result (IsNumbering topology.now) }
 {
     let mut numbers = BTreeMap::new(alloc);

@@ -3,12 +3,12 @@
 ghost use Rattle.std.specs.Prelude.{◌≡◌, ◌++◌, ◌<◌, length, OnOk};
 ghost use Rattle.ats_port_names.specs.PortName.{port_name};
 
-use ats_num::NoMemory;
 use ats_topology::Topology;
+use std::alloc::AllocError;
 
 /// Appends the name of a port: that of the node that it leaves, `>`, and that of the node that it leads to. After
-/// `NoMemory` nothing is said of `out`.
-pub fn write_port(out: &mut Vec<u8>, topology: &Topology, port: u32) -> Result<(), NoMemory>
+/// `AllocError` nothing is said of `out`.
+pub fn write_port(out: &mut Vec<u8>, topology: &Topology, port: u32) -> Result<(), AllocError>
     requires { port < length topology.now.ports }
     ensures { OnOk result (out.new.items ≡ out.old.items ++ port_name topology.now port) }
 {

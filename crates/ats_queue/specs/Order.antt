@@ -7,9 +7,7 @@ pub record GoesBefore (key : ℕ → ℕ → ℕ) (x y : Queued) : Type 0 where
   pub tie : x.eligible.0 ≡ y.eligible.0 → key x.sender x.frame < key y.sender y.frame
 
 -- a queue gives up this frame: it was held and eligible, and goes before all that stay
-pub record Takes (key : ℕ → ℕ → ℕ) (now : ℕ) (old new : List Queued) (frame : ℕ) : Type 0 where
-  pub taken : Queued
-  pub named : taken.frame ≡ frame
+pub record Takes (key : ℕ → ℕ → ℕ) (now : ℕ) (old new : List Queued) (taken : Queued) : Type 0 where
   pub held : IsPermutation old (taken ∷ new)
   pub eligible : taken.eligible.0 ≤ now
   pub first : All (λ (y : Queued). GoesBefore key taken y) new

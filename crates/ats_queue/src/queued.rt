@@ -6,13 +6,14 @@ ghost use Rattle.ats_queue.specs.Order.{GoesBefore};
 
 use ats_num::{Ps, Tie};
 
-/// A frame that waits in a class queue: its number, the number of its sender, and the time from which it is eligible, in
-/// picoseconds.
+/// A frame that waits in a class queue: its number, the number of its sender, the time from which it is eligible, in
+/// picoseconds, and its octets, counted with the frame check sequence.
 #[derive(Clone, Copy, Debug, PartialEq, Eq)]
 pub struct Queued {
     pub frame: u32,
     pub sender: u32,
     pub eligible: Ps,
+    pub octets: u32,
 }
 
 /// Whether `x` goes before `y`: it was eligible earlier, or at the same time with the lesser key.

@@ -3,15 +3,15 @@ use Rattle.std.specs.Prelude.{◌==◌, is_ok, is_some, is_none, codes, nat_le, 
 use Rattle.std.specs.List.{list_all}
 use Rattle.std.specs.Str.{bytes_eq}
 use Rattle.std.proofs.lemmas.Bool.Decides.{nat_tests}
-use Rattle.ats_names.specs.Places.{place_of}
+use Rattle.ats_num.specs.Places.{place_of}
 use Rattle.ats_io.specs.Text.{words_of}
 use Rattle.ats_streams.specs.Fault.{rules_fault}
 use Rattle.ats_streams.specs.declared.fault.StreamFault.{StreamFault}
-use Rattle.ats_shape.specs.Steps.{◌>>=◌, or_fault, ok_where}
+use Rattle.ats_num.specs.Failure.{◌>>=◌, or_fault, ok_where}
 use Rattle.ats_shape.specs.Reading.{word, is_skipped, residence_in, residence_line, stream_in, frame_in, stream_or_fault, stream_of, frame_of}
 use Rattle.ats_shape.specs.FaultLaw.{line_number, is_stream_line, is_frame_line, number_in, names_on, arrivals_on, last_of, has_form, broken_by, IsStreamPast, IsFramePast, Cause}
 use Rattle.ats_shape.specs.declared.fault.ShapeFault.{ShapeFault}
-use Rattle.ats_shape.specs.declared.fault.ShapeFault.TheVariants.{BadLine, NameTwice, UnknownName, TimeBack, Limit, NoMemory}
+use Rattle.ats_shape.specs.declared.fault.ShapeFault.TheVariants.{BadLine, NameTwice, UnknownName, TimeBack, Limit}
 use Rattle.ats_shape.specs.declared.fault.ShapeFault.TheVariants as faults
 use Rattle.ats_shape.specs.declared.line.StreamWords.{StreamWords}
 use Rattle.ats_shape.specs.declared.line.FrameWords.{FrameWords}
@@ -209,7 +209,6 @@ caused before n line (UnknownName m) p h =
 caused before n line (TimeBack m) p h =
     frame_answer before n line (opened_frame before n line h.known.form h.known.frame) ∙ end_back n _ _ _ (frame_said (words_of line)) h.known.known (not_least (last_of (arrivals_on before)) _ h.back) ∙ ap (λ (k : ℕ). let r : Result Line ShapeFault = Err (TimeBack k) in r) (sym p)
 caused before n line (Limit m) p h = limit before n line h ∙ ap (λ (k : ℕ). let r : Result Line ShapeFault = Err (Limit k) in r) (sym p)
-caused before n line NoMemory p h = absurd h
 
 -- a line that is at fault is answered with its fault
 pub at_fault : (before : List (List ℕ)) (n : ℕ) (line : List ℕ) (fault : ShapeFault) → IsFaulty before n line fault → line_behind before n line ≡ Err fault

@@ -6,7 +6,7 @@ use Rattle.std.proofs.lemmas.List.{length-map, map-append, append-nil}
 use Rattle.std.proofs.lemmas.List.Elements.{filter-append}
 use Rattle.std.proofs.lemmas.List.Folds.{list_all-append}
 use Rattle.ats_io.specs.Text.{lines_of, words_of}
-use Rattle.ats_shape.specs.Steps.{◌>>=◌, or_fault}
+use Rattle.ats_num.specs.Failure.{◌>>=◌, or_fault}
 use Rattle.ats_shape.specs.Shape.{DeclaredShape}
 use Rattle.ats_shape.specs.Reading.{DraftShape, blank, word, is_skipped, names_of, last_time, line_in, with_line, finished, shape_from, shape_of}
 use Rattle.ats_shape.specs.FaultLaw.{is_stream_line, is_frame_line, number_in, names_on, arrivals_on, last_of, HasFault, AreFaultless, IsFirstFault, IsWithoutResidence, IsDeclared}

@@ -3,11 +3,11 @@ use Rattle.std.specs.Prelude.{◌==◌, is_ok, is_some, is_none, codes, nat_le, 
 use Rattle.std.specs.List.{list_all}
 use Rattle.std.specs.Str.{bytes_eq}
 use Rattle.std.proofs.lemmas.Bool.Decides.{nat_tests}
-use Rattle.ats_names.specs.Places.{place_of}
+use Rattle.ats_num.specs.Places.{place_of}
 use Rattle.ats_io.specs.Text.{words_of}
 use Rattle.ats_streams.specs.Fault.{rules_fault}
 use Rattle.ats_streams.specs.declared.fault.StreamFault.{StreamFault}
-use Rattle.ats_shape.specs.Steps.{◌>>=◌, or_fault, ok_where}
+use Rattle.ats_num.specs.Failure.{◌>>=◌, or_fault, ok_where}
 use Rattle.ats_shape.specs.Reading.{word, is_skipped, residence_in, residence_line, stream_in, frame_in, stream_or_fault, stream_of, frame_of}
 use Rattle.ats_shape.specs.FaultLaw.{line_number, is_stream_line, is_frame_line, number_in, names_on, arrivals_on, last_of, has_form, broken_by, IsNew, IsKnown, Cause}
 use Rattle.ats_shape.specs.declared.shape.ShapeStream.{ShapeStream}

@@ -4,7 +4,7 @@ use Rattle.std.specs.Str.{bytes_eq}
 use Rattle.std.proofs.lemmas.Slice.Eq.{bytes_eq-Decides}
 use Rattle.ats_num.specs.Name.{is_name}
 use Rattle.ats_num.specs.Number.{number_of}
-use Rattle.ats_shape.specs.Steps.{◌>>=◌, or_fault, ok_where}
+use Rattle.ats_num.specs.Failure.{◌>>=◌, or_fault, ok_where}
 use Rattle.ats_shape.specs.Reading.{word, residence_in, stream_in, frame_in}
 use Rattle.ats_shape.specs.FaultLaw.{number_in}
 use Rattle.ats_shape.specs.declared.fault.ShapeFault.{ShapeFault}

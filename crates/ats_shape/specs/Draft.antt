@@ -1,6 +1,6 @@
 use Rattle.std.specs.Prelude.{◌≡◌, ℕ, ◌≤◌, ◌<◌, List, length, All, None}
 use Rattle.std.specs.Option.{ForSome}
-use Rattle.ats_names.specs.Places.{place_of}
+use Rattle.ats_num.specs.Places.{place_of}
 use Rattle.ats_shape.specs.Shape.{IsRuled, IsFrameOf}
 use Rattle.ats_shape.specs.Reading.{DraftShape, names_of}
 use Rattle.ats_shape.specs.declared.shape.ShapeStream.{ShapeStream}

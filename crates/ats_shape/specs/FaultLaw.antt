@@ -2,7 +2,7 @@ use Rattle.std.specs.Prelude.{◌≡◌, ◌⊎◌, ◌↔◌, ℕ, ◌+◌, ◌
 use Rattle.std.specs.List.{list_all}
 use Rattle.std.specs.Str.{bytes_eq}
 use Rattle.ats_num.specs.Number.{number_of}
-use Rattle.ats_names.specs.Places.{place_of}
+use Rattle.ats_num.specs.Places.{place_of}
 use Rattle.ats_io.specs.Text.{lines_of, words_of}
 use Rattle.ats_streams.specs.Fault.{rules_fault}
 use Rattle.ats_streams.specs.declared.fault.StreamFault.{StreamFault}
@@ -10,9 +10,9 @@ use Rattle.ats_shape.specs.Shape.{DeclaredShape}
 use Rattle.ats_shape.specs.Reading.{word, is_skipped, residence_in, stream_in, frame_in, names_of, shape_of}
 use Rattle.ats_shape.specs.declared.shape.ShapeFrame.{ShapeFrame}
 use Rattle.ats_shape.specs.declared.fault.ShapeFault.{ShapeFault}
-use Rattle.ats_shape.specs.declared.fault.ShapeFault.TheVariants.{BadLine, NameTwice, Stream, UnknownName, TimeBack, Limit, NoMemory}
+use Rattle.ats_shape.specs.declared.fault.ShapeFault.TheVariants.{BadLine, NameTwice, Stream, UnknownName, TimeBack, Limit}
 
--- the number of the line that a fault names; want of memory names none
+-- the number of the line that a fault names
 abbrev pub line_number : ShapeFault → ℕ
 line_number (BadLine n) = n
 line_number (NameTwice n) = n
@@ -20,7 +20,6 @@ line_number (Stream n fault) = n
 line_number (UnknownName n) = n
 line_number (TimeBack n) = n
 line_number (Limit n) = n
-line_number NoMemory = 0
 
 -- a line that begins with the word `stream`, and one that begins with `frame`
 abbrev pub is_stream_line : List ℕ → Bool
@@ -112,7 +111,6 @@ Cause before n line (Stream _ fault) = IsBreach before n line fault
 Cause before n line (UnknownName _) = IsUnknown before n line
 Cause before n line (TimeBack _) = IsTimeBack before n line
 Cause before n line (Limit _) = IsStreamPast before n line ⊎ IsFramePast before n line
-Cause before n line NoMemory = ⊥
 
 -- the line behind these lines has this fault, which names its number
 pub record HasFault (before : List (List ℕ)) (line : List ℕ) (fault : ShapeFault) : Type 0 where

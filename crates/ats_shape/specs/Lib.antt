@@ -1,5 +1,4 @@
 pub mod Shape
-pub mod Steps
 pub mod Reading
 pub mod Draft
 pub mod Verdicts

@@ -3,11 +3,11 @@ use Rattle.std.specs.List.{slice_get}
 use Rattle.std.specs.Str.{bytes_eq}
 use Rattle.ats_num.specs.Name.{name_of}
 use Rattle.ats_num.specs.Number.{number_of}
-use Rattle.ats_names.specs.Places.{place_of}
+use Rattle.ats_num.specs.Places.{place_of}
 use Rattle.ats_io.specs.Text.{lines_of, words_of}
 use Rattle.ats_streams.specs.Fault.{rules_fault}
 use Rattle.ats_streams.specs.declared.fault.StreamFault.{StreamFault}
-use Rattle.ats_shape.specs.Steps.{◌>>=◌, or_fault, ok_where}
+use Rattle.ats_num.specs.Failure.{◌>>=◌, or_fault, ok_where}
 use Rattle.ats_shape.specs.Shape.{DeclaredShape}
 use Rattle.ats_shape.specs.declared.shape.ShapeStream.{ShapeStream}
 use Rattle.ats_shape.specs.declared.shape.ShapeFrame.{ShapeFrame}

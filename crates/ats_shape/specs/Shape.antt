@@ -1,6 +1,6 @@
 use Rattle.std.specs.Prelude.{ℕ, ◌≤◌, ◌<◌, List, length, All}
 use Rattle.ats_num.specs.Wire.{IsFrameSize}
-use Rattle.ats_model.specs.Rules.{KeepsRules}
+use Rattle.ats_streams.specs.Rules.{KeepsRules}
 use Rattle.ats_shape.specs.declared.shape.ShapeStream.{ShapeStream}
 use Rattle.ats_shape.specs.declared.shape.ShapeFrame.{ShapeFrame}
 

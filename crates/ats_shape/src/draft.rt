@@ -10,9 +10,9 @@ use crate::line::{Line, frame_in, residence_line, ruled, stream_in};
 use crate::shape::{Shape, ShapeFrame, ShapeStream};
 use crate::words::word;
 use ats_io::word_at;
-use ats_names::NameTable;
-use ats_num::{NoMemory, Ps};
-use std::alloc::Global;
+use ats_num::NameTable;
+use ats_num::Ps;
+use std::alloc::{AllocError, Global};
 use std::marker::Model;
 
 /// The most streams of a shape file.
@@ -121,8 +121,8 @@ impl Draft {
         }))
     }
 
-    /// Adds what a line declares. `NoMemory` leaves the draft as it was.
-    pub(crate) fn add(&mut self, said: Line) -> Result<(), NoMemory>
+    /// Adds what a line declares. `AllocError` leaves the draft as it was.
+    pub(crate) fn add(&mut self, said: Line) -> Result<(), AllocError>
         requires { Fits self.old said }
         ensures ok { OnOk result (self.new ≡ with_line self.old said) }
         ensures err { OnErr result (self.new ≡ self.old) }

@@ -1,13 +1,14 @@
 //! Why a text is no shape file.
 
-ghost use Rattle.std.specs.Prelude.{◌≡◌};
+ghost use Rattle.std.specs.Prelude.{Some};
+ghost use Rattle.ats_shape.specs.FaultText.{fault_text};
 
-use ats_num::NoMemory as OutOfMemory;
+use ats_num::Fault;
 use ats_streams::StreamFault;
-use std::alloc::{AllocError, AllocFailed};
+use std::fmt;
 
 /// The first fault of a text that is no shape file, with its line, counted from 1. A line with several faults has the
-/// one that stands first here.
+/// one that stands first here. It is displayed as the word for the fault and the line.
 #[derive(Clone, Copy, Debug, PartialEq, Eq)]
 pub enum ShapeFault {
     /// The line does not have the form due in its place, a name is not a name, a number is not a number, a residence is
@@ -23,39 +24,21 @@ pub enum ShapeFault {
     TimeBack(u32),
     /// The stream after the 4096th, or the frame after the 200,000th.
     Limit(u32),
-    /// Memory ran out.
-    NoMemory,
 }
 
-impl From<AllocError> for ShapeFault {
-    ghost use Rattle.std.specs.Prelude.{◌≡◌};
-    ghost use Rattle.ats_shape.specs.declared.fault.ShapeFault.TheVariants.{NoMemory};
+impl Fault for ShapeFault {}
 
-    ghost from_gives = { λ _ e. e ≡ NoMemory };
+impl fmt::Display for ShapeFault {
+    ghost output = { λ fault. Some (fault_text fault) };
 
-    fn from(_e: AllocError) -> ShapeFault {
-        ShapeFault::NoMemory
-    }
-}
-
-impl<T: Drop> From<AllocFailed<T>> for ShapeFault {
-    ghost use Rattle.std.specs.Prelude.{◌≡◌};
-    ghost use Rattle.ats_shape.specs.declared.fault.ShapeFault.TheVariants.{NoMemory};
-
-    ghost from_gives = { λ _ e. e ≡ NoMemory };
-
-    fn from(_e: AllocFailed<T>) -> ShapeFault {
-        ShapeFault::NoMemory
-    }
-}
-
-impl From<OutOfMemory> for ShapeFault {
-    ghost use Rattle.std.specs.Prelude.{◌≡◌};
-    ghost use Rattle.ats_shape.specs.declared.fault.ShapeFault.TheVariants.{NoMemory};
-
-    ghost from_gives = { λ _ e. e ≡ NoMemory };
-
-    fn from(_e: OutOfMemory) -> ShapeFault {
-        ShapeFault::NoMemory
+    fn fmt<W: fmt::Write>(&self, f: &mut fmt::Formatter<W>) -> fmt::Result {
+        match self {
+            ShapeFault::BadLine(n) => write!(f, "bad-line {n}"),
+            ShapeFault::NameTwice(n) => write!(f, "name-twice {n}"),
+            ShapeFault::Stream(n, fault) => write!(f, "{fault} {n}"),
+            ShapeFault::UnknownName(n) => write!(f, "unknown-name {n}"),
+            ShapeFault::TimeBack(n) => write!(f, "time-back {n}"),
+            ShapeFault::Limit(n) => write!(f, "limit {n}"),
+        }
     }
 }

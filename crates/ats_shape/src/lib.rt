@@ -13,10 +13,7 @@ mod words;
 
 pub use fault::ShapeFault;
 pub use laws::{each_fault_is_the_first, each_shape_is_faultless};
-pub use printing::{report, write_fault};
+pub use printing::report;
 pub use reading::read_shape;
 pub use shape::{Shape, ShapeFrame, ShapeStream};
 pub use verdicts::judge;
-
-#[cfg(test)]
-mod tests;

@@ -1,19 +1,16 @@
-//! What is printed for a shape, and for a text that is none.
+//! What is printed for a shape.
 
 ghost use Rattle.std.specs.Prelude.{◌≡◌, ◌≤◌, ◌<◌, ◌++◌, length, count_by, codes, decimal, All, OnOk, IfOk};
 ghost use Rattle.ats_shape.specs.Text.{verdict_text, frame_text, frames_text, name_in, is_eligible, is_late, is_size, totals_text, report_on};
-ghost use Rattle.ats_shape.specs.FaultText.{fault_text};
 ghost use Rattle.ats_shape.specs.declared.shape.ShapeFrame.{ShapeFrame};
 
-use crate::fault::ShapeFault;
 use crate::shape::{Shape, ShapeFrame, ShapeStream};
 use ats_group::Verdict;
-use ats_num::NoMemory;
 use itoa::{Buffer, Integer};
-use std::alloc::Global;
+use std::alloc::{AllocError, Global};
 
 /// A line for each frame with its verdict, then a line of totals.
-pub fn report(alloc: Global, shape: &Shape, verdicts: &[Verdict]) -> Result<Vec<u8>, NoMemory>
+pub fn report(alloc: Global, shape: &Shape, verdicts: &[Verdict]) -> Result<Vec<u8>, AllocError>
     requires { length verdicts.now ≡ length shape.now.frames }
     ensures { IfOk result (λ text. text.items ≡ report_on shape.now verdicts.now) }
 {
@@ -23,30 +20,12 @@ pub fn report(alloc: Global, shape: &Shape, verdicts: &[Verdict]) -> Result<Vec<
     Ok(out)
 }
 
-/// Appends the words for a fault and its line. After `NoMemory` nothing is said of `out`.
-pub fn write_fault(out: &mut Vec<u8>, fault: &ShapeFault) -> Result<(), NoMemory>
-    ensures { OnOk result (out.new.items ≡ out.old.items ++ fault_text fault.now) }
-{
-    match fault {
-        ShapeFault::BadLine(n) => write_word(out, b"bad-line ", *n),
-        ShapeFault::NameTwice(n) => write_word(out, b"name-twice ", *n),
-        ShapeFault::Stream(n, fault) => {
-            out.extend_from_slice(fault.text().as_bytes())?;
-            write_word(out, b" ", *n)
-        }
-        ShapeFault::UnknownName(n) => write_word(out, b"unknown-name ", *n),
-        ShapeFault::TimeBack(n) => write_word(out, b"time-back ", *n),
-        ShapeFault::Limit(n) => write_word(out, b"limit ", *n),
-        ShapeFault::NoMemory => Ok(out.extend_from_slice(b"no-memory")?),
-    }
-}
-
 fn write_frames(
     out: &mut Vec<u8>,
     streams: &[ShapeStream],
     frames: &[ShapeFrame],
     verdicts: &[Verdict],
-) -> Result<(), NoMemory>
+) -> Result<(), AllocError>
     requires lines { length verdicts.now ≡ length frames.now }
     requires few { length frames.now ≤ 200000 }
     requires streams { All (λ (f : ShapeFrame). f.stream < length streams.now) frames.now }
@@ -66,7 +45,7 @@ fn write_frame(
     name: &[u8],
     frame: &ShapeFrame,
     verdict: &Verdict,
-) -> Result<(), NoMemory>
+) -> Result<(), AllocError>
     ensures { OnOk result (out.new.items ≡ out.old.items ++ frame_text n name.now frame.now verdict.now) }
 {
     write_word(out, b"frame ", n)?;
@@ -80,7 +59,7 @@ fn write_frame(
     Ok(())
 }
 
-fn write_verdict(out: &mut Vec<u8>, verdict: &Verdict) -> Result<(), NoMemory>
+fn write_verdict(out: &mut Vec<u8>, verdict: &Verdict) -> Result<(), AllocError>
     ensures { OnOk result (out.new.items ≡ out.old.items ++ verdict_text verdict.now) }
 {
     match verdict {
@@ -91,7 +70,7 @@ fn write_verdict(out: &mut Vec<u8>, verdict: &Verdict) -> Result<(), NoMemory>
 }
 
 #[tactic(auto, unfolding(crate::specs::Text::totals_text))]
-fn write_totals(out: &mut Vec<u8>, verdicts: &[Verdict]) -> Result<(), NoMemory>
+fn write_totals(out: &mut Vec<u8>, verdicts: &[Verdict]) -> Result<(), AllocError>
     ensures { OnOk result (out.new.items ≡ out.old.items ++ totals_text verdicts.now) }
 {
     write_word(out, b"total frames ", verdicts.len())?;
@@ -103,7 +82,7 @@ fn write_totals(out: &mut Vec<u8>, verdicts: &[Verdict]) -> Result<(), NoMemory>
 }
 
 // A word, and a number behind it.
-fn write_word<I: Integer + Drop>(out: &mut Vec<u8>, word: &[u8], n: I) -> Result<(), NoMemory>
+fn write_word<I: Integer + Drop>(out: &mut Vec<u8>, word: &[u8], n: I) -> Result<(), AllocError>
     ensures { OnOk result (out.new.items ≡ out.old.items ++ (word.now ++ I.text n)) }
 {
     let mut buffer = Buffer::new();

@@ -1,17 +1,18 @@
 //! Shape files as bytes.
 
 ghost use Rattle.std.specs.Prelude.{◌≤◌, length};
-ghost use Rattle.ats_shape.specs.Steps.{Gives};
+ghost use Rattle.ats_num.specs.Failure.{Gives};
 ghost use Rattle.ats_shape.specs.Reading.{shape_of};
 
 use crate::draft::Draft;
 use crate::fault::ShapeFault;
 use crate::shape::Shape;
 use ats_io::line_at;
+use ats_num::Failure;
 use std::alloc::Global;
 
-/// The shape that a text declares, or its first fault with its line, counted from 1. `NoMemory` where memory runs out.
-pub fn read_shape(alloc: Global, bytes: &[u8]) -> Result<Shape, ShapeFault>
+/// The shape that a text declares, or its first fault with its line, counted from 1.
+pub fn read_shape(alloc: Global, bytes: &[u8]) -> Result<Shape, Failure<ShapeFault>>
     requires { length bytes.now ≤ 16777216 }
     ensures { Gives result (shape_of bytes.now) }
 {
@@ -25,5 +26,5 @@ pub fn read_shape(alloc: Global, bytes: &[u8]) -> Result<Shape, ShapeFault>
         number += 1;
         at = next;
     }
-    draft.finish(number)
+    Ok(draft.finish(number)?)
 }

@@ -6,12 +6,11 @@ ghost use Rattle.ats_shape.specs.Verdicts.{verdicts_on, member_of};
 
 use crate::shape::{Shape, ShapeStream};
 use ats_group::{Groups, Member, Verdict};
-use ats_num::NoMemory;
-use std::alloc::Global;
+use std::alloc::{AllocError, Global};
 
-/// The verdict on each frame of a shape, in order: the streams are the members of one group. `NoMemory` where memory runs
+/// The verdict on each frame of a shape, in order: the streams are the members of one group. `AllocError` where memory runs
 /// out.
-pub fn judge(alloc: Global, shape: &Shape) -> Result<Vec<Verdict>, NoMemory>
+pub fn judge(alloc: Global, shape: &Shape) -> Result<Vec<Verdict>, AllocError>
     ensures verdicts { IfOk result (λ verdicts. verdicts.items ≡ verdicts_on shape.now) }
     ensures each { IfOk result (λ verdicts. length verdicts.items ≡ length shape.now.frames) }
 {
@@ -26,7 +25,7 @@ pub fn judge(alloc: Global, shape: &Shape) -> Result<Vec<Verdict>, NoMemory>
     Ok(verdicts)
 }
 
-fn members(alloc: Global, streams: &[ShapeStream]) -> Result<Vec<Member>, NoMemory>
+fn members(alloc: Global, streams: &[ShapeStream]) -> Result<Vec<Member>, AllocError>
     ensures { IfOk result (λ members. members.items ≡ map member_of streams.now) }
 {
     let members = streams

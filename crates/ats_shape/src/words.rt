@@ -4,7 +4,7 @@ ghost use Rattle.std.specs.Prelude.{◌≡◌, ◌≤◌, ◌==◌, length};
 ghost use Rattle.ats_num.specs.Name.{name_of};
 ghost use Rattle.ats_num.specs.Number.{number_of};
 ghost use Rattle.ats_io.specs.Text.{words_of};
-ghost use Rattle.ats_shape.specs.Steps.{or_fault};
+ghost use Rattle.ats_num.specs.Failure.{or_fault};
 ghost use Rattle.ats_shape.specs.Reading.{word};
 
 use crate::fault::ShapeFault;

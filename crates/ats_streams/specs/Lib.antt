@@ -2,3 +2,4 @@ pub mod Fault
 pub mod Path
 pub mod Stream
 pub mod Flow
+pub mod Rules

@@ -1,6 +1,6 @@
 use Rattle.std.specs.Prelude.{ℕ, ◌≤◌, ◌<◌, ◌^◌, ◌||◌, nat_lt, if◌then◌else◌, List, length, Option, Some, None}
 use Rattle.std.specs.Option.{ForSome, option_or}
-use Rattle.ats_model.specs.Rules.{KeepsRules}
+use Rattle.ats_streams.specs.Rules.{KeepsRules}
 use Rattle.ats_streams.specs.Fault.{rules_fault}
 use Rattle.ats_streams.specs.Path.{IsPath}
 use Rattle.ats_streams.specs.declared.fault.StreamFault.{StreamFault}

@@ -1,10 +1,10 @@
 //! The rules that a stream or a flow can break.
 
 ghost use Rattle.std.specs.Prelude.{◌≡◌, ◌↔◌, IsNone, Some};
-ghost use Rattle.ats_model.specs.Rules.{KeepsRules};
+ghost use Rattle.ats_streams.specs.Rules.{KeepsRules};
 ghost use Rattle.ats_streams.specs.Fault.{rules_fault, text_of};
 
-use ats_model::{are_sizes, covers_longest, is_burst};
+use crate::rules::{are_sizes, covers_longest, is_burst};
 use ats_num::Rate;
 use std::error::Error;
 use std::fmt;

@@ -6,7 +6,7 @@ ghost use Rattle.ats_streams.specs.Flow.{IsFlow, declared_flow, flow_fault};
 
 use crate::fault::StreamFault;
 use crate::path::is_path;
-use ats_model::is_frame_size;
+use crate::rules::is_frame_size;
 use ats_num::Name;
 use std::marker::Model;
 

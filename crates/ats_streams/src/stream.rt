@@ -3,7 +3,7 @@
 ghost use Rattle.std.specs.Prelude.{◌≡◌, ◌↔◌, IsTrue, IsNone, IfOk};
 ghost use Rattle.std.specs.Result.{result_err};
 ghost use Rattle.ats_num.specs.Rate.{IsRate};
-ghost use Rattle.ats_model.specs.Rules.{KeepsRules};
+ghost use Rattle.ats_streams.specs.Rules.{KeepsRules};
 ghost use Rattle.ats_streams.specs.Path.{IsPath};
 ghost use Rattle.ats_streams.specs.Stream.{IsClass, IsDeadline, IsIdentity, MayIdentify, IsStream, declared_stream, limit_fault, stream_fault};
 

@@ -1,6 +1,6 @@
 use Rattle.std.specs.Prelude.{ℕ, List, ◌++◌, codes, decimal}
 use Rattle.ats_topology.specs.declared.fault.TopologyFault.{TopologyFault}
-use Rattle.ats_topology.specs.declared.fault.TopologyFault.TheVariants.{NodeTwice, LinkTwice, SelfLink, UnknownNode, StationLinks, BadRate, Limit, NoMemory}
+use Rattle.ats_topology.specs.declared.fault.TopologyFault.TheVariants.{NodeTwice, LinkTwice, SelfLink, UnknownNode, StationLinks, BadRate, Limit}
 
 -- the text of a fault
 abbrev pub fault_text : TopologyFault → List ℕ
@@ -11,4 +11,3 @@ fault_text (UnknownNode n) = codes "unknown-node " ++ decimal n
 fault_text (StationLinks n) = codes "station-links " ++ decimal n
 fault_text (BadRate n) = codes "bad-rate " ++ decimal n
 fault_text Limit = codes "limit"
-fault_text NoMemory = codes "no-memory"

@@ -1,7 +1,7 @@
-use Rattle.std.specs.Prelude.{◌≡◌, ℕ, zero, suc, ◌+◌, Bool, ◌&&◌, ◌||◌, ◌==◌, nat_lt, not, if◌then◌else◌, List, [], length, take, slice_index_or, count_by, Option, Some, None, is_some, is_none}
+use Rattle.std.specs.Prelude.{ℕ, zero, suc, ◌+◌, Bool, ◌&&◌, ◌||◌, ◌==◌, nat_lt, not, if◌then◌else◌, List, [], length, take, slice_index_or, count_by, Option, Some, None, is_some, is_none}
 use Rattle.std.specs.List.{list_any, position_from}
 use Rattle.std.specs.Option.{option_map, option_or}
-use Rattle.ats_names.specs.Places.{place_of}
+use Rattle.ats_num.specs.Places.{place_of}
 use Rattle.ats_topology.specs.Node.{is_station, processing_of, residence_of, names_of}
 use Rattle.ats_topology.specs.Link.{joins, ends_at, is_self_link}
 use Rattle.ats_topology.specs.Rates.{ps_per_bit_of}
@@ -11,7 +11,7 @@ use Rattle.ats_topology.specs.declared.link.Link.{Link}
 use Rattle.ats_topology.specs.declared.node.TheConstants.{MAX_NODES, MAX_PROCESSING_NS, MAX_RESIDENCE_NS}
 use Rattle.ats_topology.specs.declared.link.TheConstants.{MAX_LINKS, MAX_PROPAGATION_NS}
 use Rattle.ats_topology.specs.declared.fault.TopologyFault.{TopologyFault}
-use Rattle.ats_topology.specs.declared.fault.TopologyFault.TheVariants.{NodeTwice, LinkTwice, SelfLink, UnknownNode, StationLinks, BadRate, Limit, NoMemory}
+use Rattle.ats_topology.specs.declared.fault.TopologyFault.TheVariants.{NodeTwice, LinkTwice, SelfLink, UnknownNode, StationLinks, BadRate, Limit}
 
 -- the least number below n that passes a test
 abbrev pub first_below : (ℕ → Bool) → ℕ → Option ℕ
@@ -100,14 +100,3 @@ topology_fault nodes links =
     (option_or (station_links nodes links)
     (option_or (bad_rate links)
     (limit nodes links))))))
-
--- a call answered this fault: it is the one that is due, unless memory ran out
-abbrev pub IsDue : TopologyFault → Option TopologyFault → Type 0
-IsDue NoMemory due = Unit {0}
-IsDue (NodeTwice n) due = due ≡ Some (NodeTwice n)
-IsDue (LinkTwice n) due = due ≡ Some (LinkTwice n)
-IsDue (SelfLink n) due = due ≡ Some (SelfLink n)
-IsDue (UnknownNode n) due = due ≡ Some (UnknownNode n)
-IsDue (StationLinks n) due = due ≡ Some (StationLinks n)
-IsDue (BadRate n) due = due ≡ Some (BadRate n)
-IsDue Limit due = due ≡ Some Limit

@@ -1,6 +1,6 @@
 use Rattle.std.specs.Prelude.{◌≡◌, ℕ, ◌+◌, ◌*◌, ◌<◌, ◌≤◌, ◌≢◌, IsTrue, IsSome, List, [], ◌∷◌, length, slice_index_or, unwrap_or, count_by, All}
 use Rattle.std.specs.List.{flat_map}
-use Rattle.ats_names.specs.Places.{place_of}
+use Rattle.ats_num.specs.Places.{place_of}
 use Rattle.ats_topology.specs.Node.{names_of, is_station, processing_of, residence_of, AreApart}
 use Rattle.ats_topology.specs.Port.{port_at, leaves, leads_to, IsBetween, ArePaired}
 use Rattle.ats_topology.specs.Rates.{ps_per_bit_of, IsPsPerBit}

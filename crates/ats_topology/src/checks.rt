@@ -2,20 +2,22 @@
 
 ghost use Rattle.std.specs.Prelude.{◌≡◌, ◌<◌, ◌≤◌, None, IfSome, IfOk, IfErr, OnOk, length};
 ghost use Rattle.std.specs.List.{position_from, list_any};
+ghost use Rattle.ats_num.specs.Failure.{IsDue};
 ghost use Rattle.ats_topology.specs.Node.{names_of};
 ghost use Rattle.ats_topology.specs.Link.{is_self_link};
-ghost use Rattle.ats_topology.specs.Faults.{IsDue, node_twice, link_twice, self_link, unknown_node, bad_rate, limit, has_unknown_end, has_bad_rate, is_kind_over, is_node_over, is_link_over, is_over};
+ghost use Rattle.ats_topology.specs.Faults.{node_twice, link_twice, self_link, unknown_node, bad_rate, limit, has_unknown_end, has_bad_rate, is_kind_over, is_node_over, is_link_over, is_over};
 
 use crate::fault::TopologyFault;
 use crate::link::{Link, MAX_LINKS, MAX_PROPAGATION_NS};
 use crate::node::{Kind, MAX_NODES, MAX_PROCESSING_NS, MAX_RESIDENCE_NS, Node};
 use crate::rates::ps_per_bit;
-use ats_names::NameTable;
+use ats_num::NameTable;
+use ats_num::Failure;
 use std::alloc::Global;
 use std::collections::BTreeSet;
 
 /// The names of the nodes, or the first node whose name an earlier one has.
-pub(crate) fn named(alloc: Global, nodes: &[Node]) -> Result<NameTable, TopologyFault>
+pub(crate) fn named(alloc: Global, nodes: &[Node]) -> Result<NameTable, Failure<TopologyFault>>
     requires few { length nodes.now < 4294967295 }
     ensures names { IfOk result (λ names. names ≡ names_of nodes.now) }
     ensures ok { OnOk result (node_twice nodes.now ≡ None) }
@@ -24,7 +26,7 @@ pub(crate) fn named(alloc: Global, nodes: &[Node]) -> Result<NameTable, Topology
     let mut names = NameTable::new(alloc);
     for (i, node) in nodes.iter().enumerate() {
         if names.place(&node.name).is_some() {
-            return Err(TopologyFault::NodeTwice(i as u32 + 1));
+            return Err(Failure::Fault(TopologyFault::NodeTwice(i as u32 + 1)));
         }
         names.push(node.name)?;
     }
@@ -32,7 +34,7 @@ pub(crate) fn named(alloc: Global, nodes: &[Node]) -> Result<NameTable, Topology
 }
 
 /// The first link that joins what an earlier one joins.
-pub(crate) fn check_joined(alloc: Global, links: &[Link]) -> Result<(), TopologyFault>
+pub(crate) fn check_joined(alloc: Global, links: &[Link]) -> Result<(), Failure<TopologyFault>>
     requires few { length links.now < 4294967295 }
     ensures ok { OnOk result (link_twice links.now ≡ None) }
     ensures fault { IfErr result (λ fault. IsDue fault (link_twice links.now)) }
@@ -40,7 +42,7 @@ pub(crate) fn check_joined(alloc: Global, links: &[Link]) -> Result<(), Topology
     let mut joined = BTreeSet::new(alloc);
     for (i, link) in links.iter().enumerate() {
         if joined.contains(&(link.a, link.b)) {
-            return Err(TopologyFault::LinkTwice(i as u32 + 1));
+            return Err(Failure::Fault(TopologyFault::LinkTwice(i as u32 + 1)));
         }
         joined.insert((link.a, link.b))?;
         joined.insert((link.b, link.a))?;

@@ -1,7 +1,6 @@
 //! Why nodes and links are no network.
 
-use ats_num::NoMemory as OutOfMemory;
-use std::alloc::{AllocError, AllocFailed};
+use ats_num::Fault;
 use std::error::Error;
 use std::fmt;
 
@@ -24,42 +23,9 @@ pub enum TopologyFault {
     /// There are over 1024 nodes or 2048 links, or a propagation or processing is over 1,000,000 ns, or a residence over
     /// 1,000,000,000 ns.
     Limit,
-    /// Memory ran out.
-    NoMemory,
 }
 
-impl From<AllocError> for TopologyFault {
-    ghost use Rattle.std.specs.Prelude.{◌≡◌};
-    ghost use Rattle.ats_topology.specs.declared.fault.TopologyFault.TheVariants.{NoMemory};
-
-    ghost from_gives = { λ _ e. e ≡ NoMemory };
-
-    fn from(_e: AllocError) -> TopologyFault {
-        TopologyFault::NoMemory
-    }
-}
-
-impl<T: Drop> From<AllocFailed<T>> for TopologyFault {
-    ghost use Rattle.std.specs.Prelude.{◌≡◌};
-    ghost use Rattle.ats_topology.specs.declared.fault.TopologyFault.TheVariants.{NoMemory};
-
-    ghost from_gives = { λ _ e. e ≡ NoMemory };
-
-    fn from(_e: AllocFailed<T>) -> TopologyFault {
-        TopologyFault::NoMemory
-    }
-}
-
-impl From<OutOfMemory> for TopologyFault {
-    ghost use Rattle.std.specs.Prelude.{◌≡◌};
-    ghost use Rattle.ats_topology.specs.declared.fault.TopologyFault.TheVariants.{NoMemory};
-
-    ghost from_gives = { λ _ e. e ≡ NoMemory };
-
-    fn from(_e: OutOfMemory) -> TopologyFault {
-        TopologyFault::NoMemory
-    }
-}
+impl Fault for TopologyFault {}
 
 impl fmt::Display for TopologyFault {
     ghost use Rattle.std.specs.Prelude.{Some};
@@ -76,7 +42,6 @@ impl fmt::Display for TopologyFault {
             TopologyFault::StationLinks(n) => write!(f, "station-links {n}"),
             TopologyFault::BadRate(n) => write!(f, "bad-rate {n}"),
             TopologyFault::Limit => f.write_str("limit"),
-            TopologyFault::NoMemory => f.write_str("no-memory"),
         }
     }
 }

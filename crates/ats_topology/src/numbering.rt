@@ -1,7 +1,7 @@
 //! The ports of links.
 
 ghost use Rattle.std.specs.Prelude.{◌≡◌, ◌≤◌, None, IfOk, IsSome, length};
-ghost use Rattle.ats_names.specs.Places.{place_of};
+ghost use Rattle.ats_num.specs.Places.{place_of};
 ghost use Rattle.ats_topology.specs.Node.{names_of};
 ghost use Rattle.ats_topology.specs.Rates.{ps_per_bit_of};
 ghost use Rattle.ats_topology.specs.Faults.{node_twice, link_twice, self_link, unknown_node, bad_rate};
@@ -13,10 +13,10 @@ use crate::node::Node;
 use crate::port::Port;
 use crate::port_table::PortTable;
 use crate::rates::ps_per_bit;
-use ats_names::NameTable;
+use ats_num::NameTable;
 use ats_num::time::PS_PER_NS;
-use ats_num::{Name, NoMemory, Ps};
-use std::alloc::Global;
+use ats_num::{Name, Ps};
+use std::alloc::{AllocError, Global};
 
 /// The ports of links between nodes, two to a link in their order.
 pub(crate) fn ports_of(
@@ -24,7 +24,7 @@ pub(crate) fn ports_of(
     names: &NameTable,
     nodes: &[Node],
     links: &[Link],
-) -> Result<PortTable, NoMemory>
+) -> Result<PortTable, AllocError>
     requires names { names.now ≡ names_of nodes.now }
     requires apart { node_twice nodes.now ≡ None }
     requires joined { link_twice links.now ≡ None }

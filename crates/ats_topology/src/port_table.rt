@@ -6,8 +6,7 @@ ghost use Rattle.ats_topology.specs.Port.{port_between, leaving};
 ghost use Rattle.ats_topology.specs.PortTable.{node_ports};
 
 use crate::port::Port;
-use ats_num::NoMemory;
-use std::alloc::Global;
+use std::alloc::{AllocError, Global};
 use std::collections::BTreeMap;
 use std::marker::Model;
 
@@ -33,7 +32,7 @@ impl Model for PortTable {
 
 impl PortTable {
     /// No ports between so many nodes.
-    pub(crate) fn new(alloc: Global, nodes: usize) -> Result<Self, NoMemory>
+    pub(crate) fn new(alloc: Global, nodes: usize) -> Result<Self, AllocError>
         ensures { IfOk result (λ table. table ≡ node_ports nodes []) }
     {
         Ok(PortTable {
@@ -72,8 +71,8 @@ impl PortTable {
         self.lists[node as usize].as_slice()
     }
 
-    /// Adds a port at the end. `NoMemory` leaves the table as it was.
-    pub(crate) fn push(&mut self, port: Port) -> Result<(), NoMemory>
+    /// Adds a port at the end. `AllocError` leaves the table as it was.
+    pub(crate) fn push(&mut self, port: Port) -> Result<(), AllocError>
         requires from { port.from < self.old.nodes }
         requires absent { port_between port.from port.to self.old.ports ≡ None }
         requires room { length self.old.ports + 1 < 2 ^ 32 }
@@ -91,7 +90,7 @@ impl PortTable {
     }
 }
 
-fn empty_lists(alloc: Global, nodes: usize) -> Result<Vec<Vec<u32>>, NoMemory>
+fn empty_lists(alloc: Global, nodes: usize) -> Result<Vec<Vec<u32>>, AllocError>
     ensures count { IfOk result (λ lists. length lists.items ≡ nodes) }
     ensures empty { IfOk result (λ lists. All (λ (list : Vec ℕ). list.items ≡ []) lists.items) }
 {

@@ -2,16 +2,17 @@
 
 ghost use Rattle.std.specs.Prelude.{◌≡◌, ◌<◌, ◌==◌, ◌&&◌, not, None, IfSome, IfOk, IfErr, OnOk, length};
 ghost use Rattle.std.specs.List.{position_from};
+ghost use Rattle.ats_num.specs.Failure.{IsDue};
 ghost use Rattle.ats_topology.specs.Node.{names_of, is_station};
 ghost use Rattle.ats_topology.specs.Link.{link_counts};
-ghost use Rattle.ats_topology.specs.Faults.{IsDue, node_twice, self_link, unknown_node, station_links, is_badly_linked};
+ghost use Rattle.ats_topology.specs.Faults.{node_twice, self_link, unknown_node, station_links, is_badly_linked};
 
 use crate::fault::TopologyFault;
 use crate::link::Link;
 use crate::node::Node;
-use ats_names::NameTable;
-use ats_num::NoMemory;
-use std::alloc::Global;
+use ats_num::NameTable;
+use ats_num::Failure;
+use std::alloc::{AllocError, Global};
 
 /// The first station without exactly one link.
 pub(crate) fn check_stations(
@@ -19,7 +20,7 @@ pub(crate) fn check_stations(
     names: &NameTable,
     nodes: &[Node],
     links: &[Link],
-) -> Result<(), TopologyFault>
+) -> Result<(), Failure<TopologyFault>>
     requires few { length nodes.now < 4294967295 }
     requires few_links { length links.now < 4294967295 }
     requires names { names.now ≡ names_of nodes.now }
@@ -31,7 +32,7 @@ pub(crate) fn check_stations(
 {
     let counts = link_counts(alloc, names, nodes, links)?;
     match bad_station_place(nodes, links, &counts) {
-        Some(i) => Err(TopologyFault::StationLinks(i as u32 + 1)),
+        Some(i) => Err(Failure::Fault(TopologyFault::StationLinks(i as u32 + 1))),
         None => Ok(()),
     }
 }
@@ -42,7 +43,7 @@ fn link_counts(
     names: &NameTable,
     nodes: &[Node],
     links: &[Link],
-) -> Result<Vec<usize>, NoMemory>
+) -> Result<Vec<usize>, AllocError>
     requires few_links { length links.now < 4294967295 }
     requires names { names.now ≡ names_of nodes.now }
     requires apart { node_twice nodes.now ≡ None }

@@ -1,10 +1,11 @@
 //! The nodes, links and ports of a network.
 
 ghost use Rattle.std.specs.Prelude.{◌≡◌, ◌<◌, None, IfOk, IfErr, IfSome, IfNone, OnOk, length};
-ghost use Rattle.ats_names.specs.Places.{place_of};
+ghost use Rattle.ats_num.specs.Failure.{IsDue};
+ghost use Rattle.ats_num.specs.Places.{place_of};
 ghost use Rattle.ats_topology.specs.Node.{names_of};
 ghost use Rattle.ats_topology.specs.Port.{port_between, GoesBetween};
-ghost use Rattle.ats_topology.specs.Faults.{IsDue, topology_fault};
+ghost use Rattle.ats_topology.specs.Faults.{topology_fault};
 ghost use Rattle.ats_topology.specs.Topology.{topology_of, IsTopology};
 ghost use Rattle.ats_topology.specs.Walks.{IsLeastWalk, NoWalk, ArePorts};
 
@@ -17,9 +18,9 @@ use crate::port::Port;
 use crate::port_table::PortTable;
 use crate::stations::check_stations;
 use crate::walks::least_walk;
-use ats_names::NameTable;
-use ats_num::{Name, NoMemory};
-use std::alloc::Global;
+use ats_num::NameTable;
+use ats_num::{Failure, Name};
+use std::alloc::{AllocError, Global};
 use std::marker::Model;
 
 /// Nodes and the links between them, with the ports of the links. Nodes, links and ports are numbered from 0 in their
@@ -49,8 +50,12 @@ impl Topology {
     ///
     /// # Errors
     ///
-    /// The first fault of nodes and links, or `NoMemory` in its place where memory runs out.
-    pub fn new(alloc: Global, nodes: Vec<Node>, links: Vec<Link>) -> Result<Self, TopologyFault>
+    /// The first fault of nodes and links, or `Failure::NoMemory` in its place where memory runs out.
+    pub fn new(
+        alloc: Global,
+        nodes: Vec<Node>,
+        links: Vec<Link>,
+    ) -> Result<Self, Failure<TopologyFault>>
         requires few_nodes { length nodes.items < 4294967295 }
         requires few_links { length links.items < 4294967295 }
         ensures value { IfOk result (λ topology. topology ≡ topology_of nodes.items links.items) }
@@ -60,17 +65,17 @@ impl Topology {
         let names = named(alloc, &nodes)?;
         check_joined(alloc, &links)?;
         if let Some(fault) = self_link(&links) {
-            return Err(fault);
+            return Err(Failure::Fault(fault));
         }
         if let Some(fault) = unknown_node(&names, &nodes, &links) {
-            return Err(fault);
+            return Err(Failure::Fault(fault));
         }
         check_stations(alloc, &names, &nodes, &links)?;
         if let Some(fault) = bad_rate(&links) {
-            return Err(fault);
+            return Err(Failure::Fault(fault));
         }
         if let Some(fault) = limit(&nodes, &links) {
-            return Err(fault);
+            return Err(Failure::Fault(fault));
         }
         let table = ports_of(alloc, &names, &nodes, &links)?;
         Ok(Topology {
@@ -127,8 +132,8 @@ impl Topology {
     ///
     /// # Errors
     ///
-    /// `NoMemory` where memory runs out.
-    pub fn shortest(&self, alloc: Global, a: u32, b: u32) -> Result<Option<Vec<u32>>, NoMemory>
+    /// `AllocError` where memory runs out.
+    pub fn shortest(&self, alloc: Global, a: u32, b: u32) -> Result<Option<Vec<u32>>, AllocError>
         requires a { a < length self.now.nodes }
         requires b { b < length self.now.nodes }
         ensures walk { IfOk result (λ found. IfSome found (λ walk. IsLeastWalk self.now.ports a b walk.items)) }

@@ -7,8 +7,7 @@ ghost use Rattle.ats_topology.specs.Walks.{IsLeastWalk, NoWalk, ArePorts};
 ghost use Rattle.ats_topology.specs.Search.{AreDistances, Spreads, distance, is_at};
 
 use crate::port_table::PortTable;
-use ats_num::NoMemory;
-use std::alloc::Global;
+use std::alloc::{AllocError, Global};
 
 /// The walk of fewest ports from one node to another, and among those the one whose list of port numbers is first in
 /// lexicographic order. `None` exactly where no walk leads there.
@@ -17,7 +16,7 @@ pub(crate) fn least_walk(
     table: &PortTable,
     from: u32,
     to: u32,
-) -> Result<Option<Vec<u32>>, NoMemory>
+) -> Result<Option<Vec<u32>>, AllocError>
     requires from { from < table.now.nodes }
     requires to { to < table.now.nodes }
     requires few { table.now.nodes < 2 ^ 32 }
@@ -37,7 +36,7 @@ pub(crate) fn least_walk(
 
 // For each node the number of ports of the shortest walks from it to one node. Each port that leads to a node that was
 // reached is looked at once.
-fn distances(alloc: Global, table: &PortTable, to: u32) -> Result<Vec<Option<u32>>, NoMemory>
+fn distances(alloc: Global, table: &PortTable, to: u32) -> Result<Vec<Option<u32>>, AllocError>
     requires to { to < table.now.nodes }
     requires few { table.now.nodes < 2 ^ 32 }
     requires inside { All (IsBetween table.now.nodes) table.now.ports }
@@ -65,7 +64,7 @@ fn spread(
     far: u32,
     distances: &mut Vec<Option<u32>>,
     queue: &mut Vec<u32>,
-) -> Result<(), NoMemory>
+) -> Result<(), AllocError>
     requires node { node < table.now.nodes }
     requires long { length distances.old.items ≡ table.now.nodes }
     requires inside { All (IsBetween table.now.nodes) table.now.ports }
@@ -91,7 +90,7 @@ fn descend(
     distances: &[Option<u32>],
     from: u32,
     to: u32,
-) -> Result<Vec<u32>, NoMemory>
+) -> Result<Vec<u32>, AllocError>
     requires from { from < table.now.nodes }
     requires long { length distances.now ≡ table.now.nodes }
     requires inside { All (IsBetween table.now.nodes) table.now.ports }

@@ -3,9 +3,9 @@ use Rattle.std.specs.Prelude.{◌^◌, IsPermutation, Contains}
 use Rattle.std.proofs.lemmas.List.Sorted.{length_permutation, Contains-permutation}
 use Rattle.ats_num.specs.Tie.{late_key}
 use Rattle.ats_num.specs.declared.time.Ps.{Ps}
-use Rattle.ats_regulator.specs.Regulator.{ats_judge}
-use Rattle.ats_transmission.specs.Transmission.{Transmission}
-use Rattle.ats_transmission.specs.PortRule.{StartsAfterGap, IsAhead}
+use Rattle.ats_group_law.specs.Regulator.{ats_judge}
+use Rattle.ats_port_rule.specs.Transmission.{Transmission}
+use Rattle.ats_port_rule.specs.PortRule.{StartsAfterGap, IsAhead}
 use Rattle.ats_group.specs.Group.{first, verdicts_of}
 use Rattle.ats_trace.specs.Eligibility.{declared_by, offer_of, residence_behind, IsJudged}
 use Rattle.ats_group.specs.declared.verdict.Verdict.{Verdict}

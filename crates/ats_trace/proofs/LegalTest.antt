@@ -7,12 +7,12 @@ use Rattle.std.proofs.lemmas.Bool.Decides.{nat_tests}
 use Rattle.ats_topology.specs.Port.{port_at}
 use Rattle.ats_topology.specs.declared.port.Port.{Port}
 use Rattle.ats_network.specs.Network.{DeclaredNetwork}
-use Rattle.ats_transmission.specs.Transmission.{Transmission}
-use Rattle.ats_transmission.specs.PortRule.{KeepsPortRule, KeepsTie}
+use Rattle.ats_port_rule.specs.Transmission.{Transmission}
+use Rattle.ats_port_rule.specs.PortRule.{KeepsPortRule, KeepsTie}
 use Rattle.ats_group.specs.Group.{first, verdicts_of, is_declared_size}
 use Rattle.ats_group.specs.declared.verdict.Verdict.{Verdict}
 use Rattle.ats_group.specs.declared.verdict.Verdict.TheVariants.{Eligible, Late, Size}
-use Rattle.ats_regulator.specs.Regulator.{ats_judge}
+use Rattle.ats_group_law.specs.Regulator.{ats_judge}
 use Rattle.ats_trace.specs.Journey.{Travel}
 use Rattle.ats_trace.specs.Links.{earliest_of, ArrivesInTime, KeepsLinkRule}
 use Rattle.ats_trace.specs.Parts.{EachPort}

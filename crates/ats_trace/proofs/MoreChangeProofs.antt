@@ -1,5 +1,5 @@
 use Rattle.std.proofs.Common.{◌≡◌, ℕ, zero, suc, ◌≤◌, get_or, length, refl, ap, arith, lit<, lit≤}
-use Rattle.ats_transmission.specs.PortRule.{IsAhead, StartsAfterGap}
+use Rattle.ats_port_rule.specs.PortRule.{IsAhead, StartsAfterGap}
 use Rattle.ats_trace.specs.Projections.{sent_by}
 use Rattle.ats_trace.specs.Stored.{no_travel}
 use Rattle.ats_trace.specs.Examples.{line, line_and_flow}

@@ -1,8 +1,8 @@
 use Rattle.std.proofs.Common.{◌≡◌, ℕ, zero, suc, ◌≤◌, List, get_or, map, refl, ap, subst, arith, inl, inr, ◌⊎◌, lit<, lit≤}
 use Rattle.ats_network.specs.Network.{DeclaredNetwork}
-use Rattle.ats_transmission.specs.PortRule.{IsAhead, StartsAfterGap}
+use Rattle.ats_port_rule.specs.PortRule.{IsAhead, StartsAfterGap}
 use Rattle.ats_group.specs.Group.{first, verdicts_of}
-use Rattle.ats_regulator.specs.Regulator.{ats_judge}
+use Rattle.ats_group_law.specs.Regulator.{ats_judge}
 use Rattle.ats_trace.specs.Journey.{Travel}
 use Rattle.ats_trace.specs.Projections.{Handed, sent_by, handed_by}
 use Rattle.ats_trace.specs.Eligibility.{declared_by, offer_of, residence_behind, IsJudged}

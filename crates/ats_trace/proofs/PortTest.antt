@@ -3,8 +3,8 @@ use Rattle.std.specs.Prelude.{AllPairs, not, nat_le, nat_lt, ◌==◌}
 use Rattle.std.specs.List.{list_all}
 use Rattle.std.proofs.lemmas.Bool.{and_parts}
 use Rattle.std.proofs.lemmas.Bool.Decides.{nat_tests}
-use Rattle.ats_transmission.specs.Transmission.{Transmission}
-use Rattle.ats_transmission.specs.PortRule.{AreApart, IsAhead, StartsAfterGap, KeepsPortRule, TieAgrees, KeepsTie}
+use Rattle.ats_port_rule.specs.Transmission.{Transmission}
+use Rattle.ats_port_rule.specs.PortRule.{AreApart, IsAhead, StartsAfterGap, KeepsPortRule, TieAgrees, KeepsTie}
 use Rattle.ats_trace.proofs.Tests.{le_of, lt_of, eq_of, implied, either, all_by, test_of_all, pairs_pass, pairs_by}
 
 -- A test of the port rule on closed lists, and of a tie.

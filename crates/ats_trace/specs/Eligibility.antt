@@ -5,7 +5,7 @@ use Rattle.ats_network.specs.Network.{DeclaredNetwork}
 use Rattle.ats_network.specs.Senders.{sender_at}
 use Rattle.ats_network.specs.Residence.{residence_after}
 use Rattle.ats_group.specs.Group.{Offer, is_declared_size}
-use Rattle.ats_regulator.specs.Regulator.{Judge}
+use Rattle.ats_group_law.specs.Regulator.{Judge}
 use Rattle.ats_group.specs.declared.member.Declared.{Declared}
 use Rattle.ats_group.specs.declared.verdict.Verdict.TheVariants.{Eligible, Size}
 use Rattle.ats_trace.specs.Projections.{Handed}

@@ -8,8 +8,8 @@ use Rattle.ats_network.specs.Network.{DeclaredNetwork, IsNetwork, senders_of}
 use Rattle.ats_network.specs.Senders.{sender_at}
 use Rattle.ats_group.specs.declared.verdict.Verdict.{Verdict}
 use Rattle.ats_group.specs.declared.verdict.Verdict.TheVariants.{Eligible}
-use Rattle.ats_regulator.specs.Regulator.{ats_judge}
-use Rattle.ats_transmission.specs.PortRule.{KeepsPortRule}
+use Rattle.ats_group_law.specs.Regulator.{ats_judge}
+use Rattle.ats_port_rule.specs.PortRule.{KeepsPortRule}
 use Rattle.ats_trace.specs.Journey.{Travel}
 use Rattle.ats_trace.specs.Projections.{sent_by, handed_by}
 use Rattle.ats_trace.specs.Eligibility.{IsJudged, IsPassed, residence_behind}

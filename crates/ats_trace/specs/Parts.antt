@@ -4,13 +4,13 @@ use Rattle.ats_num.specs.Wire.{IsFrameSize}
 use Rattle.ats_topology.specs.Port.{port_at}
 use Rattle.ats_network.specs.Network.{DeclaredNetwork, senders_of}
 use Rattle.ats_network.specs.Senders.{sender_at}
-use Rattle.ats_transmission.specs.Transmission.{Transmission}
-use Rattle.ats_transmission.specs.PortRule.{AreApart, IsAhead, StartsAfterGap}
+use Rattle.ats_port_rule.specs.Transmission.{Transmission}
+use Rattle.ats_port_rule.specs.PortRule.{AreApart, IsAhead, StartsAfterGap}
 use Rattle.ats_group.specs.declared.verdict.Verdict.TheVariants.{Size}
 use Rattle.ats_trace.specs.Journey.{Travel, IsWay, IsReleased}
 use Rattle.ats_trace.specs.Projections.{sent_by, crossings_by, handed_by}
 use Rattle.ats_trace.specs.Links.{KeepsLinkRule}
-use Rattle.ats_regulator.specs.Regulator.{ats_judge}
+use Rattle.ats_group_law.specs.Regulator.{ats_judge}
 use Rattle.ats_trace.specs.Eligibility.{IsJudged, IsPassed, residence_behind}
 use Rattle.ats_trace.specs.Run.{releases_of, IsLegal}
 use Rattle.ats_trace.specs.Examples.{line_and_flow, hop, sunk}

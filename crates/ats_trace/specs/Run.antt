@@ -2,9 +2,9 @@ use Rattle.std.specs.Prelude.{◌≡◌, ℕ, ◌<◌, ◌≤◌, List, length, 
 use Rattle.std.specs.List.Sorted.{IsNonDecreasing}
 use Rattle.ats_topology.specs.Port.{port_at}
 use Rattle.ats_network.specs.Network.{DeclaredNetwork}
-use Rattle.ats_transmission.specs.PortRule.{KeepsPortRule, KeepsTie}
+use Rattle.ats_port_rule.specs.PortRule.{KeepsPortRule, KeepsTie}
 use Rattle.ats_trace.specs.Journey.{Travel, IsJourney}
-use Rattle.ats_regulator.specs.Regulator.{Judge, ats_judge}
+use Rattle.ats_group_law.specs.Regulator.{Judge, ats_judge}
 use Rattle.ats_trace.specs.Projections.{sent_by, crossings_by, handed_by}
 use Rattle.ats_trace.specs.Links.{KeepsLinkRule}
 use Rattle.ats_trace.specs.Eligibility.{IsJudged, IsPassed, residence_behind}

@@ -1,7 +1,7 @@
-use Rattle.std.proofs.Common.{ℕ, ◌+◌, ◌<◌, List, ◌++◌, length, get_or, length-append, ◌∙◌, ap, arith}
-use Rattle.std.specs.Prelude.{Any, map}
+use Rattle.std.proofs.Common.{ℕ, ◌+◌, ◌<◌, List, ◌++◌, length, get_or, length-append, ◌∙◌, arith}
+use Rattle.std.specs.Prelude.{Any}
 use Rattle.std.proofs.Math.ListN.{get_or-append}
-use Rattle.std.proofs.lemmas.List.{length-map, get_or-append-add, get_or-map, get_or_default}
+use Rattle.std.proofs.lemmas.List.{get_or-append-add, get_or_default}
 
 -- an element of which a fact holds
 pub any-at : {X : Type 0} (P : X → Type 0) (xs : List X) (i : ℕ) (d : X) → i < length xs → P (get_or xs i d) → Any P xs
@@ -11,10 +11,5 @@ pub any-left : {X : Type 0} (P : X → Type 0) (xs ys : List X) → Any P xs →
 any-left P xs ys a = (a.0, a.1, omega (arith, length-append xs ys, a.2), get_or-append xs ys a.1 a.0 a.2 ∙ a.3, a.4)
 
 pub any-right : {X : Type 0} (P : X → Type 0) (xs ys : List X) → Any P ys → Any P (xs ++ ys)
-any-right P xs ys a = (length xs + a.0, a.1, omega (arith, length-append xs ys, a.2), get_or-append-add xs ys a.0 a.1 ∙ a.3, a.4)
-
-pub any-weaker : {X : Type 0} (P Q : X → Type 0) (xs : List X) → ((x : X) → P x → Q x) → Any P xs → Any Q xs
-any-weaker P Q xs f a = (a.0, a.1, a.2, a.3, f a.1 a.4)
-
-pub any-map : {X Y : Type 0} (f : X → Y) (P : Y → Type 0) (xs : List X) → Any (λ (x : X). P (f x)) xs → Any P (map f xs)
-any-map f P xs a = (a.0, f a.1, omega (arith, length-map xs f, a.2), get_or-map f xs a.0 a.1 (f a.1) a.2 ∙ ap f a.3, a.4)
+any-right P xs ys a =
+    (length xs + a.0, a.1, omega (arith, length-append xs ys, a.2), get_or-append-add xs ys a.0 a.1 ∙ a.3, a.4)

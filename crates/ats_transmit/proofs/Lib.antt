@@ -1,10 +1,8 @@
 pub mod Anys
 pub mod Due
+pub mod Held
 pub mod Kept
 pub mod Lawful
-pub mod Numbered
-pub mod Offered
-pub mod Offers
 pub mod Queues
 pub mod Started
 pub mod Totals

@@ -1,6 +1,6 @@
 use Rattle.std.specs.Prelude.{◌≡◌, ℕ, ◌+◌, ◌*◌, ◌<◌, ◌≤◌, true, false, List, [], ◌∷◌, ◌++◌, All, Any, IsPermutation}
 use Rattle.ats_num.specs.Wire.{bits_of}
-use Rattle.ats_transmission.specs.Order.{Precedes}
+use Rattle.ats_port_rule.specs.Order.{Precedes}
 use Rattle.ats_transmit.specs.declared.offer.Offer.{Offer}
 use Rattle.ats_transmit.specs.declared.sent.Sent.{Sent}
 use Rattle.ats_transmit.specs.declared.pick.Pick.{Pick}
@@ -18,6 +18,11 @@ pub record IsDue (held : List Offer) (sent : List Sent) (time : ℕ) : Type 0 wh
   pub reached : MaySend held sent time
   pub first : (earlier : ℕ) → MaySend held sent earlier → time ≤ earlier
 
+-- a frame that is eligible now is preceded by the one that starts
+abbrev pub IsBehind : (ℕ → ℕ → ℕ) → ℕ → ℕ → Offer → Offer → Type 0
+IsBehind key ps_per_bit now started o =
+    o.eligible.0 ≤ now → Precedes key (begun ps_per_bit started now) (begun ps_per_bit o now)
+
 -- one of the held frames is sent from now on: it is eligible, and precedes all others that are
 pub record Starts {T : Type 0} (key : ℕ → ℕ → ℕ) (old new : Standing T) (now frame end : ℕ) : Type 0 where
   pub started : Offer
@@ -25,7 +30,7 @@ pub record Starts {T : Type 0} (key : ℕ → ℕ → ℕ) (old new : Standing T
   pub ends : end ≡ now + old.ps_per_bit * bits_of started.octets
   pub held : IsPermutation old.held (started ∷ new.held)
   pub eligible : started.eligible.0 ≤ now
-  pub first : All (λ (o : Offer). o.eligible.0 ≤ now → Precedes key (begun old.ps_per_bit started now) (begun old.ps_per_bit o now)) new.held
+  pub first : All (IsBehind key old.ps_per_bit now started) new.held
   pub sent : new.sent ≡ old.sent ++ sent_at old.ps_per_bit started now ∷ []
   pub rest : new ≡ record old { held = new.held; sent = new.sent; is_sending = true }
 
@@ -33,4 +38,5 @@ pub record Starts {T : Type 0} (key : ℕ → ℕ → ℕ) (old new : Standing T
 abbrev pub IsPick : {T : Type 0} → (ℕ → ℕ → ℕ) → Standing T → Standing T → ℕ → Pick → Type 0
 IsPick key old new now (Start frame end) = (old.is_sending ≡ false) × Starts key old new now frame end.0
 IsPick key old new now (Busy end) = (old.is_sending ≡ true) × (end.0 ≡ last_end old.sent) × (new ≡ old)
-IsPick key old new now Idle = (old.is_sending ≡ false) × All (λ (o : Offer). now < o.eligible.0) old.held × (new ≡ old)
+IsPick key old new now Idle =
+    (old.is_sending ≡ false) × All (λ (o : Offer). now < o.eligible.0) old.held × (new ≡ old)

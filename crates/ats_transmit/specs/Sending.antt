@@ -1,15 +1,23 @@
 use Rattle.std.specs.Prelude.{ℕ, ◌+◌, ◌-◌, ◌*◌, List, length, map, slice_index_or, All}
 use Rattle.ats_num.specs.Wire.{bits_of}
-use Rattle.ats_transmission.specs.Transmission.{Transmission}
-use Rattle.ats_transmission.specs.PortRule.{KeepsPortRule, KeepsTie}
-use Rattle.ats_transmission.specs.Order.{MayFollow, IsInOrder}
+use Rattle.ats_port_rule.specs.Transmission.{Transmission}
+use Rattle.ats_port_rule.specs.PortRule.{KeepsPortRule, KeepsTie}
+use Rattle.ats_port_rule.specs.Order.{MayFollow, IsInOrder}
 use Rattle.ats_transmit.specs.declared.offer.Offer.{Offer}
 use Rattle.ats_transmit.specs.declared.sent.Sent.{Sent}
 
 -- a transmission, counted in wire bits
 abbrev pub transmission_of : Sent → Transmission
 transmission_of x =
-    record { frame = x.frame; sender = x.sender; class = x.class; bits = bits_of x.octets; eligible = x.eligible.0; start = x.start.0; end = x.end.0 }
+    record {
+      frame = x.frame;
+      sender = x.sender;
+      class = x.class;
+      bits = bits_of x.octets;
+      eligible = x.eligible.0;
+      start = x.start.0;
+      end = x.end.0;
+    }
 
 abbrev pub transmissions : List Sent → List Transmission
 transmissions sent = map transmission_of sent
@@ -32,7 +40,16 @@ begun ps_per_bit offer start = transmission_of (sent_at ps_per_bit offer start)
 
 -- stands in the place of the last transmission before the first
 abbrev pub never : Sent
-never = record { frame = 0; sender = 0; class = 0; octets = 0; eligible = record { 0 = 0 }; start = record { 0 = 0 }; end = record { 0 = 0 } }
+never =
+    record {
+      frame = 0;
+      sender = 0;
+      class = 0;
+      octets = 0;
+      eligible = record { 0 = 0 };
+      start = record { 0 = 0 };
+      end = record { 0 = 0 };
+    }
 
 abbrev pub last_of : List Sent → Sent
 last_of sent = slice_index_or sent (length sent - 1) never
@@ -46,7 +63,8 @@ last_end sent = (last_of sent).end.0
 
 -- whenever this frame is sent after these transmissions, it may follow each of them
 abbrev pub FitsAfter : (ℕ → ℕ → ℕ) → ℕ → List Transmission → Offer → Type 0
-FitsAfter key ps_per_bit sent offer = (start : ℕ) → All (λ (x : Transmission). MayFollow key sent x (begun ps_per_bit offer start)) sent
+FitsAfter key ps_per_bit sent offer =
+    (start : ℕ) → All (λ (x : Transmission). MayFollow key sent x (begun ps_per_bit offer start)) sent
 
 -- what a port has sent keeps the port rule and the order of its tie, and each frame that it holds fits after all of it
 pub record IsLawful (key : ℕ → ℕ → ℕ) (ps_per_bit : ℕ) (held : List Offer) (sent : List Sent) : Type 0 where

@@ -1,44 +1,24 @@
-//! The choice among the queues of all classes, and the look-up of what was offered.
+//! The choice among the queues of all classes.
 
-ghost use Rattle.std.specs.Prelude.{◌≡◌, ◌<◌, ◌≤◌, List, ◌++◌, All, Any, IfSome, IfNone};
+ghost use Rattle.std.specs.Prelude.{◌≡◌, ◌<◌, ◌≤◌, List, ◌++◌, length, All, Any, IfSome, IfNone};
 ghost use Rattle.std.specs.Bool.{OnTrue, OnFalse};
 ghost use Rattle.ats_queue.specs.declared.queued.Queued.{Queued};
 ghost use Rattle.ats_transmit.specs.Sending.{last_end};
-ghost use Rattle.ats_transmit.specs.Inside.{offer_of, no_offer, queued_of, NextTimeIn, IsHighest, TakesFrom};
+ghost use Rattle.ats_transmit.specs.Inside.{queued_of, NextTimeIn, IsHighest, TakesFrom};
 
 use crate::offer::Offer;
 use crate::sent::Sent;
 use ats_num::{Ps, Tie};
 use ats_queue::ClassQueue;
 
-/// The last offer of a frame, found from the end.
-pub(crate) fn offer_of(offers: &[Offer], frame: u32) -> Offer
-    ensures { result ≡ offer_of offers.now frame }
-{
-    let mut left = offers.len();
-    while left > 0 {
-        left -= 1;
-        if offers[left].frame == frame {
-            return offers[left];
-        }
-    }
-    Offer {
-        frame: 0,
-        sender: 0,
-        class: 0,
-        eligible: Ps(0),
-        octets: 0,
-    }
-}
-
 /// When the last transmission ends, or 0 before the first.
 pub(crate) fn free_at(sent: &[Sent]) -> Ps
     ensures { result.0 ≡ last_end sent.now }
 {
-    if sent.is_empty() {
-        return Ps(0);
+    match sent.last() {
+        Some(last) => last.end,
+        None => Ps(0),
     }
-    sent[sent.len() - 1].end
 }
 
 /// The earlier of two times, where there is any.
@@ -68,9 +48,7 @@ pub(crate) fn highest_class<T: Tie>(queues: &[ClassQueue<T>], now: Ps) -> Option
     ensures found { IfSome result (IsHighest now.0 queues.now) }
     ensures none { IfNone result (All (λ q. now.0 < q.eligible.0) (queued_of queues.now)) }
 {
-    let mut class = queues.len();
-    while class > 0 {
-        class -= 1;
+    for class in (0..queues.len()).rev() {
         if is_eligible(&queues[class], now) {
             return Some(class);
         }
@@ -90,9 +68,11 @@ fn is_eligible<T: Tie>(queue: &ClassQueue<T>, now: Ps) -> bool
 }
 
 /// Takes the first frame of a class, in which a frame is eligible.
-pub(crate) fn take_from<T: Tie>(queues: &mut Vec<ClassQueue<T>>, class: usize, now: Ps) -> u32
-    requires { IsHighest now.0 queues.old.items class }
+pub(crate) fn take_from<T: Tie>(queues: &mut Vec<ClassQueue<T>>, class: usize, now: Ps) -> Offer
+    requires highest { IsHighest now.0 queues.old.items class }
+    requires classes { length queues.old.items ≤ 8 }
     ensures { TakesFrom T.key now.0 class queues.old.items queues.new.items result }
 {
-    queues[class].take(now).unwrap()
+    let queued = queues[class].take(now).unwrap();
+    Offer::of(class as u8, queued)
 }

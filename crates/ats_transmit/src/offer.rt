@@ -6,7 +6,8 @@ ghost use Rattle.ats_num.specs.Wire.{IsFrameSize};
 
 use crate::sent::Sent;
 use ats_num::Ps;
-use ats_transmission::transmission_time;
+use ats_queue::Queued;
+use ats_port_rule::transmission_time;
 
 /// A frame that a port was offered: its number, the number of its sender, its class from 0 to 7, the time from which it
 /// is eligible, in picoseconds, and its octets, counted with the frame check sequence.
@@ -21,6 +22,32 @@ pub struct Offer {
 
 impl Offer {
     ghost use Rattle.ats_transmit.specs.Sending.{sent_at};
+    ghost use Rattle.ats_transmit.specs.Inside.{queued_as, offer_in};
+
+    /// The frame as the queue of its class holds it.
+    pub(crate) fn queued(&self) -> Queued
+        ensures { result ≡ queued_as self.now }
+    {
+        Queued {
+            frame: self.frame,
+            sender: self.sender,
+            eligible: self.eligible,
+            octets: self.octets,
+        }
+    }
+
+    /// The offer of a frame that the queue of this class held.
+    pub(crate) fn of(class: u8, queued: Queued) -> Offer
+        ensures { result ≡ offer_in class queued }
+    {
+        Offer {
+            frame: queued.frame,
+            sender: queued.sender,
+            class,
+            eligible: queued.eligible,
+            octets: queued.octets,
+        }
+    }
 
     /// The transmission of this frame from `start` on.
     pub(crate) fn sent_at(&self, ps_per_bit: u32, start: Ps) -> Sent

@@ -1,20 +1,21 @@
 //! One port.
 
-ghost use Rattle.std.specs.Prelude.{◌≡◌, ◌≢◌, ℕ, ◌+◌, ◌<◌, ◌≤◌, true, false, [], ◌∷◌, ◌++◌, length, sum, slice_index, All, IfOk, IsPermutation, MatchOption, vec_capacity};
+ghost use Rattle.std.specs.Prelude.{◌≡◌, ◌≢◌, ℕ, ◌+◌, ◌<◌, ◌≤◌, true, false, [], ◌∷◌, length, sum, slice_index, All};
+ghost use Rattle.std.specs.Prelude.{IfOk, IsPermutation, MatchOption};
 ghost use Rattle.ats_num.specs.declared.time.TheConstants.{END};
 ghost use Rattle.ats_num.specs.Wire.{IsFrameSize};
-ghost use Rattle.ats_transmit.specs.Sending.{last_of, last_start, last_end, IsLawful};
-ghost use Rattle.ats_transmit.specs.Standing.{opened, offered_of};
+ghost use Rattle.ats_transmit.specs.Sending.{last_of, last_start, last_end};
+ghost use Rattle.ats_transmit.specs.Standing.{opened, offered_of, IsLawfulPort};
 ghost use Rattle.ats_transmit.specs.Picks.{MaySend, IsDue, IsPick};
 ghost use Rattle.ats_transmit.specs.Inside.{AreEmpty};
 
-use crate::choice::{free_at, highest_class, next_time, offer_of, take_from};
+use crate::choice::{free_at, highest_class, next_time, take_from};
 use crate::offer::Offer;
 use crate::pick::Pick;
 use crate::sent::Sent;
-use ats_num::{NoMemory, Ps, Tie};
+use ats_num::{Ps, Tie};
 use ats_queue::ClassQueue;
-use std::alloc::Global;
+use std::alloc::{AllocError, Global};
 use std::marker::Model;
 
 /// A port. Contracts see its picoseconds per bit, how many frames of each class it may be offered, its tie, the frames
@@ -26,7 +27,6 @@ pub struct Port<T: Tie> {
     rooms: [u32; 8],
     tie: T,
     queues: Vec<ClassQueue<T>>,
-    offers: Vec<Offer>,
     sent: Vec<Sent>,
     is_sending: bool,
 }
@@ -39,34 +39,32 @@ impl<T: Tie> Model for Port<T> {
     ghost use Rattle.std.specs.Prelude.{vec_capacity};
     ghost use Rattle.ats_transmit.specs.Inside.{standing_of, IsKept};
 
-    ghost view = { λ p. standing_of p.ps_per_bit p.rooms p.tie p.queues.items p.offers.items p.sent.items p.is_sending };
+    ghost view = { λ p. standing_of p.ps_per_bit p.rooms p.tie p.queues.items p.sent.items p.is_sending };
 
     ghost invariant = { λ p. IsKept T.key
-        (standing_of p.ps_per_bit p.rooms p.tie p.queues.items p.offers.items p.sent.items p.is_sending)
-        p.queues.items p.offers.items (vec_capacity p.offers) (vec_capacity p.sent) };
+        (standing_of p.ps_per_bit p.rooms p.tie p.queues.items p.sent.items p.is_sending)
+        p.queues.items (vec_capacity p.sent) };
 }
 
 impl<T: Tie> Port<T> {
     /// A free port that holds nothing, on a link of so many picoseconds per bit. Of each class from 0 to 7 it may be
-    /// offered as many frames as its room says; room for all of them is taken here. `NoMemory` where memory runs out.
+    /// offered as many frames as its room says; room for all of them is taken here. `AllocError` where memory runs out.
     pub fn open(
         alloc: Global,
         ps_per_bit: u32,
         rooms: [u32; 8],
         tie: T,
-    ) -> Result<Port<T>, NoMemory>
+    ) -> Result<Port<T>, AllocError>
         ensures value { IfOk result (λ port. port ≡ opened ps_per_bit rooms tie) }
-        ensures lawful { IfOk result (λ port. IsLawful (T.key port.tie) port.ps_per_bit port.held port.sent) }
+        ensures lawful { IfOk result (IsLawfulPort T.key) }
     {
         let queues = queues_of(alloc, &rooms, tie)?;
-        let total = total_of(&rooms);
         Ok(Port {
             ps_per_bit,
             rooms,
             tie,
             queues,
-            offers: Vec::with_capacity(alloc, total)?,
-            sent: Vec::with_capacity(alloc, total)?,
+            sent: Vec::with_capacity(alloc, total_of(&rooms))?,
             is_sending: false,
         })
     }
@@ -74,26 +72,18 @@ impl<T: Tie> Port<T> {
     /// Holds a frame of 64 to 2000 octets in a class from 0 to 7. The frame was never offered here, its class had fewer
     /// offers than its room, and it becomes eligible after the start of the last transmission, where there is one. It
     /// takes no memory.
-    pub fn offer(&mut self, frame: u32, sender: u32, class: u8, eligible: Ps, octets: u32)
-        requires not_held { All (λ o. o.frame ≢ frame) self.old.held }
-        requires not_sent { All (λ x. x.frame ≢ frame) self.old.sent }
-        requires class { class ≤ 7 }
-        requires room { offered_of self.old class < slice_index self.old.rooms class }
-        requires octets { IsFrameSize octets }
-        requires later { 0 < length self.old.sent → last_start self.old.sent < eligible.0 }
-        ensures held { IsPermutation (record { frame = frame; sender = sender; class = class; eligible = eligible; octets = octets } ∷ self.old.held) self.new.held }
+    pub fn offer(&mut self, offer: Offer)
+        requires not_held { All (λ o. o.frame ≢ offer.frame) self.old.held }
+        requires not_sent { All (λ x. x.frame ≢ offer.frame) self.old.sent }
+        requires class { offer.class ≤ 7 }
+        requires room { offered_of self.old offer.class < slice_index self.old.rooms offer.class }
+        requires octets { IsFrameSize offer.octets }
+        requires later { 0 < length self.old.sent → last_start self.old.sent < offer.eligible.0 }
+        ensures held { IsPermutation (offer ∷ self.old.held) self.new.held }
         ensures rest { self.new ≡ record self.old { held = self.new.held } }
-        ensures lawful { IsLawful (T.key self.new.tie) self.new.ps_per_bit self.new.held self.new.sent }
+        ensures lawful { IsLawfulPort T.key self.new }
     {
-        let offer = Offer {
-            frame,
-            sender,
-            class,
-            eligible,
-            octets,
-        };
-        self.offers.push(offer).unwrap();
-        self.queues[class as usize].insert(frame, sender, eligible);
+        self.queues[offer.class as usize].insert(offer.queued());
     }
 
     /// When the port can next start a frame: it is free then, and some frame that it holds is eligible. `None` where it
@@ -115,7 +105,7 @@ impl<T: Tie> Port<T> {
         requires under_way { self.old.is_sending ≡ true → now.0 < last_end self.old.sent }
         requires finished { self.old.is_sending ≡ false → last_end self.old.sent ≤ now.0 }
         ensures pick { IsPick (T.key self.old.tie) self.old self.new now.0 result }
-        ensures lawful { IsLawful (T.key self.new.tie) self.new.ps_per_bit self.new.held self.new.sent }
+        ensures lawful { IsLawfulPort T.key self.new }
     {
         if self.is_sending {
             return Pick::Busy {
@@ -125,12 +115,12 @@ impl<T: Tie> Port<T> {
         let Some(class) = highest_class(&self.queues, now) else {
             return Pick::Idle;
         };
-        let frame = take_from(&mut self.queues, class, now);
-        let sent = offer_of(&self.offers, frame).sent_at(self.ps_per_bit, now);
+        let started = take_from(&mut self.queues, class, now);
+        let sent = started.sent_at(self.ps_per_bit, now);
         self.sent.push(sent).unwrap();
         self.is_sending = true;
         Pick::Start {
-            frame,
+            frame: sent.frame,
             end: sent.end,
         }
     }
@@ -141,7 +131,7 @@ impl<T: Tie> Port<T> {
         requires end { last_end self.old.sent ≡ now.0 }
         ensures frame { result ≡ (last_of self.old.sent).frame }
         ensures rest { self.new ≡ record self.old { is_sending = false } }
-        ensures lawful { IsLawful (T.key self.new.tie) self.new.ps_per_bit self.new.held self.new.sent }
+        ensures lawful { IsLawfulPort T.key self.new }
     {
         self.is_sending = false;
         self.sent[self.sent.len() - 1].frame
@@ -150,14 +140,14 @@ impl<T: Tie> Port<T> {
     /// All transmissions in the order in which they were made; the last may still be under way.
     pub fn sent(&self) -> &[Sent]
         ensures value { result.now ≡ self.now.sent }
-        ensures lawful { IsLawful (T.key self.now.tie) self.now.ps_per_bit self.now.held self.now.sent }
+        ensures lawful { IsLawfulPort T.key self.now }
     {
         &self.sent
     }
 }
 
 /// An empty queue for each class.
-fn queues_of<T: Tie>(alloc: Global, rooms: &[u32], tie: T) -> Result<Vec<ClassQueue<T>>, NoMemory>
+fn queues_of<T: Tie>(alloc: Global, rooms: &[u32], tie: T) -> Result<Vec<ClassQueue<T>>, AllocError>
     ensures { IfOk result (λ queues. AreEmpty queues.items rooms.now tie) }
 {
     let mut queues = Vec::with_capacity(alloc, rooms.len())?;
@@ -172,9 +162,5 @@ fn total_of(rooms: &[u32]) -> usize
     requires { length rooms.now ≤ 8 }
     ensures { result ≡ sum rooms.now }
 {
-    let mut total = 0;
-    for room in rooms {
-        total += *room as usize;
-    }
-    total
+    rooms.iter().map(|room| *room as usize).sum()
 }

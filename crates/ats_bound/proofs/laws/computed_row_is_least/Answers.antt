@@ -1,4 +1,4 @@
-use Rattle.ats_bound.proofs.Places.{is_place}
+use Rattle.ats_tally.proofs.Places.{is_place}
 use Rattle.ats_bound.proofs.Waits.{least_row-is}
 use Rattle.ats_bound.proofs.laws.computed_row_is_least.Goals as goal
 

@@ -1,8 +1,6 @@
-use Rattle.std.proofs.Common.{drop}
-use Rattle.ats_certificate.specs.Used.{places_from}
-use Rattle.ats_bound.specs.Begun.{IsBegun}
+use Rattle.ats_bound.specs.Begun.{IsBegun, places_past}
 use Rattle.ats_bound.proofs.listing.least_rows.Given as goal
 
 -- the rows so far, with those of the later ports, make the least certificate
 abbrev pub invariant-loop-port : goal.invariant-loop-port
-invariant-loop-port l = IsBegun l.network l.certificate (places_from l.network l.port (drop l.port l.network.topology.ports))
+invariant-loop-port l = IsBegun l.network l.certificate (places_past l.network l.port)

@@ -4,4 +4,4 @@ use Rattle.ats_bound.proofs.listing.push_port.Given as goal
 
 -- the rows so far, with those of the later classes and ports, make the least certificate
 abbrev pub invariant-loop-class : goal.invariant-loop-class
-invariant-loop-class l = IsBegun l.network l.certificate (places_left l.network l.port l.class-index)
+invariant-loop-class l = IsBegun l.tallies l.certificate (places_left l.tallies l.port l.class-index)

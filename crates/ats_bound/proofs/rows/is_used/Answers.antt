@@ -3,7 +3,7 @@ use Rattle.std.specs.Prelude.{◌&&◌}
 use Rattle.std.specs.List.{list_any}
 use Rattle.ats_network.specs.Sender.{Sender, stream_sender}
 use Rattle.ats_certificate.specs.PortSums.{is_of, uses}
-use Rattle.ats_bound.proofs.Lists.{list_any-map, list_any-filter}
+use Rattle.ats_tally.proofs.Lists.{list_any-map, list_any-filter}
 use Rattle.ats_bound.proofs.rows.is_used.Goals as goal
 
 pub returns : goal.returns

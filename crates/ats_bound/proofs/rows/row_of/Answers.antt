@@ -2,8 +2,8 @@ use Rattle.std.proofs.Common.{◌≡◌, List, length, ap, ◌∙◌, sym, subst
 use Rattle.ats_topology.specs.Port.{port_at}
 use Rattle.ats_topology.specs.Rates.{IsPsPerBit}
 use Rattle.ats_topology.specs.declared.port.Port.{Port}
-use Rattle.ats_bound.proofs.Places.{IsPlace, is_place, used_class}
-use Rattle.ats_bound.proofs.Network.{all_within}
+use Rattle.ats_tally.proofs.Places.{IsPlace, is_place, used_class}
+use Rattle.ats_tally.proofs.Network.{all_within}
 use Rattle.ats_bound.proofs.rows.row_of.Goals as goal
 
 pub bounds-ports-port : goal.bounds-ports-port

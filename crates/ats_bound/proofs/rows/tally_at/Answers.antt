@@ -3,8 +3,8 @@ use Rattle.std.specs.List.{list_any}
 use Rattle.ats_network.specs.Network.{senders_of}
 use Rattle.ats_network.specs.Senders.{sender_at}
 use Rattle.ats_certificate.specs.PortSums.{uses}
-use Rattle.ats_bound.proofs.Places.{used_class}
-use Rattle.ats_bound.proofs.Network.{first_within, count_next, count_not}
+use Rattle.ats_tally.proofs.Places.{used_class}
+use Rattle.ats_tally.proofs.Network.{first_within, count_next, count_not}
 use Rattle.ats_bound.proofs.rows.tally_at.Goals as goal
 use Rattle.ats_bound.proofs.rows.tally_at.Goals.{then-contains, else-contains}
 

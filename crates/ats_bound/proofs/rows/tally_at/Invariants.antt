@@ -1,7 +1,7 @@
 use Rattle.std.proofs.Common.{take}
 use Rattle.ats_network.specs.Network.{senders_of}
 use Rattle.ats_certificate.specs.PortSums.{senders_at}
-use Rattle.ats_bound.specs.Tally.{IsTally}
+use Rattle.ats_tally.specs.Tally.{IsTally}
 use Rattle.ats_bound.proofs.rows.tally_at.Given as goal
 
 -- what the senders so far make of the class

@@ -1,7 +1,7 @@
 use Rattle.std.proofs.Common.{refl}
 use Rattle.ats_io.specs.Memory.{bytes_or_none}
-use Rattle.ats_cli.specs.Command.{command_of}
-use Rattle.ats_cli.specs.Named.{texts_of}
+use Rattle.ats_command.specs.Command.{command_of}
+use Rattle.ats_command.specs.Named.{texts_of}
 use Rattle.ats_cli.proofs.Surely.{surely_told, surely_calm, no_rise}
 use Rattle.ats_cli.proofs.laws.ats_surely.Goals as goal
 

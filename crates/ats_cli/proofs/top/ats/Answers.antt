@@ -1,12 +1,12 @@
 use Rattle.std.proofs.Common.{◌≡◌, ℕ, List, Option, subst}
 use Rattle.std.specs.Prelude.{◌⊎◌}
 use Rattle.ats_io.specs.Outside.{Rose}
-use Rattle.ats_cli.specs.Command.{Command}
-use Rattle.ats_cli.specs.Named.{view}
-use Rattle.ats_cli.specs.Due.{IsTold}
-use Rattle.ats_cli.specs.Calls.{PrintedPrefix, ReadRose, IsCalm, StatusIsDue}
-use Rattle.ats_cli.specs.Soundness.{IsSoundCheck}
-use Rattle.ats_cli.specs.declared.status.Status.TheVariants.{NoMemory}
+use Rattle.ats_command.specs.Command.{Command}
+use Rattle.ats_command.specs.Named.{view}
+use Rattle.ats_command.specs.Due.{IsTold}
+use Rattle.ats_command.specs.Calls.{PrintedPrefix, ReadRose, IsCalm, StatusIsDue}
+use Rattle.ats_command.specs.Soundness.{IsSoundCheck}
+use Rattle.ats_command.specs.declared.status.Status.TheVariants.{NoMemory}
 use Rattle.ats_cli.proofs.Ending.{ends_as_due, calm_unread, words_end_as_due, front_of_words}
 use Rattle.ats_cli.proofs.top.ats.Goals as goal
 

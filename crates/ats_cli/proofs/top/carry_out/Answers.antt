@@ -1,8 +1,8 @@
 use Rattle.std.proofs.Common.{Some, sym, ap, subst, ◌∙◌}
-use Rattle.ats_cli.specs.Answer.{HasText}
-use Rattle.ats_cli.specs.Soundness.{IsSoundCheck}
-use Rattle.ats_cli.specs.declared.status.Status.{Status}
-use Rattle.ats_cli.specs.Named.{view}
+use Rattle.ats_command.specs.Answer.{HasText}
+use Rattle.ats_command.specs.Soundness.{IsSoundCheck}
+use Rattle.ats_command.specs.declared.status.Status.{Status}
+use Rattle.ats_command.specs.Named.{view}
 use Rattle.ats_cli.proofs.Ending.{printed_due, front_due, done_holds}
 use Rattle.ats_cli.proofs.top.carry_out.Goals as goal
 

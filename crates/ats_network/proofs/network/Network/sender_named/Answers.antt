@@ -1,5 +1,5 @@
 use Rattle.std.proofs.Common.{sym, ap, ◌∙◌, Some}
-use Rattle.ats_names.specs.Places.{place_of}
+use Rattle.ats_num.specs.Places.{place_of}
 use Rattle.ats_network.specs.Network.{DeclaredNetwork, declared_network, names_of, senders_of}
 use Rattle.ats_network.proofs.NameLemmas.{found_first, found_second}
 use Rattle.ats_network.proofs.network.Network.sender_named.Goals as goal

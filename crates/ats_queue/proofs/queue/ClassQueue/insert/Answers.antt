@@ -1,11 +1,9 @@
 use Rattle.std.proofs.Common.{◌≡◌, [], ◌∷◌, ◌++◌, arith}
 use Rattle.std.proofs.lemmas.Grind.{common_steps}
 use Rattle.std.proofs.lemmas.List.Sorted.{IsPermutation-sym, IsPermutation-to_front}
-use Rattle.ats_queue.specs.declared.queued.Queued.{Queued}
 use Rattle.ats_queue.proofs.queue.ClassQueue.insert.Goals as goal
 
 pub returns-clause-held : goal.returns-clause-held
 returns-clause-held g c =
-    let queued : Queued = record { frame = c.args.frame; sender = c.args.sender; eligible = c.args.eligible } in
-    let e : c.push.new.self.items ≡ c.args.self.now.held ++ queued ∷ [] = grind (arith, common_steps) in
-    rw e (IsPermutation-sym _ _ (IsPermutation-to_front c.args.self.now.held queued))
+    let e : c.push.new.self.items ≡ c.args.self.now.held ++ c.args.queued ∷ [] = grind (arith, common_steps) in
+    rw e (IsPermutation-sym _ _ (IsPermutation-to_front c.args.self.now.held c.args.queued))

@@ -1,8 +1,10 @@
 use Rattle.std.proofs.Common.{◌≡◌, sym, ap, ◌∙◌, subst, List, None}
-use Rattle.ats_topology.specs.Faults.{IsDue, topology_fault, node_twice, link_twice, self_link, unknown_node, station_links}
+use Rattle.ats_num.specs.Failure.{IsDue}
+use Rattle.ats_num.specs.declared.failure.Failure.TheVariants.{Fault}
+use Rattle.ats_topology.specs.Faults.{topology_fault, node_twice, link_twice, self_link, unknown_node, station_links}
 use Rattle.ats_topology.specs.declared.node.Node.{Node}
 use Rattle.ats_topology.specs.declared.link.Link.{Link}
-use Rattle.ats_topology.proofs.Due.{is_due, passed_on, link_twice_due, self_link_due, unknown_node_due, station_links_due}
+use Rattle.ats_topology.proofs.Due.{passed_on, link_twice_due, self_link_due, unknown_node_due, station_links_due}
 use Rattle.ats_topology.proofs.topology.Topology.new.Goals as goal
 
 pub returns-in_err-check_joined-clause-fault : goal.returns-in_err-check_joined-clause-fault
@@ -20,7 +22,7 @@ returns-in-Some-clause-fault c =
     let links : List Link = c.args.links.items in
     let apart : node_twice nodes ≡ None = ap node_twice (sym c.deref.ensures.value) ∙ c.in_ok-names.ensures.ok in
     let joined : link_twice links ≡ None = ap link_twice (sym c.deref-2.ensures.value) ∙ c.in_ok-check_joined.ensures.ok in
-    self_link_due nodes links c.in-Some.fault apart joined (is_due c.in-Some.fault (self_link links) (ap self_link (sym c.deref-3.ensures.value) ∙ sym c.self_link.ensures ∙ c.in-Some.is))
+    self_link_due nodes links (Fault c.in-Some.fault) apart joined (ap self_link (sym c.deref-3.ensures.value) ∙ sym c.self_link.ensures ∙ c.in-Some.is)
 
 pub returns-in-Some-unknown_node-clause-fault : goal.returns-in-Some-unknown_node-clause-fault
 returns-in-Some-unknown_node-clause-fault c =
@@ -29,9 +31,8 @@ returns-in-Some-unknown_node-clause-fault c =
     let apart : node_twice nodes ≡ None = ap node_twice (sym c.deref.ensures.value) ∙ c.in_ok-names.ensures.ok in
     let joined : link_twice links ≡ None = ap link_twice (sym c.deref-2.ensures.value) ∙ c.in_ok-check_joined.ensures.ok in
     let apart_ends : self_link links ≡ None = ap self_link (sym c.deref-3.ensures.value) ∙ sym c.self_link.ensures ∙ c.in_default.is in
-    unknown_node_due nodes links c.in-Some-unknown_node.fault apart joined apart_ends
-    (is_due c.in-Some-unknown_node.fault (unknown_node nodes links)
-    (ap (λ (ns : List Node). unknown_node ns links) (sym c.deref-4.ensures.value) ∙ ap (unknown_node c.deref-4.result.now) (sym c.deref-5.ensures.value) ∙ sym c.unknown_node.ensures ∙ c.in-Some-unknown_node.is))
+    unknown_node_due nodes links (Fault c.in-Some-unknown_node.fault) apart joined apart_ends
+    (ap (λ (ns : List Node). unknown_node ns links) (sym c.deref-4.ensures.value) ∙ ap (unknown_node c.deref-4.result.now) (sym c.deref-5.ensures.value) ∙ sym c.unknown_node.ensures ∙ c.in-Some-unknown_node.is)
 
 pub returns-in_err-check_stations-clause-fault : goal.returns-in_err-check_stations-clause-fault
 returns-in_err-check_stations-clause-fault c =

@@ -1,8 +1,14 @@
-use Rattle.std.proofs.Common.{arith}
+use Rattle.std.proofs.Common.{refl, arith}
+use Rattle.ats_transmit.proofs.Held.{none-held}
 use Rattle.ats_transmit.proofs.Kept.{kept-open}
 use Rattle.ats_transmit.proofs.port.Port.open.Goals as goal
 
 pub invariant_of-result : goal.invariant_of-result
 invariant_of-result g c =
-    rw (c.in_ok-with_capacity.ensures.items, c.in_ok-with_capacity-2.ensures.items, c.in_ok-with_capacity.ensures.exact, c.in_ok-with_capacity-2.ensures.exact, c.total_of-total.ensures)
-    (kept-open g.T.Tie.key c.args.ps_per_bit c.args.rooms c.args.tie c.in_ok-queues.queues.items (omega arith) c.in_ok-queues.ensures)
+    rw (c.in_ok-with_capacity.ensures.items, c.in_ok-with_capacity.ensures.exact, c.total_of.ensures)
+    (kept-open g.T.Tie.key c.args.ps_per_bit c.args.rooms c.args.tie c.in_ok-queues.queues.items (omega arith)
+    c.in_ok-queues.ensures)
+
+pub returns-clause-value : goal.returns-clause-value
+returns-clause-value g c =
+    rw (c.in_ok-with_capacity.ensures.items, none-held c.in_ok-queues.queues.items c.in_ok-queues.ensures.empty) refl

@@ -1,9 +1,0 @@
-use Rattle.std.specs.Prelude.{◌≡◌, Option, Some}
-use Rattle.ats_bound.specs.declared.reason.NoBound.{NoBound}
-use Rattle.ats_bound.specs.declared.reason.NoBound.TheVariants as answer
-use Rattle.ats_bound.specs.declared.reason.Reason.{Reason}
-
--- a call answered this in place of a certificate: it is the reason that there is, unless memory ran out
-abbrev pub IsDue : NoBound → Option Reason → Type 0
-IsDue (answer.Reason reason) due = due ≡ Some reason
-IsDue answer.NoMemory due = Unit {0}

@@ -1,8 +1,0 @@
-use Rattle.std.proofs.Common.{◌≡◌, drop}
-use Rattle.ats_bound.specs.Reason.{first_some}
-use Rattle.ats_checker.specs.Refusal.{overstay}
-use Rattle.ats_checker.proofs.rows.check_residences.Given as goal
-
--- what is found first is among those still to come
-abbrev pub invariant-loop-row : goal.invariant-loop-row
-invariant-loop-row l = first_some (overstay l.network) l.rows ≡ first_some (overstay l.network) (drop l.row-index l.rows)

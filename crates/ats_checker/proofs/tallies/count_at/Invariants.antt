@@ -1,8 +1,0 @@
-use Rattle.std.proofs.Common.{◌*◌}
-use Rattle.ats_network.specs.Senders.{sender_at}
-use Rattle.ats_checker.specs.Tallies.{AddsSender}
-use Rattle.ats_checker.proofs.tallies.count_at.Given as goal
-
--- the classes so far have the sender
-abbrev pub invariant-loop-class : goal.invariant-loop-class
-invariant-loop-class l = AddsSender (sender_at l.network l.sender) (8 * l.port) l.class l.initial.table.items l.table.items

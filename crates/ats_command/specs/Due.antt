@@ -1,0 +1,67 @@
+use Rattle.std.specs.Prelude.{◌≡◌, ℕ, ◌⊎◌, List, [], All, IsSome, IsOk, Option, unwrap_or, Ok}
+use Rattle.ats_io.specs.Outside.{IfTold}
+use Rattle.ats_shape.specs.Text.{text_of}
+use Rattle.ats_network_text.specs.Text.{show_text}
+use Rattle.ats_command.specs.Command.{Command, Shape, Show, Bound, Check, Unknown, file_words}
+use Rattle.ats_num.specs.Failure.{◌>>=◌}
+use Rattle.ats_command.specs.Answer.{Answer, words_answer, settled}
+use Rattle.ats_command.specs.Input.{shape_in, network_in, rows_in}
+use Rattle.ats_command.specs.Judged.{bound_judged, check_judged}
+
+-- to `shape FILE`, by the bytes of the file
+unfoldable pub shape_answer : List ℕ → List ℕ → Answer
+shape_answer file bytes = settled (do
+  shape ← shape_in file bytes
+  Ok (text_of shape))
+
+-- to `show NET`
+unfoldable pub show_answer : List ℕ → List ℕ → Answer
+show_answer net bytes = settled (do
+  network ← network_in net bytes
+  Ok (show_text network))
+
+-- to `bound NET`
+unfoldable pub bound_answer : List ℕ → List ℕ → Answer
+bound_answer net bytes = settled (do
+  network ← network_in net bytes
+  bound_judged network)
+
+-- to `check NET CERT`, by the bytes of both files; the network's is judged first
+unfoldable pub check_answer : List ℕ → List ℕ → List ℕ → List ℕ → Answer
+check_answer net certificate net_bytes certificate_bytes = settled (do
+  network ← network_in net net_bytes
+  rows ← rows_in network.topology certificate certificate_bytes
+  check_judged network rows)
+
+-- an answer to a command, where its files have these bytes
+abbrev pub IsAnswer : (List ℕ → List ℕ) → Command → Answer → Type 0
+IsAnswer bytes (Shape file) answer = answer ≡ shape_answer file (bytes file)
+IsAnswer bytes (Show net) answer = answer ≡ show_answer net (bytes net)
+IsAnswer bytes (Bound net) answer = answer ≡ bound_answer net (bytes net)
+IsAnswer bytes (Check net certificate) answer = answer ≡ check_answer net certificate (bytes net) (bytes certificate)
+IsAnswer bytes Unknown answer = answer ≡ words_answer
+
+-- the bytes of each file word are told
+abbrev pub IsTold : (List ℕ → Option (List ℕ)) → Command → Type 0
+IsTold told command = All (λ name. IsSome (told name)) (file_words command)
+
+-- the bytes that are told under a name
+abbrev pub told_bytes : (List ℕ → Option (List ℕ)) → List ℕ → List ℕ
+told_bytes told name = unwrap_or (told name) []
+
+-- an answer is due to a command: the bytes of its files are told, and it is an answer where they have these
+pub record IsDue (told : List ℕ → Option (List ℕ)) (command : Command) (answer : Answer) : Type 0 where
+  pub is_told : IsTold told command
+  pub answers : IsAnswer (told_bytes told) command answer
+
+-- where bytes are told under a name, they declare a network
+abbrev pub Declares : (List ℕ → Option (List ℕ)) → List ℕ → Type 0
+Declares told net = IfTold (told net) (λ bytes. IsOk (network_in net bytes))
+
+-- a command comes to read this file: where bytes are told, no file before it has a fault
+abbrev pub Reaches : (List ℕ → Option (List ℕ)) → Command → List ℕ → Type 0
+Reaches told (Shape file) name = name ≡ file
+Reaches told (Show net) name = name ≡ net
+Reaches told (Bound net) name = name ≡ net
+Reaches told (Check net certificate) name = (name ≡ net) ⊎ ((name ≡ certificate) × Declares told net)
+Reaches told Unknown name = ⊥

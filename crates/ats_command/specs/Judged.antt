@@ -1,0 +1,24 @@
+use Rattle.std.specs.Prelude.{ℕ, List, Option, Some, None, Result, Ok, Err}
+use Rattle.std.specs.Option.{option_map}
+use Rattle.ats_network.specs.Network.{DeclaredNetwork}
+use Rattle.ats_certificate.specs.declared.row.Row.{Row}
+use Rattle.ats_certificate_file.specs.Text.{certificate_text}
+use Rattle.ats_bound.specs.Least.{least_certificate}
+use Rattle.ats_bound.specs.Reason.{reason_of}
+use Rattle.ats_checker.specs.Refusal.{refusal_of}
+use Rattle.ats_verdict_text.specs.Text.{accepted_text, reason_text, refusal_text, refused_text}
+use Rattle.ats_command.specs.Answer.{Answer}
+use Rattle.ats_command.specs.declared.status.Status.TheVariants.{Refused}
+
+-- a text, unless something is refused
+abbrev pub judged : List ℕ → Option (List ℕ) → Result (List ℕ) Answer
+judged text None = Ok text
+judged text (Some why) = Err (record { status = Refused; text = refused_text why })
+
+-- the certificate with the least waits, unless no certificate of the network holds
+unfoldable pub bound_judged : DeclaredNetwork → Result (List ℕ) Answer
+bound_judged network = judged (certificate_text network.topology (least_certificate network)) (option_map (reason_text network.topology) (reason_of network))
+
+-- the bounds and sums of the streams, unless the certificate does not hold
+unfoldable pub check_judged : DeclaredNetwork → List Row → Result (List ℕ) Answer
+check_judged network rows = judged (accepted_text network rows) (option_map (refusal_text network.topology) (refusal_of network rows))

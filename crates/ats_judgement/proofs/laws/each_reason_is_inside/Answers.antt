@@ -1,5 +1,0 @@
-use Rattle.ats_judgement.proofs.ReasonPorts.{each_reason_is_inside}
-use Rattle.ats_judgement.proofs.laws.each_reason_is_inside.Goals as goal
-
-pub returns : goal.returns
-returns c = each_reason_is_inside

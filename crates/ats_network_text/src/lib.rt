@@ -1,0 +1,6 @@
+//! What is printed of a network.
+#![tactic(auto)]
+
+pub mod printing;
+
+pub use printing::show;

@@ -1,0 +1,155 @@
+//! What is printed of a network.
+
+ghost use Rattle.std.specs.Prelude.{◌≡◌, ◌++◌, ◌<◌, length, All, OnOk, IfOk};
+ghost use Rattle.std.specs.List.{flat_map, enumerate_from};
+ghost use Rattle.ats_topology.specs.Port.{port_at};
+ghost use Rattle.ats_topology.specs.Walks.{ArePorts};
+ghost use Rattle.ats_streams.specs.Stream.{DeclaredStream};
+ghost use Rattle.ats_streams.specs.Flow.{DeclaredFlow};
+ghost use Rattle.ats_network_text.specs.Text.{port_line, path_text, sender_line, stream_line, flow_line, totals_line, show_text};
+
+use ats_network::Network;
+use ats_port_names::write_port;
+use ats_streams::{Flow, Stream};
+use ats_topology::Topology;
+use itoa::{Buffer, Integer};
+use std::alloc::{AllocError, Global};
+
+/// A line for each port by number, with its picoseconds per bit and its latency in picoseconds; a line for each stream and
+/// then for each flow, with its class and the ports of its path; and a line of totals. `AllocError` where there is no memory
+/// for the text.
+#[tactic(auto, unfolding(crate::specs::Text::show_text))]
+pub fn show(alloc: Global, network: &Network) -> Result<Vec<u8>, AllocError>
+    ensures { IfOk result (λ text. text.items ≡ show_text network.now) }
+{
+    let mut out = Vec::new(alloc);
+    let topology = network.topology();
+    let (streams, flows) = (network.streams(), network.flows());
+    write_ports(&mut out, topology)?;
+    write_streams(&mut out, topology, streams)?;
+    write_flows(&mut out, topology, flows)?;
+    write_totals(&mut out, topology.ports().len(), streams.len(), flows.len())?;
+    Ok(out)
+}
+
+// The lines of the ports.
+fn write_ports(out: &mut Vec<u8>, topology: &Topology) -> Result<(), AllocError>
+    ensures { OnOk result (out.new.items ≡ out.old.items ++ flat_map (port_line topology.now) (enumerate_from 0 topology.now.ports)) }
+{
+    for port in 0..topology.ports().len() as u32 {
+        write_port_line(out, topology, port)?;
+    }
+    Ok(())
+}
+
+// The line of a port.
+#[tactic(auto, unfolding(crate::specs::Text::port_line))]
+fn write_port_line(out: &mut Vec<u8>, topology: &Topology, port: u32) -> Result<(), AllocError>
+    requires { port < length topology.now.ports }
+    ensures { OnOk result (out.new.items ≡ out.old.items ++ port_line topology.now (port, port_at topology.now.ports port)) }
+{
+    let sends = topology.ports()[port as usize];
+    write_number(out, b"port ", port)?;
+    out.extend_from_slice(b" ")?;
+    write_port(out, topology, port)?;
+    write_number(out, b" ", sends.ps_per_bit)?;
+    write_number(out, b" ", sends.latency.0)?;
+    out.extend_from_slice(b"\n")?;
+    Ok(())
+}
+
+// The lines of the streams.
+fn write_streams(
+    out: &mut Vec<u8>,
+    topology: &Topology,
+    streams: &[Stream],
+) -> Result<(), AllocError>
+    requires { All (λ (s : DeclaredStream). ArePorts topology.now.ports s.path) streams.now }
+    ensures { OnOk result (out.new.items ≡ out.old.items ++ flat_map (stream_line topology.now) streams.now) }
+{
+    for stream in streams {
+        let name = stream.name();
+        write_sender(
+            out,
+            topology,
+            b"stream",
+            name.bytes(),
+            stream.class(),
+            stream.path(),
+        )?;
+    }
+    Ok(())
+}
+
+// The lines of the flows, which have class 0.
+fn write_flows(out: &mut Vec<u8>, topology: &Topology, flows: &[Flow]) -> Result<(), AllocError>
+    requires { All (λ (f : DeclaredFlow). ArePorts topology.now.ports f.path) flows.now }
+    ensures { OnOk result (out.new.items ≡ out.old.items ++ flat_map (flow_line topology.now) flows.now) }
+{
+    for flow in flows {
+        let name = flow.name();
+        write_sender(out, topology, b"flow", name.bytes(), 0, flow.path())?;
+    }
+    Ok(())
+}
+
+// The line of a stream or flow.
+#[tactic(auto, unfolding(crate::specs::Text::sender_line))]
+fn write_sender(
+    out: &mut Vec<u8>,
+    topology: &Topology,
+    word: &[u8],
+    name: &[u8],
+    class: u8,
+    path: &[u32],
+) -> Result<(), AllocError>
+    requires { ArePorts topology.now.ports path.now }
+    ensures { OnOk result (out.new.items ≡ out.old.items ++ sender_line topology.now word.now name.now class path.now) }
+{
+    out.extend_from_slice(word)?;
+    out.extend_from_slice(b" ")?;
+    out.extend_from_slice(name)?;
+    write_number(out, b" ", class)?;
+    write_path(out, topology, path)?;
+    out.extend_from_slice(b"\n")?;
+    Ok(())
+}
+
+// The ports of a path, with a space before each.
+fn write_path(out: &mut Vec<u8>, topology: &Topology, path: &[u32]) -> Result<(), AllocError>
+    requires { ArePorts topology.now.ports path.now }
+    ensures { OnOk result (out.new.items ≡ out.old.items ++ path_text topology.now path.now) }
+{
+    for port in path {
+        out.extend_from_slice(b" ")?;
+        write_port(out, topology, *port)?;
+    }
+    Ok(())
+}
+
+// How many ports, streams and flows there are.
+#[tactic(auto, unfolding(crate::specs::Text::totals_line))]
+fn write_totals(
+    out: &mut Vec<u8>,
+    ports: usize,
+    streams: usize,
+    flows: usize,
+) -> Result<(), AllocError>
+    ensures { OnOk result (out.new.items ≡ out.old.items ++ totals_line ports streams flows) }
+{
+    write_number(out, b"total ports ", ports)?;
+    write_number(out, b" streams ", streams)?;
+    write_number(out, b" flows ", flows)?;
+    out.extend_from_slice(b"\n")?;
+    Ok(())
+}
+
+// A word, and a number behind it.
+fn write_number<I: Integer + Drop>(out: &mut Vec<u8>, word: &[u8], n: I) -> Result<(), AllocError>
+    ensures { OnOk result (out.new.items ≡ out.old.items ++ (word.now ++ I.text n)) }
+{
+    let mut buffer = Buffer::new();
+    out.extend_from_slice(word)?;
+    out.extend_from_slice(buffer.format(n).as_bytes())?;
+    Ok(())
+}

@@ -1,0 +1,59 @@
+use Rattle.std.specs.Prelude.{ℕ, ◌≤◌, ◌<◌, ◌^◌, ◌+◌, List, length, Option}
+use Rattle.std.specs.Option.{ForSome}
+use Rattle.ats_network_toml.specs.declared.entries.StationEntry.{StationEntry}
+use Rattle.ats_network_toml.specs.declared.entries.BridgeEntry.{BridgeEntry}
+use Rattle.ats_network_toml.specs.declared.entries.LinkEntry.{LinkEntry}
+
+-- the names of a path's nodes, or of its two ends alone
+pub data DeclaredRoute : Type 0 where
+  path : List (List ℕ) → DeclaredRoute
+  ends : List ℕ → List ℕ → DeclaredRoute
+
+-- what a file declares of a stream
+pub record DeclaredStream : Type 0 where
+  pub name : List ℕ
+  pub route : DeclaredRoute
+  pub class : ℕ
+  pub rate_bps : ℕ
+  pub burst_bits : ℕ
+  pub min_octets : ℕ
+  pub max_octets : ℕ
+  pub deadline_ns : ℕ
+  pub identity : Option (ℕ × ℕ)
+
+-- what a file declares of a flow
+pub record DeclaredFlow : Type 0 where
+  pub name : List ℕ
+  pub route : DeclaredRoute
+  pub max_octets : ℕ
+
+-- what a network file declares, each list in file order
+pub record DeclaredDocument : Type 0 where
+  pub stations : List StationEntry
+  pub bridges : List BridgeEntry
+  pub links : List LinkEntry
+  pub streams : List DeclaredStream
+  pub flows : List DeclaredFlow
+
+-- a path has at least two nodes
+abbrev pub IsRoute : DeclaredRoute → Type 0
+IsRoute (path names) = 2 ≤ length names
+IsRoute (ends from to) = Unit {0}
+
+-- an address has 48 bits, and a VLAN identifier is 1 to 4094
+pub record IsIdentity (identity : ℕ × ℕ) : Type 0 where
+  pub address : identity.0 < 2 ^ 48
+  pub vlan_least : 1 ≤ identity.1
+  pub vlan_most : identity.1 ≤ 4094
+
+-- what each stream entry keeps
+pub record IsStreamEntry (stream : DeclaredStream) : Type 0 where
+  pub route : IsRoute stream.route
+  pub identity : ForSome stream.identity IsIdentity
+
+-- the limits that each document keeps
+pub record IsDocument (document : DeclaredDocument) : Type 0 where
+  pub nodes : length document.stations + length document.bridges ≤ 1024
+  pub links : length document.links ≤ 2048
+  pub streams : length document.streams ≤ 4096
+  pub flows : length document.flows ≤ 1024

@@ -1,0 +1,68 @@
+use Rattle.std.specs.Prelude.{ℕ, Result, Ok, if◌then◌else◌}
+use Rattle.ats_num.specs.Failure.{◌>>=◌}
+use Rattle.ats_network_toml.specs.Walk.{Entry, has, formed, name_at, whole_at, path_at, deadline_at, identity_at}
+use Rattle.ats_network_toml.specs.Document.{DeclaredRoute, path, ends, DeclaredStream, DeclaredFlow}
+use Rattle.ats_network_toml.specs.declared.entries.StationEntry.{StationEntry}
+use Rattle.ats_network_toml.specs.declared.entries.BridgeEntry.{BridgeEntry}
+use Rattle.ats_network_toml.specs.declared.entries.LinkEntry.{LinkEntry}
+use Rattle.ats_network_toml.specs.declared.key.Key.{Key}
+use Rattle.ats_network_toml.specs.declared.key.Key.TheVariants as key
+use Rattle.ats_network_toml.specs.declared.fault.DocumentFault.{DocumentFault}
+
+-- a whole number of 32 bits, and one that is as great as TOML allows
+abbrev pub short_at : Entry → Key → Result ℕ DocumentFault
+short_at e k = whole_at e k 0 4294967295
+
+abbrev pub long_at : Entry → Key → Result ℕ DocumentFault
+long_at e k = whole_at e k 0 9223372036854775807
+
+-- the path, or its two ends
+abbrev pub route_at : Entry → Result DeclaredRoute DocumentFault
+route_at e =
+    if has e key.Path then (path_at e >>= λ names. Ok (path names))
+    else (name_at e key.From >>= λ from. name_at e key.To >>= λ to. Ok (ends from to))
+
+abbrev pub station_in : Entry → Result StationEntry DocumentFault
+station_in e = do
+  well ← formed e
+  name ← name_at e key.Name
+  Ok (record { name = name })
+
+abbrev pub bridge_in : Entry → Result BridgeEntry DocumentFault
+bridge_in e = do
+  well ← formed e
+  name ← name_at e key.Name
+  processing ← short_at e key.ProcessingNs
+  residence ← short_at e key.ResidenceNs
+  Ok (record { name = name; processing_ns = processing; residence_ns = residence })
+
+abbrev pub link_in : Entry → Result LinkEntry DocumentFault
+link_in e = do
+  well ← formed e
+  a ← name_at e key.A
+  b ← name_at e key.B
+  mbps ← short_at e key.Mbps
+  propagation ← short_at e key.PropagationNs
+  Ok (record { a = a; b = b; mbps = mbps; propagation_ns = propagation })
+
+abbrev pub stream_in : Entry → Result DeclaredStream DocumentFault
+stream_in e = do
+  well ← formed e
+  name ← name_at e key.Name
+  route ← route_at e
+  class ← long_at e key.Class
+  rate ← long_at e key.RateBps
+  burst ← long_at e key.BurstBits
+  least ← long_at e key.MinOctets
+  most ← long_at e key.MaxOctets
+  deadline ← deadline_at e
+  identity ← identity_at e
+  Ok (record { name = name; route = route; class = class; rate_bps = rate; burst_bits = burst; min_octets = least; max_octets = most; deadline_ns = deadline; identity = identity })
+
+abbrev pub flow_in : Entry → Result DeclaredFlow DocumentFault
+flow_in e = do
+  well ← formed e
+  name ← name_at e key.Name
+  route ← route_at e
+  most ← long_at e key.MaxOctets
+  Ok (record { name = name; route = route; max_octets = most })

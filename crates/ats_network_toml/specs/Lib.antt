@@ -1,0 +1,10 @@
+pub mod Words
+pub mod Kinds
+pub mod Walk
+pub mod Document
+pub mod Entries
+pub mod Seen
+pub mod Reading
+pub mod ArraysSeen
+pub mod PartsSeen
+pub mod FaultText

@@ -1,0 +1,27 @@
+use Rattle.std.specs.Prelude.{Bool, List, [], unwrap_or, is_some}
+use Rattle.toml.specs.Data.{Members, as_table}
+use Rattle.toml.specs.View.{items_view, table_view}
+use Rattle.toml.specs.declared.value.Value.{Value}
+use Rattle.ats_network_toml.specs.Kinds.{all_in}
+use Rattle.ats_network_toml.specs.Walk.{Entry}
+use Rattle.ats_network_toml.specs.Document.{DeclaredRoute, path, ends}
+use Rattle.ats_network_toml.specs.declared.section.Section.{Section}
+use Rattle.ats_network_toml.specs.declared.entries.Route.{Route}
+use Rattle.ats_network_toml.specs.declared.entries.Route.TheVariants.{Path, Ends}
+
+-- the table that a section stands for
+abbrev pub entry_of : Section → Entry
+entry_of s = record { table = s.table; number = s.number; members = table_view s.members.now }
+
+-- these values are tables
+abbrev pub are_tables : List Value → Bool
+are_tables vs = is_some (all_in as_table (items_view vs))
+
+-- the tables that these values are
+abbrev pub tables_of : List Value → List Members
+tables_of vs = unwrap_or (all_in as_table (items_view vs)) []
+
+-- a route, its path as a list
+abbrev pub route_seen : Route → DeclaredRoute
+route_seen (Path names) = path names.items
+route_seen (Ends from to) = ends from to

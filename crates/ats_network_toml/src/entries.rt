@@ -1,0 +1,220 @@
+//! What the tables of a network file declare.
+
+ghost use Rattle.std.specs.Prelude.{◌≡◌, Result};
+ghost use Rattle.ats_num.specs.Failure.{Gives};
+ghost use Rattle.ats_network_toml.specs.Walk.{Entry};
+ghost use Rattle.ats_network_toml.specs.Seen.{entry_of};
+ghost use Rattle.ats_network_toml.specs.declared.fault.DocumentFault.{DocumentFault};
+
+use crate::fault::DocumentFault;
+use crate::key::Key;
+use crate::section::Section;
+use ats_num::{Failure, Name};
+use std::alloc::Global;
+use std::marker::Model;
+
+/// What can be read from one table of a file.
+pub(crate) trait FromSection: Drop {
+    // What stands in a table, or its first fault.
+    ghost reads: { Entry → Result Self DocumentFault };
+
+    /// What stands in a table, or its first fault: the first missing key, then an unknown key, then the first key of the
+    /// wrong kind.
+    fn read(alloc: Global, section: &Section) -> Result<Self, Failure<DocumentFault>>
+        ensures { Gives result (reads (entry_of section.now)) };
+}
+
+/// A station.
+#[derive(Clone, Copy, Debug)]
+pub struct StationEntry {
+    /// Its name.
+    pub name: Name,
+}
+
+impl FromSection for StationEntry {
+    ghost use Rattle.ats_network_toml.specs.Entries.{station_in};
+
+    ghost reads = { station_in };
+
+    fn read(_alloc: Global, section: &Section) -> Result<Self, Failure<DocumentFault>> {
+        section.formed()?;
+        let name = section.name(Key::Name)?;
+        Ok(StationEntry { name })
+    }
+}
+
+/// A bridge.
+#[derive(Clone, Copy, Debug)]
+pub struct BridgeEntry {
+    /// Its name.
+    pub name: Name,
+    /// How long it processes a frame, in nanoseconds.
+    pub processing_ns: u32,
+    /// The maximum residence time of its groups of schedulers, in nanoseconds.
+    pub residence_ns: u32,
+}
+
+impl FromSection for BridgeEntry {
+    ghost use Rattle.ats_network_toml.specs.Entries.{bridge_in};
+
+    ghost reads = { bridge_in };
+
+    fn read(_alloc: Global, section: &Section) -> Result<Self, Failure<DocumentFault>> {
+        section.formed()?;
+        let name = section.name(Key::Name)?;
+        let processing_ns = section.short(Key::ProcessingNs)?;
+        let residence_ns = section.short(Key::ResidenceNs)?;
+        Ok(BridgeEntry {
+            name,
+            processing_ns,
+            residence_ns,
+        })
+    }
+}
+
+/// A link between two nodes.
+#[derive(Clone, Copy, Debug)]
+pub struct LinkEntry {
+    /// The name of the node at one end.
+    pub a: Name,
+    /// The name of the node at the other end.
+    pub b: Name,
+    /// Its rate in megabits per second.
+    pub mbps: u32,
+    /// Its propagation in nanoseconds.
+    pub propagation_ns: u32,
+}
+
+impl FromSection for LinkEntry {
+    ghost use Rattle.ats_network_toml.specs.Entries.{link_in};
+
+    ghost reads = { link_in };
+
+    fn read(_alloc: Global, section: &Section) -> Result<Self, Failure<DocumentFault>> {
+        section.formed()?;
+        let a = section.name(Key::A)?;
+        let b = section.name(Key::B)?;
+        let mbps = section.short(Key::Mbps)?;
+        let propagation_ns = section.short(Key::PropagationNs)?;
+        Ok(LinkEntry {
+            a,
+            b,
+            mbps,
+            propagation_ns,
+        })
+    }
+}
+
+/// How a stream or a flow goes through the network.
+#[derive(Debug, Drop)]
+pub enum Route {
+    /// By these nodes, at least two, from talker to listener.
+    Path(Vec<Name>),
+    /// From this node to that one, by a path that is to be found.
+    Ends(Name, Name),
+}
+
+/// A stream. Contracts see its path as a list.
+#[derive(Debug, Drop)]
+pub struct StreamEntry {
+    /// Its name.
+    pub name: Name,
+    /// Its way through the network.
+    pub route: Route,
+    /// Its traffic class, 0 to 2^63 - 1: whether it is a class is not judged here, nor the range of the other numbers.
+    pub class: u64,
+    /// Its committed rate in bits per second.
+    pub rate_bps: u64,
+    /// Its burst in bits.
+    pub burst_bits: u64,
+    /// The least octets of its frames.
+    pub min_octets: u64,
+    /// The most octets of its frames.
+    pub max_octets: u64,
+    /// Its deadline in nanoseconds; 1,000,000,000 where the file gives none.
+    pub deadline_ns: u64,
+    /// Its destination address, of 48 bits, and its VLAN identifier, 1 to 4094, where the file gives them: null stream
+    /// identification of IEEE Std 802.1CB.
+    pub identity: Option<(u64, u16)>,
+}
+
+impl Model for StreamEntry {
+    ghost use Rattle.ats_network_toml.specs.Document.{DeclaredStream, IsStreamEntry};
+    ghost use Rattle.ats_network_toml.specs.Seen.{route_seen};
+
+    ghost Value = { DeclaredStream };
+
+    ghost view = { λ s. record { name = s.name; route = route_seen s.route; class = s.class; rate_bps = s.rate_bps; burst_bits = s.burst_bits; min_octets = s.min_octets; max_octets = s.max_octets; deadline_ns = s.deadline_ns; identity = s.identity } };
+
+    ghost invariant = { λ s. IsStreamEntry (record { name = s.name; route = route_seen s.route; class = s.class; rate_bps = s.rate_bps; burst_bits = s.burst_bits; min_octets = s.min_octets; max_octets = s.max_octets; deadline_ns = s.deadline_ns; identity = s.identity }) };
+}
+
+impl FromSection for StreamEntry {
+    ghost use Rattle.ats_network_toml.specs.Entries.{stream_in};
+
+    ghost reads = { stream_in };
+
+    fn read(alloc: Global, section: &Section) -> Result<Self, Failure<DocumentFault>> {
+        section.formed()?;
+        let name = section.name(Key::Name)?;
+        let route = section.route(alloc)?;
+        let class = section.long(Key::Class)?;
+        let rate_bps = section.long(Key::RateBps)?;
+        let burst_bits = section.long(Key::BurstBits)?;
+        let min_octets = section.long(Key::MinOctets)?;
+        let max_octets = section.long(Key::MaxOctets)?;
+        let deadline_ns = section.deadline_ns()?;
+        let identity = section.identity()?;
+        Ok(StreamEntry {
+            name,
+            route,
+            class,
+            rate_bps,
+            burst_bits,
+            min_octets,
+            max_octets,
+            deadline_ns,
+            identity,
+        })
+    }
+}
+
+/// A best-effort flow. Contracts see its path as a list.
+#[derive(Debug, Drop)]
+pub struct FlowEntry {
+    /// Its name.
+    pub name: Name,
+    /// Its way through the network.
+    pub route: Route,
+    /// The most octets of its frames.
+    pub max_octets: u64,
+}
+
+impl Model for FlowEntry {
+    ghost use Rattle.ats_network_toml.specs.Document.{DeclaredFlow, IsRoute};
+    ghost use Rattle.ats_network_toml.specs.Seen.{route_seen};
+
+    ghost Value = { DeclaredFlow };
+
+    ghost view = { λ f. record { name = f.name; route = route_seen f.route; max_octets = f.max_octets } };
+
+    ghost invariant = { λ f. IsRoute (route_seen f.route) };
+}
+
+impl FromSection for FlowEntry {
+    ghost use Rattle.ats_network_toml.specs.Entries.{flow_in};
+
+    ghost reads = { flow_in };
+
+    fn read(alloc: Global, section: &Section) -> Result<Self, Failure<DocumentFault>> {
+        section.formed()?;
+        let name = section.name(Key::Name)?;
+        let route = section.route(alloc)?;
+        let max_octets = section.long(Key::MaxOctets)?;
+        Ok(FlowEntry {
+            name,
+            route,
+            max_octets,
+        })
+    }
+}

@@ -1,0 +1,92 @@
+//! The keys of a network file.
+
+ghost use Rattle.std.specs.Prelude.{◌≡◌};
+
+/// A key of a network file, in any of its tables.
+#[derive(Clone, Copy, Debug, PartialEq, Eq, Hash)]
+pub enum Key {
+    /// The format's number, in the top table.
+    Format,
+    /// The array of stations.
+    Station,
+    /// The array of bridges.
+    Bridge,
+    /// The array of links.
+    Link,
+    /// The array of streams.
+    Stream,
+    /// The array of flows.
+    Flow,
+    /// The name of a node, a stream or a flow.
+    Name,
+    /// How long a bridge processes a frame, in nanoseconds.
+    ProcessingNs,
+    /// The maximum residence time of a bridge's groups, in nanoseconds.
+    ResidenceNs,
+    /// One end of a link.
+    A,
+    /// The other end of a link.
+    B,
+    /// A link's rate, in megabits per second.
+    Mbps,
+    /// A link's propagation, in nanoseconds.
+    PropagationNs,
+    /// The nodes of a path, from talker to listener.
+    Path,
+    /// The talker, where the path is to be found.
+    From,
+    /// The listener, where the path is to be found.
+    To,
+    /// A stream's traffic class.
+    Class,
+    /// A stream's committed rate, in bits per second.
+    RateBps,
+    /// A stream's burst, in bits.
+    BurstBits,
+    /// The least octets of a stream's frames.
+    MinOctets,
+    /// The most octets of the frames of a stream or a flow.
+    MaxOctets,
+    /// A stream's deadline, in nanoseconds.
+    DeadlineNs,
+    /// A stream's destination address.
+    Address,
+    /// A stream's VLAN identifier.
+    Vlan,
+}
+
+impl Key {
+    ghost use Rattle.ats_network_toml.specs.Words.{key_text};
+
+    /// The key as a file writes it.
+    pub fn text(&self) -> &'static str
+        ensures { result.now ≡ key_text self.now }
+    {
+        match self {
+            Key::Format => "format",
+            Key::Station => "station",
+            Key::Bridge => "bridge",
+            Key::Link => "link",
+            Key::Stream => "stream",
+            Key::Flow => "flow",
+            Key::Name => "name",
+            Key::ProcessingNs => "processing_ns",
+            Key::ResidenceNs => "residence_ns",
+            Key::A => "a",
+            Key::B => "b",
+            Key::Mbps => "mbps",
+            Key::PropagationNs => "propagation_ns",
+            Key::Path => "path",
+            Key::From => "from",
+            Key::To => "to",
+            Key::Class => "class",
+            Key::RateBps => "rate_bps",
+            Key::BurstBits => "burst_bits",
+            Key::MinOctets => "min_octets",
+            Key::MaxOctets => "max_octets",
+            Key::DeadlineNs => "deadline_ns",
+            Key::Address => "address",
+            Key::Vlan => "vlan",
+        }
+    }
+}

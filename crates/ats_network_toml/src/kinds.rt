@@ -1,0 +1,113 @@
+//! The kinds of values that a key may hold.
+
+ghost use Rattle.std.specs.Prelude.{◌≡◌, ◌≤◌, ◌<◌, ◌^◌, ◌&&◌, nat_le, slice_index, IfSome};
+ghost use Rattle.toml.specs.View.{view};
+ghost use Rattle.ats_network_toml.specs.Kinds.{some_where, name_in, whole_in, digit_at, pair_at, joined_at, address_of, address_in};
+
+use ats_num::Name;
+use toml::Value;
+
+/// The name that a value writes, where it is a string that is a name.
+pub(crate) fn name_in(value: &Value) -> Option<Name>
+    ensures { result ≡ name_in (view value.now) }
+{
+    match value.as_str() {
+        Some(text) => Name::new(text.as_bytes()),
+        None => None,
+    }
+}
+
+/// The number that a value is, where it is a whole number of this range.
+pub(crate) fn whole_in(value: &Value, least: u64, most: u64) -> Option<u64>
+    ensures value { result ≡ whole_in least most (view value.now) }
+    ensures within { IfSome result (λ n. (least ≤ n) × (n ≤ most)) }
+{
+    let n = value.as_integer()?;
+    if n < 0 {
+        return None;
+    }
+    ranged(n as u64, least, most)
+}
+
+fn ranged(n: u64, least: u64, most: u64) -> Option<u64>
+    ensures value { result ≡ some_where (nat_le least n && nat_le n most) n }
+    ensures within { IfSome result (λ n. (least ≤ n) × (n ≤ most)) }
+{
+    if least <= n && n <= most {
+        Some(n)
+    } else {
+        None
+    }
+}
+
+/// The number that an address writes, where a value is a string of six pairs of hexadecimal digits joined by `:`. The first
+/// pair stands highest.
+pub(crate) fn address_in(value: &Value) -> Option<u64>
+    ensures value { result ≡ address_in (view value.now) }
+    ensures within { IfSome result (λ n. n < 2 ^ 48) }
+{
+    match value.as_str() {
+        Some(text) => address_of(text.as_bytes()),
+        None => None,
+    }
+}
+
+fn address_of(text: &[u8]) -> Option<u64>
+    ensures value { result ≡ address_of text.now }
+    ensures within { IfSome result (λ n. n < 2 ^ 48) }
+{
+    let a = pair_at(text, 0)?;
+    let b = joined_at(text, 2)?;
+    let c = joined_at(text, 5)?;
+    let d = joined_at(text, 8)?;
+    let e = joined_at(text, 11)?;
+    let f = joined_at(text, 14)?;
+    if text.len() != 17 {
+        return None;
+    }
+    Some(((((a * 256 + b) * 256 + c) * 256 + d) * 256 + e) * 256 + f)
+}
+
+// A colon, and a pair of hexadecimal digits behind it.
+fn joined_at(text: &[u8], at: usize) -> Option<u64>
+    requires { at ≤ 14 }
+    ensures value { result ≡ joined_at text.now at }
+    ensures within { IfSome result (λ n. n < 256) }
+{
+    if byte_at(text, at) == b':' {
+        pair_at(text, at + 1)
+    } else {
+        None
+    }
+}
+
+// The number that a pair of hexadecimal digits writes.
+fn pair_at(text: &[u8], at: usize) -> Option<u64>
+    requires { at ≤ 15 }
+    ensures value { result ≡ pair_at text.now at }
+    ensures within { IfSome result (λ n. n < 256) }
+{
+    let high = digit_at(text, at)?;
+    let low = digit_at(text, at + 1)?;
+    Some(high * 16 + low)
+}
+
+fn digit_at(text: &[u8], at: usize) -> Option<u64>
+    ensures value { result ≡ digit_at text.now at }
+    ensures within { IfSome result (λ n. n < 16) }
+{
+    match char::from(byte_at(text, at)).to_digit(16) {
+        Some(digit) => Some(u64::from(digit)),
+        None => None,
+    }
+}
+
+// The byte at a place, 0 past the end.
+fn byte_at(text: &[u8], at: usize) -> u8
+    ensures { result ≡ slice_index text.now at }
+{
+    match text.get(at) {
+        Some(byte) => *byte,
+        None => 0,
+    }
+}

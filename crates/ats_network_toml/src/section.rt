@@ -1,0 +1,328 @@
+//! The walk over one table of a network file.
+
+ghost use Rattle.std.specs.Prelude.{◌≡◌, ◌≤◌, ◌<◌, ◌^◌, option_map, length, IsTrue, IfOk, IfErr};
+ghost use Rattle.std.specs.Option.{ForSome};
+ghost use Rattle.toml.specs.Data.{get_member};
+ghost use Rattle.toml.specs.View.{view, items_view, table_view};
+ghost use Rattle.ats_network_toml.specs.Words.{key_text};
+ghost use Rattle.ats_network_toml.specs.Walk.{has, is_due, is_missing, missing_key, is_known, has_unknown, formed, at, name_at, whole_at, tables_at, path_at, identity_at, deadline_at};
+ghost use Rattle.ats_num.specs.Failure.{or_fault, GivesSeen};
+ghost use Rattle.ats_network_toml.specs.Kinds.{name_in, address_in, all_in};
+ghost use Rattle.ats_network_toml.specs.Entries.{route_at};
+ghost use Rattle.ats_network_toml.specs.Document.{IsRoute, IsIdentity};
+ghost use Rattle.ats_network_toml.specs.Seen.{are_tables, tables_of, route_seen};
+
+use crate::entries::Route;
+use crate::fault::DocumentFault;
+use crate::key::Key;
+use crate::kinds::{address_in, name_in, whole_in};
+use crate::table::Table;
+use ats_num::{Failure, Name};
+use std::alloc::Global;
+use toml::Value;
+
+/// The greatest whole number of a TOML text.
+pub(crate) const MAX_WHOLE: u64 = 9_223_372_036_854_775_807;
+
+/// The deadline of a stream that declares none, in nanoseconds.
+pub(crate) const DEFAULT_DEADLINE_NS: u64 = 1_000_000_000;
+
+/// One table of a file: which it is, its number among those of its array, counted from 1 (0 for the top table), and what
+/// stands in it.
+#[derive(Clone, Copy)]
+pub(crate) struct Section<'a> {
+    table: Table,
+    number: u32,
+    members: &'a toml::Table,
+}
+
+impl<'a> Section<'a> {
+    ghost use Rattle.ats_network_toml.specs.Seen.{entry_of};
+
+    /// The table with this number.
+    pub(crate) fn new(table: Table, number: u32, members: &'a toml::Table) -> Self
+        ensures { entry_of result ≡ record { table = table; number = number; members = table_view members.now } }
+    {
+        Section {
+            table,
+            number,
+            members,
+        }
+    }
+
+    /// What stands with a key.
+    pub(crate) fn value(&self, key: Key) -> Option<&'a Value>
+        ensures { option_map (λ v. view v.now) result ≡ get_member (key_text key) (entry_of self.now).members }
+    {
+        member(self.members, key.text())
+    }
+
+    /// Whether a key stands in the table.
+    pub(crate) fn has(&self, key: Key) -> bool
+        ensures { result ≡ has (entry_of self.now) key }
+    {
+        self.value(key).is_some()
+    }
+
+    // Whether a key of the table's list has to stand there.
+    fn is_due(&self, key: Key) -> bool
+        ensures { result ≡ is_due (entry_of self.now) key }
+    {
+        match key {
+            Key::Format => true,
+            Key::Station => false,
+            Key::Bridge => false,
+            Key::Link => false,
+            Key::Stream => false,
+            Key::Flow => false,
+            Key::Name => true,
+            Key::ProcessingNs => true,
+            Key::ResidenceNs => true,
+            Key::A => true,
+            Key::B => true,
+            Key::Mbps => true,
+            Key::PropagationNs => true,
+            Key::Path => !(self.has(Key::From) || self.has(Key::To)),
+            Key::From => self.has(Key::To),
+            Key::To => self.has(Key::From),
+            Key::Class => true,
+            Key::RateBps => true,
+            Key::BurstBits => true,
+            Key::MinOctets => true,
+            Key::MaxOctets => true,
+            Key::DeadlineNs => false,
+            Key::Address => self.has(Key::Vlan),
+            Key::Vlan => self.has(Key::Address),
+        }
+    }
+
+    // Whether a key of the table's list has to stand there, and does not.
+    fn is_missing(&self, key: Key) -> bool
+        ensures { result ≡ is_missing (entry_of self.now) key }
+    {
+        self.is_due(key) && !self.has(key)
+    }
+
+    // The first missing key in the order of the table's list.
+    fn missing_key(&self) -> Option<Key>
+        ensures { result ≡ missing_key (entry_of self.now) }
+    {
+        for key in self.table.keys() {
+            if self.is_missing(*key) {
+                return Some(*key);
+            }
+        }
+        None
+    }
+
+    /// That no key is missing and, then, that none is unknown.
+    pub(crate) fn formed(&self) -> Result<(), DocumentFault>
+        ensures { result ≡ formed (entry_of self.now) }
+    {
+        if let Some(key) = self.missing_key() {
+            return Err(DocumentFault::Missing {
+                table: self.table,
+                entry: self.number,
+                key,
+            });
+        }
+        if has_unknown(self.table.keys(), self.members) {
+            return Err(DocumentFault::Unknown {
+                table: self.table,
+                entry: self.number,
+            });
+        }
+        Ok(())
+    }
+
+    /// The fault of a key whose value is of the wrong kind.
+    pub(crate) fn wrong_kind(&self, key: Key) -> DocumentFault
+        ensures { result ≡ DocumentFault.WrongKind (entry_of self.now).table (entry_of self.now).number key }
+    {
+        DocumentFault::WrongKind {
+            table: self.table,
+            entry: self.number,
+            key,
+        }
+    }
+
+    /// The name that stands with a key.
+    pub(crate) fn name(&self, key: Key) -> Result<Name, DocumentFault>
+        ensures { result ≡ name_at (entry_of self.now) key }
+    {
+        match self.value(key) {
+            Some(value) => name_in(value).ok_or(self.wrong_kind(key)),
+            None => Err(self.wrong_kind(key)),
+        }
+    }
+
+    /// The whole number of this range that stands with a key.
+    pub(crate) fn whole(&self, key: Key, least: u64, most: u64) -> Result<u64, DocumentFault>
+        ensures value { result ≡ whole_at (entry_of self.now) key least most }
+        ensures within { IfOk result (λ n. (least ≤ n) × (n ≤ most)) }
+    {
+        match self.value(key) {
+            Some(value) => whole_in(value, least, most).ok_or(self.wrong_kind(key)),
+            None => Err(self.wrong_kind(key)),
+        }
+    }
+
+    /// The whole number of 32 bits that stands with a key.
+    pub(crate) fn short(&self, key: Key) -> Result<u32, DocumentFault>
+        ensures { result ≡ whole_at (entry_of self.now) key 0 4294967295 }
+    {
+        Ok(self.whole(key, 0, u64::from(u32::MAX))? as u32)
+    }
+
+    /// The whole number that stands with a key.
+    pub(crate) fn long(&self, key: Key) -> Result<u64, DocumentFault>
+        ensures { result ≡ whole_at (entry_of self.now) key 0 9223372036854775807 }
+    {
+        self.whole(key, 0, MAX_WHOLE)
+    }
+
+    /// The tables of the array that stands with a key; none where nothing stands there.
+    pub(crate) fn tables(&self, key: Key) -> Result<&'a [Value], DocumentFault>
+        ensures ok { IfOk result (λ vs. (tables_at (entry_of self.now) key ≡ Ok (tables_of vs.now)) × IsTrue (are_tables vs.now)) }
+        ensures err { IfErr result (λ e. tables_at (entry_of self.now) key ≡ Err e) }
+    {
+        let value = match self.value(key) {
+            Some(value) => value,
+            None => return Ok(&[]),
+        };
+        let values = match value.as_array() {
+            Some(values) => values.as_slice(),
+            None => return Err(self.wrong_kind(key)),
+        };
+        if !are_tables(values) {
+            return Err(self.wrong_kind(key));
+        }
+        Ok(values)
+    }
+
+    /// The way of a stream or a flow: its path, or its two ends.
+    pub(crate) fn route(&self, alloc: Global) -> Result<Route, Failure<DocumentFault>>
+        ensures value { GivesSeen route_seen result (route_at (entry_of self.now)) }
+        ensures route { IfOk result (λ route. IsRoute (route_seen route)) }
+    {
+        if self.has(Key::Path) {
+            return Ok(Route::Path(self.path(alloc)?));
+        }
+        let from = self.name(Key::From)?;
+        let to = self.name(Key::To)?;
+        Ok(Route::Ends(from, to))
+    }
+
+    // The names of a path, which has none of its ends beside it.
+    fn path(&self, alloc: Global) -> Result<Vec<Name>, Failure<DocumentFault>>
+        ensures value { GivesSeen (λ names. names.items) result (path_at (entry_of self.now)) }
+        ensures long { IfOk result (λ names. 2 ≤ length names.items) }
+    {
+        if self.has(Key::From) || self.has(Key::To) {
+            return Err(Failure::Fault(self.wrong_kind(Key::Path)));
+        }
+        let value = match self.value(Key::Path) {
+            Some(value) => value,
+            None => return Err(Failure::Fault(self.wrong_kind(Key::Path))),
+        };
+        let values = match value.as_array() {
+            Some(values) => values.as_slice(),
+            None => return Err(Failure::Fault(self.wrong_kind(Key::Path))),
+        };
+        let names = names_in(alloc, values, self.wrong_kind(Key::Path))?;
+        if names.len() < 2 {
+            return Err(Failure::Fault(self.wrong_kind(Key::Path)));
+        }
+        Ok(names)
+    }
+
+    /// Destination address and VLAN identifier, where they stand there.
+    pub(crate) fn identity(&self) -> Result<Option<(u64, u16)>, DocumentFault>
+        ensures value { result ≡ identity_at (entry_of self.now) }
+        ensures within { IfOk result (λ identity. ForSome identity IsIdentity) }
+    {
+        if !self.has(Key::Address) {
+            return Ok(None);
+        }
+        let address = self.address()?;
+        let vlan = self.whole(Key::Vlan, 1, 4094)? as u16;
+        Ok(Some((address, vlan)))
+    }
+
+    // The number of the address that stands there.
+    fn address(&self) -> Result<u64, DocumentFault>
+        ensures value { result ≡ at (entry_of self.now) Key.Address address_in }
+        ensures within { IfOk result (λ n. n < 2 ^ 48) }
+    {
+        match self.value(Key::Address) {
+            Some(value) => address_in(value).ok_or(self.wrong_kind(Key::Address)),
+            None => Err(self.wrong_kind(Key::Address)),
+        }
+    }
+
+    /// The deadline in nanoseconds; a second where none stands there.
+    pub(crate) fn deadline_ns(&self) -> Result<u64, DocumentFault>
+        ensures { result ≡ deadline_at (entry_of self.now) }
+    {
+        if self.has(Key::DeadlineNs) {
+            self.long(Key::DeadlineNs)
+        } else {
+            Ok(DEFAULT_DEADLINE_NS)
+        }
+    }
+}
+
+fn member<'a>(members: &'a toml::Table, key: &str) -> Option<&'a Value>
+    ensures { option_map (λ v. view v.now) result ≡ get_member key.now (table_view members.now) }
+{
+    members.get(key)
+}
+
+// The names that the items of an array are, or this fault where one is none.
+fn names_in(
+    alloc: Global,
+    values: &[Value],
+    fault: DocumentFault,
+) -> Result<Vec<Name>, Failure<DocumentFault>>
+    ensures { GivesSeen (λ names. names.items) result (or_fault fault (all_in name_in (items_view values.now))) }
+{
+    let mut names = Vec::new(alloc);
+    for value in values {
+        let name = match name_in(value) {
+            Some(name) => name,
+            None => return Err(Failure::Fault(fault)),
+        };
+        names.push(name)?;
+    }
+    Ok(names)
+}
+
+#[tactic(auto, using(crate::proofs::Joined::all_in_drop))]
+fn are_tables(values: &[Value]) -> bool
+    ensures { result ≡ are_tables values.now }
+{
+    for value in values {
+        if !value.is_table() {
+            return false;
+        }
+    }
+    true
+}
+
+fn has_unknown(keys: &[Key], members: &toml::Table) -> bool
+    ensures { result ≡ has_unknown keys.now (table_view members.now) }
+{
+    'members: for (text, _value) in members.iter() {
+        if !is_known(keys, text.as_str()) {
+            return true;
+        }
+    }
+    false
+}
+
+fn is_known(keys: &[Key], text: &str) -> bool
+    ensures { result ≡ is_known keys.now text.now }
+{
+    keys.iter()
+        .any(|key| text.as_bytes() == key.text().as_bytes())
+}

@@ -1,5 +1,0 @@
-use Rattle.ats_regulator.proofs.Regulator.{ats_is_regulator}
-use Rattle.ats_regulator.proofs.laws.ats_is_regulator.Goals as goal
-
-pub returns : goal.returns
-returns c = ats_is_regulator

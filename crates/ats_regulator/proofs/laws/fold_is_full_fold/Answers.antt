@@ -1,5 +1,0 @@
-use Rattle.ats_regulator.proofs.FullFold.{full_fold}
-use Rattle.ats_regulator.proofs.laws.fold_is_full_fold.Goals as goal
-
-pub returns : goal.returns
-returns c = full_fold

@@ -1,5 +1,0 @@
-use Rattle.ats_regulator.proofs.OutputLaws.{group_time_last}
-use Rattle.ats_regulator.proofs.laws.group_time_is_last.Goals as goal
-
-pub returns : goal.returns
-returns c = group_time_last

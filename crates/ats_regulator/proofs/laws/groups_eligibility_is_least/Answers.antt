@@ -1,5 +1,0 @@
-use Rattle.ats_regulator.proofs.GroupsOutput.{groups_eligibility_least}
-use Rattle.ats_regulator.proofs.laws.groups_eligibility_is_least.Goals as goal
-
-pub returns : goal.returns
-returns c = groups_eligibility_least

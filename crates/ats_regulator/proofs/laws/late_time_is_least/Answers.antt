@@ -1,5 +1,0 @@
-use Rattle.ats_regulator.proofs.OutputLaws.{late_time_least}
-use Rattle.ats_regulator.proofs.laws.late_time_is_least.Goals as goal
-
-pub returns : goal.returns
-returns c = late_time_least

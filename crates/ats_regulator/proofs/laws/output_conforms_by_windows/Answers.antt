@@ -1,5 +1,0 @@
-use Rattle.ats_regulator.proofs.OutputLaws.{output_by_windows}
-use Rattle.ats_regulator.proofs.laws.output_conforms_by_windows.Goals as goal
-
-pub returns : goal.returns
-returns c = output_by_windows

@@ -1,5 +1,0 @@
-use Rattle.ats_regulator.proofs.RowProofs.{bucket_emptied, rounded_up}
-use Rattle.ats_regulator.proofs.laws.worked_rows.Goals as goal
-
-pub returns : goal.returns
-returns c = record { bucket_emptied = bucket_emptied; rounded_up = rounded_up }

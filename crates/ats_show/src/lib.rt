@@ -1,9 +1,0 @@
-//! What is printed of a network.
-#![tactic(auto)]
-
-pub mod printing;
-
-pub use printing::show;
-
-#[cfg(test)]
-mod tests;

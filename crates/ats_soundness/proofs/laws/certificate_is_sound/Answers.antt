@@ -1,5 +1,0 @@
-use Rattle.ats_soundness.proofs.Soundness as soundness
-use Rattle.ats_soundness.proofs.laws.certificate_is_sound.Goals as goal
-
-pub returns : goal.returns
-returns c = soundness.certificate_is_sound

@@ -1,5 +1,0 @@
-use Rattle.ats_soundness.proofs.EachRule as rules
-use Rattle.ats_soundness.proofs.laws.holds_is_each_rule.Goals as goal
-
-pub returns : goal.returns
-returns c = rules.holds_is_each_rule

@@ -1,5 +1,0 @@
-use Rattle.ats_soundness.proofs.Shaping as shaping
-use Rattle.ats_soundness.proofs.laws.shaping_for_free.Goals as goal
-
-pub returns : goal.returns
-returns c = shaping.shaping_for_free

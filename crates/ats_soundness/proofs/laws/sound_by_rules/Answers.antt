@@ -1,5 +1,0 @@
-use Rattle.ats_soundness.proofs.Soundness.{sound_by_rules}
-use Rattle.ats_soundness.proofs.laws.sound_by_rules.Goals as goal
-
-pub returns : goal.returns
-returns c = sound_by_rules

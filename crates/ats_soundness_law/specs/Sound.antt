@@ -1,0 +1,81 @@
+use Rattle.std.specs.Prelude.{ℕ, ◌+◌, ◌≤◌, List, [], ◌∷◌, sum_by, Contains}
+use Rattle.ats_network.specs.Sender.{Sender}
+use Rattle.ats_network.specs.Network.{DeclaredNetwork}
+use Rattle.ats_network.specs.Senders.{sender_at}
+use Rattle.ats_certificate.specs.Certificate.{bound_at}
+use Rattle.ats_certificate.specs.declared.row.Row.{Row}
+use Rattle.ats_bucket.specs.Conforming.{Frame}
+use Rattle.ats_group.specs.declared.member.Declared.{Declared}
+use Rattle.ats_group.specs.declared.verdict.Verdict.{Verdict}
+use Rattle.ats_group.specs.declared.verdict.Verdict.TheVariants.{Eligible, Late, Size}
+use Rattle.ats_group_law.specs.Regulator.{OnEligible, Judge, ats_judge}
+use Rattle.ats_trace.specs.Journey.{Travel, IsOfStream, class_at}
+use Rattle.ats_trace.specs.Run.{IsLegalBy, releases_of}
+use Rattle.ats_trace.specs.Talker.{talker_of, bucket_rule, KeepsBucketsBy}
+use Rattle.ats_trace.specs.declared.journey.HopRecord.{HopRecord}
+use Rattle.ats_trace.specs.declared.journey.Ending.{Ending}
+use Rattle.ats_trace.specs.declared.journey.Ending.TheVariants.{Sink, Discard}
+
+-- a verdict of eligible by this time, and what holds of its time
+abbrev pub IsEligibleBy : ℕ → (ℕ → Type 0) → Verdict → Type 0
+IsEligibleBy limit next (Eligible e) = (e.0 ≤ limit) × next e.0
+IsEligibleBy limit next (Late e) = ⊥
+IsEligibleBy limit next Size = ⊥
+
+-- from a port on a frame is eligible at each port, and at each within the bound of the port before since it was eligible
+-- there; at the next by this time, and behind the last port it arrives
+abbrev pub IsPrompt : (ℕ → ℕ) → ℕ → List ℕ → List HopRecord → Ending → Type 0
+IsPrompt bound limit [] [] (Sink at) = at.0 ≤ limit
+IsPrompt bound limit [] [] Discard = ⊥
+IsPrompt bound limit [] (hop ∷ hops) ending = ⊥
+IsPrompt bound limit (p ∷ path) [] ending = ⊥
+IsPrompt bound limit (p ∷ path) (hop ∷ hops) ending = IsEligibleBy limit (λ e. IsPrompt bound (e + bound p) path hops ending) hop.verdict
+
+-- the frame arrives at its listener by this time
+abbrev pub ArrivesBy : ℕ → Ending → Type 0
+ArrivesBy limit (Sink at) = at.0 ≤ limit
+ArrivesBy limit Discard = ⊥
+
+-- the bounds of the ports of a sender's path, by the rows of a certificate
+abbrev pub bounds_of : List Row → Sender → ℕ → ℕ
+bounds_of rows sender port = bound_at rows port (class_at sender port)
+
+-- a frame is never discarded, is eligible at each next hop within the bound of the hop before, and arrives within the sum
+pub record IsServed (rows : List Row) (sender : Sender) (journey : Travel) : Type 0 where
+  pub prompt : IsPrompt (bounds_of rows sender) journey.release.at.0 sender.path journey.hops journey.ending
+  pub arrives : ArrivesBy (journey.release.at.0 + sum_by (bounds_of rows sender) sender.path) journey.ending
+
+-- behind a port where it is eligible a frame is prompt
+abbrev pub IsPromptOnce : (ℕ → ℕ) → List ℕ → List HopRecord → Ending → Type 0
+IsPromptOnce bound [] hops ending = Unit {0}
+IsPromptOnce bound (p ∷ path) [] ending = Unit {0}
+IsPromptOnce bound (p ∷ path) (hop ∷ hops) ending = OnEligible hop.verdict (λ e. IsPrompt bound (e + bound p) path hops ending)
+
+-- the ports after the first
+abbrev pub later_ports : List ℕ → List ℕ
+later_ports [] = []
+later_ports (p ∷ path) = path
+
+-- the records after the first
+abbrev pub later_hops : List HopRecord → List HopRecord
+later_hops [] = []
+later_hops (hop ∷ hops) = hops
+
+-- whatever its own talker does, a frame that the first bridge lets through is prompt from there on
+abbrev pub IsContained : List Row → Sender → Travel → Type 0
+IsContained rows sender journey = IsPromptOnce (bounds_of rows sender) (later_ports sender.path) (later_hops journey.hops) journey.ending
+
+-- the bounds of these rows are sound, where groups judge so and talkers keep this rule: in each legal run, each frame of a
+-- stream whose talker keeps the rule is served, and each frame of any stream is contained
+pub record IsSoundBy (judge : Judge) (rule : Declared → List Frame → Type 0) (network : DeclaredNetwork) (rows : List Row) : Type 0 where
+  pub served : (run : List Travel) → IsLegalBy judge network run → (journey : Travel) → Contains run journey
+      → IsOfStream network journey
+      → KeepsBucketsBy rule network (releases_of run) (talker_of network journey.release.sender)
+      → IsServed rows (sender_at network journey.release.sender) journey
+  pub contained : (run : List Travel) → IsLegalBy judge network run → (journey : Travel) → Contains run journey
+      → IsOfStream network journey
+      → IsContained rows (sender_at network journey.release.sender) journey
+
+-- and the groups are those of Asynchronous Traffic Shaping, and talkers keep their buckets
+abbrev pub IsSound : DeclaredNetwork → List Row → Type 0
+IsSound network rows = IsSoundBy ats_judge bucket_rule network rows

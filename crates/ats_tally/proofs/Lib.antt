@@ -1,0 +1,10 @@
+pub mod Lists
+pub mod Firsts
+pub mod Ceiling
+pub mod Places
+pub mod Tallied
+pub mod Network
+pub mod Counted
+pub mod Placed
+pub mod Paths
+pub mod Reasons

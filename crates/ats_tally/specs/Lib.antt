@@ -1,0 +1,7 @@
+pub mod Tally
+pub mod Tallies
+pub mod ClassSums
+pub mod Bounds
+pub mod Delays
+pub mod Waits
+pub mod Reason

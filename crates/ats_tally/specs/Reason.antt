@@ -1,0 +1,46 @@
+use Rattle.std.specs.Prelude.{ℕ, ◌+◌, ◌*◌, ◌<◌, nat_lt, List, [], ◌∷◌, length, Option, Some, None, if◌then◌else◌}
+use Rattle.std.specs.Option.{option_or}
+use Rattle.ats_num.specs.declared.time.TheConstants.{PS_PER_SECOND, PS_PER_NS}
+use Rattle.ats_topology.specs.Topology.{DeclaredTopology}
+use Rattle.ats_streams.specs.Stream.{DeclaredStream}
+use Rattle.ats_network.specs.Network.{DeclaredNetwork}
+use Rattle.ats_network.specs.Residence.{residence_after}
+use Rattle.ats_certificate.specs.Certificate.{bound_along}
+use Rattle.ats_certificate.specs.declared.row.Row.{Row}
+use Rattle.ats_tally.specs.declared.reason.Reason.{Reason}
+use Rattle.ats_tally.specs.declared.reason.Reason.TheVariants.{Overloaded, Residence, Deadline}
+
+-- the first value that a function gives along a list
+abbrev pub first_some : {A B : Type 0} → (A → Option B) → List A → Option B
+first_some given [] = None
+first_some given (x ∷ xs) = option_or (given x) (first_some given xs)
+
+-- a load of a port and a class that is more than the whole link
+abbrev pub overload_by : ℕ → ℕ → ℕ → Option Reason
+overload_by port class load = if nat_lt PS_PER_SECOND load then Some (Overloaded port class load) else None
+
+-- the load that a row says
+abbrev pub overload_in : Row → Option Reason
+overload_in row = overload_by row.port row.class (row.higher + row.equal)
+
+-- a wait that is longer than the maximum residence time behind its port
+abbrev pub overstay_by : Row → Option ℕ → Option Reason
+overstay_by row None = None
+overstay_by row (Some residence_ns) =
+    if nat_lt (PS_PER_NS * residence_ns) row.wait then Some (Residence row.port row.class row.wait) else None
+
+abbrev pub overstay : DeclaredNetwork → Row → Option Reason
+overstay network row = overstay_by row (residence_after network.topology row.port)
+
+-- a sum of bounds over a stream's deadline
+abbrev pub late_by : DeclaredStream → ℕ → Option Reason
+late_by stream sum = if nat_lt (PS_PER_NS * stream.deadline_ns) sum then Some (Deadline stream.name sum) else None
+
+abbrev pub late : List Row → DeclaredStream → Option Reason
+late rows stream = late_by stream (bound_along rows stream)
+
+-- the port that a reason names, where it names one, is a port of the topology
+abbrev pub ReasonInside : DeclaredTopology → Reason → Type 0
+ReasonInside topology (Overloaded port class load) = port < length topology.ports
+ReasonInside topology (Residence port class need) = port < length topology.ports
+ReasonInside topology (Deadline stream sum) = Unit {0}

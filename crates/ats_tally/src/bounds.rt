@@ -1,0 +1,98 @@
+//! The bounds of a certificate, by port and class.
+
+ghost use Rattle.std.specs.Prelude.{◌≡◌, ◌+◌, ◌*◌, ◌<◌, ◌≤◌, length, All, IfOk};
+ghost use Rattle.ats_certificate.specs.Certificate.{bound_along};
+ghost use Rattle.ats_certificate.specs.Form.{AreRows};
+ghost use Rattle.ats_tally.specs.Bounds.{AreBounds, bound_given, rows_at};
+
+use crate::place_index::place;
+use ats_certificate::{Certificate, Row};
+use ats_streams::Stream;
+use ats_topology::Topology;
+use std::alloc::{AllocError, Global};
+use std::marker::Model;
+
+/// The bounds of a certificate at the ports of a topology, each found at once. Contracts see the number of ports and
+/// the certificate's rows.
+#[derive(Drop)]
+pub struct Bounds<'a> {
+    certificate: &'a Certificate,
+    ports: usize,
+    table: Vec<Option<u128>>,
+}
+
+impl<'a> Model for Bounds<'a> {
+    ghost use Rattle.ats_tally.specs.Bounds.{AreTabled, RowsAt, rows_at};
+
+    ghost Value = { RowsAt };
+
+    ghost view = { λ b. rows_at b.ports b.certificate.now };
+
+    ghost invariant = { λ b. AreTabled b.ports b.certificate.now b.table.items };
+}
+
+impl<'a> Bounds<'a> {
+    /// The bounds of a certificate at the ports of a topology. It looks at each row once, and passes over rows of other
+    /// ports. `AllocError` where there is no memory for them.
+    pub fn new(
+        alloc: Global,
+        topology: &Topology,
+        certificate: &'a Certificate,
+    ) -> Result<Self, AllocError>
+        ensures { IfOk result (λ bounds. bounds ≡ rows_at (length topology.now.ports) certificate.now) }
+    {
+        let ports = topology.ports().len();
+        let table = table_of(alloc, ports, certificate.rows())?;
+        Ok(Bounds {
+            certificate,
+            ports,
+            table,
+        })
+    }
+
+    /// The certificate's rows.
+    pub fn rows(&self) -> &[Row]
+        ensures value { result.now ≡ self.now.rows }
+        ensures form { AreRows self.now.rows }
+    {
+        self.certificate.rows()
+    }
+
+    /// The bound of a port and a class, in picoseconds; `None` exactly where no row is theirs.
+    pub fn given(&self, port: u32, class: u8) -> Option<u128>
+        requires port { port < self.now.ports }
+        requires class { class ≤ 7 }
+        ensures value { result ≡ bound_given self.now.rows port class }
+        ensures form { AreRows self.now.rows }
+    {
+        self.table[place(port, class)]
+    }
+
+    /// The sum, in picoseconds, of the bounds of a stream's class along its path. A port without a row adds nothing.
+    pub fn along(&self, stream: &Stream) -> u128
+        requires { All (λ p. p < self.now.ports) stream.now.path }
+        ensures { result ≡ bound_along self.now.rows stream.now }
+    {
+        let mut sum = 0;
+        for port in stream.path() {
+            sum += self.given(*port, stream.class()).unwrap_or(0);
+        }
+        sum
+    }
+}
+
+// The bounds of rows at so many ports. The last row comes first, so that of rows with one place the first one stays.
+fn table_of(alloc: Global, ports: usize, rows: &[Row]) -> Result<Vec<Option<u128>>, AllocError>
+    requires few { ports ≤ 4096 }
+    requires form { AreRows rows.now }
+    ensures { IfOk result (λ table. AreBounds ports rows.now table.items) }
+{
+    let mut table = vec![in alloc; None; 8 * ports]?;
+    for i in (0..rows.len()).rev() {
+        let row = &rows[i];
+        if (row.port as usize) < ports {
+            table[place(row.port, row.class)] = Some(row.bound);
+        }
+    }
+    Ok(table)
+}

@@ -1,0 +1,22 @@
+//! What the senders of a network make of each port and class, the bounds of a certificate by port and class with their
+//! sums along the streams' paths, and the searches for the first load, wait or sum that a network can't bear.
+#![tactic(auto)]
+
+pub mod bounds;
+pub mod class_sums;
+pub mod delays;
+mod place_index;
+pub mod reason;
+pub mod searches;
+pub mod tallies;
+pub mod tally;
+pub mod waits;
+
+pub use bounds::Bounds;
+pub use class_sums::ClassSums;
+pub use delays::Delays;
+pub use reason::Reason;
+pub use searches::{first_late, first_overload, first_overstay};
+pub use tallies::Tallies;
+pub use tally::Tally;
+pub use waits::least_wait;

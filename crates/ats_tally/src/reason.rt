@@ -1,0 +1,35 @@
+//! What a network can't bear.
+
+use ats_num::{Fault, Name};
+
+/// What a network can't bear of the rows of a certificate.
+#[derive(Clone, Copy, Debug, PartialEq, Eq)]
+pub enum Reason {
+    /// The rates of a class and those above it are more than the port's link can carry.
+    Overloaded {
+        /// The number of the port.
+        port: u32,
+        /// The class.
+        class: u8,
+        /// The part of a second that they take, in picoseconds.
+        load: u128,
+    },
+    /// The wait is longer than the maximum residence time of the bridge behind the port.
+    Residence {
+        /// The number of the port.
+        port: u32,
+        /// The class.
+        class: u8,
+        /// The wait, in picoseconds.
+        need: u128,
+    },
+    /// The bounds along a stream's path are together over its deadline.
+    Deadline {
+        /// The stream's name.
+        stream: Name,
+        /// Their sum, in picoseconds.
+        sum: u128,
+    },
+}
+
+impl Fault for Reason {}

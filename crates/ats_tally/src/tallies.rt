@@ -1,0 +1,120 @@
+//! What the senders make of each port and class.
+
+ghost use Rattle.std.specs.Prelude.{◌≡◌, ◌+◌, ◌*◌, ◌<◌, ◌≤◌, length, IfOk};
+ghost use Rattle.ats_network.specs.Network.{IsNetwork, senders_of};
+ghost use Rattle.ats_network.specs.Senders.{sender_at};
+ghost use Rattle.ats_tally.specs.Tally.{IsTally};
+ghost use Rattle.ats_certificate.specs.PortSums.{is_used, port_sums, senders_at};
+ghost use Rattle.ats_tally.specs.ClassSums.{port_sums_of};
+ghost use Rattle.ats_tally.specs.Tallies.{AddsSender, AreCounted, AreFirst, HaveRoom};
+
+use crate::class_sums::ClassSums;
+use crate::place_index::place;
+use crate::tally::Tally;
+use ats_network::Network;
+use std::alloc::{AllocError, Global};
+use std::marker::Model;
+
+/// What the streams and flows of a network make of each port and class, each found at once. Contracts see the network.
+#[derive(Drop)]
+pub struct Tallies<'a> {
+    network: &'a Network,
+    table: Vec<Tally>,
+}
+
+impl<'a> Model for Tallies<'a> {
+    ghost use Rattle.ats_network.specs.Network.{DeclaredNetwork};
+    ghost use Rattle.ats_tally.specs.Tallies.{AreCounted};
+
+    ghost Value = { DeclaredNetwork };
+
+    ghost view = { λ t. t.network.now };
+
+    ghost invariant = { λ t. AreCounted t.network.now t.table.items };
+}
+
+impl<'a> Tallies<'a> {
+    /// What the senders of a network make of its ports and classes. It looks at each path once.
+    pub fn new(alloc: Global, network: &'a Network) -> Result<Self, AllocError>
+        ensures { IfOk result (λ tallies. tallies ≡ network.now) }
+    {
+        let table = table_of(alloc, network)?;
+        Ok(Tallies { network, table })
+    }
+
+    /// The network.
+    pub fn network(&self) -> &Network
+        ensures value { result.now ≡ self.now }
+        ensures rules { IsNetwork self.now }
+    {
+        self.network
+    }
+
+    /// What the senders make of a class at a port.
+    pub fn tally(&self, port: u32, class: u8) -> Tally
+        requires port { port < length self.now.topology.ports }
+        requires class_least { 1 ≤ class }
+        requires class_most { class ≤ 7 }
+        ensures { IsTally class (senders_at port (senders_of self.now)) result }
+    {
+        self.table[place(port, class)]
+    }
+
+    /// The sums of a port and a class.
+    pub fn sums(&self, port: u32, class: u8) -> ClassSums
+        requires port { port < length self.now.topology.ports }
+        requires class_least { 1 ≤ class }
+        requires class_most { class ≤ 7 }
+        ensures { port_sums_of result ≡ port_sums self.now port class }
+    {
+        let ports = self.network.topology().ports();
+        ClassSums::of(self.tally(port, class), ports[port as usize].ps_per_bit)
+    }
+
+    /// Whether some stream of the class uses the port, which need not be one of the network's.
+    pub fn uses(&self, port: u32, class: u8) -> bool
+        requires class_least { 1 ≤ class }
+        requires class_most { class ≤ 7 }
+        ensures { result ≡ is_used self.now port class }
+    {
+        if port as usize >= self.network.topology().ports().len() {
+            return false;
+        }
+        self.tally(port, class).least.is_some()
+    }
+}
+
+// What the senders make of each class at each port.
+fn table_of(alloc: Global, network: &Network) -> Result<Vec<Tally>, AllocError>
+    ensures { IfOk result (λ table. AreCounted network.now table.items) }
+{
+    let mut table = vec![in alloc; Tally::new(); 8 * network.topology().ports().len()]?;
+    for sender in 0..network.senders() {
+        count_sender(&mut table, network, sender);
+    }
+    Ok(table)
+}
+
+// Counts a sender at each port of its path.
+fn count_sender(table: &mut Vec<Tally>, network: &Network, sender: u32)
+    requires sender { sender < length (senders_of network.now) }
+    requires before { AreFirst network.now sender table.old.items }
+    ensures { AreFirst network.now (sender + 1) table.new.items }
+{
+    for port in network.sender_path(sender) {
+        count_at(table, network, *port, sender);
+    }
+}
+
+// Counts a sender at a port, in each class.
+fn count_at(table: &mut Vec<Tally>, network: &Network, port: u32, sender: u32)
+    requires sender { sender < length (senders_of network.now) }
+    requires port { 8 * port + 8 ≤ length table.old.items }
+    requires room { HaveRoom (8 * port) table.old.items }
+    ensures { AddsSender (sender_at network.now sender) (8 * port) 8 table.old.items table.new.items }
+{
+    for class in 1..8 {
+        let tally = &mut table[place(port, class)];
+        *tally = tally.with_sender(network, class, sender);
+    }
+}

@@ -1,5 +1,0 @@
-use Rattle.ats_transmission.proofs.InOrder.{tie_from_order}
-use Rattle.ats_transmission.proofs.laws.order_gives_tie.Goals as goal
-
-pub returns : goal.returns
-returns c = tie_from_order

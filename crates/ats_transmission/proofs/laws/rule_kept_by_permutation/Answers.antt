@@ -1,5 +1,0 @@
-use Rattle.ats_transmission.proofs.Permuted.{rule-permutation}
-use Rattle.ats_transmission.proofs.laws.rule_kept_by_permutation.Goals as goal
-
-pub returns : goal.returns
-returns c = rule-permutation

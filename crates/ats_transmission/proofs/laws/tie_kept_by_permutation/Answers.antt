@@ -1,5 +1,0 @@
-use Rattle.ats_transmission.proofs.Permuted.{tie-permutation}
-use Rattle.ats_transmission.proofs.laws.tie_kept_by_permutation.Goals as goal
-
-pub returns : goal.returns
-returns c = tie-permutation

@@ -1,0 +1,34 @@
+-- The ports that reasons name.
+use Rattle.std.proofs.Common.{get_or}
+use Rattle.ats_streams.specs.Stream.{DeclaredStream}
+use Rattle.ats_network.specs.Residence.{residence_after}
+use Rattle.ats_certificate.specs.Certificate.{bound_along}
+use Rattle.ats_certificate.specs.Used.{places_of}
+use Rattle.ats_certificate.specs.declared.row.Row.{Row}
+use Rattle.ats_tally.specs.Reason.{overstay, late, ReasonInside}
+use Rattle.ats_tally.proofs.Firsts.{first_where, or_where}
+use Rattle.ats_tally.proofs.Places.{is_place, places_used}
+use Rattle.ats_tally.proofs.Reasons.{overload_inside, overstay_inside, late_inside}
+use Rattle.ats_bound.specs.Least.{least_certificate}
+use Rattle.ats_bound.specs.Reason.{load_at, overload}
+use Rattle.ats_bound.proofs.LeastHolds.{ports_exist}
+use Rattle.ats_verdict_text.specs.Laws.{EachReasonIsInside}
+
+pub each_reason_is_inside : EachReasonIsInside
+each_reason_is_inside network found is some =
+    or_where (ReasonInside network.topology) _ _ found
+    (first_where (overload network) (ReasonInside network.topology) (places_of network) found
+    (λ k d h b. (
+    let at = get_or (places_of network) k d in
+    overload_inside network.topology at.0 at.1 (load_at network at) b
+    (is_place network at.0 at.1 is (places_used network k d h)).within)))
+    (or_where (ReasonInside network.topology) _ _ found
+    (first_where (overstay network) (ReasonInside network.topology) (least_certificate network) found
+    (λ k d h b. (
+    let row : Row = get_or (least_certificate network) k d in
+    overstay_inside network.topology row (residence_after network.topology row.port) b (ports_exist network is k d h))))
+    (first_where (late (least_certificate network)) (ReasonInside network.topology) network.streams found
+    (λ k d h b. (
+    let stream : DeclaredStream = get_or network.streams k d in
+    late_inside network.topology stream (bound_along (least_certificate network) stream) b))))
+    some

@@ -1,0 +1,10 @@
+use Rattle.std.proofs.Common.{◌≡◌, ◌++◌, take}
+use Rattle.std.specs.List.{flat_map}
+use Rattle.ats_verdict_text.specs.Text.{stream_lines}
+use Rattle.ats_verdict_text.proofs.acceptance.write_streams.Given as goal
+
+-- the lines of the streams so far
+abbrev pub invariant-loop-i : goal.invariant-loop-i
+invariant-loop-i l =
+    l.out.items
+    ≡ l.initial.out.items ++ flat_map (stream_lines l.delays.network.topology l.delays.rows) (take l.i l.delays.network.streams)

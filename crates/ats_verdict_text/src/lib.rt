@@ -1,0 +1,13 @@
+//! What is printed of a judgement: of a certificate that holds, of one that does not, and of a network for which none
+//! holds.
+#![tactic(auto)]
+
+pub mod acceptance;
+pub mod laws;
+mod pieces;
+pub mod reasons;
+pub mod refusals;
+
+pub use acceptance::accepted;
+pub use reasons::write_reason;
+pub use refusals::write_refusal;

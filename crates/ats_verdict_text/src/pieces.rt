@@ -1,0 +1,70 @@
+//! Pieces of lines.
+
+ghost use Rattle.std.specs.Prelude.{◌≡◌, ◌++◌, ◌<◌, codes, decimal, length, OnOk};
+ghost use Rattle.ats_verdict_text.specs.Text.{measure_text, place_text};
+
+use ats_num::Name;
+use ats_port_names::write_port;
+use ats_topology::Topology;
+use itoa::{Buffer, Integer};
+use std::alloc::AllocError;
+
+// A word, and a number behind it.
+pub(crate) fn write_number<I: Integer + Drop>(
+    out: &mut Vec<u8>,
+    word: &[u8],
+    n: I,
+) -> Result<(), AllocError>
+    ensures { OnOk result (out.new.items ≡ out.old.items ++ (word.now ++ I.text n)) }
+{
+    let mut buffer = Buffer::new();
+    out.extend_from_slice(word)?;
+    out.extend_from_slice(buffer.format(n).as_bytes())?;
+    Ok(())
+}
+
+// A word, and a port and a class behind it.
+pub(crate) fn write_place(
+    out: &mut Vec<u8>,
+    word: &[u8],
+    topology: &Topology,
+    port: u32,
+    class: u8,
+) -> Result<(), AllocError>
+    requires { port < length topology.now.ports }
+    ensures { OnOk result (out.new.items ≡ out.old.items ++ (word.now ++ place_text topology.now port class)) }
+{
+    out.extend_from_slice(word)?;
+    write_port(out, topology, port)?;
+    write_number(out, b" ", class)
+}
+
+// A word, a port and a class, and a number.
+pub(crate) fn write_measure(
+    out: &mut Vec<u8>,
+    word: &[u8],
+    topology: &Topology,
+    port: u32,
+    class: u8,
+    n: u128,
+) -> Result<(), AllocError>
+    requires { port < length topology.now.ports }
+    ensures { OnOk result (out.new.items ≡ out.old.items ++ (word.now ++ measure_text topology.now port class n)) }
+{
+    write_place(out, word, topology, port, class)?;
+    write_number(out, b" ", n)
+}
+
+// A word, a name and a number.
+pub(crate) fn write_named(
+    out: &mut Vec<u8>,
+    word: &[u8],
+    name: &Name,
+    n: u128,
+) -> Result<(), AllocError>
+    ensures { OnOk result (out.new.items ≡ out.old.items ++ (word.now ++ name.now ++ codes " " ++ decimal n)) }
+{
+    out.extend_from_slice(word)?;
+    out.extend_from_slice(name.bytes())?;
+    write_number(out, b" ", n)
+}
