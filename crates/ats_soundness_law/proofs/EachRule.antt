@@ -35,7 +35,7 @@ each_row_holds network given keeps k d within = record {
   residence = keeps frames_may_stay k d within;
 }
 
-holds_of_rules : (network : DeclaredNetwork) (given : List Row) → ((rule : Rule) → Keeps rule network given) → RestHolds network given → Holds network given
+pub holds_of_rules : (network : DeclaredNetwork) (given : List Row) → ((rule : Rule) → Keeps rule network given) → RestHolds network given → Holds network given
 holds_of_rules network given keeps rest = record {
   rows_of = record { complete = keeps rows_are_there; used = rest.used; ordered = rest.ordered };
   each = each_row_holds network given keeps;

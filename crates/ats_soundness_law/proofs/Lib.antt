@@ -14,6 +14,7 @@ pub mod RuleNetworks
 pub mod RuleProofs
 pub mod RuleRuns
 pub mod RuleTest
+pub mod RunExamples
 pub mod Serving
 pub mod Shaping
 pub mod Sized

@@ -3,3 +3,4 @@ pub mod Rules
 pub mod Laws
 pub mod Example
 pub mod RuleExamples
+pub mod RunExamples

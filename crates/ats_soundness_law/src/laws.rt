@@ -2,6 +2,7 @@
 
 ghost use Rattle.ats_soundness_law.specs.Example.{LawsAreMet};
 ghost use Rattle.ats_soundness_law.specs.RuleExamples.{EachRuleCounts};
+ghost use Rattle.ats_soundness_law.specs.RunExamples.{BabblerIsContained, BridgedAreSound, ExactExamples, OrderDoesNotCount};
 ghost use Rattle.ats_soundness_law.specs.Rules.{HoldsIsEachRule};
 ghost use Rattle.ats_soundness_law.specs.Laws.{StationIsOffered, BridgeIsOffered, ShapingForFree, PathLaw, Containment, SoundByRules, CertificateIsSound};
 
@@ -64,4 +65,19 @@ pub fn holds_is_each_rule()
 /// is not sound, because in some legal run a frame is discarded, or comes later than its bounds say.
 pub fn each_rule_counts()
     ensures { EachRuleCounts }
+{}
+
+/// What the laws say of runs over two bridges and over three: one frame arrives exactly when the sum of its bounds is over;
+/// of two at once, which are more than the burst, the second is not served, and from the first bridge on it is contained,
+/// just so. And of a run with a babbler: the other station's frame is served, and each frame is contained.
+pub fn runs_are_sound()
+    ensures bridged { BridgedAreSound }
+    ensures babbler { BabblerIsContained }
+{}
+
+/// A run whose frames take exactly the latency of each port, and one that takes 1 ps more. And rows out of order, which are no
+/// certificate, and sound.
+pub fn more_examples()
+    ensures exact { ExactExamples }
+    ensures turned { OrderDoesNotCount }
 {}

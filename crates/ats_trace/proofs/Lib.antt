@@ -1,4 +1,5 @@
 pub mod ArrivalTest
+pub mod BridgeProofs
 pub mod ChangeProofs
 pub mod ExactLinks
 pub mod Filtered

@@ -61,7 +61,7 @@ of_le a b h = grind (arith, nat_tests)
 pub of_lt : (a b : ℕ) → a < b → nat_lt a b ≡ true
 of_lt a b h = grind (arith, nat_tests)
 
-of_eq : (a b : ℕ) → a ≡ b → (a == b) ≡ true
+pub of_eq : (a b : ℕ) → a ≡ b → (a == b) ≡ true
 of_eq a b h = grind (arith, nat_tests)
 
 of_ne : (a b : ℕ) → a ≢ b → not (a == b) ≡ true

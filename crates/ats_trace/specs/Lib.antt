@@ -13,3 +13,5 @@ pub mod Parts
 pub mod Regulated
 pub mod MoreChanges
 pub mod TalkerExamples
+pub mod BridgeExamples
+pub mod Babbler

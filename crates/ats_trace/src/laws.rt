@@ -1,5 +1,7 @@
 //! What is proved of the definitions themselves: runs of small networks, written out in full, that are legal or not.
 
+ghost use Rattle.ats_trace.specs.Babbler.{BabblerIsLegal};
+ghost use Rattle.ats_trace.specs.BridgeExamples.{BridgedAreLegal};
 ghost use Rattle.ats_trace.specs.Changes.{ChangedExamplesAreNot};
 ghost use Rattle.ats_trace.specs.ExactLinks.{LinksAreExact};
 ghost use Rattle.ats_trace.specs.LegalExamples.{ExamplesAreLegal};
@@ -15,6 +17,14 @@ ghost use Rattle.ats_trace.specs.TalkerExamples.{TalkersOfExamples};
 pub fn examples_are_legal()
     ensures plain { ExamplesAreLegal }
     ensures regulated { RegulatedAreLegal }
+{}
+
+/// One frame over two bridges and over three, and behind it one more of its talker at once, which the first bridge holds back
+/// and no later one. And a station that babbles: of 23 small frames at once the bridge sends most on as they come, holds some
+/// back and discards the last; another station's frame goes between them.
+pub fn bridged_are_legal()
+    ensures bridged { BridgedAreLegal }
+    ensures babbler { BabblerIsLegal }
 {}
 
 /// Runs that are not legal: for each field of a legal run, of a journey and of the port rule one of the legal examples with
