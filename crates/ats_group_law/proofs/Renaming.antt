@@ -15,8 +15,10 @@ record KeepsSame (is_member : ℕ → Bool) (rename : ℕ → ℕ) (state other 
   empty : (member : ℕ) → IsTrue (is_member member) → other.empty (rename member) ≡ state.empty member
 
 -- so they judge the same
-same_verdict : (is_member : ℕ → Bool) (rename : ℕ → ℕ) (declared renamed : ℕ → Declared) → IsRenaming is_member rename declared renamed
-    → (residence_ns : ℕ) (state other : State) → KeepsSame is_member rename state other → (offer : Offer) → IsTrue (is_member offer.member)
+same_verdict : (is_member : ℕ → Bool) (rename : ℕ → ℕ) (declared renamed : ℕ → Declared)
+    → IsRenaming is_member rename declared renamed
+    → (residence_ns : ℕ) (state other : State) → KeepsSame is_member rename state other → (offer : Offer)
+    → IsTrue (is_member offer.member)
     → judged renamed residence_ns other (renamed_offer rename offer) ≡ judged declared residence_ns state offer
 same_verdict is_member rename declared renamed is residence_ns state other kept offer there =
     let d = is.same offer.member there in
@@ -25,10 +27,14 @@ same_verdict is_member rename declared renamed is residence_ns state other kept 
     rw (d, t, e) refl
 
 -- a member's bucket after an eligible frame
-bucket_after : (is_member : ℕ → Bool) (rename : ℕ → ℕ) (declared renamed : ℕ → Declared) → IsRenaming is_member rename declared renamed
-    → (state other : State) → KeepsSame is_member rename state other → (offer : Offer) → IsTrue (is_member offer.member) → (e member : ℕ) → IsTrue (is_member member)
-    → (if rename member == rename offer.member then empty_once (renamed (rename member)) (other.empty (rename member)) e offer.octets else other.empty (rename member))
-    ≡ (if member == offer.member then empty_once (declared member) (state.empty member) e offer.octets else state.empty member)
+bucket_after : (is_member : ℕ → Bool) (rename : ℕ → ℕ) (declared renamed : ℕ → Declared)
+    → IsRenaming is_member rename declared renamed
+    → (state other : State) → KeepsSame is_member rename state other → (offer : Offer) → IsTrue (is_member offer.member)
+    → (e member : ℕ) → IsTrue (is_member member)
+    → (if rename member == rename offer.member then empty_once (renamed (rename member)) (other.empty (rename member))
+    e offer.octets else other.empty (rename member))
+    ≡ (if member == offer.member then empty_once (declared member) (state.empty member) e offer.octets
+    else state.empty member)
 bucket_after is_member rename declared renamed is state other kept offer there e member here =
     let d = is.same member here in
     let b = kept.empty member here in
@@ -39,13 +45,17 @@ bucket_after is_member rename declared renamed is state other kept offer there e
           rw (one, two, d, b) refl)
       | inr differ ↦ (
           let one = ne_eqb member offer.member differ in
-          let two = ne_eqb (rename member) (rename offer.member) (λ same. differ (is.one_to_one member offer.member here there same)) in
+          let two = ne_eqb (rename member) (rename offer.member)
+          (λ same. differ (is.one_to_one member offer.member here there same)) in
           rw (one, two, b) refl)
     ]
 
-kept_after : (is_member : ℕ → Bool) (rename : ℕ → ℕ) (declared renamed : ℕ → Declared) → IsRenaming is_member rename declared renamed
-    → (state other : State) → KeepsSame is_member rename state other → (offer : Offer) → IsTrue (is_member offer.member) → (verdict : Verdict)
-    → KeepsSame is_member rename (after declared state offer verdict) (after renamed other (renamed_offer rename offer) verdict)
+kept_after : (is_member : ℕ → Bool) (rename : ℕ → ℕ) (declared renamed : ℕ → Declared)
+    → IsRenaming is_member rename declared renamed
+    → (state other : State) → KeepsSame is_member rename state other → (offer : Offer) → IsTrue (is_member offer.member)
+    → (verdict : Verdict)
+    → KeepsSame is_member rename (after declared state offer verdict)
+    (after renamed other (renamed_offer rename offer) verdict)
 kept_after is_member rename declared renamed is state other kept offer there (Eligible e) = record {
   time = refl;
   empty = λ member here. bucket_after is_member rename declared renamed is state other kept offer there e.0 member here;
@@ -53,24 +63,35 @@ kept_after is_member rename declared renamed is state other kept offer there (El
 kept_after is_member rename declared renamed is state other kept offer there (Late e) = kept
 kept_after is_member rename declared renamed is state other kept offer there Size = kept
 
-verdicts_from : (is_member : ℕ → Bool) (rename : ℕ → ℕ) (declared renamed : ℕ → Declared) → IsRenaming is_member rename declared renamed
+verdicts_from : (is_member : ℕ → Bool) (rename : ℕ → ℕ) (declared renamed : ℕ → Declared)
+    → IsRenaming is_member rename declared renamed
     → (residence_ns : ℕ) (state other : State) → KeepsSame is_member rename state other
     → (offers : List Offer) → All (λ (o : Offer). IsTrue (is_member o.member)) offers
-    → verdicts_of renamed residence_ns other (map (renamed_offer rename) offers) ≡ verdicts_of declared residence_ns state offers
+    → verdicts_of renamed residence_ns other (map (renamed_offer rename) offers)
+    ≡ verdicts_of declared residence_ns state offers
 verdicts_from is_member rename declared renamed is residence_ns state other kept [] all = refl
 verdicts_from is_member rename declared renamed is residence_ns state other kept (offer ∷ offers) all =
-    let there : IsTrue (is_member offer.member) = All-head (λ (o : Offer). IsTrue (is_member o.member)) offer offers all in
-    let same : judged renamed residence_ns other (renamed_offer rename offer) ≡ judged declared residence_ns state offer =
+    let there : IsTrue (is_member offer.member) =
+    All-head (λ (o : Offer). IsTrue (is_member o.member)) offer offers all in
+    let same : judged renamed residence_ns other (renamed_offer rename offer)
+    ≡ judged declared residence_ns state offer =
     same_verdict is_member rename declared renamed is residence_ns state other kept offer there in
     let Kept : Verdict → Type 0 =
-    λ (v : Verdict). KeepsSame is_member rename (next declared residence_ns state offer) (after renamed other (renamed_offer rename offer) v) in
-    let later : KeepsSame is_member rename (next declared residence_ns state offer) (next renamed residence_ns other (renamed_offer rename offer)) =
-    subst Kept (sym same) (kept_after is_member rename declared renamed is state other kept offer there (judged declared residence_ns state offer)) in
+    λ (v : Verdict). KeepsSame is_member rename (next declared residence_ns state offer)
+    (after renamed other (renamed_offer rename offer) v) in
+    let later : KeepsSame is_member rename (next declared residence_ns state offer)
+    (next renamed residence_ns other (renamed_offer rename offer)) =
+    subst Kept (sym same) (kept_after is_member rename declared renamed is state other kept offer there
+    (judged declared residence_ns state offer)) in
     let rest = verdicts_from is_member rename declared renamed is residence_ns (next declared residence_ns state offer)
-    (next renamed residence_ns other (renamed_offer rename offer)) later offers (All-tail (λ (o : Offer). IsTrue (is_member o.member)) offer offers all) in
+    (next renamed residence_ns other (renamed_offer rename offer)) later offers
+    (All-tail (λ (o : Offer). IsTrue (is_member o.member)) offer offers all) in
     cc
 
 pub verdicts_kept : VerdictsAreKept
 verdicts_kept is_member rename declared renamed is residence_ns offers all =
     verdicts_from is_member rename declared renamed is residence_ns (first declared) (first renamed)
-    (record { time = refl; empty = λ member here. ap (λ (d : Declared). first_empty d.burst_bits) (is.same member here) }) offers all
+    (record {
+      time = refl;
+      empty = λ member here. ap (λ (d : Declared). first_empty d.burst_bits) (is.same member here);
+    }) offers all

@@ -14,7 +14,9 @@ use Rattle.ats_group_law.specs.Rows.{frame_at, fast, passage, out_of_order, Conf
 use Rattle.ats_group_law.specs.Rows.{BucketEmptied, RoundedUp, OrderCounts}
 
 -- two frames at these times have more bits than the rate and the burst allow
-pub too_early : (rate burst first second bits : ℕ) → Conforms rate burst (frame_at first bits ∷ frame_at second bits ∷ []) → PS_PER_SECOND * (bits + bits) ≤ rate * (second - first) + PS_PER_SECOND * burst
+pub too_early : (rate burst first second bits : ℕ)
+    → Conforms rate burst (frame_at first bits ∷ frame_at second bits ∷ [])
+    → PS_PER_SECOND * (bits + bits) ≤ rate * (second - first) + PS_PER_SECOND * burst
 too_early rate burst first second bits c = let w = c.within 0 1 (omega arith) (omega arith) in omega arith
 
 pub bucket_emptied : BucketEmptied

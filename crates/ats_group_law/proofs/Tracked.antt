@@ -26,7 +26,8 @@ tracks-none rate burst time = record {
 }
 
 -- as the group eligibility time goes on
-pub tracks-later : (rate burst time later full : ℕ) (frames : List Frame) → time ≤ later → Tracks rate burst time full frames → Tracks rate burst later full frames
+pub tracks-later : (rate burst time later full : ℕ) (frames : List Frame) → time ≤ later
+    → Tracks rate burst time full frames → Tracks rate burst later full frames
 tracks-later rate burst time later full frames h t = record {
   conforms = t.conforms;
   filled = t.filled;
@@ -34,31 +35,43 @@ tracks-later rate burst time later full frames h t = record {
 }
 
 -- what the bucket-full time asks of a frame at this time
-pub allowed : (rate burst time full at bits : ℕ) (frames : List Frame) → Tracks rate burst time full frames → time ≤ at → bits ≤ burst → full + PS_PER_SECOND * bits ≤ at * rate + PS_PER_SECOND * burst → ConformsByWindows rate burst (frames ++ record { at = at; bits = bits } ∷ [])
+pub allowed : (rate burst time full at bits : ℕ) (frames : List Frame) → Tracks rate burst time full frames
+    → time ≤ at → bits ≤ burst → full + PS_PER_SECOND * bits ≤ at * rate + PS_PER_SECOND * burst
+    → ConformsByWindows rate burst (frames ++ record { at = at; bits = bits } ∷ [])
 allowed rate burst time full at bits frames t h b f =
-    conforms_push rate burst frames (record { at = at; bits = bits }) t.conforms (tracks-later rate burst time at full frames h t).past b (let e = t.filled in omega arith)
+    conforms_push rate burst frames (record { at = at; bits = bits }) t.conforms
+    (tracks-later rate burst time at full frames h t).past b (let e = t.filled in omega arith)
 
-pub needed : (rate burst time full at bits : ℕ) (frames : List Frame) → Tracks rate burst time full frames → ConformsByWindows rate burst (frames ++ record { at = at; bits = bits } ∷ []) → full + PS_PER_SECOND * bits ≤ at * rate + PS_PER_SECOND * burst
+pub needed : (rate burst time full at bits : ℕ) (frames : List Frame) → Tracks rate burst time full frames
+    → ConformsByWindows rate burst (frames ++ record { at = at; bits = bits } ∷ [])
+    → full + PS_PER_SECOND * bits ≤ at * rate + PS_PER_SECOND * burst
 needed rate burst time full at bits frames t c =
     let f = (push_parts rate burst frames (record { at = at; bits = bits }) c).full in
     let e = t.filled in
     omega arith
 
 -- one more accepted frame
-pub tracks-push : (rate burst group full arrival bits eligible : ℕ) (frames : List Frame) → Tracks rate burst group full frames → bits ≤ burst → IsFullEligibility rate burst full group arrival bits eligible → Tracks rate burst eligible (full_after rate full eligible bits) (frames ++ record { at = eligible; bits = bits } ∷ [])
+pub tracks-push : (rate burst group full arrival bits eligible : ℕ) (frames : List Frame)
+    → Tracks rate burst group full frames → bits ≤ burst → IsFullEligibility rate burst full group arrival bits eligible
+    → Tracks rate burst eligible (full_after rate full eligible bits)
+    (frames ++ record { at = eligible; bits = bits } ∷ [])
 tracks-push rate burst group full arrival bits eligible frames t b e = record {
   conforms = allowed rate burst group full eligible bits frames t e.after_group b e.bucket;
   filled =
       ap (λ (n : ℕ). full_after rate n eligible bits) t.filled
       ∙ sym (full_time-push rate 0 frames (record { at = eligible; bits = bits }));
-  past = All-push (λ (f : Frame). f.at ≤ eligible) frames (record { at = eligible; bits = bits }) (tracks-later rate burst group eligible full frames e.after_group t).past (omega arith);
+  past = All-push (λ (f : Frame). f.at ≤ eligible) frames (record { at = eligible; bits = bits })
+      (tracks-later rate burst group eligible full frames e.after_group t).past (omega arith);
 }
 
 -- its eligibility time is the least with which the frames conform
-pub tracks-least : (rate burst group full arrival bits eligible : ℕ) (frames : List Frame) → Tracks rate burst group full frames → bits ≤ burst → IsFullEligibility rate burst full group arrival bits eligible → IsLeastConforming rate burst frames group arrival bits eligible
+pub tracks-least : (rate burst group full arrival bits eligible : ℕ) (frames : List Frame)
+    → Tracks rate burst group full frames → bits ≤ burst → IsFullEligibility rate burst full group arrival bits eligible
+    → IsLeastConforming rate burst frames group arrival bits eligible
 tracks-least rate burst group full arrival bits eligible frames t b e = record {
   arrived = e.arrived;
   after_group = e.after_group;
-  conforms = places_from_windows rate burst _ (allowed rate burst group full eligible bits frames t e.after_group b e.bucket);
+  conforms =
+      places_from_windows rate burst _ (allowed rate burst group full eligible bits frames t e.after_group b e.bucket);
   least = λ k a g c. e.least k a g (needed rate burst group full k bits frames t (windows_from_places rate burst _ c));
 }

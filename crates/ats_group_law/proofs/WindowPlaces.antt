@@ -1,4 +1,5 @@
-use Rattle.std.proofs.Common.{◌≡◌, ℕ, suc, ◌+◌, ◌-◌, ◌*◌, ◌<◌, ◌≤◌, ◌⊎◌, List, [], ◌∷◌, length, take, sum_by, All, refl, ap, inl, inr, mul-le-mul_left, arith}
+use Rattle.std.proofs.Common.{◌≡◌, ℕ, suc, ◌+◌, ◌-◌, ◌*◌, ◌<◌, ◌≤◌, ◌⊎◌, List, [], ◌∷◌, length, take, sum_by, All, refl}
+use Rattle.std.proofs.Common.{ap, inl, inr, mul-le-mul_left, arith}
 use Rattle.std.specs.Prelude.{slice_range, slice_index}
 use Rattle.std.specs.List.Sorted.{IsNonDecreasingBy}
 use Rattle.std.proofs.lemmas.Bool.{cases_lt}
@@ -33,7 +34,8 @@ record LastPlace (frames : List Frame) (from to : ℕ) : Type 0 where
   not_after : slice_index (times_of frames) place ≤ to
   bits : bits_within frames from to ≤ sum_by (λ (f : Frame). f.bits) (take (place + 1) frames)
 
-only_first : (f : Frame) (fs : List Frame) (from to : ℕ) → f.at ≤ to → bits_within fs from to ≡ 0 → LastPlace (f ∷ fs) from to
+only_first : (f : Frame) (fs : List Frame) (from to : ℕ) → f.at ≤ to → bits_within fs from to ≡ 0
+    → LastPlace (f ∷ fs) from to
 only_first f fs from to h none = record {
   place = 0;
   within = omega arith;
@@ -58,10 +60,13 @@ one_later f fs from to l = record {
       omega arith);
 }
 
-all_later : (g : Frame) (fs : List Frame) (to : ℕ) → IsNonDecreasingBy (λ (f : Frame). f.at) (g ∷ fs) → to < g.at → All (λ (f : Frame). to < f.at) (g ∷ fs)
-all_later g fs to o h = All-cons (λ (f : Frame). to < f.at) g fs h (λ i d k. (let a = order-head g fs o i d k in omega arith))
+all_later : (g : Frame) (fs : List Frame) (to : ℕ) → IsNonDecreasingBy (λ (f : Frame). f.at) (g ∷ fs) → to < g.at
+    → All (λ (f : Frame). to < f.at) (g ∷ fs)
+all_later g fs to o h =
+    All-cons (λ (f : Frame). to < f.at) g fs h (λ i d k. (let a = order-head g fs o i d k in omega arith))
 
-last_place : (f : Frame) (fs : List Frame) (from to : ℕ) → IsNonDecreasingBy (λ (f : Frame). f.at) (f ∷ fs) → f.at ≤ to → LastPlace (f ∷ fs) from to
+last_place : (f : Frame) (fs : List Frame) (from to : ℕ) → IsNonDecreasingBy (λ (f : Frame). f.at) (f ∷ fs) → f.at ≤ to
+    → LastPlace (f ∷ fs) from to
 last_place f [] from to o h = only_first f [] from to h refl
 last_place f (g ∷ fs) from to o h =
     let tail = order-tail f (g ∷ fs) o in
@@ -80,7 +85,8 @@ record Places (frames : List Frame) (from to : ℕ) : Type 0 where
   not_after : slice_index (times_of frames) last ≤ to
   bits : bits_within frames from to ≤ bits_between frames first last
 
-from_first : (frames : List Frame) (from to : ℕ) → from ≤ slice_index (times_of frames) 0 → LastPlace frames from to → Places frames from to
+from_first : (frames : List Frame) (from to : ℕ) → from ≤ slice_index (times_of frames) 0 → LastPlace frames from to
+    → Places frames from to
 from_first frames from to h l = record {
   first = 0;
   last = l.place;
@@ -108,17 +114,19 @@ places_later f fs from to h p = record {
       omega arith));
 }
 
-places_of : (frames : List Frame) (from to : ℕ) → IsNonDecreasingBy (λ (f : Frame). f.at) frames → (bits_within frames from to ≡ 0) ⊎ Places frames from to
+places_of : (frames : List Frame) (from to : ℕ) → IsNonDecreasingBy (λ (f : Frame). f.at) frames
+    → (bits_within frames from to ≡ 0) ⊎ Places frames from to
 places_of [] from to o = inl refl
 places_of (f ∷ fs) from to o =
     elim (cases_lt f.at from) as (λ _. (bits_within (f ∷ fs) from to ≡ 0) ⊎ Places (f ∷ fs) from to) [
-      | inl h ↦ elim (places_of fs from to (order-tail f fs o)) as (λ _. (bits_within (f ∷ fs) from to ≡ 0) ⊎ Places (f ∷ fs) from to) [
-        | inl none ↦ inl (
-            let one = bits_in-before from to f h in
-            let sum = bits_within-cons f fs from to in
-            omega arith)
-        | inr p ↦ inr (places_later f fs from to h p)
-      ]
+      | inl h ↦ elim (places_of fs from to (order-tail f fs o)) as (λ _. (bits_within (f ∷ fs) from to ≡ 0)
+          ⊎ Places (f ∷ fs) from to) [
+            | inl none ↦ inl (
+                let one = bits_in-before from to f h in
+                let sum = bits_within-cons f fs from to in
+                omega arith)
+            | inr p ↦ inr (places_later f fs from to h p)
+          ]
       | inr h ↦ elim (cases_lt to f.at) as (λ _. (bits_within (f ∷ fs) from to ≡ 0) ⊎ Places (f ∷ fs) from to) [
         | inl k ↦ inl (all_after (f ∷ fs) from to (all_later f fs to o k))
         | inr k ↦ inr (from_first (f ∷ fs) from to h (last_place f fs from to o k))
@@ -126,16 +134,19 @@ places_of (f ∷ fs) from to o =
     ]
 
 -- a longer time gives no fewer bits
-longer : (rate burst bits more short long : ℕ) → bits ≤ more → short ≤ long → PS_PER_SECOND * more ≤ rate * short + PS_PER_SECOND * burst → PS_PER_SECOND * bits ≤ rate * long + PS_PER_SECOND * burst
+longer : (rate burst bits more short long : ℕ) → bits ≤ more → short ≤ long → PS_PER_SECOND * more
+    ≤ rate * short + PS_PER_SECOND * burst → PS_PER_SECOND * bits ≤ rate * long + PS_PER_SECOND * burst
 longer rate burst bits more short long b t h = omega (arith, mul-le-mul_left rate t)
 
-pub windows_from_places : (rate burst : ℕ) (frames : List Frame) → Conforms rate burst frames → ConformsByWindows rate burst frames
+pub windows_from_places : (rate burst : ℕ) (frames : List Frame) → Conforms rate burst frames
+    → ConformsByWindows rate burst frames
 windows_from_places rate burst frames c = record {
   in_order = c.in_order;
   windows = record {
     within = λ from to h. elim (places_of frames from to (by_frames frames c.in_order)) [
       | inl none ↦ (let e : PS_PER_SECOND * bits_within frames from to ≡ 0 = omega arith in omega arith)
-      | inr p ↦ longer rate burst (bits_within frames from to) (bits_between frames p.first p.last) (time_between frames p.first p.last) (to - from) p.bits
+      | inr p ↦ longer rate burst (bits_within frames from to) (bits_between frames p.first p.last)
+          (time_between frames p.first p.last) (to - from) p.bits
           (let b = p.not_before in let a = p.not_after in omega arith)
           (c.within p.first p.last p.ordered p.within)
     ];
@@ -143,7 +154,8 @@ windows_from_places rate burst frames c = record {
 }
 
 -- the frames from one place to another are in the window of their times
-between_within : (frames : List Frame) (i j : ℕ) → IsNonDecreasingBy (λ (f : Frame). f.at) frames → j < length frames → bits_between frames i j ≤ bits_within frames (slice_index (times_of frames) i) (slice_index (times_of frames) j)
+between_within : (frames : List Frame) (i j : ℕ) → IsNonDecreasingBy (λ (f : Frame). f.at) frames → j < length frames
+    → bits_between frames i j ≤ bits_within frames (slice_index (times_of frames) i) (slice_index (times_of frames) j)
 between_within frames i j o h =
     let from : ℕ = slice_index (times_of frames) i in
     let to : ℕ = slice_index (times_of frames) j in
@@ -158,7 +170,8 @@ between_within frames i j o h =
     let part = bits_within-range-le frames i (j + 1) from to in
     omega arith
 
-pub places_from_windows : (rate burst : ℕ) (frames : List Frame) → ConformsByWindows rate burst frames → Conforms rate burst frames
+pub places_from_windows : (rate burst : ℕ) (frames : List Frame) → ConformsByWindows rate burst frames
+    → Conforms rate burst frames
 places_from_windows rate burst frames c = record {
   in_order = c.in_order;
   within = λ i j h k. (

@@ -5,7 +5,8 @@ use Rattle.ats_group.specs.declared.verdict.Verdict.{Verdict}
 use Rattle.ats_group.specs.declared.verdict.Verdict.TheVariants.{Eligible, Late, Size}
 use Rattle.ats_group.specs.Group.{Offer}
 
--- what a verdict lets through of an offered frame: where eligible, the frame at its eligibility time, with its wire bits
+-- what a verdict lets through of an offered frame: where eligible, the frame at its eligibility time, with its wire
+-- bits
 abbrev pub let_through : Offer → Verdict → List Frame
 let_through offer (Eligible e) = record { at = e.0; bits = bits_of offer.octets } ∷ []
 let_through offer (Late e) = []
@@ -18,4 +19,5 @@ accepted offers verdicts = flat_map (λ (judged : Offer × Verdict). let_through
 -- those of one member
 abbrev pub accepted_of : ℕ → List Offer → List Verdict → List Frame
 accepted_of member offers verdicts =
-    flat_map (λ (judged : Offer × Verdict). let_through judged.0 judged.1) (filter (λ (judged : Offer × Verdict). judged.0.member == member) (zip offers verdicts))
+    flat_map (λ (judged : Offer × Verdict). let_through judged.0 judged.1)
+    (filter (λ (judged : Offer × Verdict). judged.0.member == member) (zip offers verdicts))

@@ -11,13 +11,14 @@ use Rattle.ats_group.specs.Group.{Offer, is_declared_size, verdict_by}
 -- the step of a scheduler in whole numbers that are never negative: in place of the bucket-empty time it knows the
 -- bucket-full time, which is later by the burst; both are multiplied by the rate
 
--- the eligibility time: the least time at which the frame has arrived, that is not before the group eligibility time, and
--- at which the bucket holds the frame's bits
+-- the eligibility time: the least time at which the frame has arrived, that is not before the group eligibility time,
+-- and at which the bucket holds the frame's bits
 pub record IsFullEligibility (rate burst full group arrival bits eligible : ℕ) : Type 0 where
   pub arrived : arrival ≤ eligible
   pub after_group : group ≤ eligible
   pub bucket : full + PS_PER_SECOND * bits ≤ eligible * rate + PS_PER_SECOND * burst
-  pub least : (k : ℕ) → arrival ≤ k → group ≤ k → full + PS_PER_SECOND * bits ≤ k * rate + PS_PER_SECOND * burst → eligible ≤ k
+  pub least : (k : ℕ) → arrival ≤ k → group ≤ k → full + PS_PER_SECOND * bits ≤ k * rate + PS_PER_SECOND * burst
+      → eligible ≤ k
 
 -- that time, computed
 abbrev pub full_eligibility : ℕ → ℕ → ℕ → ℕ → ℕ → ℕ → ℕ
@@ -45,7 +46,8 @@ full_first = record { time = 0; full = λ member. 0 }
 abbrev pub full_judged : (ℕ → Declared) → ℕ → FullState → Offer → Verdict
 full_judged declared residence_ns state offer =
     if is_declared_size (declared offer.member) offer.octets
-    then verdict_by (offer.arrival + PS_PER_NS * residence_ns) (full_eligibility (declared offer.member).rate (declared offer.member).burst_bits (state.full offer.member) state.time offer.arrival (bits_of offer.octets))
+    then verdict_by (offer.arrival + PS_PER_NS * residence_ns) (full_eligibility (declared offer.member).rate
+    (declared offer.member).burst_bits (state.full offer.member) state.time offer.arrival (bits_of offer.octets))
     else Size
 
 -- what the group keeps after a verdict
@@ -53,21 +55,25 @@ abbrev pub full_state_by : (ℕ → Declared) → FullState → Offer → Verdic
 full_state_by declared state offer (Eligible e) =
     record {
       time = e.0;
-      full = λ member. if member == offer.member then full_after (declared member).rate (state.full member) e.0 (bits_of offer.octets) else state.full member;
+      full = λ member. if member == offer.member
+          then full_after (declared member).rate (state.full member) e.0 (bits_of offer.octets) else state.full member;
     }
 full_state_by declared state offer (Late e) = state
 full_state_by declared state offer Size = state
 
 -- what the group keeps after the next frame
 abbrev pub full_next : (ℕ → Declared) → ℕ → FullState → Offer → FullState
-full_next declared residence_ns state offer = full_state_by declared state offer (full_judged declared residence_ns state offer)
+full_next declared residence_ns state offer =
+    full_state_by declared state offer (full_judged declared residence_ns state offer)
 
 -- the verdicts on frames that come one after another, and what the group keeps after them
 abbrev pub full_verdicts : (ℕ → Declared) → ℕ → FullState → List Offer → List Verdict
 full_verdicts declared residence_ns state [] = []
 full_verdicts declared residence_ns state (offer ∷ offers) =
-    full_judged declared residence_ns state offer ∷ full_verdicts declared residence_ns (full_next declared residence_ns state offer) offers
+    full_judged declared residence_ns state offer ∷ full_verdicts declared residence_ns
+    (full_next declared residence_ns state offer) offers
 
 abbrev pub full_state_after : (ℕ → Declared) → ℕ → FullState → List Offer → FullState
 full_state_after declared residence_ns state [] = state
-full_state_after declared residence_ns state (offer ∷ offers) = full_state_after declared residence_ns (full_next declared residence_ns state offer) offers
+full_state_after declared residence_ns state (offer ∷ offers) =
+    full_state_after declared residence_ns (full_next declared residence_ns state offer) offers

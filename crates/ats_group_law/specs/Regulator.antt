@@ -25,7 +25,8 @@ ats_judge declared residence_ns offers = verdicts_of declared residence_ns (firs
 
 -- a frame is eligible only where its member declares its size
 abbrev pub IsEligibleSized : (ℕ → Declared) → Offer → Verdict → Type 0
-IsEligibleSized declared offer verdict = OnEligible verdict (λ e. IsTrue (is_declared_size (declared offer.member) offer.octets))
+IsEligibleSized declared offer verdict =
+    OnEligible verdict (λ e. IsTrue (is_declared_size (declared offer.member) offer.octets))
 
 -- what a judge lets through of a member
 abbrev pub passed_by : Judge → (ℕ → Declared) → ℕ → List Offer → ℕ → List Frame
@@ -34,11 +35,14 @@ passed_by judge declared residence_ns offers member = accepted_of member offers 
 -- a judge regulates members that declare this, whatever is offered to it and whatever the residence time
 pub record IsRegulator (judge : Judge) (declared : ℕ → Declared) : Type 0 where
   -- it lets frames through at declared sizes only
-  pub sized : (residence_ns : ℕ) (offers : List Offer) → AllZip (IsEligibleSized declared) offers (judge declared residence_ns offers)
+  pub sized : (residence_ns : ℕ) (offers : List Offer)
+      → AllZip (IsEligibleSized declared) offers (judge declared residence_ns offers)
   -- what it lets through of a member conforms
   pub conforms : (residence_ns : ℕ) (offers : List Offer) (member : ℕ) → IsRuled (declared member)
-      → Conforms (declared member).rate (declared member).burst_bits (passed_by judge declared residence_ns offers member)
-  -- and shaping is free: what conformed at the hop before, and may stay until the bound of its way here, is eligible within it
+      → Conforms (declared member).rate (declared member).burst_bits
+      (passed_by judge declared residence_ns offers member)
+  -- and shaping is free: what conformed at the hop before, and may stay until the bound of its way here, is eligible
+  -- within it
   pub free : (residence_ns bound : ℕ) (passages : List Passage) → IsDelayed declared residence_ns bound passages
       → AllZip (IsEligibleAgain bound) passages (judge declared residence_ns (offers_of passages))
 

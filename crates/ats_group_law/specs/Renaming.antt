@@ -14,6 +14,7 @@ renamed_offer rename offer = record { member = rename offer.member; arrival = of
 
 -- a group's verdicts do not depend on its members' numbers
 abbrev pub VerdictsAreKept : Type 0
-VerdictsAreKept = (is_member : ℕ → Bool) (rename : ℕ → ℕ) (declared renamed : ℕ → Declared) → IsRenaming is_member rename declared renamed
+VerdictsAreKept = (is_member : ℕ → Bool) (rename : ℕ → ℕ) (declared renamed : ℕ → Declared)
+    → IsRenaming is_member rename declared renamed
     → (residence_ns : ℕ) (offers : List Offer) → All (λ (o : Offer). IsTrue (is_member o.member)) offers
     → ats_judge renamed residence_ns (map (renamed_offer rename) offers) ≡ ats_judge declared residence_ns offers

@@ -24,10 +24,12 @@ fast member = record { rate = 100000000; burst_bits = 12336; min_octets = 64; ma
 abbrev pub two_offers : List Offer
 two_offers = offer_at 0 1522 ∷ offer_at 12336000 1522 ∷ []
 
--- the first frame empties the bucket; the second waits until just its bits are there, and could not go a picosecond earlier
+-- the first frame empties the bucket; the second waits until just its bits are there, and could not go a picosecond
+-- earlier
 pub record BucketEmptied : Type 0 where
   pub ruled : IsRuled (fast 0)
-  pub verdicts : verdicts_of fast 1000000 (first fast) two_offers ≡ Eligible (record { 0 = 0 }) ∷ Eligible (record { 0 = 123360000 }) ∷ []
+  pub verdicts : verdicts_of fast 1000000 (first fast) two_offers
+      ≡ Eligible (record { 0 = 0 }) ∷ Eligible (record { 0 = 123360000 }) ∷ []
   pub passed : passed_of fast 1000000 two_offers 0 ≡ frame_at 0 12336 ∷ frame_at 123360000 12336 ∷ []
   pub not_earlier : Conforms 100000000 12336 (frame_at 0 12336 ∷ frame_at 123359999 12336 ∷ []) → ⊥
 
@@ -41,8 +43,10 @@ three_offers = offer_at 0 64 ∷ offer_at 672000 64 ∷ offer_at 1344000 64 ∷ 
 -- each eligibility time is rounded up, and the bucket stays exact
 pub record RoundedUp : Type 0 where
   pub ruled : IsRuled (odd 0)
-  pub verdicts : verdicts_of odd 1000000 (first odd) three_offers ≡ Eligible (record { 0 = 0 }) ∷ Eligible (record { 0 = 61090910 }) ∷ Eligible (record { 0 = 122181820 }) ∷ []
-  pub empty : (state_after odd 1000000 (first odd) (offer_at 0 64 ∷ offer_at 672000 64 ∷ [])).empty 0 ≡ pos 672000010000000
+  pub verdicts : verdicts_of odd 1000000 (first odd) three_offers
+      ≡ Eligible (record { 0 = 0 }) ∷ Eligible (record { 0 = 61090910 }) ∷ Eligible (record { 0 = 122181820 }) ∷ []
+  pub empty : (state_after odd 1000000 (first odd) (offer_at 0 64 ∷ offer_at 672000 64 ∷ [])).empty 0
+      ≡ pos 672000010000000
   pub not_down : Conforms 11000000 672 (frame_at 0 672 ∷ frame_at 61090909 672 ∷ []) → ⊥
 
 -- a frame of a member that was eligible at the hop before at this time, and arrives a picosecond later

@@ -27,13 +27,14 @@ frame_before passage = record { at = passage.since; bits = bits_of passage.offer
 abbrev pub frames_before : ℕ → List Passage → List Frame
 frames_before member passages = map frame_before (filter (λ (p : Passage). p.offer.member == member) passages)
 
--- what comes to a group conformed at the hop before, member by member, and kept its order from there; each frame arrives at
--- most `bound` picoseconds after it was eligible there, and may stay in the group until then
+-- what comes to a group conformed at the hop before, member by member, and kept its order from there; each frame
+-- arrives at most `bound` picoseconds after it was eligible there, and may stay in the group until then
 pub record IsDelayed (declared : ℕ → Declared) (residence_ns bound : ℕ) (passages : List Passage) : Type 0 where
   pub ruled : All (λ (p : Passage). IsRuled (declared p.offer.member)) passages
   pub sized : All (λ (p : Passage). is_declared_size (declared p.offer.member) p.offer.octets ≡ true) passages
   pub in_order : IsNonDecreasingBy (λ (p : Passage). p.since) passages
-  pub conformed : All (λ (p : Passage). KeepsWindows (declared p.offer.member).rate (declared p.offer.member).burst_bits (frames_before p.offer.member passages)) passages
+  pub conformed : All (λ (p : Passage). KeepsWindows (declared p.offer.member).rate (declared p.offer.member).burst_bits
+      (frames_before p.offer.member passages)) passages
   pub arrives : All (λ (p : Passage). p.offer.arrival ≤ p.since + bound) passages
   pub may_stay : All (λ (p : Passage). p.since + bound ≤ p.offer.arrival + PS_PER_NS * residence_ns) passages
 
@@ -43,4 +44,6 @@ IsEligibleAgain bound passage verdict = (e : Ps) × (verdict ≡ Eligible e) × 
 
 -- a group adds nothing to the greatest delay: each frame is eligible again within the bound of its way there
 abbrev pub ShapingIsFree : Type 0
-ShapingIsFree = (declared : ℕ → Declared) (residence_ns bound : ℕ) (passages : List Passage) → IsDelayed declared residence_ns bound passages → AllZip (IsEligibleAgain bound) passages (verdicts_of declared residence_ns (first declared) (offers_of passages))
+ShapingIsFree = (declared : ℕ → Declared) (residence_ns bound : ℕ) (passages : List Passage)
+    → IsDelayed declared residence_ns bound passages
+    → AllZip (IsEligibleAgain bound) passages (verdicts_of declared residence_ns (first declared) (offers_of passages))

@@ -13,7 +13,8 @@ bits_within frames from to = sum_by (λ (f : Frame). f.bits) (filter (is_within 
 
 -- no window of time holds more bits than the rate, in bits per second, gives in its picoseconds and the burst
 pub record KeepsWindows (rate burst : ℕ) (frames : List Frame) : Type 0 where
-  pub within : (from to : ℕ) → from ≤ to → PS_PER_SECOND * bits_within frames from to ≤ rate * (to - from) + PS_PER_SECOND * burst
+  pub within : (from to : ℕ) → from ≤ to
+      → PS_PER_SECOND * bits_within frames from to ≤ rate * (to - from) + PS_PER_SECOND * burst
 
 -- the frames conform to a token bucket of this rate and this burst, said by windows of time
 pub record ConformsByWindows (rate burst : ℕ) (frames : List Frame) : Type 0 where

@@ -1,6 +1,7 @@
 //! What is proved of the definitions, for all lists of frames and of offers.
 
-ghost use Rattle.ats_group_law.specs.Laws.{ConformingByWindows, EligibilityIsLeast, LateTimeIsLeast, GroupTimeIsLast, OutputConforms, OutputConformsByWindows, OutputAscends, FoldIsFullFold};
+ghost use Rattle.ats_group_law.specs.Laws.{ConformingByWindows, EligibilityIsLeast, LateTimeIsLeast, GroupTimeIsLast};
+ghost use Rattle.ats_group_law.specs.Laws.{OutputConforms, OutputConformsByWindows, OutputAscends, FoldIsFullFold};
 ghost use Rattle.ats_group_law.specs.GroupsLaws.{GroupsOutputConforms, GroupsOutputAscends, GroupsEligibilityIsLeast};
 ghost use Rattle.ats_group_law.specs.Regulator.{AtsIsRegulator};
 ghost use Rattle.ats_group_law.specs.Renaming.{VerdictsAreKept};
@@ -13,15 +14,17 @@ pub fn conforms_by_windows()
     ensures { ConformingByWindows }
 {}
 
-/// What an eligibility time means, without a bucket: where a group accepts a frame, its eligibility time is the least
-/// whole picosecond, not before its arrival or the group eligibility time, with which all that the group accepted of the
-/// member so far, followed by this frame, conforms to the member's rate and burst. What was offered before is arbitrary.
+/// What an eligibility time means, without a bucket: where a group accepts a frame, its eligibility
+/// time is the least whole picosecond, not before its arrival or the group eligibility time, with
+/// which all that the group accepted of the member so far, followed by this frame, conforms to the
+/// member's rate and burst. What was offered before is arbitrary.
 pub fn eligibility_is_least()
     ensures { EligibilityIsLeast }
 {}
 
-/// The time that the verdict on a late frame tells is also the least, not before its arrival or the group eligibility time,
-/// with which all that the group accepted of the member, followed by this frame, conforms.
+/// The time that the verdict on a late frame tells is also the least, not before its arrival or the
+/// group eligibility time, with which all that the group accepted of the member, followed by this
+/// frame, conforms.
 pub fn late_time_is_least()
     ensures { LateTimeIsLeast }
 {}
@@ -37,7 +40,8 @@ pub fn output_conforms()
     ensures { OutputConforms }
 {}
 
-/// Whatever is offered to a group, what it accepts of a member keeps each window of time to what its rate gives and its burst.
+/// Whatever is offered to a group, what it accepts of a member keeps each window of time to what
+/// its rate gives and its burst.
 pub fn output_conforms_by_windows()
     ensures { OutputConformsByWindows }
 {}
@@ -47,8 +51,8 @@ pub fn output_ascends()
     ensures { OutputAscends }
 {}
 
-/// The verdicts of a group and its state also come from bucket-full times, which are never negative. Proofs count so; no
-/// meaning rests on it.
+/// The verdicts of a group and its state also come from bucket-full times, which are never
+/// negative. Proofs count so; no meaning rests on it.
 pub fn fold_is_full_fold()
     ensures { FoldIsFullFold }
 {}
@@ -70,15 +74,17 @@ pub fn groups_eligibility_is_least()
     ensures { GroupsEligibilityIsLeast }
 {}
 
-/// A group adds nothing to the greatest delay: where frames come to it that conformed at the hop before, in the order in
-/// which they were eligible there and within a bound of that time, each is eligible again within the same bound.
+/// A group adds nothing to the greatest delay: where frames come to it that conformed at the hop
+/// before, in the order in which they were eligible there and within a bound of that time, each is
+/// eligible again within the same bound.
 pub fn shaping_is_free()
     ensures { ShapingIsFree }
 {}
 
-/// The laws at two lists of frames: a bucket that is just emptied, and a rate at which eligibility times are rounded up.
-/// Frames that were a picosecond earlier would not conform. And two frames that come in another order than they were
-/// eligible at the hop before, for which shaping is not free.
+/// The laws at two lists of frames: a bucket that is just emptied, and a rate at which eligibility
+/// times are rounded up. Frames that were a picosecond earlier would not conform. And two frames
+/// that come in another order than they were eligible at the hop before, for which shaping is not
+/// free.
 pub fn worked_rows()
     ensures bucket_emptied { BucketEmptied }
     ensures rounded_up { RoundedUp }
@@ -91,8 +97,8 @@ pub fn ats_is_regulator()
     ensures { AtsIsRegulator }
 {}
 
-/// A group's verdicts do not depend on its members' numbers: where each gets another one of its own, under which the same
-/// is declared, the verdicts stay.
+/// A group's verdicts do not depend on its members' numbers: where each gets another one of its
+/// own, under which the same is declared, the verdicts stay.
 pub fn verdicts_are_kept()
     ensures { VerdictsAreKept }
 {}

@@ -2,10 +2,13 @@ use Rattle.std.proofs.Common.{List, All}
 use Rattle.ats_network.specs.Network.{DeclaredNetwork}
 use Rattle.ats_certificate.specs.Certificate.{RowHolds, Holds}
 use Rattle.ats_certificate.specs.declared.row.Row.{Row}
-use Rattle.ats_soundness_law.specs.Rules.{Rule, rows_are_there, higher_is_right, equal_is_right, bursts_are_right, lower_is_right, least_is_right, bound_follows, load_fits, wait_is_enough, frames_may_stay, Keeps, RestHolds, HoldsIsEachRule}
+use Rattle.ats_soundness_law.specs.Rules.{Rule, rows_are_there, higher_is_right, equal_is_right, bursts_are_right}
+use Rattle.ats_soundness_law.specs.Rules.{lower_is_right, least_is_right, bound_follows, load_fits, wait_is_enough}
+use Rattle.ats_soundness_law.specs.Rules.{frames_may_stay, Keeps, RestHolds, HoldsIsEachRule}
 
 -- the rules of a certificate that holds
-pub rule_of_holding : (network : DeclaredNetwork) (given : List Row) → Holds network given → (rule : Rule) → Keeps rule network given
+pub rule_of_holding : (network : DeclaredNetwork) (given : List Row) → Holds network given → (rule : Rule)
+    → Keeps rule network given
 rule_of_holding network given h rows_are_there = h.rows_of.complete
 rule_of_holding network given h higher_is_right = λ k d within. (h.each k d within).covers.sums.higher
 rule_of_holding network given h equal_is_right = λ k d within. (h.each k d within).covers.sums.equal
@@ -18,7 +21,8 @@ rule_of_holding network given h wait_is_enough = λ k d within. (h.each k d with
 rule_of_holding network given h frames_may_stay = λ k d within. (h.each k d within).residence
 
 -- by them each row holds
-pub each_row_holds : (network : DeclaredNetwork) (given : List Row) → ((rule : Rule) → Keeps rule network given) → All (RowHolds network) given
+pub each_row_holds : (network : DeclaredNetwork) (given : List Row) → ((rule : Rule) → Keeps rule network given)
+    → All (RowHolds network) given
 each_row_holds network given keeps k d within = record {
   covers = record {
     sums = record {
@@ -35,7 +39,8 @@ each_row_holds network given keeps k d within = record {
   residence = keeps frames_may_stay k d within;
 }
 
-pub holds_of_rules : (network : DeclaredNetwork) (given : List Row) → ((rule : Rule) → Keeps rule network given) → RestHolds network given → Holds network given
+pub holds_of_rules : (network : DeclaredNetwork) (given : List Row) → ((rule : Rule) → Keeps rule network given)
+    → RestHolds network given → Holds network given
 holds_of_rules network given keeps rest = record {
   rows_of = record { complete = keeps rows_are_there; used = rest.used; ordered = rest.ordered };
   each = each_row_holds network given keeps;

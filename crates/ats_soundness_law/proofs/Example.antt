@@ -1,4 +1,5 @@
-use Rattle.std.proofs.Common.{◌≡◌, ℕ, ◌+◌, ◌*◌, ◌≤◌, Bool, true, false, cond, [], ◌∷◌, refl, subst, inl, inr, arith, lit<, lit≤}
+use Rattle.std.proofs.Common.{◌≡◌, ℕ, ◌+◌, ◌*◌, ◌≤◌, Bool, true, false, cond, [], ◌∷◌, refl, subst, inl, inr, arith}
+use Rattle.std.proofs.Common.{lit<, lit≤}
 use Rattle.std.specs.Prelude.{◌||◌, ◌==◌, IsSome, nat_lt, slice_index_or, All}
 use Rattle.std.specs.List.{list_any}
 use Rattle.std.proofs.lemmas.Bool.{or_cases, eqb-true, false≢true}
@@ -47,10 +48,12 @@ is_stream = record {
 }
 
 is_path : IsValidPath line.topology the_stream.path
-is_path = over_bridge line.topology 0 2 (lit< tt) (lit< tt) refl (record { within = lit< tt; station = refl }) (record { within = lit< tt; station = refl }) refl refl refl
+is_path = over_bridge line.topology 0 2 (lit< tt) (lit< tt) refl (record { within = lit< tt; station = refl })
+    (record { within = lit< tt; station = refl }) refl refl refl
 
 pub is_network : IsNetwork line
-is_network = pushed_stream (declared_network (topology_of line_nodes line_links) [] []) the_stream (bare line_nodes line_links refl) is_stream is_path refl refl (lit< tt)
+is_network = pushed_stream (declared_network (topology_of line_nodes line_links) [] []) the_stream
+    (bare line_nodes line_links refl) is_stream is_path refl refl (lit< tt)
 
 -- where one sender is all that there is, it uses the port, and the class is its own
 record IsOwn (s : Sender) (port class : ℕ) : Type 0 where
@@ -63,7 +66,11 @@ own s port class = by (uses port s) refl
     by : (b : Bool) → uses port s ≡ b → list_any (is_of class) (cond b (s ∷ []) []) ≡ true → IsOwn s port class
     by true on h = record {
       goes = on;
-      ranked = elim (or_cases (is_of class s) false h) as (λ _. s.class ≡ class) [ inl same ↦ eqb-true s.class class same | inr none ↦ absurd (false≢true none) ];
+      ranked = elim (or_cases (is_of class s) false h) as (λ _. s.class ≡ class) [
+        | inl same ↦
+            eqb-true s.class class same
+        | inr none ↦ absurd (false≢true none)
+      ];
     }
     by false on h = absurd (false≢true h)
 
@@ -114,12 +121,14 @@ holds = record {
 }
   where
     all_two : (P : Row → Type 0) → P (row_of_line 0 13836000) → P (row_of_line 2 12836000) → All P line_rows
-    all_two P first second = All-cons P (row_of_line 0 13836000) (row_of_line 2 12836000 ∷ []) first (All-cons P (row_of_line 2 12836000) [] second (All-nil P))
+    all_two P first second = All-cons P (row_of_line 0 13836000) (row_of_line 2 12836000 ∷ []) first
+        (All-cons P (row_of_line 2 12836000) [] second (All-nil P))
 
 -- two frames at once are more than the burst
 not_kept : ¬ KeepsBuckets line (releases_of regulated) (talker_of line 0)
 not_kept keeps =
-    let over : 1000000000000 * 24672 ≤ 100000000 * 0 + 1000000000000 * 12336 = (keeps.streams 0 (lit< tt) refl).within 0 1 (lit≤ tt) (lit< tt) in
+    let over : 1000000000000 * 24672 ≤ 100000000 * 0 + 1000000000000 * 12336 =
+    (keeps.streams 0 (lit< tt) refl).within 0 1 (lit≤ tt) (lit< tt) in
     absurd (omega arith)
 
 -- the bridge lets the second of them go long after the bound of the port before

@@ -31,15 +31,18 @@ pub record IsKnown (network : DeclaredNetwork) (g : Hop) : Type 0 where
   pub used : uses g.port (sender_at network g.sent.sender) ≡ true
   pub ranked : g.sent.class ≡ (sender_at network g.sent.sender).class
 
-journey_known : (network : DeclaredNetwork) → IsNetwork network → (n : ℕ) (j : Travel) → IsJourney network j → All (IsKnown network) (journey_hops network n j)
+journey_known : (network : DeclaredNetwork) → IsNetwork network → (n : ℕ) (j : Travel) → IsJourney network j
+    → All (IsKnown network) (journey_hops network n j)
 journey_known network net n j is =
     let s : Sender = sender_at network j.release.sender in
     let keeps : IsSender network.topology s = sender_is network net j.release.sender is.sender in
     all_hops (IsKnown network) n j.release s s.path j.hops
     (λ k d h e times. record { exists = is.sender; within = keeps.ports k d h; used = uses_own s k d h; ranked = refl })
 
-pub known : {judge : Judge} (network : DeclaredNetwork) (run : List Travel) → Case judge network run → All (IsKnown network) (hops_from network 0 run)
-known network run c = run_hops (IsJourney network) (IsKnown network) network 0 run (journey_known network c.net) c.legal.journeys
+pub known : {judge : Judge} (network : DeclaredNetwork) (run : List Travel) → Case judge network run
+    → All (IsKnown network) (hops_from network 0 run)
+known network run c =
+    run_hops (IsJourney network) (IsKnown network) network 0 run (journey_known network c.net) c.legal.journeys
 
 -- what is known of each frame that is handed on
 pub record IsTold (network : DeclaredNetwork) (h : Handed) : Type 0 where
@@ -49,21 +52,27 @@ pub record IsTold (network : DeclaredNetwork) (h : Handed) : Type 0 where
   pub bits : h.crossing.sent.bits ≡ bits_of h.crossing.octets
   pub bridge : IsBridgeAt network.topology (port_at network.topology.ports h.crossing.port).to
 
-journey_told : (network : DeclaredNetwork) → IsNetwork network → (n : ℕ) (j : Travel) → IsJourney network j → All (IsTold network) (journey_handed network n j)
+journey_told : (network : DeclaredNetwork) → IsNetwork network → (n : ℕ) (j : Travel) → IsJourney network j
+    → All (IsTold network) (journey_handed network n j)
 journey_told network net n j is =
     let s : Sender = sender_at network j.release.sender in
     let keeps : IsSender network.topology s = sender_is network net j.release.sender is.sender in
     all_handed (IsTold network) n j.release s s.path j.hops j.ending
-    (neighbours_with (λ p. p < length network.topology.ports) (MeetAtBridge network.topology) (AtPorts (IsTold network) n j.release s.class)
-    (λ a b within meet came e times arrival verdict. record { exists = is.sender; within = within; ranked = refl; bits = refl; bridge = meet.bridge })
+    (neighbours_with (λ p. p < length network.topology.ports) (MeetAtBridge network.topology)
+    (AtPorts (IsTold network) n j.release s.class)
+    (λ a b within meet came e times arrival verdict.
+    record { exists = is.sender; within = within; ranked = refl; bits = refl; bridge = meet.bridge })
     s.path keeps.ports keeps.bridges)
     is.way
 
-pub told : {judge : Judge} (network : DeclaredNetwork) (run : List Travel) → Case judge network run → All (IsTold network) (handed_from network 0 run)
-told network run c = run_handed (IsJourney network) (IsTold network) network 0 run (journey_told network c.net) c.legal.journeys
+pub told : {judge : Judge} (network : DeclaredNetwork) (run : List Travel) → Case judge network run
+    → All (IsTold network) (handed_from network 0 run)
+told network run c =
+    run_handed (IsJourney network) (IsTold network) network 0 run (journey_told network c.net) c.legal.journeys
 
 -- so many octets are of a declared size exactly where their bits are
-pub bits_of_size : (network : DeclaredNetwork) (i octets : ℕ) → is_declared_size (declared_by network i) octets ≡ true → (shortest (sender_at network i) ≤ bits_of octets) × (bits_of octets ≤ longest (sender_at network i))
+pub bits_of_size : (network : DeclaredNetwork) (i octets : ℕ) → is_declared_size (declared_by network i) octets ≡ true
+    → (shortest (sender_at network i) ≤ bits_of octets) × (bits_of octets ≤ longest (sender_at network i))
 bits_of_size network i octets size =
     let s : Sender = sender_at network i in
     let p = and_parts (nat_le s.min_octets octets) (nat_le octets s.max_octets) size in
@@ -71,7 +80,9 @@ bits_of_size network i octets size =
     let most = leb-true octets s.max_octets p.1 in
     (omega (arith, least), omega (arith, most))
 
-pub size_of_bits : (network : DeclaredNetwork) (i octets : ℕ) → shortest (sender_at network i) ≤ bits_of octets → bits_of octets ≤ longest (sender_at network i) → is_declared_size (declared_by network i) octets ≡ true
+pub size_of_bits : (network : DeclaredNetwork) (i octets : ℕ) → shortest (sender_at network i) ≤ bits_of octets
+    → bits_of octets ≤ longest (sender_at network i) → is_declared_size (declared_by network i) octets ≡ true
 size_of_bits network i octets least most =
     let s : Sender = sender_at network i in
-    and_from (nat_le s.min_octets octets) (nat_le octets s.max_octets) (le-leb s.min_octets octets (omega (arith, least))) (le-leb octets s.max_octets (omega (arith, most)))
+    and_from (nat_le s.min_octets octets) (nat_le octets s.max_octets)
+    (le-leb s.min_octets octets (omega (arith, least))) (le-leb octets s.max_octets (omega (arith, most)))

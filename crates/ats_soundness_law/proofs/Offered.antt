@@ -18,7 +18,8 @@ abbrev pub DeclaredAt : DeclaredNetwork → ℕ → Hop → Type 0
 DeclaredAt network port g = g.port ≡ port → IsDeclared network port g.sent
 
 -- the transmissions of a port, of those of a run
-pub at_port : (P : Transmission → Type 0) (network : DeclaredNetwork) (run : List Travel) (port : ℕ) → All (λ (g : Hop). g.port ≡ port → P g.sent) (hops_from network 0 run) → All P (sent_by network run port)
+pub at_port : (P : Transmission → Type 0) (network : DeclaredNetwork) (run : List Travel) (port : ℕ)
+    → All (λ (g : Hop). g.port ≡ port → P g.sent) (hops_from network 0 run) → All P (sent_by network run port)
 at_port P network run port all =
     let hops : List Hop = hops_from network 0 run in
     let test = λ (g : Hop). g.port == port in
@@ -28,16 +29,20 @@ at_port P network run port all =
     (λ k d h. chosen k d h (eqb-true (get_or (filter test hops) k d).port port (passes k d h)))
 
 -- a port is offered what it may be asked to send, where no window holds too many bits of a stream
-pub offered : (network : DeclaredNetwork) (run : List Travel) (port : ℕ) → All (DeclaredAt network port) (hops_from network 0 run)
-    → ((i : ℕ) → i < length network.streams → KeepsWindows (sender_at network i).rate (sender_at network i).burst_bits (frames_by i (sent_by network run port)))
+pub offered : (network : DeclaredNetwork) (run : List Travel) (port : ℕ)
+    → All (DeclaredAt network port) (hops_from network 0 run)
+    → ((i : ℕ) → i < length network.streams → KeepsWindows (sender_at network i).rate (sender_at network i).burst_bits
+    (frames_by i (sent_by network run port)))
     → IsOffered network port (sent_by network run port)
 offered network run port each windows = record {
   each = at_port (IsDeclared network port) network run port each;
-  streams = λ i h. conforms_in_order (sender_at network i).rate (sender_at network i).burst_bits (frames_by i (sent_by network run port)) (windows i h);
+  streams = λ i h. conforms_in_order (sender_at network i).rate (sender_at network i).burst_bits
+      (frames_by i (sent_by network run port)) (windows i h);
 }
 
 -- frames without bits keep all windows
-pub no_bits : (rate burst : ℕ) (frames : List Frame) → ((from to : ℕ) → bits_within frames from to ≤ 0) → KeepsWindows rate burst frames
+pub no_bits : (rate burst : ℕ) (frames : List Frame) → ((from to : ℕ) → bits_within frames from to ≤ 0)
+    → KeepsWindows rate burst frames
 no_bits rate burst frames none = record {
   within = λ from to h. (
       let zero_bits : bits_within frames from to ≡ 0 = omega (arith, none from to) in

@@ -18,15 +18,16 @@ of_two =
     ∷ sunk 0 0 64 (hop 0 0 12336000 13008000 ∷ hop 14508000 14508000 26172000 26844000 ∷ []) 27344000
     ∷ []
 
--- the next small one is sent at its release, as soon as its bucket allows; in the bridge it would have to stay for 12336000
--- ps, as long as the first one waited at the talker, and is discarded where that is too long
+-- the next small one is sent at its release, as soon as its bucket allows; in the bridge it would have to stay for
+-- 12336000 ps, as long as the first one waited at the talker, and is discarded where that is too long
 abbrev pub of_three : List Travel
 of_three =
     sunk 0 1 1522 (hop 0 0 0 12336000 ∷ hop 13836000 13836000 13836000 26172000 ∷ []) 26672000
     ∷ sunk 0 0 64 (hop 0 0 12336000 13008000 ∷ hop 14508000 14508000 26172000 26844000 ∷ []) 27344000
     ∷ record {
       release = record { at = record { 0 = 13440000 }; sender = 0; octets = 64 };
-      hops = hop 13440000 13440000 13440000 14112000 ∷ record { arrival = record { 0 = 15612000 }; verdict = Late (record { 0 = 27948000 }); sent = None } ∷ [];
+      hops = hop 13440000 13440000 13440000 14112000
+          ∷ record { arrival = record { 0 = 15612000 }; verdict = Late (record { 0 = 27948000 }); sent = None } ∷ [];
       ending = Discard;
     }
     ∷ []
@@ -43,7 +44,8 @@ of_classes =
 abbrev pub of_fast : List Travel
 of_fast =
     sunk 0 0 1522 (hop 0 0 0 12336000 ∷ hop 13836000 13836000 13836000 26172000 ∷ []) 26672000
-    ∷ sunk 6168000 0 1522 (hop 6168000 6168000 12336000 24672000 ∷ hop 26172000 26172000 26172000 38508000 ∷ []) 39008000
+    ∷ sunk 6168000 0 1522
+    (hop 6168000 6168000 12336000 24672000 ∷ hop 26172000 26172000 26172000 38508000 ∷ []) 39008000
     ∷ []
 
 pub two_legal : IsLegal (pair 1000000) of_two

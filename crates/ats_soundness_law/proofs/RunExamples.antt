@@ -1,4 +1,5 @@
-use Rattle.std.proofs.Common.{◌≡◌, ◌≢◌, ℕ, ◌+◌, ◌*◌, ◌<◌, ◌≤◌, Bool, true, false, List, [], ◌∷◌, length, get_or, All, refl, inl, inr, ◌⊎◌, arith, lit<, lit≤}
+use Rattle.std.proofs.Common.{◌≡◌, ◌≢◌, ℕ, ◌+◌, ◌*◌, ◌<◌, ◌≤◌, Bool, true, false, List, [], ◌∷◌, length, get_or, All}
+use Rattle.std.proofs.Common.{refl, inl, inr, ◌⊎◌, arith, lit<, lit≤}
 use Rattle.std.specs.Prelude.{◌==◌, not, nat_lt, codes, AllPairs, Contains}
 use Rattle.std.proofs.lemmas.Bool.{false≢true}
 use Rattle.std.proofs.lemmas.Option.{none-some}
@@ -21,7 +22,8 @@ use Rattle.ats_trace.specs.Talker.{talker_of, KeepsBuckets}
 use Rattle.ats_trace.specs.Eligibility.{declared_by}
 use Rattle.ats_trace.specs.Examples.{stream, line, fork, fork_nodes, fork_links, one_frame}
 use Rattle.ats_trace.specs.Changes.{sunk_late}
-use Rattle.ats_trace.specs.BridgeExamples.{two_nodes, two_links, three_nodes, three_links, over_two, over_three, one_over_two, one_over_three, two_over_two, two_over_three}
+use Rattle.ats_trace.specs.BridgeExamples.{two_nodes, two_links, three_nodes, three_links, over_two, over_three}
+use Rattle.ats_trace.specs.BridgeExamples.{one_over_two, one_over_three, two_over_two, two_over_three}
 use Rattle.ats_trace.specs.Babbler.{babbler}
 use Rattle.ats_trace.proofs.Tests.{lt_of, all_by, pairs_by}
 use Rattle.ats_trace.proofs.LegalProofs.{examples_legal}
@@ -30,14 +32,16 @@ use Rattle.ats_trace.proofs.BridgeProofs.{bridged_legal, babbler_legal}
 use Rattle.ats_trace.proofs.ExactLinks.{links_are_exact}
 use Rattle.ats_trace.proofs.TalkerProofs.{keeps_by}
 use Rattle.ats_soundness_law.specs.Sound.{IsServed, IsContained}
-use Rattle.ats_soundness_law.specs.RunExamples.{two_rows, three_rows, fork_rows, turned_rows, IsCertified, BridgedAreSound, BabblerIsContained, ExactExamples, OrderDoesNotCount}
+use Rattle.ats_soundness_law.specs.RunExamples.{two_rows, three_rows, fork_rows, turned_rows, IsCertified}
+use Rattle.ats_soundness_law.specs.RunExamples.{BridgedAreSound, BabblerIsContained, ExactExamples, OrderDoesNotCount}
 use Rattle.ats_soundness_law.proofs.EachRule.{holds_of_rules}
 use Rattle.ats_soundness_law.proofs.Example.{is_network}
 use Rattle.ats_soundness_law.proofs.RuleTest.{all_pass, all_kept, rest_passes, rest_by}
 use Rattle.ats_soundness_law.proofs.Soundness.{path_law, containment, sound_by_rules}
 
 -- closed rows that pass each test are a certificate
-holds_by : (network : DeclaredNetwork) (rows : List Row) → all_pass network rows ≡ true → rest_passes network rows ≡ true → Holds network rows
+holds_by : (network : DeclaredNetwork) (rows : List Row) → all_pass network rows ≡ true
+    → rest_passes network rows ≡ true → Holds network rows
 holds_by network rows kept rest = holds_of_rules network rows (all_kept network rows kept) (rest_by network rows rest)
 
 -- the stream over a path
@@ -74,7 +78,8 @@ path_over_two = record {
   begins = record { within = lit< tt; station = refl };
   ends = record { within = lit< tt; station = refl };
   differ = differ 0 1 refl;
-  apart = pairs_by (λ a b. a ≢ b) (λ a b. not (a == b)) apart (nodes_along over_two.topology.ports (0 ∷ 2 ∷ 4 ∷ [])) refl;
+  apart =
+      pairs_by (λ a b. a ≢ b) (λ a b. not (a == b)) apart (nodes_along over_two.topology.ports (0 ∷ 2 ∷ 4 ∷ [])) refl;
 }
 
 path_over_three : IsValidPath over_three.topology (0 ∷ 2 ∷ 4 ∷ 6 ∷ [])
@@ -91,28 +96,35 @@ path_over_three = record {
   begins = record { within = lit< tt; station = refl };
   ends = record { within = lit< tt; station = refl };
   differ = differ 0 1 refl;
-  apart = pairs_by (λ a b. a ≢ b) (λ a b. not (a == b)) apart (nodes_along over_three.topology.ports (0 ∷ 2 ∷ 4 ∷ 6 ∷ [])) refl;
+  apart = pairs_by (λ a b. a ≢ b) (λ a b. not (a == b)) apart
+      (nodes_along over_three.topology.ports (0 ∷ 2 ∷ 4 ∷ 6 ∷ [])) refl;
 }
 
 two_is : IsNetwork over_two
 two_is =
     pushed_stream (declared_network (topology_of two_nodes two_links) [] []) (stream (codes "a") (0 ∷ 2 ∷ 4 ∷ []))
-    (bare two_nodes two_links refl) (is_stream (codes "a") (0 ∷ 2 ∷ 4 ∷ []) (lit≤ tt) (lit≤ tt)) path_over_two refl refl (lit< tt)
+    (bare two_nodes two_links refl) (is_stream (codes "a") (0 ∷ 2 ∷ 4 ∷ []) (lit≤ tt) (lit≤ tt))
+    path_over_two refl refl (lit< tt)
 
 three_is : IsNetwork over_three
 three_is =
-    pushed_stream (declared_network (topology_of three_nodes three_links) [] []) (stream (codes "a") (0 ∷ 2 ∷ 4 ∷ 6 ∷ []))
-    (bare three_nodes three_links refl) (is_stream (codes "a") (0 ∷ 2 ∷ 4 ∷ 6 ∷ []) (lit≤ tt) (lit≤ tt)) path_over_three refl refl (lit< tt)
+    pushed_stream (declared_network (topology_of three_nodes three_links) [] [])
+    (stream (codes "a") (0 ∷ 2 ∷ 4 ∷ 6 ∷ []))
+    (bare three_nodes three_links refl) (is_stream (codes "a") (0 ∷ 2 ∷ 4 ∷ 6 ∷ []) (lit≤ tt) (lit≤ tt))
+    path_over_three refl refl (lit< tt)
 
 fork_is : IsNetwork fork
 fork_is =
-    pushed_stream (declared_network (topology_of fork_nodes fork_links) (stream (codes "a") (0 ∷ 2 ∷ []) ∷ []) []) (stream (codes "z") (4 ∷ 2 ∷ []))
+    pushed_stream (declared_network (topology_of fork_nodes fork_links) (stream (codes "a") (0 ∷ 2 ∷ []) ∷ []) [])
+    (stream (codes "z") (4 ∷ 2 ∷ []))
     (pushed_stream (declared_network (topology_of fork_nodes fork_links) [] []) (stream (codes "a") (0 ∷ 2 ∷ []))
     (bare fork_nodes fork_links refl) (is_stream (codes "a") (0 ∷ 2 ∷ []) (lit≤ tt) (lit≤ tt))
-    (over_bridge (topology_of fork_nodes fork_links) 0 2 (lit< tt) (lit< tt) refl (record { within = lit< tt; station = refl }) (record { within = lit< tt; station = refl }) refl refl refl)
+    (over_bridge (topology_of fork_nodes fork_links) 0 2 (lit< tt) (lit< tt) refl
+    (record { within = lit< tt; station = refl }) (record { within = lit< tt; station = refl }) refl refl refl)
     refl refl (lit< tt))
     (is_stream (codes "z") (4 ∷ 2 ∷ []) (lit≤ tt) (lit≤ tt))
-    (over_bridge (topology_of fork_nodes fork_links) 4 2 (lit< tt) (lit< tt) refl (record { within = lit< tt; station = refl }) (record { within = lit< tt; station = refl }) refl refl refl)
+    (over_bridge (topology_of fork_nodes fork_links) 4 2 (lit< tt) (lit< tt) refl
+    (record { within = lit< tt; station = refl }) (record { within = lit< tt; station = refl }) refl refl refl)
     refl refl (lit< tt)
 
 two_certified : IsCertified over_two two_rows
@@ -125,9 +137,12 @@ fork_certified : IsCertified fork fork_rows
 fork_certified = record { rules = fork_is; holds = holds_by fork fork_rows refl refl }
 
 -- by the path law
-served_in : (network : DeclaredNetwork) (rows : List Row) (run : List Travel) (j : Travel) → IsCertified network rows → IsLegal network run → Contains run j → IsOfStream network j
-    → KeepsBuckets network (releases_of run) (talker_of network j.release.sender) → IsServed rows (sender_at network j.release.sender) j
-served_in network rows run j c legal there stream keeps = path_law network rows c.rules c.holds run legal j there stream keeps
+served_in : (network : DeclaredNetwork) (rows : List Row) (run : List Travel) (j : Travel) → IsCertified network rows
+    → IsLegal network run → Contains run j → IsOfStream network j
+    → KeepsBuckets network (releases_of run) (talker_of network j.release.sender)
+    → IsServed rows (sender_at network j.release.sender) j
+served_in network rows run j c legal there stream keeps =
+    path_law network rows c.rules c.holds run legal j there stream keeps
 
 two_kept : KeepsBuckets over_two (releases_of (one_over_two ∷ [])) 0
 two_kept = keeps_by over_two (releases_of (one_over_two ∷ [])) 0 refl refl
@@ -138,12 +153,14 @@ three_kept = keeps_by over_three (releases_of (one_over_three ∷ [])) 0 refl re
 -- two frames at once are more than the burst
 two_not_kept : ¬ KeepsBuckets over_two (releases_of (two_over_two 163868000)) 0
 two_not_kept keeps =
-    let over : 1000000000000 * 24672 ≤ 100000000 * 0 + 1000000000000 * 12336 = (keeps.streams 0 (lit< tt) refl).within 0 1 (lit≤ tt) (lit< tt) in
+    let over : 1000000000000 * 24672 ≤ 100000000 * 0 + 1000000000000 * 12336 =
+    (keeps.streams 0 (lit< tt) refl).within 0 1 (lit≤ tt) (lit< tt) in
     absurd (omega arith)
 
 three_not_kept : ¬ KeepsBuckets over_three (releases_of (two_over_three 177704000)) 0
 three_not_kept keeps =
-    let over : 1000000000000 * 24672 ≤ 100000000 * 0 + 1000000000000 * 12336 = (keeps.streams 0 (lit< tt) refl).within 0 1 (lit≤ tt) (lit< tt) in
+    let over : 1000000000000 * 24672 ≤ 100000000 * 0 + 1000000000000 * 12336 =
+    (keeps.streams 0 (lit< tt) refl).within 0 1 (lit≤ tt) (lit< tt) in
     absurd (omega arith)
 
 -- so the first bridge holds the second back for longer than the bound
@@ -169,7 +186,8 @@ three_not_contained contained =
     absurd (omega arith)
 
 -- by containment
-contained_in : (network : DeclaredNetwork) (rows : List Row) (run : List Travel) (j : Travel) → IsCertified network rows → IsLegal network run → Contains run j → IsOfStream network j
+contained_in : (network : DeclaredNetwork) (rows : List Row) (run : List Travel) (j : Travel) → IsCertified network rows
+    → IsLegal network run → Contains run j → IsOfStream network j
     → IsContained rows (sender_at network j.release.sender) j
 contained_in network rows run j c legal there stream = containment network rows c.rules c.holds run legal j there stream
 
@@ -180,48 +198,56 @@ bridged_sound = record {
   one_over_two = record {
     legal = bridged_legal.one_over_two;
     keeps = two_kept;
-    served = served_in over_two two_rows (one_over_two ∷ []) one_over_two two_certified bridged_legal.one_over_two (0, lit< tt, refl) (lit< tt) two_kept;
+    served = served_in over_two two_rows (one_over_two ∷ []) one_over_two two_certified bridged_legal.one_over_two
+        (0, lit< tt, refl) (lit< tt) two_kept;
     whole = refl;
   };
   one_over_three = record {
     legal = bridged_legal.one_over_three;
     keeps = three_kept;
-    served = served_in over_three three_rows (one_over_three ∷ []) one_over_three three_certified bridged_legal.one_over_three (0, lit< tt, refl) (lit< tt) three_kept;
+    served = served_in over_three three_rows (one_over_three ∷ [])
+        one_over_three three_certified bridged_legal.one_over_three (0, lit< tt, refl) (lit< tt) three_kept;
     whole = refl;
   };
   second_over_two = record {
     legal = bridged_legal.two_over_two;
     not_kept = two_not_kept;
     not_served = two_not_served;
-    contained = contained_in over_two two_rows (two_over_two 163868000) (travel_at (two_over_two 163868000) 1) two_certified bridged_legal.two_over_two (1, lit< tt, refl) (lit< tt);
+    contained = contained_in over_two two_rows (two_over_two 163868000) (travel_at (two_over_two 163868000) 1)
+        two_certified bridged_legal.two_over_two (1, lit< tt, refl) (lit< tt);
   };
   second_over_three = record {
     legal = bridged_legal.two_over_three;
     not_kept = three_not_kept;
     not_served = three_not_served;
-    contained = contained_in over_three three_rows (two_over_three 177704000) (travel_at (two_over_three 177704000) 1) three_certified bridged_legal.two_over_three (1, lit< tt, refl) (lit< tt);
+    contained = contained_in over_three three_rows (two_over_three 177704000) (travel_at (two_over_three 177704000) 1)
+        three_certified bridged_legal.two_over_three (1, lit< tt, refl) (lit< tt);
   };
   later_over_two = record {
     not_contained = two_not_contained;
-    not_legal = λ legal. two_not_contained (contained_in over_two two_rows (two_over_two 163868001) (travel_at (two_over_two 163868001) 1) two_certified legal (1, lit< tt, refl) (lit< tt));
+    not_legal = λ legal. two_not_contained (contained_in over_two two_rows (two_over_two 163868001)
+        (travel_at (two_over_two 163868001) 1) two_certified legal (1, lit< tt, refl) (lit< tt));
   };
   later_over_three = record {
     not_contained = three_not_contained;
-    not_legal = λ legal. three_not_contained (contained_in over_three three_rows (two_over_three 177704001) (travel_at (two_over_three 177704001) 1) three_certified legal (1, lit< tt, refl) (lit< tt));
+    not_legal = λ legal. three_not_contained (contained_in over_three three_rows (two_over_three 177704001)
+        (travel_at (two_over_three 177704001) 1) three_certified legal (1, lit< tt, refl) (lit< tt));
   };
 }
 
 -- 19 of the babbler's frames are more than its burst
 babbles : ¬ KeepsBuckets fork (releases_of babbler) (talker_of fork 1)
 babbles keeps =
-    let over : 1000000000000 * 12768 ≤ 100000000 * 0 + 1000000000000 * 12336 = (keeps.streams 1 (lit< tt) refl).within 0 18 (lit≤ tt) (lit< tt) in
+    let over : 1000000000000 * 12768 ≤ 100000000 * 0 + 1000000000000 * 12336 =
+    (keeps.streams 1 (lit< tt) refl).within 0 18 (lit≤ tt) (lit< tt) in
     absurd (omega arith)
 
 beside_kept : KeepsBuckets fork (releases_of babbler) (talker_of fork 0)
 beside_kept = keeps_by fork (releases_of babbler) (talker_of fork 0) refl refl
 
 of_streams : All (IsOfStream fork) babbler
-of_streams = all_by (IsOfStream fork) (λ (j : Travel). nat_lt j.release.sender (length fork.streams)) (λ j. lt_of j.release.sender (length fork.streams)) babbler refl
+of_streams = all_by (IsOfStream fork) (λ (j : Travel). nat_lt j.release.sender (length fork.streams))
+    (λ j. lt_of j.release.sender (length fork.streams)) babbler refl
 
 pub babbler_contained : BabblerIsContained
 babbler_contained = record {
@@ -230,9 +256,11 @@ babbler_contained = record {
   babbles = babbles;
   not_served = λ served. served.prompt.1;
   keeps = beside_kept;
-  served = served_in fork fork_rows babbler (travel_at babbler 0) fork_certified babbler_legal (0, lit< tt, refl) (lit< tt) beside_kept;
+  served = served_in fork fork_rows babbler (travel_at babbler 0) fork_certified babbler_legal (0, lit< tt, refl)
+      (lit< tt) beside_kept;
   sum = refl;
-  contained = λ k d h. contained_in fork fork_rows babbler (get_or babbler k d) fork_certified babbler_legal (All-contains_itself babbler k d h) (of_streams k d h);
+  contained = λ k d h. contained_in fork fork_rows babbler (get_or babbler k d) fork_certified babbler_legal
+      (All-contains_itself babbler k d h) (of_streams k d h);
 }
 
 pub exact_examples : ExactExamples
@@ -247,10 +275,12 @@ not_before ordered =
     elim before [ inl e ↦ absurd (omega arith) | inr e ↦ absurd (omega (arith, e.0)) ]
   where
     no_row : Row
-    no_row = record { port = 0; class = 0; higher = 0; equal = 0; bursts = 0; lower = 0; least = 0; wait = 0; bound = 0 }
+    no_row =
+        record { port = 0; class = 0; higher = 0; equal = 0; bursts = 0; lower = 0; least = 0; wait = 0; bound = 0 }
 
 pub order_does_not_count : OrderDoesNotCount
 order_does_not_count = record {
   not_held = λ holds. not_before holds.rows_of.ordered;
-  sound = sound_by_rules ats_judge line turned_rows (ats_is_regulator (declared_by line)) is_network (all_kept line turned_rows refl);
+  sound = sound_by_rules ats_judge line turned_rows (ats_is_regulator (declared_by line)) is_network
+      (all_kept line turned_rows refl);
 }

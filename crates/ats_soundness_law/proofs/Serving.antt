@@ -1,4 +1,5 @@
-use Rattle.std.proofs.Common.{◌≡◌, ℕ, ◌+◌, ◌<◌, ◌≤◌, Bool, true, cond, List, [], ◌∷◌, length, get_or, All, sym, ap, ◌∙◌, subst, inl, inr, Option, Some, arith}
+use Rattle.std.proofs.Common.{◌≡◌, ℕ, ◌+◌, ◌<◌, ◌≤◌, Bool, true, cond, List, [], ◌∷◌, length, get_or, All, sym, ap, ◌∙◌}
+use Rattle.std.proofs.Common.{subst, inl, inr, Option, Some, arith}
 use Rattle.std.specs.Prelude.{find, is_some, IsSome, unwrap_or, ◌==◌}
 use Rattle.std.specs.Option.{option_map}
 use Rattle.std.proofs.lemmas.Bool.{cases_Bool, and_parts, eqb-true, false≢true}
@@ -29,7 +30,8 @@ record Found {X : Type 0} (test : X → Bool) (P : X → Type 0) (xs : List X) :
   passes : test one ≡ true
   holds : P one
 
-found : {X : Type 0} (test : X → Bool) (P : X → Type 0) (xs : List X) → All P xs → is_some (find test xs) ≡ true → Found test P xs
+found : {X : Type 0} (test : X → Bool) (P : X → Type 0) (xs : List X) → All P xs → is_some (find test xs) ≡ true
+    → Found test P xs
 found test P [] all some = absurd (false≢true some)
 found {X} test P (x ∷ xs) all some =
     let Some_of : Bool → Type 0 = λ (b : Bool). is_some (cond b (Some x) (find test xs)) ≡ true in
@@ -57,47 +59,63 @@ pub record RowsHold (network : DeclaredNetwork) (rows : List Row) : Type 0 where
 
 -- a port serves a class: each frame arrives behind it within the certificate's bound, and is eligible there within it
 pub record Serves (network : DeclaredNetwork) (run : List Travel) (rows : List Row) (class port : ℕ) : Type 0 where
-  pub arrives : All (λ (c : Crossing). c.sent.class ≡ class → c.arrival ≤ c.sent.eligible + bound_at rows port class) (crossings_by network run port)
+  pub arrives : All (λ (c : Crossing). c.sent.class ≡ class → c.arrival ≤ c.sent.eligible + bound_at rows port class)
+      (crossings_by network run port)
   pub free : IsBridgeAt network.topology (port_at network.topology.ports port).to
-      → All (λ (h : Handed). IsEligibleBy (h.crossing.sent.eligible + bound_at rows port class) (λ e. Unit {0}) h.verdict) (handed_by network run port class)
+      → All (λ (h : Handed). IsEligibleBy (h.crossing.sent.eligible + bound_at rows port class) (λ e. Unit {0})
+      h.verdict) (handed_by network run port class)
 
 -- where a row holds, the port of the row serves its class
 record ByRow (network : DeclaredNetwork) (run : List Travel) (row : Row) (port class : ℕ) : Type 0 where
-  arrives : All (λ (c : Crossing). c.sent.class ≡ row.class → c.arrival ≤ c.sent.eligible + row.bound) (crossings_by network run port)
-  free : IsBridgeAt network.topology (port_at network.topology.ports port).to → All (IsHandedOn row) (handed_by network run port class)
+  arrives : All (λ (c : Crossing). c.sent.class ≡ row.class → c.arrival ≤ c.sent.eligible + row.bound)
+      (crossings_by network run port)
+  free : IsBridgeAt network.topology (port_at network.topology.ports port).to
+      → All (IsHandedOn row) (handed_by network run port class)
 
-by_row : {judge : Judge} (network : DeclaredNetwork) (run : List Travel) (row : Row) → Case judge network run → row.port < length network.topology.ports → is_used network row.port row.class ≡ true → RowHolds network row
+by_row : {judge : Judge} (network : DeclaredNetwork) (run : List Travel) (row : Row) → Case judge network run
+    → row.port < length network.topology.ports → is_used network row.port row.class ≡ true → RowHolds network row
     → IsOffered network row.port (sent_by network run row.port) → ByRow network run row row.port row.class
 by_row network run row c within used holds offered =
     let sent : List Transmission = sent_by network run row.port in
     let crossings : List Crossing = crossings_by network run row.port in
     let link : KeepsLinkRule (port_at network.topology.ports row.port) crossings = c.legal.links row.port within in
-    let each : All (IsWithinBound network row) sent = law network row sent c.net used holds.covers (c.legal.ports row.port within) offered in
+    let each : All (IsWithinBound network row) sent =
+    law network row sent c.net used holds.covers (c.legal.ports row.port within) offered in
     record {
       arrives = λ k d h class. (
           let one : Crossing = get_or crossings k d in
-          let bound = All-contains (IsWithinBound network row) sent one.sent each (crossed_there network run row.port k d h) class in
+          let bound = All-contains (IsWithinBound network row) sent one.sent each
+          (crossed_there network run row.port k d h) class in
           omega (arith, (link.within k d h).latest, bound));
       free = λ bridge. shaping.shaping_for_free_by network run row c used bridge holds offered;
     }
 
 -- so each port that is offered what it may be asked to send serves the classes that are used there
-pub serves : {judge : Judge} (network : DeclaredNetwork) (run : List Travel) (rows : List Row) → Case judge network run → RowsHold network rows → (class port : ℕ) → port < length network.topology.ports
-    → is_used network port class ≡ true → IsOffered network port (sent_by network run port) → Serves network run rows class port
+pub serves : {judge : Judge} (network : DeclaredNetwork) (run : List Travel) (rows : List Row) → Case judge network run
+    → RowsHold network rows → (class port : ℕ) → port < length network.topology.ports
+    → is_used network port class ≡ true → IsOffered network port (sent_by network run port)
+    → Serves network run rows class port
 serves network run rows c holds class port within used offered =
-    let f : Found (is_row_of port class) (RowHolds network) rows = found (is_row_of port class) (RowHolds network) rows holds.each (holds.complete port class used) in
+    let f : Found (is_row_of port class) (RowHolds network) rows =
+    found (is_row_of port class) (RowHolds network) rows holds.each (holds.complete port class used) in
     let row : Row = f.one in
     let parts = and_parts (row.port == port) (row.class == class) f.passes in
     let port_is : row.port ≡ port = eqb-true row.port port parts.0 in
     let class_is : row.class ≡ class = eqb-true row.class class parts.1 in
-    let bound_is : bound_at rows port class ≡ row.bound = ap (λ (o : Option Row). unwrap_or (option_map (λ (row : Row). row.bound) o) 0) f.is in
-    let Offered : ℕ → Type 0 = λ (p : ℕ). (p < length network.topology.ports) × (is_used network p row.class ≡ true) × IsOffered network p (sent_by network run p) in
-    let there : Offered row.port = subst Offered (sym port_is) (within, subst (λ (n : ℕ). is_used network port n ≡ true) (sym class_is) used, offered) in
+    let bound_is : bound_at rows port class ≡ row.bound =
+    ap (λ (o : Option Row). unwrap_or (option_map (λ (row : Row). row.bound) o) 0) f.is in
+    let Offered : ℕ → Type 0 = λ (p : ℕ). (p < length network.topology.ports) × (is_used network p row.class ≡ true)
+    × IsOffered network p (sent_by network run p) in
+    let there : Offered row.port = subst Offered (sym port_is)
+    (within, subst (λ (n : ℕ). is_used network port n ≡ true) (sym class_is) used, offered) in
     let own : ByRow network run row row.port row.class = by_row network run row c there.0 there.1 f.holds there.2 in
-    let by : ByRow network run row port class = subst (λ (p : ℕ). ByRow network run row p class) port_is (subst (λ (n : ℕ). ByRow network run row row.port n) class_is own) in
+    let by : ByRow network run row port class = subst (λ (p : ℕ). ByRow network run row p class) port_is
+    (subst (λ (n : ℕ). ByRow network run row row.port n) class_is own) in
     record {
       arrives = λ k d h same. (let le = by.arrives k d h (same ∙ sym class_is) in omega (arith, le, bound_is));
-      free = λ bridge. All-weaker (IsHandedOn row) (λ (h : Handed). IsEligibleBy (h.crossing.sent.eligible + bound_at rows port class) (λ e. Unit {0}) h.verdict)
-          (λ h on. subst (λ (n : ℕ). IsEligibleBy (h.crossing.sent.eligible + n) (λ e. Unit {0}) h.verdict) (sym bound_is) on)
+      free = λ bridge. All-weaker (IsHandedOn row)
+          (λ (h : Handed). IsEligibleBy (h.crossing.sent.eligible + bound_at rows port class) (λ e. Unit {0}) h.verdict)
+          (λ h on. subst (λ (n : ℕ). IsEligibleBy (h.crossing.sent.eligible + n) (λ e. Unit {0}) h.verdict)
+          (sym bound_is) on)
           (handed_by network run port class) (by.free bridge);
     }

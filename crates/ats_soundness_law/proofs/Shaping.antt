@@ -1,4 +1,5 @@
-use Rattle.std.proofs.Common.{◌≡◌, ℕ, ◌+◌, ◌*◌, ◌<◌, ◌≤◌, true, false, List, map, length, get_or, All, refl, sym, ap, ◌∙◌, subst, inl, inr, arith}
+use Rattle.std.proofs.Common.{◌≡◌, ℕ, ◌+◌, ◌*◌, ◌<◌, ◌≤◌, true, false, List, map, length, get_or, All, refl, sym, ap}
+use Rattle.std.proofs.Common.{◌∙◌, subst, inl, inr, arith}
 use Rattle.std.specs.Prelude.{unwrap_or, Contains}
 use Rattle.std.specs.Option.{ForSome}
 use Rattle.std.specs.List.{AllZip}
@@ -58,7 +59,8 @@ record AtRow (judge : Judge) (network : DeclaredNetwork) (run : List Travel) (ro
   offered : IsOffered network row.port (sent_by network run row.port)
 
 -- the wait is at most the residence of the bridge
-stays : (kind : Kind) (wait : ℕ) → is_station kind ≡ false → ForSome (residence_at kind) (λ ns. wait ≤ PS_PER_NS * ns) → wait ≤ PS_PER_NS * unwrap_or (residence_at kind) 0
+stays : (kind : Kind) (wait : ℕ) → is_station kind ≡ false → ForSome (residence_at kind) (λ ns. wait ≤ PS_PER_NS * ns)
+    → wait ≤ PS_PER_NS * unwrap_or (residence_at kind) 0
 stays Station wait bridge may = absurd (true≢false bridge)
 stays (Bridge processing_ns residence_ns) wait bridge may = may residence_ns refl
 
@@ -69,9 +71,10 @@ record OnTime (network : DeclaredNetwork) (row : Row) (h : Handed) : Type 0 wher
   size : is_declared_size (declared_by network h.crossing.sent.sender) h.crossing.octets ≡ true
   shaped : 1 ≤ (sender_at network h.crossing.sent.sender).class
 
--- the frame arrives no sooner than its transmission and the earliest latency allow, which are no less than the bound without
--- the wait
-on_time : {judge : Judge} (network : DeclaredNetwork) (run : List Travel) (row : Row) → AtRow judge network run row → (h : Handed) → HasArrived network run row.port row.class h → OnTime network row h
+-- the frame arrives no sooner than its transmission and the earliest latency allow, which are no less than the bound
+-- without the wait
+on_time : {judge : Judge} (network : DeclaredNetwork) (run : List Travel) (row : Row) → AtRow judge network run row
+    → (h : Handed) → HasArrived network run row.port row.class h → OnTime network row h
 on_time network run row a h came =
     let port : Port = port_at network.topology.ports row.port in
     let ps : ℕ = port.ps_per_bit in
@@ -79,13 +82,17 @@ on_time network run row a h came =
     let x : Transmission = h.crossing.sent in
     let rule : KeepsPortRule ps sent = a.known.legal.ports row.port a.within in
     let link : KeepsLinkRule port (crossings_by network run row.port) = a.known.legal.links row.port a.within in
-    let in_time : ArrivesInTime port h.crossing = All-contains (ArrivesInTime port) (crossings_by network run row.port) h.crossing link.within came.crossed in
-    let declared : IsDeclared network row.port x = All-contains (IsDeclared network row.port) sent x a.offered.each came.sent in
-    let within : IsWithinBound network row x = All-contains (IsWithinBound network row) sent x (law network row sent a.known.net a.used a.holds.covers rule a.offered) came.sent in
+    let in_time : ArrivesInTime port h.crossing =
+    All-contains (ArrivesInTime port) (crossings_by network run row.port) h.crossing link.within came.crossed in
+    let declared : IsDeclared network row.port x =
+    All-contains (IsDeclared network row.port) sent x a.offered.each came.sent in
+    let within : IsWithinBound network row x = All-contains (IsWithinBound network row) sent x
+    (law network row sent a.known.net a.used a.holds.covers rule a.offered) came.sent in
     let waits = All-contains (λ (y : Transmission). y.eligible ≤ y.start) sent x rule.waits came.sent in
     let takes = All-contains (λ (y : Transmission). y.end ≡ y.start + ps * y.bits) sent x rule.takes came.sent in
     let class : (sender_at network x.sender).class ≡ row.class = sym declared.class ∙ came.class_is in
-    let reaches = least_reaches row.port (is_of row.class) shortest (senders_of network) x.sender no_sender declared.exists declared.uses (eq-eqb (sender_at network x.sender).class row.class class) in
+    let reaches = least_reaches row.port (is_of row.class) shortest (senders_of network)
+    x.sender no_sender declared.exists declared.uses (eq-eqb (sender_at network x.sender).class row.class class) in
     let least : row.least ≤ x.bits = omega (arith, reaches, a.holds.covers.sums.least, declared.least) in
     let product : ps * row.least ≤ ps * x.bits = mul-le-mul_left ps least in
     let stay = stays (node_at network.topology.nodes port.to).kind row.wait a.bridge.bridge a.holds.residence in
@@ -93,7 +100,8 @@ on_time network run row a h came =
     record {
       arrives = omega (arith, in_time.latest, within came.class_is);
       may_stay = omega (arith, in_time.earliest, spread, waits, takes, product, stay, a.holds.covers.bound);
-      size = size_of_bits network x.sender h.crossing.octets (omega (arith, declared.least, came.told.bits)) (omega (arith, declared.most, came.told.bits));
+      size = size_of_bits network x.sender h.crossing.octets (omega (arith, declared.least, came.told.bits))
+          (omega (arith, declared.most, came.told.bits));
       shaped = omega (arith, class, a.shaped);
     }
 
@@ -110,20 +118,25 @@ no_handed = record {
 }
 
 -- of two frames of a port, the one that arrives first ended first
-ends_first : (port : Port) (crossings : List Crossing) → KeepsLinkRule port crossings → (x y : Crossing) → Contains crossings x → Contains crossings y
+ends_first : (port : Port) (crossings : List Crossing) → KeepsLinkRule port crossings → (x y : Crossing)
+    → Contains crossings x → Contains crossings y
     → x.arrival ≤ y.arrival → x.sent.end ≤ y.sent.end
 ends_first port crossings link x y cx cy before = elim (cases_lt y.sent.end x.sent.end) [
   | inl after ↦ (
-      let Follows : Crossing → Crossing → Type 0 = λ (a b : Crossing). a.sent.end < b.sent.end → a.arrival < b.arrival in
-      let behind : All (Follows y) crossings = All-contains (λ (a : Crossing). All (Follows a) crossings) crossings y link.order cy in
+      let Follows : Crossing → Crossing → Type 0 = λ (a b : Crossing). a.sent.end < b.sent.end
+      → a.arrival < b.arrival in
+      let behind : All (Follows y) crossings =
+      All-contains (λ (a : Crossing). All (Follows a) crossings) crossings y link.order cy in
       let less : y.arrival < x.arrival = All-contains (Follows y) crossings x behind cx after in
       absurd (omega arith))
   | inr no_later ↦ no_later
 ]
 
 -- the frames come in the order in which they were eligible at the port
-in_order : {judge : Judge} (network : DeclaredNetwork) (run : List Travel) (row : Row) → AtRow judge network run row → (arrivals : List Handed) → All (HasArrived network run row.port row.class) arrivals
-    → IsNonDecreasing (map (λ (h : Handed). h.crossing.arrival) arrivals) → IsNonDecreasingBy (λ (p : Passage). p.since) (map passage_of arrivals)
+in_order : {judge : Judge} (network : DeclaredNetwork) (run : List Travel) (row : Row) → AtRow judge network run row
+    → (arrivals : List Handed) → All (HasArrived network run row.port row.class) arrivals
+    → IsNonDecreasing (map (λ (h : Handed). h.crossing.arrival) arrivals)
+    → IsNonDecreasingBy (λ (p : Passage). p.since) (map passage_of arrivals)
 in_order network run row a arrivals came ascends i j d le within =
     let there : j < length arrivals = omega (arith, within, length-map arrivals passage_of) in
     let x : Handed = get_or arrivals i no_handed in
@@ -134,51 +147,79 @@ in_order network run row a arrivals came ascends i j d le within =
     let time_x = get_or-map (λ (h : Handed). h.crossing.arrival) arrivals i no_handed 0 (omega arith) in
     let time_y = get_or-map (λ (h : Handed). h.crossing.arrival) arrivals j no_handed 0 there in
     let ends : x.crossing.sent.end ≤ y.crossing.sent.end =
-    ends_first (port_at network.topology.ports row.port) (crossings_by network run row.port) (a.known.legal.links row.port a.within) x.crossing y.crossing cx.crossed cy.crossed
+    ends_first (port_at network.topology.ports row.port) (crossings_by network run row.port)
+    (a.known.legal.links row.port a.within) x.crossing y.crossing cx.crossed cy.crossed
     (omega (arith, times, time_x, time_y)) in
-    let ordered = leave_in_order (port_at network.topology.ports row.port).ps_per_bit (sent_by network run row.port) (a.known.legal.ports row.port a.within)
-    (takes_time network run row.port a.known a.within a.offered) x.crossing.sent y.crossing.sent cx.sent cy.sent (cx.class_is ∙ sym cy.class_is) ends in
+    let ordered = leave_in_order (port_at network.topology.ports row.port).ps_per_bit (sent_by network run row.port)
+    (a.known.legal.ports row.port a.within)
+    (takes_time network run row.port a.known a.within a.offered) x.crossing.sent y.crossing.sent cx.sent cy.sent
+    (cx.class_is ∙ sym cy.class_is) ends in
     let since_x = ap (λ (p : Passage). p.since) (get_or-map passage_of arrivals i no_handed d (omega arith)) in
     let since_y = ap (λ (p : Passage). p.since) (get_or-map passage_of arrivals j no_handed d there) in
     omega (arith, ordered, since_x, since_y)
 
 -- so a group delays none of them
-delayed : {judge : Judge} (network : DeclaredNetwork) (run : List Travel) (row : Row) → AtRow judge network run row → (j : IsJudged judge network (residence_behind network row.port) (handed_by network run row.port row.class))
+delayed : {judge : Judge} (network : DeclaredNetwork) (run : List Travel) (row : Row) → AtRow judge network run row
+    → (j : IsJudged judge network (residence_behind network row.port) (handed_by network run row.port row.class))
     → IsDelayed (declared_by network) (residence_behind network row.port) row.bound (map passage_of j.arrivals)
 delayed network run row a j =
     let handed : List Handed = handed_by network run row.port row.class in
     let Came : Handed → Type 0 = HasArrived network run row.port row.class in
-    let came : All Came j.arrivals = All-permutation Came handed j.arrivals j.same (arrived network run row.port row.class a.known) in
-    let timely : All (OnTime network row) j.arrivals = All-weaker Came (OnTime network row) (on_time network run row a) j.arrivals came in
+    let came : All Came j.arrivals =
+    All-permutation Came handed j.arrivals j.same (arrived network run row.port row.class a.known) in
+    let timely : All (OnTime network row) j.arrivals =
+    All-weaker Came (OnTime network row) (on_time network run row a) j.arrivals came in
     record {
       ruled = All-map (λ (p : Passage). IsRuled (declared_by network p.offer.member)) passage_of j.arrivals
-          (λ k d h. sender_ruled network a.known.net (get_or j.arrivals k d).crossing.sent.sender (came k d h).told.exists (timely k d h).shaped);
-      sized = All-map (λ (p : Passage). is_declared_size (declared_by network p.offer.member) p.offer.octets ≡ true) passage_of j.arrivals
+          (λ k d h. sender_ruled network a.known.net (get_or j.arrivals k d).crossing.sent.sender
+          (came k d h).told.exists (timely k d h).shaped);
+      sized = All-map (λ (p : Passage). is_declared_size (declared_by network p.offer.member) p.offer.octets ≡ true)
+          passage_of j.arrivals
           (λ k d h. (timely k d h).size);
       in_order = in_order network run row a j.arrivals came j.in_order;
-      conformed = All-map (λ (p : Passage). KeepsWindows (declared_by network p.offer.member).rate (declared_by network p.offer.member).burst_bits (frames_before p.offer.member (map passage_of j.arrivals))) passage_of j.arrivals
-          (λ k d h. passages_conform network run row.port row.class a.known a.offered j.arrivals j.same (get_or j.arrivals k d).crossing.sent.sender (came k d h).told.exists (timely k d h).shaped);
-      arrives = All-map (λ (p : Passage). p.offer.arrival ≤ p.since + row.bound) passage_of j.arrivals (λ k d h. (timely k d h).arrives);
-      may_stay = All-map (λ (p : Passage). p.since + row.bound ≤ p.offer.arrival + PS_PER_NS * residence_behind network row.port) passage_of j.arrivals (λ k d h. (timely k d h).may_stay);
+      conformed = All-map (λ (p : Passage). KeepsWindows (declared_by network p.offer.member).rate
+          (declared_by network p.offer.member).burst_bits (frames_before p.offer.member (map passage_of j.arrivals)))
+          passage_of j.arrivals
+          (λ k d h. passages_conform network run row.port row.class a.known a.offered j.arrivals j.same
+          (get_or j.arrivals k d).crossing.sent.sender (came k d h).told.exists (timely k d h).shaped);
+      arrives = All-map (λ (p : Passage). p.offer.arrival ≤ p.since + row.bound) passage_of j.arrivals
+          (λ k d h. (timely k d h).arrives);
+      may_stay = All-map
+          (λ (p : Passage). p.since + row.bound ≤ p.offer.arrival + PS_PER_NS * residence_behind network row.port)
+          passage_of j.arrivals (λ k d h. (timely k d h).may_stay);
     }
 
 handed_again : (row : Row) (h : Handed) → IsEligibleAgain row.bound (passage_of h) h.verdict → IsHandedOn row h
 handed_again row h again =
-    subst (λ (v : Verdict). IsEligibleBy (h.crossing.sent.eligible + row.bound) (λ e. Unit {0}) v) (sym again.1) (again.2, tt)
+    subst (λ (v : Verdict). IsEligibleBy (h.crossing.sent.eligible + row.bound) (λ e. Unit {0}) v)
+    (sym again.1) (again.2, tt)
 
-pub shaping_for_free_by : {judge : Judge} (network : DeclaredNetwork) (run : List Travel) (row : Row) → Case judge network run
-    → is_used network row.port row.class ≡ true → IsBridgeAt network.topology (port_at network.topology.ports row.port).to
+pub shaping_for_free_by : {judge : Judge} (network : DeclaredNetwork) (run : List Travel) (row : Row)
+    → Case judge network run
+    → is_used network row.port row.class ≡ true
+    → IsBridgeAt network.topology (port_at network.topology.ports row.port).to
     → RowHolds network row → IsOffered network row.port (sent_by network run row.port)
     → All (IsHandedOn row) (handed_by network run row.port row.class)
 shaping_for_free_by {judge} network run row known used bridge holds offered =
-    let place : IsPlace (length network.topology.ports) row.port row.class = used_place network row.port row.class known.net used in
-    let a : AtRow judge network run row = record { known = known; used = used; within = place.within; bridge = bridge; shaped = place.ranked; holds = holds; offered = offered } in
+    let place : IsPlace (length network.topology.ports) row.port row.class =
+    used_place network row.port row.class known.net used in
+    let a : AtRow judge network run row = record {
+      known = known;
+      used = used;
+      within = place.within;
+      bridge = bridge;
+      shaped = place.ranked;
+      holds = holds;
+      offered = offered;
+    } in
     let handed : List Handed = handed_by network run row.port row.class in
     let residence_ns : ℕ = residence_behind network row.port in
-    let j : IsJudged judge network residence_ns handed = known.legal.groups row.port row.class place.within place.ranked in
+    let j : IsJudged judge network residence_ns handed =
+    known.legal.groups row.port row.class place.within place.ranked in
     let Again : Passage → Verdict → Type 0 = IsEligibleAgain row.bound in
     let free = known.regulator.free residence_ns row.bound (map passage_of j.arrivals) (delayed network run row a j) in
-    let ByOffers : List Offer → Type 0 = λ (os : List Offer). AllZip Again (map passage_of j.arrivals) (judge (declared_by network) residence_ns os) in
+    let ByOffers : List Offer → Type 0 =
+    λ (os : List Offer). AllZip Again (map passage_of j.arrivals) (judge (declared_by network) residence_ns os) in
     let judged : AllZip Again (map passage_of j.arrivals) (map (λ (h : Handed). h.verdict) j.arrivals) =
     subst (AllZip Again (map passage_of j.arrivals)) (sym j.verdicts) (subst ByOffers (offers_are j.arrivals) free) in
     All-permutation (IsHandedOn row) j.arrivals handed (IsPermutation-sym handed j.arrivals j.same)
@@ -187,4 +228,6 @@ shaping_for_free_by {judge} network run row known used bridge holds offered =
 
 pub shaping_for_free : ShapingForFree
 shaping_for_free network run row net legal used bridge holds offered =
-    shaping_for_free_by network run row (record { regulator = ats_is_regulator (declared_by network); net = net; legal = legal }) used bridge holds offered
+    shaping_for_free_by network run row
+    (record { regulator = ats_is_regulator (declared_by network); net = net; legal = legal })
+    used bridge holds offered

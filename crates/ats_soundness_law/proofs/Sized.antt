@@ -19,11 +19,14 @@ use Rattle.ats_soundness_law.proofs.Known.{Case, IsTold, told}
 
 -- where a frame that was handed on is eligible, it has a declared size
 abbrev pub IsSized : DeclaredNetwork → Handed → Type 0
-IsSized network h = OnEligible h.verdict (λ e. is_declared_size (declared_by network h.crossing.sent.sender) h.crossing.octets ≡ true)
+IsSized network h =
+    OnEligible h.verdict (λ e. is_declared_size (declared_by network h.crossing.sent.sender) h.crossing.octets ≡ true)
 
 -- so of the verdicts of a group that regulates
-group_sized : {judge : Judge} (network : DeclaredNetwork) (residence_ns : ℕ) → IsRegulator judge (declared_by network) → (arrivals : List Handed)
-    → map (λ (h : Handed). h.verdict) arrivals ≡ judge (declared_by network) residence_ns (map offer_of arrivals) → All (IsSized network) arrivals
+group_sized : {judge : Judge} (network : DeclaredNetwork) (residence_ns : ℕ) → IsRegulator judge (declared_by network)
+    → (arrivals : List Handed)
+    → map (λ (h : Handed). h.verdict) arrivals ≡ judge (declared_by network) residence_ns (map offer_of arrivals)
+    → All (IsSized network) arrivals
 group_sized network residence_ns regulator arrivals same =
     let Sized : Offer → Verdict → Type 0 = IsEligibleSized (declared_by network) in
     All-from_all_zip Sized offer_of (λ (h : Handed). h.verdict) arrivals
@@ -32,26 +35,36 @@ group_sized network residence_ns regulator arrivals same =
 -- and of those on flows
 flow_sized : (network : DeclaredNetwork) (h : Handed) → IsPassed network h → IsSized network h
 flow_sized network h passed =
-    let Sized : Verdict → Type 0 = λ (v : Verdict). OnEligible v (λ e. is_declared_size (declared_by network h.crossing.sent.sender) h.crossing.octets ≡ true) in
-    subst Sized (sym passed) (by_size (is_declared_size (declared_by network h.crossing.sent.sender) h.crossing.octets) (Eligible (record { 0 = h.crossing.arrival })))
+    let Sized : Verdict → Type 0 = λ (v : Verdict).
+    OnEligible v (λ e. is_declared_size (declared_by network h.crossing.sent.sender) h.crossing.octets ≡ true) in
+    subst Sized (sym passed) (by_size (is_declared_size (declared_by network h.crossing.sent.sender) h.crossing.octets)
+    (Eligible (record { 0 = h.crossing.arrival })))
 
-place_sized : {judge : Judge} (network : DeclaredNetwork) (run : List Travel) → Case judge network run → (port class : ℕ) → port < length network.topology.ports → All (IsSized network) (handed_by network run port class)
-place_sized {judge} network run c port class within = elim (cases_lt 0 class) as (λ _. All (IsSized network) (handed_by network run port class)) [
-  | inl shaped ↦ (
-      let j : IsJudged judge network (residence_behind network port) (handed_by network run port class) = c.legal.groups port class within shaped in
-      All-permutation (IsSized network) j.arrivals (handed_by network run port class) (IsPermutation-sym (handed_by network run port class) j.arrivals j.same)
-      (group_sized network (residence_behind network port) c.regulator j.arrivals j.verdicts))
-  | inr none ↦ (
-      let zero_class : class ≡ 0 = omega arith in
-      let Goal : ℕ → Type 0 = λ (n : ℕ). All (IsSized network) (handed_by network run port n) in
-      subst Goal (sym zero_class) (All-weaker (IsPassed network) (IsSized network) (flow_sized network) (handed_by network run port 0) (c.legal.flows port within)))
-]
+place_sized : {judge : Judge} (network : DeclaredNetwork) (run : List Travel) → Case judge network run
+    → (port class : ℕ) → port < length network.topology.ports → All (IsSized network) (handed_by network run port class)
+place_sized {judge} network run c port class within =
+    elim (cases_lt 0 class) as (λ _. All (IsSized network) (handed_by network run port class)) [
+      | inl shaped ↦ (
+          let j : IsJudged judge network (residence_behind network port) (handed_by network run port class) =
+          c.legal.groups port class within shaped in
+          All-permutation (IsSized network) j.arrivals (handed_by network run port class)
+          (IsPermutation-sym (handed_by network run port class) j.arrivals j.same)
+          (group_sized network (residence_behind network port) c.regulator j.arrivals j.verdicts))
+      | inr none ↦ (
+          let zero_class : class ≡ 0 = omega arith in
+          let Goal : ℕ → Type 0 = λ (n : ℕ). All (IsSized network) (handed_by network run port n) in
+          subst Goal (sym zero_class) (All-weaker (IsPassed network) (IsSized network) (flow_sized network)
+          (handed_by network run port 0) (c.legal.flows port within)))
+    ]
 
 -- so of all that is handed on in a legal run
-pub sized : {judge : Judge} (network : DeclaredNetwork) (run : List Travel) → Case judge network run → All (IsSized network) (handed_from network 0 run)
+pub sized : {judge : Judge} (network : DeclaredNetwork) (run : List Travel) → Case judge network run
+    → All (IsSized network) (handed_from network 0 run)
 sized network run c k d h =
     let one : Handed = get_or (handed_from network 0 run) k d in
     let known : IsTold network one = told network run c k d h in
-    All-from_filter (λ (h : Handed). h.crossing.port == one.crossing.port && h.crossing.sent.class == one.crossing.sent.class) (IsSized network) (handed_from network 0 run)
+    All-from_filter (λ (h : Handed). h.crossing.port == one.crossing.port && h.crossing.sent.class
+    == one.crossing.sent.class) (IsSized network) (handed_from network 0 run)
     (place_sized network run c one.crossing.port one.crossing.sent.class known.within)
-    k d h (and_from (one.crossing.port == one.crossing.port) (one.crossing.sent.class == one.crossing.sent.class) (eq-eqb one.crossing.port one.crossing.port refl) (eq-eqb one.crossing.sent.class one.crossing.sent.class refl))
+    k d h (and_from (one.crossing.port == one.crossing.port) (one.crossing.sent.class == one.crossing.sent.class)
+    (eq-eqb one.crossing.port one.crossing.port refl) (eq-eqb one.crossing.sent.class one.crossing.sent.class refl))

@@ -3,7 +3,8 @@ use Rattle.std.specs.Prelude.{IsPermutation}
 use Rattle.std.specs.List.Sorted.{IsNonDecreasingBy}
 use Rattle.std.proofs.lemmas.Bool.{cases_lt}
 use Rattle.std.proofs.lemmas.List.Elements.{All-nil, All-cons, All-weaker}
-use Rattle.std.proofs.lemmas.List.Sorted.{IsPermutation-refl, IsPermutation-cons, IsPermutation-trans, All-permutation, IsPermutation-swap}
+use Rattle.std.proofs.lemmas.List.Sorted.{IsPermutation-refl, IsPermutation-cons, IsPermutation-trans, All-permutation}
+use Rattle.std.proofs.lemmas.List.Sorted.{IsPermutation-swap}
 use Rattle.ats_bucket.specs.Conforming.{Frame}
 use Rattle.ats_group_law.specs.Windows.{KeepsWindows}
 use Rattle.ats_group_law.proofs.Order.{from_frames}
@@ -18,16 +19,19 @@ record InOrder (frames : List Frame) : Type 0 where
   ascends : IsNonDecreasingBy (λ (f : Frame). f.at) order
 
 -- one frame before others that are no earlier
-ascends-cons : (f : Frame) (fs : List Frame) → All (λ (g : Frame). f.at ≤ g.at) fs → IsNonDecreasingBy (λ (f : Frame). f.at) fs → IsNonDecreasingBy (λ (f : Frame). f.at) (f ∷ fs)
+ascends-cons : (f : Frame) (fs : List Frame) → All (λ (g : Frame). f.at ≤ g.at) fs
+    → IsNonDecreasingBy (λ (f : Frame). f.at) fs → IsNonDecreasingBy (λ (f : Frame). f.at) (f ∷ fs)
 ascends-cons f fs past o zero zero d h k = omega arith
 ascends-cons f fs past o zero (suc j) d h k = past j d (omega arith)
 ascends-cons f fs past o (suc i) zero d h k = absurd (omega arith)
 ascends-cons f fs past o (suc i) (suc j) d h k = o i j d (omega arith) (omega arith)
 
-ascends-head : (f : Frame) (fs : List Frame) → IsNonDecreasingBy (λ (f : Frame). f.at) (f ∷ fs) → All (λ (g : Frame). f.at ≤ g.at) fs
+ascends-head : (f : Frame) (fs : List Frame) → IsNonDecreasingBy (λ (f : Frame). f.at) (f ∷ fs)
+    → All (λ (g : Frame). f.at ≤ g.at) fs
 ascends-head f fs o j d h = o 0 (suc j) d (omega arith) (omega arith)
 
-ascends-tail : (f : Frame) (fs : List Frame) → IsNonDecreasingBy (λ (f : Frame). f.at) (f ∷ fs) → IsNonDecreasingBy (λ (f : Frame). f.at) fs
+ascends-tail : (f : Frame) (fs : List Frame) → IsNonDecreasingBy (λ (f : Frame). f.at) (f ∷ fs)
+    → IsNonDecreasingBy (λ (f : Frame). f.at) fs
 ascends-tail f fs o i j d h k = o (suc i) (suc j) d (omega arith) (omega arith)
 
 swap_first : (f g : Frame) (fs : List Frame) → IsPermutation (f ∷ g ∷ fs) (g ∷ f ∷ fs)
@@ -35,18 +39,26 @@ swap_first f g fs = IsPermutation-swap (f ∷ g ∷ fs) (g ∷ f ∷ fs) 0 1 (om
 
 -- one frame more
 with_one : (f : Frame) (fs : List Frame) → IsNonDecreasingBy (λ (f : Frame). f.at) fs → InOrder (f ∷ fs)
-with_one f [] o = record { order = f ∷ []; same = IsPermutation-refl (f ∷ []); ascends = ascends-cons f [] (All-nil (λ (g : Frame). f.at ≤ g.at)) o }
+with_one f [] o = record {
+  order = f ∷ [];
+  same = IsPermutation-refl (f ∷ []);
+  ascends = ascends-cons f [] (All-nil (λ (g : Frame). f.at ≤ g.at)) o;
+}
 with_one f (g ∷ fs) o = elim (cases_lt g.at f.at) as (λ _. InOrder (f ∷ g ∷ fs)) [
   | inl later ↦ (
       let rest : InOrder (f ∷ fs) = with_one f fs (ascends-tail g fs o) in
-      let past : All (λ (h : Frame). g.at ≤ h.at) (f ∷ fs) = All-cons (λ (h : Frame). g.at ≤ h.at) f fs (omega arith) (ascends-head g fs o) in
+      let past : All (λ (h : Frame). g.at ≤ h.at) (f ∷ fs) =
+      All-cons (λ (h : Frame). g.at ≤ h.at) f fs (omega arith) (ascends-head g fs o) in
       record {
         order = g ∷ rest.order;
-        same = IsPermutation-trans (f ∷ g ∷ fs) (g ∷ f ∷ fs) (g ∷ rest.order) (swap_first f g fs) (IsPermutation-cons g (f ∷ fs) rest.order rest.same);
-        ascends = ascends-cons g rest.order (All-permutation (λ (h : Frame). g.at ≤ h.at) (f ∷ fs) rest.order rest.same past) rest.ascends;
+        same = IsPermutation-trans (f ∷ g ∷ fs) (g ∷ f ∷ fs) (g ∷ rest.order) (swap_first f g fs)
+            (IsPermutation-cons g (f ∷ fs) rest.order rest.same);
+        ascends = ascends-cons g rest.order
+            (All-permutation (λ (h : Frame). g.at ≤ h.at) (f ∷ fs) rest.order rest.same past) rest.ascends;
       })
   | inr first ↦ (
-      let past : All (λ (h : Frame). f.at ≤ h.at) fs = All-weaker (λ (h : Frame). g.at ≤ h.at) (λ (h : Frame). f.at ≤ h.at) (λ h le. omega arith) fs (ascends-head g fs o) in
+      let past : All (λ (h : Frame). f.at ≤ h.at) fs = All-weaker (λ (h : Frame). g.at ≤ h.at)
+      (λ (h : Frame). f.at ≤ h.at) (λ h le. omega arith) fs (ascends-head g fs o) in
       record {
         order = f ∷ g ∷ fs;
         same = IsPermutation-refl (f ∷ g ∷ fs);
@@ -59,14 +71,23 @@ in_order [] = record { order = []; same = IsPermutation-refl []; ascends = λ i 
 in_order (f ∷ fs) =
     let rest : InOrder fs = in_order fs in
     let all : InOrder (f ∷ rest.order) = with_one f rest.order rest.ascends in
-    record { order = all.order; same = IsPermutation-trans (f ∷ fs) (f ∷ rest.order) all.order (IsPermutation-cons f fs rest.order rest.same) all.same; ascends = all.ascends }
+    record {
+      order = all.order;
+      same = IsPermutation-trans (f ∷ fs) (f ∷ rest.order) all.order
+          (IsPermutation-cons f fs rest.order rest.same) all.same;
+      ascends = all.ascends;
+    }
 
 -- frames of which no window holds too many bits conform when they are put in order
-pub conforms_in_order : (rate burst : ℕ) (frames : List Frame) → KeepsWindows rate burst frames → ConformsInOrder rate burst frames
+pub conforms_in_order : (rate burst : ℕ) (frames : List Frame) → KeepsWindows rate burst frames
+    → ConformsInOrder rate burst frames
 conforms_in_order rate burst frames k =
     let o : InOrder frames = in_order frames in
     record {
       order = o.order;
       same = o.same;
-      conforms = places_from_windows rate burst o.order (record { in_order = from_frames o.order o.ascends; windows = KeepsWindows-permutation rate burst frames o.order o.same k });
+      conforms = places_from_windows rate burst o.order (record {
+        in_order = from_frames o.order o.ascends;
+        windows = KeepsWindows-permutation rate burst frames o.order o.same k;
+      });
     }

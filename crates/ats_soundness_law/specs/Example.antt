@@ -20,10 +20,20 @@ use Rattle.ats_soundness_law.specs.Sound.{IsPromptOnce, IsServed, bounds_of}
 -- the row of a port of the line, with this bound: one stream of class 6 uses the port
 abbrev pub row_of_line : ℕ → ℕ → Row
 row_of_line port bound =
-    record { port = port; class = 6; higher = 0; equal = 100000000000; bursts = 12336; lower = 0; least = 672; wait = 11664000; bound = bound }
+    record {
+      port = port;
+      class = 6;
+      higher = 0;
+      equal = 100000000000;
+      bursts = 12336;
+      lower = 0;
+      least = 672;
+      wait = 11664000;
+      bound = bound;
+    }
 
--- the certificate of the line: the port to the bridge, whose latency has the bridge's processing time too, and the port from
--- the bridge to the listener
+-- the certificate of the line: the port to the bridge, whose latency has the bridge's processing time too, and the port
+-- from the bridge to the listener
 abbrev pub line_rows : List Row
 line_rows = row_of_line 0 13836000 ∷ row_of_line 2 12836000 ∷ []
 
@@ -35,11 +45,11 @@ the_frame = travel_at one_frame 0
 abbrev pub held_back : Travel
 held_back = travel_at regulated 1
 
--- the line is a network, its certificate holds, and one frame's run over it is legal; the frame is of a stream whose talker
--- keeps its buckets; the first port of its path leaves a station and leads to a bridge, and the second leaves that bridge.
--- The frame arrives exactly when the sum of the bounds is over. And a legal run of the same network has a talker that
--- does not keep its buckets, so that containment alone speaks of it: a frame is not served there, nor prompt from the
--- talker on
+-- the line is a network, its certificate holds, and one frame's run over it is legal; the frame is of a stream whose
+-- talker keeps its buckets; the first port of its path leaves a station and leads to a bridge, and the second leaves
+-- that bridge. The frame arrives exactly when the sum of the bounds is over. And a legal run of the same network has a
+-- talker that does not keep its buckets, so that containment alone speaks of it: a frame is not served there, nor
+-- prompt from the talker on
 pub record LawsAreMet : Type 0 where
   pub network : IsNetwork line
   pub holds : Holds line line_rows
@@ -51,8 +61,12 @@ pub record LawsAreMet : Type 0 where
   pub to_bridge : IsBridgeAt line.topology (port_at line.topology.ports 0).to
   pub from_bridge : IsBridgeAt line.topology (port_at line.topology.ports 2).from
   pub whole : the_frame.ending
-      ≡ Sink (record { 0 = the_frame.release.at.0 + sum_by (bounds_of line_rows (sender_at line the_frame.release.sender)) (sender_at line the_frame.release.sender).path })
-  pub sum : sum_by (bounds_of line_rows (sender_at line the_frame.release.sender)) (sender_at line the_frame.release.sender).path ≡ 26672000
+      ≡ Sink (record {
+        0 = the_frame.release.at.0 + sum_by (bounds_of line_rows (sender_at line the_frame.release.sender))
+            (sender_at line the_frame.release.sender).path;
+      })
+  pub sum : sum_by (bounds_of line_rows (sender_at line the_frame.release.sender))
+      (sender_at line the_frame.release.sender).path ≡ 26672000
   pub beyond : IsLegal line regulated
   pub not_kept : ¬ KeepsBuckets line (releases_of regulated) (talker_of line 0)
   pub not_served : ¬ IsServed line_rows (sender_at line 0) held_back

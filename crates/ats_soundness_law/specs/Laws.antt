@@ -17,12 +17,13 @@ use Rattle.ats_trace.specs.Talker.{talker_of, bucket_rule, KeepsBuckets}
 use Rattle.ats_soundness_law.specs.Rules.{Rule, Keeps}
 use Rattle.ats_soundness_law.specs.Sound.{IsEligibleBy, IsServed, IsContained, IsSoundBy, IsSound}
 
--- what a port that leaves a station is asked to send, where the station keeps its buckets: frames of declared sizes, and
--- those of each stream conform
+-- what a port that leaves a station is asked to send, where the station keeps its buckets: frames of declared sizes,
+-- and those of each stream conform
 abbrev pub StationIsOffered : Type 0
 StationIsOffered = (network : DeclaredNetwork) (run : List Travel) (port : ℕ) → IsNetwork network → IsLegal network run
     → port < length network.topology.ports → IsStationAt network.topology (port_at network.topology.ports port).from
-    → KeepsBuckets network (releases_of run) (port_at network.topology.ports port).from → IsOffered network port (sent_by network run port)
+    → KeepsBuckets network (releases_of run) (port_at network.topology.ports port).from
+    → IsOffered network port (sent_by network run port)
 
 -- what a port that leaves a bridge is asked to send: the same, whatever any talker does, since each frame there was let
 -- through by the bridge
@@ -35,11 +36,12 @@ BridgeIsOffered = (network : DeclaredNetwork) (run : List Travel) (port : ℕ) �
 abbrev pub IsHandedOn : Row → Handed → Type 0
 IsHandedOn row h = IsEligibleBy (h.crossing.sent.eligible + row.bound) (λ e. Unit {0}) h.verdict
 
--- shaping is free: where a row holds whose port and class some stream uses, and the port leads to a bridge and is asked to
--- send what the port law wants, the bridge makes each frame of the row's class eligible within the row's bound
+-- shaping is free: where a row holds whose port and class some stream uses, and the port leads to a bridge and is asked
+-- to send what the port law wants, the bridge makes each frame of the row's class eligible within the row's bound
 abbrev pub ShapingForFree : Type 0
 ShapingForFree = (network : DeclaredNetwork) (run : List Travel) (row : Row) → IsNetwork network → IsLegal network run
-    → IsTrue (is_used network row.port row.class) → IsBridgeAt network.topology (port_at network.topology.ports row.port).to
+    → IsTrue (is_used network row.port row.class)
+    → IsBridgeAt network.topology (port_at network.topology.ports row.port).to
     → RowHolds network row → IsOffered network row.port (sent_by network run row.port)
     → All (IsHandedOn row) (handed_by network run row.port row.class)
 
@@ -60,9 +62,11 @@ Containment = (network : DeclaredNetwork) (rows : List Row) → IsNetwork networ
 
 -- where groups regulate what the senders declare, bounds that keep each of the ten rules are sound
 abbrev pub SoundByRules : Type 0
-SoundByRules = (judge : Judge) (network : DeclaredNetwork) (rows : List Row) → IsRegulator judge (declared_by network) → IsNetwork network
+SoundByRules = (judge : Judge) (network : DeclaredNetwork) (rows : List Row) → IsRegulator judge (declared_by network)
+    → IsNetwork network
     → ((rule : Rule) → Keeps rule network rows) → IsSoundBy judge bucket_rule network rows
 
 -- so where a certificate holds, whose groups are those of Asynchronous Traffic Shaping
 abbrev pub CertificateIsSound : Type 0
-CertificateIsSound = (network : DeclaredNetwork) (rows : List Row) → IsNetwork network → Holds network rows → IsSound network rows
+CertificateIsSound = (network : DeclaredNetwork) (rows : List Row) → IsNetwork network → Holds network rows
+    → IsSound network rows

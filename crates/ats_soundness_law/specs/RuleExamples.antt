@@ -6,7 +6,9 @@ use Rattle.ats_certificate.specs.declared.row.Row.{Row}
 use Rattle.ats_trace.specs.Examples.{stream, line, line_nodes, line_links, line_and_flow}
 use Rattle.ats_trace.specs.Regulated.{nodes_with}
 use Rattle.ats_soundness_law.specs.Example.{row_of_line, line_rows}
-use Rattle.ats_soundness_law.specs.Rules.{Rule, rows_are_there, higher_is_right, equal_is_right, bursts_are_right, lower_is_right, least_is_right, bound_follows, load_fits, wait_is_enough, frames_may_stay, Keeps, RestHolds}
+use Rattle.ats_soundness_law.specs.Rules.{Rule, rows_are_there, higher_is_right, equal_is_right, bursts_are_right}
+use Rattle.ats_soundness_law.specs.Rules.{lower_is_right, least_is_right, bound_follows, load_fits, wait_is_enough}
+use Rattle.ats_soundness_law.specs.Rules.{frames_may_stay, Keeps, RestHolds}
 use Rattle.ats_soundness_law.specs.Sound.{IsSound}
 
 -- For each rule a network and a certificate that breaks this rule alone, and is not sound.
@@ -15,10 +17,12 @@ use Rattle.ats_soundness_law.specs.Sound.{IsSound}
 abbrev pub small : List ℕ → ℕ → DeclaredStream
 small name class = declared_stream name (0 ∷ 2 ∷ []) class 50000000 672 64 64 1000000 None
 
--- on the line, whose bridge has this maximum residence time in nanoseconds, with another of the same class. Behind a frame of
--- 1522 octets of the other a small one waits for 12336000 ps, so its next one may have to stay in the bridge as long
+-- on the line, whose bridge has this maximum residence time in nanoseconds, with another of the same class. Behind a
+-- frame of 1522 octets of the other a small one waits for 12336000 ps, so its next one may have to stay in the bridge
+-- as long
 abbrev pub pair : ℕ → DeclaredNetwork
-pair residence_ns = declared_network (topology_of (nodes_with residence_ns) line_links) (small (codes "a") 6 ∷ stream (codes "b") (0 ∷ 2 ∷ []) ∷ []) []
+pair residence_ns = declared_network (topology_of (nodes_with residence_ns) line_links)
+    (small (codes "a") 6 ∷ stream (codes "b") (0 ∷ 2 ∷ []) ∷ []) []
 
 -- on the line, below a stream of class 6 with a rate of 500 Mb/s
 abbrev pub below : DeclaredNetwork
@@ -28,12 +32,23 @@ below =
 
 -- a stream on the line with twice the rate of the links
 abbrev pub fast : DeclaredNetwork
-fast = declared_network (topology_of line_nodes line_links) (declared_stream (codes "a") (0 ∷ 2 ∷ []) 6 2000000000 12336 64 1522 1000000 None ∷ []) []
+fast = declared_network (topology_of line_nodes line_links)
+    (declared_stream (codes "a") (0 ∷ 2 ∷ []) 6 2000000000 12336 64 1522 1000000 None ∷ []) []
 
 -- a row by its columns
 abbrev pub row_with : ℕ → ℕ → ℕ → ℕ → ℕ → ℕ → ℕ → ℕ → ℕ → Row
 row_with port class higher equal bursts lower least wait bound =
-    record { port = port; class = class; higher = higher; equal = equal; bursts = bursts; lower = lower; least = least; wait = wait; bound = bound }
+    record {
+      port = port;
+      class = class;
+      higher = higher;
+      equal = equal;
+      bursts = bursts;
+      lower = lower;
+      least = least;
+      wait = wait;
+      bound = bound;
+    }
 
 -- the second row of the pair, as it should be
 abbrev pub pair_rows : Row → List Row
@@ -41,7 +56,8 @@ pair_rows first = first ∷ row_with 2 6 0 150000000000 13008 0 672 12336000 135
 
 -- the rows of the fast stream, with these picoseconds of each second
 abbrev pub fast_rows : ℕ → List Row
-fast_rows equal = row_with 0 6 0 equal 12336 0 672 11664000 13836000 ∷ row_with 2 6 0 equal 12336 0 672 11664000 12836000 ∷ []
+fast_rows equal =
+    row_with 0 6 0 equal 12336 0 672 11664000 13836000 ∷ row_with 2 6 0 equal 12336 0 672 11664000 12836000 ∷ []
 
 abbrev pub network_for : Rule → DeclaredNetwork
 network_for rows_are_there = line
@@ -82,8 +98,8 @@ rows_for wait_is_enough = pair_rows (row_with 0 6 0 150000000000 13008 0 672 123
 -- all is right but the bridge's residence, which is one nanosecond short
 rows_for frames_may_stay = pair_rows (row_with 0 6 0 150000000000 13008 0 672 12336000 14508000)
 
--- the certificate breaks this rule and no other, and its bounds are not sound: in some legal run of the network a frame is
--- discarded, or comes later than they say
+-- the certificate breaks this rule and no other, and its bounds are not sound: in some legal run of the network a frame
+-- is discarded, or comes later than they say
 pub record BreaksAlone (rule : Rule) (network : DeclaredNetwork) (given : List Row) : Type 0 where
   pub is_network : IsNetwork network
   pub broken : ¬ Keeps rule network given

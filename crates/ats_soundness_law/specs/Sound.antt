@@ -22,14 +22,15 @@ IsEligibleBy limit next (Eligible e) = (e.0 ≤ limit) × next e.0
 IsEligibleBy limit next (Late e) = ⊥
 IsEligibleBy limit next Size = ⊥
 
--- from a port on a frame is eligible at each port, and at each within the bound of the port before since it was eligible
--- there; at the next by this time, and behind the last port it arrives
+-- from a port on a frame is eligible at each port, and at each within the bound of the port before since it was
+-- eligible there; at the next by this time, and behind the last port it arrives
 abbrev pub IsPrompt : (ℕ → ℕ) → ℕ → List ℕ → List HopRecord → Ending → Type 0
 IsPrompt bound limit [] [] (Sink at) = at.0 ≤ limit
 IsPrompt bound limit [] [] Discard = ⊥
 IsPrompt bound limit [] (hop ∷ hops) ending = ⊥
 IsPrompt bound limit (p ∷ path) [] ending = ⊥
-IsPrompt bound limit (p ∷ path) (hop ∷ hops) ending = IsEligibleBy limit (λ e. IsPrompt bound (e + bound p) path hops ending) hop.verdict
+IsPrompt bound limit (p ∷ path) (hop ∷ hops) ending =
+    IsEligibleBy limit (λ e. IsPrompt bound (e + bound p) path hops ending) hop.verdict
 
 -- the frame arrives at its listener by this time
 abbrev pub ArrivesBy : ℕ → Ending → Type 0
@@ -40,7 +41,8 @@ ArrivesBy limit Discard = ⊥
 abbrev pub bounds_of : List Row → Sender → ℕ → ℕ
 bounds_of rows sender port = bound_at rows port (class_at sender port)
 
--- a frame is never discarded, is eligible at each next hop within the bound of the hop before, and arrives within the sum
+-- a frame is never discarded, is eligible at each next hop within the bound of the hop before, and arrives within the
+-- sum
 pub record IsServed (rows : List Row) (sender : Sender) (journey : Travel) : Type 0 where
   pub prompt : IsPrompt (bounds_of rows sender) journey.release.at.0 sender.path journey.hops journey.ending
   pub arrives : ArrivesBy (journey.release.at.0 + sum_by (bounds_of rows sender) sender.path) journey.ending
@@ -49,7 +51,8 @@ pub record IsServed (rows : List Row) (sender : Sender) (journey : Travel) : Typ
 abbrev pub IsPromptOnce : (ℕ → ℕ) → List ℕ → List HopRecord → Ending → Type 0
 IsPromptOnce bound [] hops ending = Unit {0}
 IsPromptOnce bound (p ∷ path) [] ending = Unit {0}
-IsPromptOnce bound (p ∷ path) (hop ∷ hops) ending = OnEligible hop.verdict (λ e. IsPrompt bound (e + bound p) path hops ending)
+IsPromptOnce bound (p ∷ path) (hop ∷ hops) ending =
+    OnEligible hop.verdict (λ e. IsPrompt bound (e + bound p) path hops ending)
 
 -- the ports after the first
 abbrev pub later_ports : List ℕ → List ℕ
@@ -63,11 +66,13 @@ later_hops (hop ∷ hops) = hops
 
 -- whatever its own talker does, a frame that the first bridge lets through is prompt from there on
 abbrev pub IsContained : List Row → Sender → Travel → Type 0
-IsContained rows sender journey = IsPromptOnce (bounds_of rows sender) (later_ports sender.path) (later_hops journey.hops) journey.ending
+IsContained rows sender journey =
+    IsPromptOnce (bounds_of rows sender) (later_ports sender.path) (later_hops journey.hops) journey.ending
 
--- the bounds of these rows are sound, where groups judge so and talkers keep this rule: in each legal run, each frame of a
--- stream whose talker keeps the rule is served, and each frame of any stream is contained
-pub record IsSoundBy (judge : Judge) (rule : Declared → List Frame → Type 0) (network : DeclaredNetwork) (rows : List Row) : Type 0 where
+-- the bounds of these rows are sound, where groups judge so and talkers keep this rule: in each legal run, each frame
+-- of a stream whose talker keeps the rule is served, and each frame of any stream is contained
+pub record IsSoundBy (judge : Judge) (rule : Declared → List Frame → Type 0) (network : DeclaredNetwork)
+    (rows : List Row) : Type 0 where
   pub served : (run : List Travel) → IsLegalBy judge network run → (journey : Travel) → Contains run journey
       → IsOfStream network journey
       → KeepsBucketsBy rule network (releases_of run) (talker_of network journey.release.sender)

@@ -1,6 +1,7 @@
 use Rattle.std.proofs.Common.{[], ◌∷◌, refl}
 use Rattle.ats_trace.specs.Examples.{fork}
-use Rattle.ats_trace.specs.BridgeExamples.{over_two, over_three, one_over_two, one_over_three, two_over_two, two_over_three, BridgedAreLegal}
+use Rattle.ats_trace.specs.BridgeExamples.{over_two, over_three, one_over_two, one_over_three, two_over_two}
+use Rattle.ats_trace.specs.BridgeExamples.{two_over_three, BridgedAreLegal}
 use Rattle.ats_trace.specs.Babbler.{babbler, BabblerIsLegal}
 use Rattle.ats_trace.proofs.RegulatedProofs.{legal_by}
 

@@ -1,4 +1,5 @@
-use Rattle.std.proofs.Common.{◌≡◌, ℕ, zero, suc, ◌+◌, ◌*◌, ◌<◌, ◌≤◌, List, [], ◌∷◌, length, get_or, map, refl, ap, subst, arith, inl, inr, ◌⊎◌, lit<, lit≤}
+use Rattle.std.proofs.Common.{◌≡◌, ℕ, zero, suc, ◌+◌, ◌*◌, ◌<◌, ◌≤◌, List, [], ◌∷◌, length, get_or, map, refl, ap}
+use Rattle.std.proofs.Common.{subst, arith, inl, inr, ◌⊎◌, lit<, lit≤}
 use Rattle.std.specs.Prelude.{◌^◌, IsPermutation, Contains}
 use Rattle.std.proofs.lemmas.List.Sorted.{length_permutation, Contains-permutation}
 use Rattle.ats_num.specs.Tie.{late_key}
@@ -15,13 +16,16 @@ use Rattle.ats_trace.specs.Run.{IsLegal, IsRunBy}
 use Rattle.ats_trace.specs.Projections.{Crossing, Handed, sent_by, handed_by}
 use Rattle.ats_trace.specs.Examples.{line, line_and_flow, fork, first_goes_first, second_goes_first}
 use Rattle.ats_trace.specs.LegalExamples.{frame_key}
-use Rattle.ats_trace.specs.Changes.{released_later, of_no_sender, of_63_octets, sunk_late, not_received, comes_late, held_at_station, started_early, sent_slowly, overlapped, passed_over, started_late, eligible_early, flow_eligible_early, ChangedExamplesAreNot}
+use Rattle.ats_trace.specs.Changes.{released_later, of_no_sender, of_63_octets, sunk_late, not_received, comes_late}
+use Rattle.ats_trace.specs.Changes.{held_at_station, started_early, sent_slowly, overlapped, passed_over, started_late}
+use Rattle.ats_trace.specs.Changes.{eligible_early, flow_eligible_early, ChangedExamplesAreNot}
 
 pub no_transmission : Transmission
 no_transmission = record { frame = 0; sender = 0; class = 0; bits = 0; eligible = 0; start = 0; end = 0 }
 
 pub no_frame : Handed
-no_frame = record { crossing = record { port = 0; octets = 0; came = 0; sent = no_transmission; arrival = 0 }; verdict = Size }
+no_frame =
+    record { crossing = record { port = 0; octets = 0; came = 0; sent = no_transmission; arrival = 0 }; verdict = Size }
 
 -- the time in a verdict
 abbrev pub time_in : Verdict → ℕ
@@ -77,13 +81,16 @@ not_taking h =
 
 not_apart : ¬ IsLegal line_and_flow overlapped
 not_apart h =
-    let overlap : (12336000 ≤ 12335999) ⊎ (24672000 ≤ 0) = (h.ports 0 (lit< tt)).apart 0 1 no_transmission (lit< tt) (lit< tt) in
+    let overlap : (12336000 ≤ 12335999) ⊎ (24672000 ≤ 0) =
+    (h.ports 0 (lit< tt)).apart 0 1 no_transmission (lit< tt) (lit< tt) in
     elim overlap [ inl e ↦ absurd (omega arith) | inr e ↦ absurd (omega arith) ]
 
 -- at the station's port the flow's frame has class 0, and the frame behind it class 6
 not_chosen : ¬ IsLegal line_and_flow passed_over
 not_chosen h =
-    let ahead : IsAhead (get_or (sent_by line_and_flow passed_over 0) 0 no_transmission) (get_or (sent_by line_and_flow passed_over 0) 1 no_transmission) = (h.ports 0 (lit< tt)).chosen 0 no_transmission (lit< tt) 1 no_transmission (lit< tt) (lit< tt) (lit≤ tt) in
+    let ahead : IsAhead (get_or (sent_by line_and_flow passed_over 0) 0 no_transmission)
+    (get_or (sent_by line_and_flow passed_over 0) 1 no_transmission) =
+    (h.ports 0 (lit< tt)).chosen 0 no_transmission (lit< tt) 1 no_transmission (lit< tt) (lit< tt) (lit≤ tt) in
     let class : 6 ≤ 0 = ahead.class in
     absurd (omega arith)
 
@@ -94,7 +101,8 @@ gap_there (suc k) d within same = absurd (omega arith)
 
 not_prompt : ¬ IsLegal line started_late
 not_prompt h =
-    let idle : 13836001 ≤ 13836000 = (h.ports 2 (lit< tt)).prompt 0 no_transmission (lit< tt) 0 no_transmission (lit< tt) gap_there (lit≤ tt) in
+    let idle : 13836001 ≤ 13836000 =
+    (h.ports 2 (lit< tt)).prompt 0 no_transmission (lit< tt) 0 no_transmission (lit< tt) gap_there (lit≤ tt) in
     absurd (omega arith)
 
 at_zero : {X : Type 0} (x y : X) → Contains (y ∷ []) x → y ≡ x
@@ -107,7 +115,8 @@ only x [] p = let e : 0 ≡ length (x ∷ []) = length_permutation (x ∷ []) []
 only x (y ∷ []) p =
     let found : Contains (y ∷ []) x = Contains-permutation (x ∷ []) (y ∷ []) x p (0, lit< tt, refl) in
     ap (λ z. z ∷ []) (at_zero x y found)
-only x (y ∷ z ∷ ys) p = let e : length (y ∷ z ∷ ys) ≡ length (x ∷ []) = length_permutation (x ∷ []) (y ∷ z ∷ ys) p in absurd (omega arith)
+only x (y ∷ z ∷ ys) p = let e : length (y ∷ z ∷ ys) ≡ length (x ∷ []) = length_permutation (x ∷ []) (y ∷ z ∷ ys) p in
+    absurd (omega arith)
 
 -- the time in the first of some verdicts
 abbrev pub first_time : List Verdict → ℕ
@@ -119,10 +128,14 @@ early_frame = handed_by line_and_flow eligible_early 0 6
 
 not_judged : ¬ IsLegal line_and_flow eligible_early
 not_judged h =
-    let judged : IsJudged ats_judge line_and_flow (residence_behind line_and_flow 0) early_frame = h.groups 0 6 (lit< tt) (lit≤ tt) in
+    let judged : IsJudged ats_judge line_and_flow (residence_behind line_and_flow 0) early_frame =
+    h.groups 0 6 (lit< tt) (lit≤ tt) in
     let same : judged.arrivals ≡ early_frame = only (get_or early_frame 0 no_frame) judged.arrivals judged.same in
-    let told : map (λ (f : Handed). f.verdict) early_frame ≡ verdicts_of (declared_by line_and_flow) (residence_behind line_and_flow 0) (first (declared_by line_and_flow)) (map offer_of early_frame)
-    = subst (λ (frames : List Handed). map (λ (f : Handed). f.verdict) frames ≡ verdicts_of (declared_by line_and_flow) (residence_behind line_and_flow 0) (first (declared_by line_and_flow)) (map offer_of frames)) same judged.verdicts in
+    let told : map (λ (f : Handed). f.verdict) early_frame ≡ verdicts_of (declared_by line_and_flow)
+    (residence_behind line_and_flow 0) (first (declared_by line_and_flow)) (map offer_of early_frame)
+    = subst (λ (frames : List Handed). map (λ (f : Handed). f.verdict) frames ≡ verdicts_of (declared_by line_and_flow)
+    (residence_behind line_and_flow 0) (first (declared_by line_and_flow)) (map offer_of frames))
+    same judged.verdicts in
     let early : ◌≡◌ {A = ℕ} 26171999 26172000 = ap first_time told in
     absurd (omega arith)
 
@@ -134,13 +147,15 @@ not_passed h =
 -- the second sender has the lesser key
 not_by_sender : ¬ IsRunBy late_key fork first_goes_first
 not_by_sender h =
-    let less : 4294967295 * 2 ^ 32 + 0 < 4294967294 * 2 ^ 32 + 1 = (h.tie 2 (lit< tt)) 0 no_transmission (lit< tt) 1 no_transmission (lit< tt) refl refl (lit< tt) in
+    let less : 4294967295 * 2 ^ 32 + 0 < 4294967294 * 2 ^ 32 + 1 =
+    (h.tie 2 (lit< tt)) 0 no_transmission (lit< tt) 1 no_transmission (lit< tt) refl refl (lit< tt) in
     absurd (omega arith)
 
 -- the first frame has the lesser key
 not_by_frame : ¬ IsRunBy frame_key fork second_goes_first
 not_by_frame h =
-    let less : 1 < 0 = (h.tie 2 (lit< tt)) 1 no_transmission (lit< tt) 0 no_transmission (lit< tt) refl refl (lit< tt) in
+    let less : 1 < 0 =
+    (h.tie 2 (lit< tt)) 1 no_transmission (lit< tt) 0 no_transmission (lit< tt) refl refl (lit< tt) in
     absurd (omega arith)
 
 pub changed_are_not : ChangedExamplesAreNot

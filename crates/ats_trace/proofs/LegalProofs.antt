@@ -6,15 +6,18 @@ use Rattle.ats_network.specs.Network.{DeclaredNetwork}
 use Rattle.ats_trace.specs.Journey.{Travel, IsJourney}
 use Rattle.ats_trace.specs.Stored.{travel_at}
 use Rattle.ats_trace.specs.Run.{IsLegal, IsRunBy}
-use Rattle.ats_trace.specs.Examples.{line, line_and_flow, fork, one_frame, long_frame, behind_a_flow, first_goes_first, second_goes_first}
+use Rattle.ats_trace.specs.Examples.{line, line_and_flow, fork, one_frame, long_frame, behind_a_flow, first_goes_first}
+use Rattle.ats_trace.specs.Examples.{second_goes_first}
 use Rattle.ats_trace.specs.LegalExamples.{frame_key, ExamplesAreLegal}
 use Rattle.ats_trace.proofs.LegalTest.{ascending_by, ports_by, links_by, groups_by, flows_by, ties_by}
 
 one_of : (x : Travel) → IsJourney line x → All (IsJourney line) (x ∷ [])
 one_of x j = All-cons (IsJourney line) x [] j (All-nil (IsJourney line))
 
-two_of : (network : DeclaredNetwork) (x y : Travel) → IsJourney network x → IsJourney network y → All (IsJourney network) (x ∷ y ∷ [])
-two_of network x y j k = All-cons (IsJourney network) x (y ∷ []) j (All-cons (IsJourney network) y [] k (All-nil (IsJourney network)))
+two_of : (network : DeclaredNetwork) (x y : Travel) → IsJourney network x → IsJourney network y
+    → All (IsJourney network) (x ∷ y ∷ [])
+two_of network x y j k =
+    All-cons (IsJourney network) x (y ∷ []) j (All-cons (IsJourney network) y [] k (All-nil (IsJourney network)))
 
 size_1522 : IsFrameSize 1522
 size_1522 = record { least = omega arith; most = omega arith }
@@ -24,7 +27,8 @@ one_frame_legal : IsLegal line one_frame
 one_frame_legal =
     record {
       in_order = ascending_by (0 ∷ []) refl;
-      journeys = one_of (travel_at one_frame 0) (record { sender = omega arith; octets = size_1522; way = tt; released = (refl, refl) });
+      journeys = one_of (travel_at one_frame 0)
+          (record { sender = omega arith; octets = size_1522; way = tt; released = (refl, refl) });
       ports = ports_by line one_frame refl;
       links = links_by line one_frame refl;
       groups = groups_by line one_frame refl;
@@ -36,7 +40,12 @@ long_frame_legal =
     record {
       in_order = ascending_by (0 ∷ []) refl;
       journeys = one_of (travel_at long_frame 0)
-          (record { sender = omega arith; octets = record { least = omega arith; most = omega arith }; way = (refl, refl); released = (refl, refl) });
+          (record {
+            sender = omega arith;
+            octets = record { least = omega arith; most = omega arith };
+            way = (refl, refl);
+            released = (refl, refl);
+          });
       ports = ports_by line long_frame refl;
       links = links_by line long_frame refl;
       groups = groups_by line long_frame refl;

@@ -4,7 +4,9 @@ use Rattle.ats_trace.specs.Projections.{sent_by}
 use Rattle.ats_trace.specs.Stored.{no_travel}
 use Rattle.ats_trace.specs.Examples.{line, line_and_flow}
 use Rattle.ats_trace.specs.Parts.{octets, way, links, chosen, prompt, flows, Keeps}
-use Rattle.ats_trace.specs.MoreChanges.{later_eligible_first, idle_over_flow, long_link, short_link, discarded_and_sunk, discarded_twice, never_sent, lost, long_of_flow, of_2001_octets, EachBreaksAlone}
+use Rattle.ats_trace.specs.MoreChanges.{later_eligible_first, idle_over_flow, long_link, short_link, discarded_and_sunk}
+use Rattle.ats_trace.specs.MoreChanges.{discarded_twice, never_sent, lost, long_of_flow, of_2001_octets}
+use Rattle.ats_trace.specs.MoreChanges.{EachBreaksAlone}
 use Rattle.ats_trace.specs.declared.journey.Ending.{Ending}
 use Rattle.ats_trace.specs.declared.journey.Ending.TheVariants.{Sink, Discard}
 use Rattle.ats_trace.proofs.ChangeProofs.{no_transmission, no_crossing, no_frame, time_in}
@@ -12,13 +14,15 @@ use Rattle.ats_trace.proofs.PartTest.{others_by}
 
 not_chosen : ¬ Keeps chosen line later_eligible_first
 not_chosen keeps =
-    let ahead : IsAhead (get_or (sent_by line later_eligible_first 0) 2 no_transmission) (get_or (sent_by line later_eligible_first 0) 1 no_transmission)
+    let ahead : IsAhead (get_or (sent_by line later_eligible_first 0) 2 no_transmission)
+    (get_or (sent_by line later_eligible_first 0) 1 no_transmission)
     = keeps 0 (lit< tt) 2 no_transmission (lit< tt) 1 no_transmission (lit< tt) (lit< tt) (lit≤ tt) in
     let earlier : 2 ≤ 1 = ahead.eligible refl in
     absurd (omega arith)
 
 -- no transmission of the station ends when that of the stream starts
-gap_there : StartsAfterGap (sent_by line_and_flow idle_over_flow 0) (get_or (sent_by line_and_flow idle_over_flow 0) 1 no_transmission)
+gap_there : StartsAfterGap (sent_by line_and_flow idle_over_flow 0)
+    (get_or (sent_by line_and_flow idle_over_flow 0) 1 no_transmission)
 gap_there zero d within same = let e : ◌≡◌ {A = ℕ} 1344005 5 = same in absurd (omega arith)
 gap_there (suc zero) d within same = let e : ◌≡◌ {A = ℕ} 672005 5 = same in absurd (omega arith)
 gap_there (suc (suc k)) d within same = absurd (omega arith)

@@ -1,4 +1,5 @@
-use Rattle.std.proofs.Common.{◌≡◌, ◌≢◌, ℕ, ◌<◌, ◌≤◌, Bool, true, false, ◌&&◌, ◌||◌, List, [], ◌∷◌, length, map, get_or, lit<, Option, Some, None, All, refl, sym, ap, subst, ◌∙◌, inl, inr}
+use Rattle.std.proofs.Common.{◌≡◌, ◌≢◌, ℕ, ◌<◌, ◌≤◌, Bool, true, false, ◌&&◌, ◌||◌, List, [], ◌∷◌, length, map, get_or}
+use Rattle.std.proofs.Common.{lit<, Option, Some, None, All, refl, sym, ap, subst, ◌∙◌, inl, inr}
 use Rattle.std.specs.Prelude.{nat_le, nat_lt, ◌==◌}
 use Rattle.std.specs.List.{list_all}
 use Rattle.std.proofs.lemmas.Bool.{and_parts, false≢true}
@@ -16,10 +17,13 @@ use Rattle.ats_trace.specs.declared.journey.Release.{Release}
 use Rattle.ats_trace.specs.declared.journey.HopRecord.{HopRecord}
 use Rattle.ats_trace.specs.declared.journey.Ending.{Ending}
 use Rattle.ats_trace.specs.declared.journey.Ending.TheVariants.{Sink, Discard}
-use Rattle.ats_trace.specs.Parts.{Part, in_order, octets, way, released, links, waits, takes, apart, chosen, prompt, groups, flows, Keeps}
+use Rattle.ats_trace.specs.Parts.{Part, in_order, octets, way, released, links, waits, takes, apart, chosen, prompt}
+use Rattle.ats_trace.specs.Parts.{groups, flows, Keeps}
 use Rattle.ats_trace.proofs.Tests.{le_of, lt_of, eq_of, either, all_by, pairs_pass}
-use Rattle.ats_trace.proofs.PortTest.{waits_pass, takes_pass, apart_pass, chosen_pass, prompt_pass, waits_by, takes_by, all_apart_by, all_chosen_by, all_prompt_by}
-use Rattle.ats_trace.proofs.LegalTest.{ascending_by, each_port_passes, each_port_by, links_pass, links_by, groups_pass, groups_by, flows_pass, flows_by, same_verdict, verdict_is}
+use Rattle.ats_trace.proofs.PortTest.{waits_pass, takes_pass, apart_pass, chosen_pass, prompt_pass, waits_by, takes_by}
+use Rattle.ats_trace.proofs.PortTest.{all_apart_by, all_chosen_by, all_prompt_by}
+use Rattle.ats_trace.proofs.LegalTest.{ascending_by, each_port_passes, each_port_by, links_pass, links_by, groups_pass}
+use Rattle.ats_trace.proofs.LegalTest.{groups_by, flows_pass, flows_by, same_verdict, verdict_is}
 
 -- Tests of the parts of a legal run on closed networks and runs.
 
@@ -37,7 +41,9 @@ goes_way [] (hop ∷ hops) ending = false
 goes_way (p ∷ path) [] ending = false
 goes_way (p ∷ path) (hop ∷ hops) ending = goes_on (goes_way path hops ending) hop.verdict hop.sent hops ending
 
-goes_on_by : (Onward : Type 0) (onward : Bool) → (onward ≡ true → Onward) → (verdict : Verdict) (sent : Option (Ps × Ps)) (hops : List HopRecord) (ending : Ending) → goes_on onward verdict sent hops ending ≡ true → GoesOn Onward verdict sent hops ending
+goes_on_by : (Onward : Type 0) (onward : Bool) → (onward ≡ true → Onward)
+    → (verdict : Verdict) (sent : Option (Ps × Ps)) (hops : List HopRecord) (ending : Ending)
+    → goes_on onward verdict sent hops ending ≡ true → GoesOn Onward verdict sent hops ending
 goes_on_by Onward onward shows (Eligible e) (Some times) hops ending h = shows h
 goes_on_by Onward onward shows (Eligible e) None hops ending h = absurd (false≢true h)
 goes_on_by Onward onward shows (Late e) (Some times) hops ending h = absurd (false≢true h)
@@ -49,13 +55,15 @@ goes_on_by Onward onward shows Size None [] (Sink at) h = absurd (false≢true h
 goes_on_by Onward onward shows (Late e) None (hop ∷ hops) ending h = absurd (false≢true h)
 goes_on_by Onward onward shows Size None (hop ∷ hops) ending h = absurd (false≢true h)
 
-way_by : (path : List ℕ) (hops : List HopRecord) (ending : Ending) → goes_way path hops ending ≡ true → IsWay path hops ending
+way_by : (path : List ℕ) (hops : List HopRecord) (ending : Ending) → goes_way path hops ending ≡ true
+    → IsWay path hops ending
 way_by [] [] (Sink at) h = tt
 way_by [] [] Discard h = absurd (false≢true h)
 way_by [] (hop ∷ hops) ending h = absurd (false≢true h)
 way_by (p ∷ path) [] ending h = absurd (false≢true h)
 way_by (p ∷ path) (hop ∷ hops) ending h =
-    goes_on_by (IsWay path hops ending) (goes_way path hops ending) (way_by path hops ending) hop.verdict hop.sent hops ending h
+    goes_on_by (IsWay path hops ending) (goes_way path hops ending) (way_by path hops ending)
+    hop.verdict hop.sent hops ending h
 
 same_time : (s t : Ps) → (s.0 == t.0) ≡ true → s ≡ t
 same_time s t h = ap (λ (n : ℕ). record { 0 = n }) (eq_of s.0 t.0 h)
@@ -72,7 +80,8 @@ released_by release (hop ∷ hops) h =
 
 abbrev pub has_way : DeclaredNetwork → Travel → Bool
 has_way network j =
-    nat_lt j.release.sender (length (senders_of network)) && goes_way (sender_at network j.release.sender).path j.hops j.ending
+    nat_lt j.release.sender (length (senders_of network))
+    && goes_way (sender_at network j.release.sender).path j.hops j.ending
 
 has_way_by : (network : DeclaredNetwork) (j : Travel) → has_way network j ≡ true
     → (j.release.sender < length (senders_of network)) × IsWay (sender_at network j.release.sender).path j.hops j.ending
@@ -88,7 +97,8 @@ is_frame j = nat_le 64 j.release.octets && nat_le j.release.octets 2000
 
 frame_by : (j : Travel) → is_frame j ≡ true → IsFrameSize j.release.octets
 frame_by j h =
-    let parts : (nat_le 64 j.release.octets ≡ true) × (nat_le j.release.octets 2000 ≡ true) = and_parts (nat_le 64 j.release.octets) (nat_le j.release.octets 2000) h in
+    let parts : (nat_le 64 j.release.octets ≡ true) × (nat_le j.release.octets 2000 ≡ true) =
+    and_parts (nat_le 64 j.release.octets) (nat_le j.release.octets 2000) h in
     record { least = le_of 64 j.release.octets parts.0; most = le_of j.release.octets 2000 parts.1 }
 
 -- the run keeps a part
@@ -106,14 +116,18 @@ passes prompt network run = each_port_passes prompt_pass network run
 passes groups network run = groups_pass network run
 passes flows network run = flows_pass network run
 
-pub kept_by : (part : Part) (network : DeclaredNetwork) (run : List Travel) → passes part network run ≡ true → Keeps part network run
+pub kept_by : (part : Part) (network : DeclaredNetwork) (run : List Travel) → passes part network run ≡ true
+    → Keeps part network run
 kept_by in_order network run h = ascending_by (map (λ (r : Release). r.at.0) (releases_of run)) h
 kept_by octets network run h = all_by (λ (j : Travel). IsFrameSize j.release.octets) is_frame frame_by run h
 kept_by way network run h =
-    all_by (λ (j : Travel). (j.release.sender < length (senders_of network)) × IsWay (sender_at network j.release.sender).path j.hops j.ending) (has_way network) (has_way_by network) run h
-kept_by released network run h = all_by (λ (j : Travel). IsReleased j.release j.hops) (λ (j : Travel). is_released j.release j.hops) (λ j. released_by j.release j.hops) run h
+    all_by (λ (j : Travel). (j.release.sender < length (senders_of network))
+    × IsWay (sender_at network j.release.sender).path j.hops j.ending) (has_way network) (has_way_by network) run h
+kept_by released network run h = all_by (λ (j : Travel). IsReleased j.release j.hops)
+    (λ (j : Travel). is_released j.release j.hops) (λ j. released_by j.release j.hops) run h
 kept_by links network run h = links_by network run h
-kept_by waits network run h = each_port_by (λ ps sent. All (λ (x : Transmission). x.eligible ≤ x.start) sent) waits_pass waits_by network run h
+kept_by waits network run h =
+    each_port_by (λ ps sent. All (λ (x : Transmission). x.eligible ≤ x.start) sent) waits_pass waits_by network run h
 kept_by takes network run h = each_port_by _ takes_pass takes_by network run h
 kept_by apart network run h = each_port_by _ apart_pass all_apart_by network run h
 kept_by chosen network run h = each_port_by _ chosen_pass all_chosen_by network run h
@@ -171,22 +185,27 @@ below flows = lit< tt
 abbrev pub all_pass : DeclaredNetwork → List Travel → Bool
 all_pass network run = list_all (λ part. passes part network run) parts
 
-pub all_kept : (network : DeclaredNetwork) (run : List Travel) → all_pass network run ≡ true → (part : Part) → Keeps part network run
+pub all_kept : (network : DeclaredNetwork) (run : List Travel) → all_pass network run ≡ true → (part : Part)
+    → Keeps part network run
 all_kept network run h part =
     let test : Part → Bool = λ part. passes part network run in
-    let there : test (get_or parts (number_of part) flows) ≡ true = AllPass-from_list_all test parts h (number_of part) flows (below part) in
+    let there : test (get_or parts (number_of part) flows) ≡ true =
+    AllPass-from_list_all test parts h (number_of part) flows (below part) in
     kept_by part network run (subst (λ (q : Part). test q ≡ true) (own part) there)
 
 -- the run keeps each part but this one
 abbrev pub others_pass : Part → DeclaredNetwork → List Travel → Bool
 others_pass part network run = list_all (λ other. number_of other == number_of part || passes other network run) parts
 
-pub others_by : (part : Part) (network : DeclaredNetwork) (run : List Travel) → others_pass part network run ≡ true → (other : Part) → other ≢ part → Keeps other network run
+pub others_by : (part : Part) (network : DeclaredNetwork) (run : List Travel) → others_pass part network run ≡ true
+    → (other : Part) → other ≢ part → Keeps other network run
 others_by part network run h other differ =
     let test : Part → Bool = λ other. number_of other == number_of part || passes other network run in
-    let there : test (get_or parts (number_of other) flows) ≡ true = AllPass-from_list_all test parts h (number_of other) flows (below other) in
+    let there : test (get_or parts (number_of other) flows) ≡ true =
+    AllPass-from_list_all test parts h (number_of other) flows (below other) in
     let here : test other ≡ true = subst (λ (q : Part). test q ≡ true) (own other) there in
     elim (either (number_of other == number_of part) (passes other network run) here) [
-      | inl same ↦ absurd (differ (sym (own other) ∙ ap (λ (n : ℕ). get_or parts n flows) (eq_of (number_of other) (number_of part) same) ∙ own part))
+      | inl same ↦ absurd (differ (sym (own other)
+          ∙ ap (λ (n : ℕ). get_or parts n flows) (eq_of (number_of other) (number_of part) same) ∙ own part))
       | inr passed ↦ kept_by other network run passed
     ]

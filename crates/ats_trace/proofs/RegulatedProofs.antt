@@ -3,7 +3,8 @@ use Rattle.ats_network.specs.Network.{DeclaredNetwork}
 use Rattle.ats_trace.specs.Journey.{Travel}
 use Rattle.ats_trace.specs.Run.{IsLegal}
 use Rattle.ats_trace.specs.Examples.{line, fork}
-use Rattle.ats_trace.specs.Regulated.{line_of_two, line_of_classes, regulated, late, late_moves_nothing, held_by_group, group_by_class, RegulatedAreLegal}
+use Rattle.ats_trace.specs.Regulated.{line_of_two, line_of_classes, regulated, late, late_moves_nothing, held_by_group}
+use Rattle.ats_trace.specs.Regulated.{group_by_class, RegulatedAreLegal}
 use Rattle.ats_trace.proofs.PartTest.{all_pass, all_kept}
 use Rattle.ats_trace.proofs.PartProofs.{legal_is_each_part}
 

@@ -1,4 +1,5 @@
-use Rattle.std.proofs.Common.{◌≡◌, ℕ, zero, suc, ◌<◌, Bool, true, false, ◌&&◌, ◌||◌, List, [], ◌∷◌, All, refl, arith, inl, inr, ◌⊎◌}
+use Rattle.std.proofs.Common.{◌≡◌, ℕ, zero, suc, ◌<◌, Bool, true, false, ◌&&◌, ◌||◌, List, [], ◌∷◌, All, refl, arith}
+use Rattle.std.proofs.Common.{inl, inr, ◌⊎◌}
 use Rattle.std.specs.Prelude.{◌≤◌, nat_le, nat_lt, ◌==◌, not, AllPairs}
 use Rattle.std.specs.List.{list_all}
 use Rattle.std.proofs.lemmas.Bool.{and_parts, false≢true, cases_eq}
@@ -29,10 +30,12 @@ pub either : (a b : Bool) → (a || b) ≡ true → (a ≡ true) ⊎ (b ≡ true
 either true b h = inl refl
 either false b h = inr h
 
-pub all_by : {X : Type 0} (P : X → Type 0) (test : X → Bool) → ((x : X) → test x ≡ true → P x) → (xs : List X) → list_all test xs ≡ true → All P xs
+pub all_by : {X : Type 0} (P : X → Type 0) (test : X → Bool) → ((x : X) → test x ≡ true → P x) → (xs : List X)
+    → list_all test xs ≡ true → All P xs
 all_by P test shows xs passed = All-weaker (λ x. test x ≡ true) P shows xs (AllPass-from_list_all test xs passed)
 
-pub test_of_all : {X : Type 0} (P : X → Type 0) (test : X → Bool) → ((x : X) → P x → test x ≡ true) → (xs : List X) → All P xs → list_all test xs ≡ true
+pub test_of_all : {X : Type 0} (P : X → Type 0) (test : X → Bool) → ((x : X) → P x → test x ≡ true) → (xs : List X)
+    → All P xs → list_all test xs ≡ true
 test_of_all P test passes xs all = list_all-from_AllPass test xs (All-weaker P (λ x. test x ≡ true) passes xs all)
 
 -- each element and each later one pass
@@ -43,10 +46,12 @@ pairs_pass test (x ∷ xs) = list_all (test x) xs && pairs_pass test xs
 no_pairs : {X : Type 0} (R : X → X → Type 0) → AllPairs R []
 no_pairs R i j d before within = absurd (omega arith)
 
-pub pairs_by : {X : Type 0} (R : X → X → Type 0) (test : X → X → Bool) → ((x y : X) → test x y ≡ true → R x y) → (xs : List X) → pairs_pass test xs ≡ true → AllPairs R xs
+pub pairs_by : {X : Type 0} (R : X → X → Type 0) (test : X → X → Bool) → ((x y : X) → test x y ≡ true → R x y)
+    → (xs : List X) → pairs_pass test xs ≡ true → AllPairs R xs
 pairs_by R test shows [] passed = no_pairs R
 pairs_by R test shows (x ∷ xs) passed =
-    let parts : (list_all (test x) xs ≡ true) × (pairs_pass test xs ≡ true) = and_parts (list_all (test x) xs) (pairs_pass test xs) passed in
+    let parts : (list_all (test x) xs ≡ true) × (pairs_pass test xs ≡ true) =
+    and_parts (list_all (test x) xs) (pairs_pass test xs) passed in
     AllPairs-cons R x xs (all_by (R x) (test x) (shows x) xs parts.0) (pairs_by R test shows xs parts.1)
 
 -- each number below n passes

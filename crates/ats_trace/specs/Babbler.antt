@@ -5,14 +5,15 @@ use Rattle.ats_trace.specs.Run.{IsLegal}
 use Rattle.ats_trace.specs.Examples.{fork, hop, sunk}
 use Rattle.ats_trace.specs.declared.journey.Ending.TheVariants.{Discard}
 
--- A station of the fork babbles: it releases 23 small frames of its stream at once, of which 18 fill its bucket. The other
--- stream's frame comes to the bridge among them.
+-- A station of the fork babbles: it releases 23 small frames of its stream at once, of which 18 fill its bucket. The
+-- other stream's frame comes to the bridge among them.
 
 -- the other's frame is eligible when it comes, and sent when that of the babbler's is over which the bridge was sending
 abbrev pub beside : Travel
 beside = sunk 0 0 1522 (hop 0 0 0 12336000 ∷ hop 13836000 13836000 14268000 26604000 ∷ []) 27104000
 
--- frame k of the babbler, which its station sends as the next one, comes to the bridge when the one before it is sent on
+-- frame k of the babbler, which its station sends as the next one, comes to the bridge when the one before it is sent
+-- on
 abbrev pub at_station : ℕ → ℕ
 at_station k = 672000 * k
 
@@ -22,7 +23,8 @@ at_bridge k = 2172000 + 672000 * k
 -- it is eligible there at this time, and sent at that
 abbrev pub babble : ℕ → ℕ → ℕ → Travel
 babble k eligible start =
-    sunk 0 1 64 (hop 0 0 (at_station k) (at_station k + 672000) ∷ hop (at_bridge k) eligible start (start + 672000) ∷ []) (start + 1172000)
+    sunk 0 1 64 (hop 0 0 (at_station k) (at_station k + 672000) ∷ hop (at_bridge k) eligible start (start + 672000)
+    ∷ []) (start + 1172000)
 
 -- the first of them go on at once
 abbrev pub goes_on_at_once : ℕ → Travel

@@ -50,13 +50,14 @@ one_over_three =
     )
     54344000
 
--- and a second one at once, each as large as the burst, which its listener gets at this time: the first bridge holds the second
--- back until the rate has given the burst again, 123360000 ps after the first, and no later one has to
+-- and a second one at once, each as large as the burst, which its listener gets at this time: the first bridge holds
+-- the second back until the rate has given the burst again, 123360000 ps after the first, and no later one has to
 abbrev pub two_over_two : ℕ → List Travel
 two_over_two arrival =
     one_over_two
     ∷ sunk 0 0 1522
-    (hop 0 0 12336000 24672000 ∷ hop 26172000 137196000 137196000 149532000 ∷ hop 151032000 151032000 151032000 163368000 ∷ [])
+    (hop 0 0 12336000 24672000 ∷ hop 26172000 137196000 137196000 149532000
+    ∷ hop 151032000 151032000 151032000 163368000 ∷ [])
     arrival
     ∷ []
 

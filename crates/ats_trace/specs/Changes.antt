@@ -88,9 +88,9 @@ flow_eligible_early =
     ∷ sunk 1 0 1522 (hop 1 1 12336000 24672000 ∷ hop 26172000 26172000 26172000 38508000 ∷ []) 39008000
     ∷ []
 
--- none of them is legal. Each field has the name of a field of a legal run, a journey or the port rule that the run breaks,
--- some of them beside others: that the sender exists follows from the way and the release, so a run without its sender breaks
--- those too. And neither order of the two frames that become eligible together is that of the other key
+-- none of them is legal. Each field has the name of a field of a legal run, a journey or the port rule that the run
+-- breaks, some of them beside others: that the sender exists follows from the way and the release, so a run without its
+-- sender breaks those too. And neither order of the two frames that become eligible together is that of the other key
 pub record ChangedExamplesAreNot : Type 0 where
   pub in_order : ¬ IsLegal line_and_flow released_later
   pub sender : ¬ IsLegal line of_no_sender

@@ -12,7 +12,8 @@ use Rattle.ats_trace.specs.Projections.{Handed}
 
 -- what a sender declares of its rate, burst and sizes
 abbrev pub declared_of : Sender → Declared
-declared_of s = record { rate = s.rate; burst_bits = s.burst_bits; min_octets = s.min_octets; max_octets = s.max_octets }
+declared_of s =
+    record { rate = s.rate; burst_bits = s.burst_bits; min_octets = s.min_octets; max_octets = s.max_octets }
 
 -- the same of the sender with a number, by which its scheduler in each group is known
 abbrev pub declared_by : DeclaredNetwork → ℕ → Declared
@@ -27,7 +28,8 @@ pub record IsJudged (judge : Judge) (network : DeclaredNetwork) (residence_ns : 
   pub arrivals : List Handed
   pub same : IsPermutation handed arrivals
   pub in_order : IsNonDecreasing (map (λ (h : Handed). h.crossing.arrival) arrivals)
-  pub verdicts : map (λ (h : Handed). h.verdict) arrivals ≡ judge (declared_by network) residence_ns (map offer_of arrivals)
+  pub verdicts : map (λ (h : Handed). h.verdict) arrivals
+      ≡ judge (declared_by network) residence_ns (map offer_of arrivals)
 
 -- the maximum residence time behind a port, in nanoseconds; 0 behind a port to a station
 abbrev pub residence_behind : DeclaredNetwork → ℕ → ℕ
@@ -37,4 +39,5 @@ residence_behind network port = unwrap_or (residence_after network.topology port
 abbrev pub IsPassed : DeclaredNetwork → Handed → Type 0
 IsPassed network h =
     h.verdict
-    ≡ (if is_declared_size (declared_by network h.crossing.sent.sender) h.crossing.octets then Eligible (record { 0 = h.crossing.arrival }) else Size)
+    ≡ (if is_declared_size (declared_by network h.crossing.sent.sender) h.crossing.octets
+    then Eligible (record { 0 = h.crossing.arrival }) else Size)

@@ -19,23 +19,23 @@ use Rattle.ats_trace.specs.declared.journey.HopRecord.{HopRecord}
 use Rattle.ats_trace.specs.declared.journey.Ending.{Ending}
 use Rattle.ats_trace.specs.declared.journey.Ending.TheVariants.{Sink, Discard}
 
--- The rules of a run once more, where each port has one latency: then a frame's way says when it arrives, and no rule speaks
--- of two frames of a link.
+-- The rules of a run once more, where each port has one latency: then a frame's way says when it arrives, and no rule
+-- speaks of two frames of a link.
 
 -- when a frame arrives behind a port that has sent it until this time
 abbrev pub arrival_after : Port → ℕ → ℕ
 arrival_after port end = end + port.latency.0
 
--- what follows a verdict and the times of a transmission at a port: an eligible frame is sent, arrives behind the port and
--- goes on from there; a frame with another verdict is not sent, and its way ends
+-- what follows a verdict and the times of a transmission at a port: an eligible frame is sent, arrives behind the port
+-- and goes on from there; a frame with another verdict is not sent, and its way ends
 abbrev pub GoesOnAt : (ℕ → Type 0) → Port → Verdict → Option (Ps × Ps) → List HopRecord → Ending → Type 0
 GoesOnAt onward port (Eligible e) (Some times) hops ending = onward (arrival_after port times.1.0)
 GoesOnAt onward port (Eligible e) None hops ending = ⊥
 GoesOnAt onward port verdict (Some times) hops ending = ⊥
 GoesOnAt onward port verdict None hops ending = (hops ≡ []) × (ending ≡ Discard)
 
--- the way of a frame that comes at this time to the first port of what is left of its path, with the records from there on:
--- one for each port that it comes to, and after the last port the listener's arrival
+-- the way of a frame that comes at this time to the first port of what is left of its path, with the records from there
+-- on: one for each port that it comes to, and after the last port the listener's arrival
 abbrev pub IsWayAt : List Port → ℕ → List ℕ → List HopRecord → Ending → Type 0
 IsWayAt ports due [] [] (Sink at) = at.0 ≡ due
 IsWayAt ports due [] [] Discard = ⊥

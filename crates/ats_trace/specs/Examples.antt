@@ -24,7 +24,8 @@ bridge name residence_ns = record { name = name; kind = Bridge 1000 residence_ns
 abbrev pub link : List ℕ → List ℕ → Link
 link a b = record { a = a; b = b; mbps = 1000; propagation_ns = 500 }
 
--- a stream of class 6 with a rate of 100 Mb/s, a burst of one frame of 1522 octets, 64 to 1522 octets, and a deadline of 1 ms
+-- a stream of class 6 with a rate of 100 Mb/s, a burst of one frame of 1522 octets, 64 to 1522 octets, and a deadline
+-- of 1 ms
 abbrev pub stream : List ℕ → List ℕ → DeclaredStream
 stream name path = declared_stream name path 6 100000000 12336 64 1522 1000000 None
 
@@ -45,7 +46,8 @@ line = declared_network (topology_of line_nodes line_links) (stream (codes "a") 
 
 -- and with a flow on the same path, which has number 1
 abbrev pub line_and_flow : DeclaredNetwork
-line_and_flow = declared_network (topology_of line_nodes line_links) (stream (codes "a") (0 ∷ 2 ∷ []) ∷ []) (flow (codes "f") (0 ∷ 2 ∷ []) ∷ [])
+line_and_flow = declared_network (topology_of line_nodes line_links) (stream (codes "a") (0 ∷ 2 ∷ []) ∷ [])
+    (flow (codes "f") (0 ∷ 2 ∷ []) ∷ [])
 
 -- one bridge and three stations: a third link, from s3 to b1, has ports 4 and 5
 abbrev pub fork_nodes : List Node
@@ -56,17 +58,26 @@ fork_links = line_links ++ link (codes "s3") (codes "b1") ∷ []
 
 -- with two streams to s2, number 0 from s1 and number 1 from s3
 abbrev pub fork : DeclaredNetwork
-fork = declared_network (topology_of fork_nodes fork_links) (stream (codes "a") (0 ∷ 2 ∷ []) ∷ stream (codes "z") (4 ∷ 2 ∷ []) ∷ []) []
+fork = declared_network (topology_of fork_nodes fork_links)
+    (stream (codes "a") (0 ∷ 2 ∷ []) ∷ stream (codes "z") (4 ∷ 2 ∷ []) ∷ []) []
 
 -- a hop of an eligible frame: its arrival, its eligibility time, and the start and end of its transmission
 abbrev pub hop : ℕ → ℕ → ℕ → ℕ → HopRecord
 hop arrival eligible start end =
-    record { arrival = record { 0 = arrival }; verdict = Eligible (record { 0 = eligible }); sent = Some (record { 0 = start }, record { 0 = end }) }
+    record {
+      arrival = record { 0 = arrival };
+      verdict = Eligible (record { 0 = eligible });
+      sent = Some (record { 0 = start }, record { 0 = end });
+    }
 
 -- the journey of a frame that is released at a time by a sender, with so many octets, and arrives at the listener
 abbrev pub sunk : ℕ → ℕ → ℕ → List HopRecord → ℕ → Travel
 sunk at sender octets hops arrival =
-    record { release = record { at = record { 0 = at }; sender = sender; octets = octets }; hops = hops; ending = Sink (record { 0 = arrival }) }
+    record {
+      release = record { at = record { 0 = at }; sender = sender; octets = octets };
+      hops = hops;
+      ending = Sink (record { 0 = arrival });
+    }
 
 -- one frame of the stream over the line
 abbrev pub one_frame : List Travel

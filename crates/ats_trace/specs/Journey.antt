@@ -21,16 +21,16 @@ pub record Travel : Type 0 where
 abbrev pub class_at : Sender → ℕ → ℕ
 class_at sender port = sender.class
 
--- what follows a verdict and the times of a transmission: an eligible frame is sent and goes on; a frame with another verdict
--- is not sent, and its way ends
+-- what follows a verdict and the times of a transmission: an eligible frame is sent and goes on; a frame with another
+-- verdict is not sent, and its way ends
 abbrev pub GoesOn : Type 0 → Verdict → Option (Ps × Ps) → List HopRecord → Ending → Type 0
 GoesOn onward (Eligible e) (Some times) hops ending = onward
 GoesOn onward (Eligible e) None hops ending = ⊥
 GoesOn onward verdict (Some times) hops ending = ⊥
 GoesOn onward verdict None hops ending = (hops ≡ []) × (ending ≡ Discard)
 
--- the way of a frame over what is left of its path: a record for each port that it comes to, and behind the last port its
--- listener. When it comes there the links say
+-- the way of a frame over what is left of its path: a record for each port that it comes to, and behind the last port
+-- its listener. When it comes there the links say
 abbrev pub IsWay : List ℕ → List HopRecord → Ending → Type 0
 IsWay [] [] (Sink at) = Unit {0}
 IsWay [] [] Discard = ⊥

@@ -1,7 +1,8 @@
 use Rattle.std.specs.Prelude.{ℕ}
 use Rattle.ats_num.specs.Tie.{late_key}
 use Rattle.ats_trace.specs.Run.{IsLegal, IsRunBy}
-use Rattle.ats_trace.specs.Examples.{line, line_and_flow, fork, one_frame, long_frame, behind_a_flow, first_goes_first, second_goes_first}
+use Rattle.ats_trace.specs.Examples.{line, line_and_flow, fork, one_frame, long_frame, behind_a_flow, first_goes_first}
+use Rattle.ats_trace.specs.Examples.{second_goes_first}
 
 -- the frame's number is the key
 abbrev pub frame_key : ℕ → ℕ → ℕ

@@ -9,11 +9,12 @@ use Rattle.ats_trace.specs.declared.journey.Ending.TheVariants.{Sink, Discard}
 
 -- Runs that break one part alone, each where a likely slip in the part's definition would let it through.
 
--- a frame of 64 octets on the path of the line, by its sender, its release and the start of its transmission at the station;
--- the bridge sends it as soon as it arrives
+-- a frame of 64 octets on the path of the line, by its sender, its release and the start of its transmission at the
+-- station; the bridge sends it as soon as it arrives
 abbrev pub small : ℕ → ℕ → ℕ → Travel
 small sender at start =
-    sunk at sender 64 (hop at at start (start + 672000) ∷ hop (start + 2172000) (start + 2172000) (start + 2172000) (start + 2844000) ∷ []) (start + 3344000)
+    sunk at sender 64 (hop at at start (start + 672000) ∷ hop (start + 2172000) (start + 2172000) (start + 2172000)
+    (start + 2844000) ∷ []) (start + 3344000)
 
 -- the station sends the third of its stream's frames before the second, though both are eligible
 abbrev pub later_eligible_first : List Travel
@@ -37,7 +38,8 @@ too_long arrival = record { arrival = record { 0 = arrival }; verdict = Size; se
 
 -- a frame of the stream that is released at 0, with so many octets, these records and this ending
 abbrev pub ended : ℕ → List HopRecord → Ending → List Travel
-ended size hops ending = record { release = record { at = record { 0 = 0 }; sender = 0; octets = size }; hops = hops; ending = ending } ∷ []
+ended size hops ending =
+    record { release = record { at = record { 0 = 0 }; sender = 0; octets = size }; hops = hops; ending = ending } ∷ []
 
 -- a discarded frame arrives at the listener
 abbrev pub discarded_and_sunk : List Travel
@@ -50,7 +52,11 @@ discarded_twice = ended 1523 (hop 0 0 0 12344000 ∷ too_long 13844000 ∷ too_l
 -- the bridge never sends an eligible frame
 abbrev pub never_sent : List Travel
 never_sent =
-    ended 1522 (hop 0 0 0 12336000 ∷ record { arrival = record { 0 = 13836000 }; verdict = Eligible (record { 0 = 13836000 }); sent = None } ∷ []) Discard
+    ended 1522 (hop 0 0 0 12336000 ∷ record {
+      arrival = record { 0 = 13836000 };
+      verdict = Eligible (record { 0 = 13836000 });
+      sent = None;
+    } ∷ []) Discard
 
 -- nothing is told of a frame that its station has sent
 abbrev pub lost : List Travel

@@ -17,8 +17,8 @@ use Rattle.ats_trace.specs.Examples.{line_and_flow, hop, sunk}
 use Rattle.ats_trace.specs.declared.journey.Release.{Release}
 use Rattle.ats_trace.specs.declared.journey.Ending.TheVariants.{Discard}
 
--- the parts of a legal run, where those of a journey and of the port rule count by themselves; that the sender exists follows
--- from the way and the release, and counts with the way
+-- the parts of a legal run, where those of a journey and of the port rule count by themselves; that the sender exists
+-- follows from the way and the release, and counts with the way
 pub data Part : Type 0 where
   in_order : Part
   octets : Part
@@ -35,7 +35,8 @@ pub data Part : Type 0 where
 
 -- the transmissions of each port keep a rule, which may depend on the time of a bit there
 abbrev pub EachPort : (ℕ → List Transmission → Type 0) → DeclaredNetwork → List Travel → Type 0
-EachPort Rule network run = (port : ℕ) → port < length network.topology.ports → Rule (port_at network.topology.ports port).ps_per_bit (sent_by network run port)
+EachPort Rule network run = (port : ℕ) → port < length network.topology.ports
+    → Rule (port_at network.topology.ports port).ps_per_bit (sent_by network run port)
 
 -- what a run keeps that keeps a part
 abbrev pub Keeps : Part → DeclaredNetwork → List Travel → Type 0
@@ -46,22 +47,29 @@ Keeps way network run =
     × IsWay (sender_at network j.release.sender).path j.hops j.ending) run
 Keeps released network run = All (λ (j : Travel). IsReleased j.release j.hops) run
 Keeps links network run =
-    (port : ℕ) → port < length network.topology.ports → KeepsLinkRule (port_at network.topology.ports port) (crossings_by network run port)
+    (port : ℕ) → port < length network.topology.ports
+    → KeepsLinkRule (port_at network.topology.ports port) (crossings_by network run port)
 Keeps waits network run = EachPort (λ ps sent. All (λ (x : Transmission). x.eligible ≤ x.start) sent) network run
-Keeps takes network run = EachPort (λ ps sent. All (λ (x : Transmission). x.end ≡ x.start + ps * x.bits) sent) network run
+Keeps takes network run =
+    EachPort (λ ps sent. All (λ (x : Transmission). x.end ≡ x.start + ps * x.bits) sent) network run
 Keeps apart network run = EachPort (λ ps sent. AllPairs AreApart sent) network run
 Keeps chosen network run =
-    EachPort (λ ps sent. All (λ (x : Transmission). All (λ (y : Transmission). x.start < y.start → y.eligible ≤ x.start → IsAhead x y) sent) sent) network run
+    EachPort (λ ps sent. All (λ (x : Transmission).
+    All (λ (y : Transmission). x.start < y.start → y.eligible ≤ x.start → IsAhead x y) sent) sent) network run
 Keeps prompt network run =
-    EachPort (λ ps sent. All (λ (x : Transmission). All (λ (y : Transmission). StartsAfterGap sent x → x.start ≤ y.start → x.start ≤ y.eligible) sent) sent) network run
+    EachPort (λ ps sent. All (λ (x : Transmission). All
+    (λ (y : Transmission). StartsAfterGap sent x → x.start ≤ y.start → x.start ≤ y.eligible) sent) sent) network run
 Keeps groups network run =
-    (port class : ℕ) → port < length network.topology.ports → 1 ≤ class → IsJudged ats_judge network (residence_behind network port) (handed_by network run port class)
-Keeps flows network run = (port : ℕ) → port < length network.topology.ports → All (IsPassed network) (handed_by network run port 0)
+    (port class : ℕ) → port < length network.topology.ports → 1 ≤ class
+    → IsJudged ats_judge network (residence_behind network port) (handed_by network run port class)
+Keeps flows network run = (port : ℕ) → port < length network.topology.ports
+    → All (IsPassed network) (handed_by network run port 0)
 
 -- a run is legal exactly where it keeps each part
 abbrev pub LegalIsEachPart : Type 0
 LegalIsEachPart = (network : DeclaredNetwork) (run : List Travel)
-    → (IsLegal network run → (part : Part) → Keeps part network run) × (((part : Part) → Keeps part network run) → IsLegal network run)
+    → (IsLegal network run → (part : Part) → Keeps part network run)
+    × (((part : Part) → Keeps part network run) → IsLegal network run)
 
 -- for each part one of the legal examples with one event changed, and the later times that follow from it
 abbrev pub deviation : Part → List Travel

@@ -54,8 +54,8 @@ abbrev pub hop_at : ℕ → Option Transmission → List Hop
 hop_at port None = []
 hop_at port (Some sent) = record { port = port; sent = sent } ∷ []
 
--- the crossing of a frame with so many octets that came at this time, if it was sent there: the next record, or behind the last
--- port the ending, tells when it arrived
+-- the crossing of a frame with so many octets that came at this time, if it was sent there: the next record, or behind
+-- the last port the ending, tells when it arrived
 abbrev pub crossing_at : ℕ → ℕ → ℕ → Option Transmission → List HopRecord → Ending → List Crossing
 crossing_at octets came port None hops ending = []
 crossing_at octets came port (Some sent) (next ∷ hops) ending =
@@ -69,7 +69,10 @@ abbrev pub handed_at : ℕ → ℕ → ℕ → Option Transmission → List HopR
 handed_at octets came port None hops = []
 handed_at octets came port (Some sent) [] = []
 handed_at octets came port (Some sent) (next ∷ hops) =
-    record { crossing = record { port = port; octets = octets; came = came; sent = sent; arrival = next.arrival.0 }; verdict = next.verdict } ∷ []
+    record {
+      crossing = record { port = port; octets = octets; came = came; sent = sent; arrival = next.arrival.0 };
+      verdict = next.verdict;
+    } ∷ []
 
 -- the transmissions of a frame along what is left of its path
 abbrev pub hops_along : ℕ → Release → Sender → List ℕ → List HopRecord → List Hop
@@ -101,7 +104,8 @@ journey_hops network frame j =
 
 abbrev pub journey_crossings : DeclaredNetwork → ℕ → Travel → List Crossing
 journey_crossings network frame j =
-    crossings_along frame j.release (sender_at network j.release.sender) (sender_at network j.release.sender).path j.hops j.ending
+    crossings_along frame j.release (sender_at network j.release.sender)
+    (sender_at network j.release.sender).path j.hops j.ending
 
 abbrev pub journey_handed : DeclaredNetwork → ℕ → Travel → List Handed
 journey_handed network frame j =

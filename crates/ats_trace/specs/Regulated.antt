@@ -17,7 +17,8 @@ nodes_with residence_ns = station (codes "s1") ∷ station (codes "s2") ∷ brid
 
 -- on its path its stream and another one, which has number 1
 abbrev pub line_with : ℕ → DeclaredStream → DeclaredNetwork
-line_with residence_ns other = declared_network (topology_of (nodes_with residence_ns) line_links) (stream (codes "a") (0 ∷ 2 ∷ []) ∷ other ∷ []) []
+line_with residence_ns other = declared_network (topology_of (nodes_with residence_ns) line_links)
+    (stream (codes "a") (0 ∷ 2 ∷ []) ∷ other ∷ []) []
 
 -- where the other is one of the same class
 abbrev pub line_of_two : ℕ → DeclaredNetwork
@@ -41,7 +42,8 @@ late =
     sunk 0 0 1522 (hop 0 0 0 12336000 ∷ hop 13836000 13836000 13836000 26172000 ∷ []) 26672000
     ∷ record {
       release = record { at = record { 0 = 0 }; sender = 0; octets = 1522 };
-      hops = hop 0 0 12336000 24672000 ∷ record { arrival = record { 0 = 26172000 }; verdict = Late (record { 0 = 137196000 }); sent = None } ∷ [];
+      hops = hop 0 0 12336000 24672000
+          ∷ record { arrival = record { 0 = 26172000 }; verdict = Late (record { 0 = 137196000 }); sent = None } ∷ [];
       ending = Discard;
     }
     ∷ []
@@ -56,7 +58,8 @@ late_moves_nothing = late ++ passes_on ∷ []
 
 -- behind a frame that is held back, one of the same group is eligible with it, though its own bucket is full
 abbrev pub held_by_group : List Travel
-held_by_group = regulated ++ sunk 0 1 64 (hop 0 0 24672000 25344000 ∷ hop 26844000 137196000 149532000 150204000 ∷ []) 150704000 ∷ []
+held_by_group = regulated
+    ++ sunk 0 1 64 (hop 0 0 24672000 25344000 ∷ hop 26844000 137196000 149532000 150204000 ∷ []) 150704000 ∷ []
 
 -- one of another class is in a group of its own
 abbrev pub group_by_class : List Travel

@@ -13,10 +13,11 @@ no_travel = record { release = record { at = record { 0 = 0 }; sender = 0; octet
 abbrev pub travel_at : List Travel → ℕ → Travel
 travel_at run frame = slice_index_or run frame no_travel
 
--- what a row tells of its frame, with the records of all frames in one list: `count` of them, from the one with number `first`
--- on, are its own
+-- what a row tells of its frame, with the records of all frames in one list: `count` of them, from the one with number
+-- `first` on, are its own
 abbrev pub travel_of : List HopRecord → Journey → Travel
-travel_of hops row = record { release = row.release; hops = slice_range hops row.first (row.first + row.count); ending = row.ending }
+travel_of hops row =
+    record { release = row.release; hops = slice_range hops row.first (row.first + row.count); ending = row.ending }
 
 -- what rows and records tell of all frames
 abbrev pub travels_of : List Journey → List HopRecord → List Travel

@@ -33,9 +33,12 @@ IsDeclaredSize network r = IsTrue (is_declared_size (declared_by network r.sende
 
 -- a station keeps a rule: what each stream declares that begins there, and its releases, are as the rule says, and each
 -- release of a stream or flow that begins there has a declared size
-pub record KeepsBucketsBy (rule : Declared → List Frame → Type 0) (network : DeclaredNetwork) (releases : List Release) (station : ℕ) : Type 0 where
-  pub streams : (i : ℕ) → i < length network.streams → talker_of network i ≡ station → rule (declared_by network i) (frames_of i releases)
-  pub sizes : All (λ (r : Release). r.sender < length (senders_of network) → talker_of network r.sender ≡ station → IsDeclaredSize network r) releases
+pub record KeepsBucketsBy (rule : Declared → List Frame → Type 0) (network : DeclaredNetwork) (releases : List Release)
+    (station : ℕ) : Type 0 where
+  pub streams : (i : ℕ) → i < length network.streams → talker_of network i ≡ station
+      → rule (declared_by network i) (frames_of i releases)
+  pub sizes : All (λ (r : Release). r.sender < length (senders_of network) → talker_of network r.sender ≡ station
+      → IsDeclaredSize network r) releases
 
 -- the rule of a token bucket: what is released conforms to the declared rate and burst
 abbrev pub bucket_rule : Declared → List Frame → Type 0

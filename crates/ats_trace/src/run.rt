@@ -32,8 +32,8 @@ impl Model for Run {
 }
 
 impl Run {
-    /// The run of these journeys, at most 200,000, whose hop records are in `hops`: for each journey the `count` of them
-    /// from `first` on. It takes no memory.
+    /// The run of these journeys, at most 200,000, whose hop records are in `hops`: for each
+    /// journey the `count` of them from `first` on. It takes no memory.
     pub fn new(journeys: Vec<Journey>, hops: Vec<HopRecord>) -> Run
         requires { AreRows journeys.items hops.items }
         ensures { result ≡ travels_of journeys.items hops.items }
