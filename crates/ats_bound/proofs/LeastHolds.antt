@@ -25,7 +25,8 @@ least_rows network is = record {
       is_some-find (is_row_of port class) (least_certificate network)
       ∙ list_any-map (is_row_of port class) (least_row network) (places_of network)
       ∙ places_have network port class is used;
-  used = All-map (λ (row : Row). is_used network row.port row.class ≡ true) (least_row network) (places_of network) (places_used network);
+  used = All-map (λ (row : Row). is_used network row.port row.class ≡ true) (least_row network) (places_of network)
+      (places_used network);
   ordered = AllPairs-map IsBefore (least_row network) (places_of network) (places_ordered network);
 }
 
@@ -33,11 +34,13 @@ least_rows network is = record {
 abbrev pub EachFits : DeclaredNetwork → Type 0
 EachFits network = All (λ (at : ℕ × ℕ). Fits network at.0 at.1) (places_of network)
 
-pub each_is_least : (network : DeclaredNetwork) → IsNetwork network → EachFits network → All (IsLeastRow network) (least_certificate network)
+pub each_is_least : (network : DeclaredNetwork) → IsNetwork network → EachFits network
+    → All (IsLeastRow network) (least_certificate network)
 each_is_least network is fits =
     All-map (IsLeastRow network) (least_row network) (places_of network)
     (λ k d h. least_row-is network (get_or (places_of network) k d).0 (get_or (places_of network) k d).1
-    (is_place network (get_or (places_of network) k d).0 (get_or (places_of network) k d).1 is (places_used network k d h)) (fits k d h))
+    (is_place network (get_or (places_of network) k d).0 (get_or (places_of network) k d).1 is
+    (places_used network k d h)) (fits k d h))
 
 pub least_certificate_holds : LeastCertificateHolds
 least_certificate_holds network is none =
@@ -46,7 +49,8 @@ least_certificate_holds network is none =
     let loads = none_first (overload network) (places_of network) first.0 in
     let stays = none_first (overstay network) (least_certificate network) second.0 in
     let times = none_first (late (least_certificate network)) network.streams second.1 in
-    let fits : EachFits network = λ k d h. fits_from network (get_or (places_of network) k d).0 (get_or (places_of network) k d).1 (loads k d h) in
+    let fits : EachFits network = λ k d h.
+    fits_from network (get_or (places_of network) k d).0 (get_or (places_of network) k d).1 (loads k d h) in
     let rows : HasRows network (least_certificate network) = least_rows network is in
     let each : All (IsLeastRow network) (least_certificate network) = each_is_least network is fits in
     record {

@@ -1,4 +1,5 @@
-use Rattle.std.proofs.Common.{◌≡◌, ℕ, ◌≤◌, true, List, get_or, Option, Some, None, refl, sym, ap, subst, ◌∙◌, inl, inr, eqb, arith}
+use Rattle.std.proofs.Common.{◌≡◌, ℕ, ◌≤◌, true, List, get_or, Option, Some, None, refl, sym, ap, subst, ◌∙◌, inl, inr}
+use Rattle.std.proofs.Common.{eqb, arith}
 use Rattle.std.specs.Prelude.{is_some, unwrap_or}
 use Rattle.std.specs.List.{All}
 use Rattle.std.specs.Option.{option_or, option_map}
@@ -39,34 +40,50 @@ row_at row port class h =
     let parts = and_parts (eqb row.port port) (eqb row.class class) h in
     (eqb-true row.port port parts.0, eqb-true row.class class parts.1)
 
-pub held : (network : DeclaredNetwork) (rows : List Row) (port class : ℕ) → Holds network rows → is_used network port class ≡ true → IsHeld network rows port class
-held network rows port class h used = elim (option_cases (row_of rows port class)) as (λ _. IsHeld network rows port class) [
-  | inl none ↦ absurd (no_none (row_of rows port class) none (h.rows_of.complete port class used))
-  | inr some ↦ (
-      let f : IsFound (is_row_of port class) rows some.0 = found_is (is_row_of port class) rows some.0 some.1 in
-      let at = row_at some.0 port class f.passes in
-      record { row = some.0; found = some.1; holds = All-found (RowHolds network) (is_row_of port class) rows some.0 h.each some.1; port_is = at.0; class_is = at.1 })
-]
+pub held : (network : DeclaredNetwork) (rows : List Row) (port class : ℕ) → Holds network rows
+    → is_used network port class ≡ true → IsHeld network rows port class
+held network rows port class h used =
+    elim (option_cases (row_of rows port class)) as (λ _. IsHeld network rows port class) [
+      | inl none ↦ absurd (no_none (row_of rows port class) none (h.rows_of.complete port class used))
+      | inr some ↦ (
+          let f : IsFound (is_row_of port class) rows some.0 = found_is (is_row_of port class) rows some.0 some.1 in
+          let at = row_at some.0 port class f.passes in
+          record {
+            row = some.0;
+            found = some.1;
+            holds = All-found (RowHolds network) (is_row_of port class) rows some.0 h.each some.1;
+            port_is = at.0;
+            class_is = at.1;
+          })
+    ]
 
 -- the place of a row
-place_is : (network : DeclaredNetwork) (row : Row) (port class : ℕ) → IsNetwork network → row.port ≡ port → row.class ≡ class → is_used network port class ≡ true → IsPlace network row.port row.class
+place_is : (network : DeclaredNetwork) (row : Row) (port class : ℕ) → IsNetwork network → row.port ≡ port
+    → row.class ≡ class → is_used network port class ≡ true → IsPlace network row.port row.class
 place_is network row port class is p c used =
-    is_place network row.port row.class is (ap (λ (n : ℕ). is_used network n row.class) p ∙ ap (λ (n : ℕ). is_used network port n) c ∙ used)
+    is_place network row.port row.class is
+    (ap (λ (n : ℕ). is_used network n row.class) p ∙ ap (λ (n : ℕ). is_used network port n) c ∙ used)
 
 -- where a certificate holds, each place fits its link
-pub fits_held : (network : DeclaredNetwork) (rows : List Row) (port class : ℕ) → Holds network rows → is_used network port class ≡ true → Fits network port class
+pub fits_held : (network : DeclaredNetwork) (rows : List Row) (port class : ℕ) → Holds network rows
+    → is_used network port class ≡ true → Fits network port class
 fits_held network rows port class h used =
     let r : IsHeld network rows port class = held network rows port class h used in
-    subst (λ (n : ℕ). Fits network n class) r.port_is (subst (λ (n : ℕ). Fits network r.row.port n) r.class_is (load-is network r.row r.holds.covers))
+    subst (λ (n : ℕ). Fits network n class) r.port_is
+    (subst (λ (n : ℕ). Fits network r.row.port n) r.class_is (load-is network r.row r.holds.covers))
 
-least_at : (network : DeclaredNetwork) (row : Row) (port class : ℕ) → row.port ≡ port → row.class ≡ class → least_row network (row.port, row.class) ≡ least_row network (port, class)
-least_at network row port class p c = ap (λ (n : ℕ). least_row network (n, row.class)) p ∙ ap (λ (n : ℕ). least_row network (port, n)) c
+least_at : (network : DeclaredNetwork) (row : Row) (port class : ℕ) → row.port ≡ port → row.class ≡ class
+    → least_row network (row.port, row.class) ≡ least_row network (port, class)
+least_at network row port class p c = ap (λ (n : ℕ). least_row network (n, row.class)) p
+    ∙ ap (λ (n : ℕ). least_row network (port, n)) c
 
 -- the least row of a place may stay behind its port
-stays_held : (network : DeclaredNetwork) (rows : List Row) (port class : ℕ) → IsNetwork network → Holds network rows → is_used network port class ≡ true → MayStay network port (least_row network (port, class)).wait
+stays_held : (network : DeclaredNetwork) (rows : List Row) (port class : ℕ) → IsNetwork network → Holds network rows
+    → is_used network port class ≡ true → MayStay network port (least_row network (port, class)).wait
 stays_held network rows port class is h used ns residence =
     let r : IsHeld network rows port class = held network rows port class h used in
-    let le = least_wait-le network r.row (place_is network r.row port class is r.port_is r.class_is used) r.holds.covers in
+    let le =
+    least_wait-le network r.row (place_is network r.row port class is r.port_is r.class_is used) r.holds.covers in
     let same = ap (λ (row : Row). row.wait) (least_at network r.row port class r.port_is r.class_is) in
     let stay = subst (λ (n : ℕ). MayStay network n r.row.wait) r.port_is r.holds.residence in
     omega (arith, le, same, stay ns residence)
@@ -77,48 +94,67 @@ pub record IsLeastOf (network : DeclaredNetwork) (row : Row) : Type 0 where
   pub is : row ≡ least_row network (row.port, row.class)
 
 pub each_least : (network : DeclaredNetwork) → All (IsLeastOf network) (least_certificate network)
-each_least network = All-map (IsLeastOf network) (least_row network) (places_of network) (λ k d h. record { used = places_used network k d h; is = refl })
+each_least network = All-map (IsLeastOf network) (least_row network) (places_of network)
+    (λ k d h. record { used = places_used network k d h; is = refl })
 
 -- the least bound of a port and a class is at most that of a certificate that holds
-bound_at-le : (network : DeclaredNetwork) (rows : List Row) (port class : ℕ) → IsNetwork network → Holds network rows → bound_at (least_certificate network) port class ≤ bound_at rows port class
-bound_at-le network rows port class is h = elim (option_cases (row_of (least_certificate network) port class)) as (λ _. bound_at (least_certificate network) port class ≤ bound_at rows port class) [
-  | inl none ↦ (
-      let zero = ap (λ (o : Option Row). unwrap_or (option_map (λ (row : Row). row.bound) o) 0) none in
-      omega (arith, zero))
-  | inr some ↦ (
-      let l : Row = some.0 in
-      let f : IsFound (is_row_of port class) (least_certificate network) l = found_is (is_row_of port class) (least_certificate network) l some.1 in
-      let at = row_at l port class f.passes in
-      let of : IsLeastOf network l = All-found (IsLeastOf network) (is_row_of port class) (least_certificate network) l (each_least network) some.1 in
-      let used : is_used network port class ≡ true = ap (λ (n : ℕ). is_used network port n) (sym at.1) ∙ ap (λ (n : ℕ). is_used network n l.class) (sym at.0) ∙ of.used in
-      let r : IsHeld network rows port class = held network rows port class h used in
-      let le = least_bound-le network r.row (place_is network r.row port class is r.port_is r.class_is used) r.holds.covers in
-      let mine : l.bound ≡ (least_row network (port, class)).bound = ap (λ (row : Row). row.bound) (of.is ∙ least_at network l port class at.0 at.1) in
-      let theirs : (least_row network (r.row.port, r.row.class)).bound ≡ (least_row network (port, class)).bound = ap (λ (row : Row). row.bound) (least_at network r.row port class r.port_is r.class_is) in
-      let first : bound_at (least_certificate network) port class ≡ l.bound = ap (λ (o : Option Row). unwrap_or (option_map (λ (row : Row). row.bound) o) 0) some.1 in
-      let second : bound_at rows port class ≡ r.row.bound = ap (λ (o : Option Row). unwrap_or (option_map (λ (row : Row). row.bound) o) 0) r.found in
-      omega (arith, le, mine, theirs, first, second))
-]
+bound_at-le : (network : DeclaredNetwork) (rows : List Row) (port class : ℕ) → IsNetwork network → Holds network rows
+    → bound_at (least_certificate network) port class ≤ bound_at rows port class
+bound_at-le network rows port class is h = elim (option_cases (row_of (least_certificate network) port class)) as (λ _.
+    bound_at (least_certificate network) port class ≤ bound_at rows port class) [
+      | inl none ↦ (
+          let zero = ap (λ (o : Option Row). unwrap_or (option_map (λ (row : Row). row.bound) o) 0) none in
+          omega (arith, zero))
+      | inr some ↦ (
+          let l : Row = some.0 in
+          let f : IsFound (is_row_of port class) (least_certificate network) l =
+          found_is (is_row_of port class) (least_certificate network) l some.1 in
+          let at = row_at l port class f.passes in
+          let of : IsLeastOf network l =
+          All-found (IsLeastOf network) (is_row_of port class) (least_certificate network) l
+          (each_least network) some.1 in
+          let used : is_used network port class ≡ true = ap (λ (n : ℕ). is_used network port n) (sym at.1)
+          ∙ ap (λ (n : ℕ). is_used network n l.class) (sym at.0) ∙ of.used in
+          let r : IsHeld network rows port class = held network rows port class h used in
+          let le = least_bound-le network r.row (place_is network r.row port class is r.port_is r.class_is used)
+          r.holds.covers in
+          let mine : l.bound ≡ (least_row network (port, class)).bound =
+          ap (λ (row : Row). row.bound) (of.is ∙ least_at network l port class at.0 at.1) in
+          let theirs : (least_row network (r.row.port, r.row.class)).bound ≡ (least_row network (port, class)).bound =
+          ap (λ (row : Row). row.bound) (least_at network r.row port class r.port_is r.class_is) in
+          let first : bound_at (least_certificate network) port class ≡ l.bound =
+          ap (λ (o : Option Row). unwrap_or (option_map (λ (row : Row). row.bound) o) 0) some.1 in
+          let second : bound_at rows port class ≡ r.row.bound =
+          ap (λ (o : Option Row). unwrap_or (option_map (λ (row : Row). row.bound) o) 0) r.found in
+          omega (arith, le, mine, theirs, first, second))
+    ]
 
-in_time_held : (network : DeclaredNetwork) (rows : List Row) (stream : DeclaredStream) → IsNetwork network → Holds network rows → IsInTime rows stream → IsInTime (least_certificate network) stream
+in_time_held : (network : DeclaredNetwork) (rows : List Row) (stream : DeclaredStream) → IsNetwork network
+    → Holds network rows → IsInTime rows stream → IsInTime (least_certificate network) stream
 in_time_held network rows stream is h late =
-    let le = sum_by-le-sum_by (λ port. bound_at (least_certificate network) port stream.class) (λ port. bound_at rows port stream.class) stream.path (λ port. bound_at-le network rows port stream.class is h) in
+    let le = sum_by-le-sum_by (λ port. bound_at (least_certificate network) port stream.class) (λ port.
+    bound_at rows port stream.class) stream.path (λ port. bound_at-le network rows port stream.class is h) in
     omega (arith, le, late)
 
 -- no overload, no overstay and no late stream leave no reason
-pub reason_of-none : (network : DeclaredNetwork) → first_some (overload network) (places_of network) ≡ None → first_some (overstay network) (least_certificate network) ≡ None
+pub reason_of-none : (network : DeclaredNetwork) → first_some (overload network) (places_of network) ≡ None
+    → first_some (overstay network) (least_certificate network) ≡ None
     → first_some (late (least_certificate network)) network.streams ≡ None → reason_of network ≡ None
 reason_of-none network loads stays times =
-    ap (λ (o : Option Reason). option_or o (option_or (first_some (overstay network) (least_certificate network)) (first_some (late (least_certificate network)) network.streams))) loads
+    ap (λ (o : Option Reason). option_or o (option_or (first_some (overstay network) (least_certificate network))
+    (first_some (late (least_certificate network)) network.streams))) loads
     ∙ ap (λ (o : Option Reason). option_or o (first_some (late (least_certificate network)) network.streams)) stays
     ∙ times
 
 -- a certificate that holds leaves no reason
-pub no_reason_held : (network : DeclaredNetwork) (rows : List Row) → IsNetwork network → Holds network rows → reason_of network ≡ None
+pub no_reason_held : (network : DeclaredNetwork) (rows : List Row) → IsNetwork network → Holds network rows
+    → reason_of network ≡ None
 no_reason_held network rows is h =
     let loads : first_some (overload network) (places_of network) ≡ None =
     first_some-none (overload network) (places_of network)
-    (λ k d within. overload-none network (get_or (places_of network) k d).0 (get_or (places_of network) k d).1 (fits_held network rows (get_or (places_of network) k d).0 (get_or (places_of network) k d).1 h (places_used network k d within))) in
+    (λ k d within. overload-none network (get_or (places_of network) k d).0 (get_or (places_of network) k d).1
+    (fits_held network rows (get_or (places_of network) k d).0 (get_or (places_of network) k d).1 h
+    (places_used network k d within))) in
     let stays : first_some (overstay network) (least_certificate network) ≡ None =
     first_some-none (overstay network) (least_certificate network)
     (All-map (λ (row : Row). overstay network row ≡ None) (least_row network) (places_of network)
@@ -128,7 +164,8 @@ no_reason_held network rows is h =
     (stays_held network rows at.0 at.1 is h (places_used network k d within))))) in
     let times : first_some (late (least_certificate network)) network.streams ≡ None =
     first_some-none (late (least_certificate network)) network.streams
-    (λ k d within. by_time (least_certificate network) (get_or network.streams k d) (in_time_held network rows (get_or network.streams k d) is h (h.deadlines k d within))) in
+    (λ k d within. by_time (least_certificate network) (get_or network.streams k d)
+    (in_time_held network rows (get_or network.streams k d) is h (h.deadlines k d within))) in
     reason_of-none network loads stays times
 
 none_some : {X : Type 0} (x : X) → None ≡ Some x → ⊥

@@ -25,7 +25,8 @@ abbrev pub work : Port → PortSums → ℕ
 work port sums = PS_PER_SECOND * (port.ps_per_bit * (sums.lower + sums.bursts - sums.least))
 
 -- the class itself takes some of the link, so the higher classes leave some
-pub remains : (network : DeclaredNetwork) (port class : ℕ) → IsPlace network port class → Fits network port class → 1 ≤ PS_PER_SECOND - (port_sums network port class).higher
+pub remains : (network : DeclaredNetwork) (port class : ℕ) → IsPlace network port class → Fits network port class
+    → 1 ≤ PS_PER_SECOND - (port_sums network port class).higher
 remains network port class at fits =
     let rate : ℕ = sum_where (is_of class) (λ (s : Sender). s.rate) (senders_at port (senders_of network)) in
     let ps : ℕ = (port_at network.topology.ports port).ps_per_bit in
@@ -33,12 +34,15 @@ remains network port class at fits =
     omega (arith, some, at.is_port.rate.least, fits)
 
 pub least_wait-is : (network : DeclaredNetwork) (port class : ℕ) → IsPlace network port class → Fits network port class
-    → IsCeiling (work (port_at network.topology.ports port) (port_sums network port class)) (PS_PER_SECOND - (port_sums network port class).higher) (least_row network (port, class)).wait
+    → IsCeiling (work (port_at network.topology.ports port) (port_sums network port class))
+    (PS_PER_SECOND - (port_sums network port class).higher) (least_row network (port, class)).wait
 least_wait-is network port class at fits =
-    ceiling-is (work (port_at network.topology.ports port) (port_sums network port class)) (PS_PER_SECOND - (port_sums network port class).higher) (remains network port class at fits)
+    ceiling-is (work (port_at network.topology.ports port) (port_sums network port class))
+    (PS_PER_SECOND - (port_sums network port class).higher) (remains network port class at fits)
 
 -- the computed row is the least
-pub least_row-is : (network : DeclaredNetwork) (port class : ℕ) → IsPlace network port class → Fits network port class → IsLeastRow network (least_row network (port, class))
+pub least_row-is : (network : DeclaredNetwork) (port class : ℕ) → IsPlace network port class → Fits network port class
+    → IsLeastRow network (least_row network (port, class))
 least_row-is network port class at fits =
     let c = least_wait-is network port class at fits in
     record {
@@ -57,14 +61,20 @@ load-is network row covers = omega (arith, covers.load, covers.sums.higher, cove
 
 -- what the wait of a row must reach
 pub work-is : (network : DeclaredNetwork) (row : Row) → HasSums row (port_sums network row.port row.class)
-    → PS_PER_SECOND * ((port_at network.topology.ports row.port).ps_per_bit * (row.lower + row.bursts - row.least)) ≡ work (port_at network.topology.ports row.port) (port_sums network row.port row.class)
+    → PS_PER_SECOND * ((port_at network.topology.ports row.port).ps_per_bit * (row.lower + row.bursts - row.least))
+    ≡ work (port_at network.topology.ports row.port) (port_sums network row.port row.class)
 work-is network row sums =
-    ap (λ (n : ℕ). PS_PER_SECOND * ((port_at network.topology.ports row.port).ps_per_bit * (n + row.bursts - row.least))) sums.lower
-    ∙ ap (λ (n : ℕ). PS_PER_SECOND * ((port_at network.topology.ports row.port).ps_per_bit * ((port_sums network row.port row.class).lower + n - row.least))) sums.bursts
-    ∙ ap (λ (n : ℕ). PS_PER_SECOND * ((port_at network.topology.ports row.port).ps_per_bit * ((port_sums network row.port row.class).lower + (port_sums network row.port row.class).bursts - n))) sums.least
+    ap (λ (n : ℕ). PS_PER_SECOND
+    * ((port_at network.topology.ports row.port).ps_per_bit * (n + row.bursts - row.least))) sums.lower
+    ∙ ap (λ (n : ℕ). PS_PER_SECOND * ((port_at network.topology.ports row.port).ps_per_bit
+    * ((port_sums network row.port row.class).lower + n - row.least))) sums.bursts
+    ∙ ap (λ (n : ℕ). PS_PER_SECOND * ((port_at network.topology.ports row.port).ps_per_bit
+    * ((port_sums network row.port row.class).lower + (port_sums network row.port row.class).bursts - n)))
+    sums.least
 
 -- the least wait is at most that of each row that covers its place
-pub least_wait-le : (network : DeclaredNetwork) (row : Row) → IsPlace network row.port row.class → Covers network row → (least_row network (row.port, row.class)).wait ≤ row.wait
+pub least_wait-le : (network : DeclaredNetwork) (row : Row) → IsPlace network row.port row.class → Covers network row
+    → (least_row network (row.port, row.class)).wait ≤ row.wait
 least_wait-le network row at covers =
     let c = least_wait-is network row.port row.class at (load-is network row covers) in
     let long = work-is network row covers.sums in
@@ -72,25 +82,47 @@ least_wait-le network row at covers =
     c.least row.wait (omega (arith, covers.wait, long, higher))
 
 -- and so is the least bound
-pub least_bound-le : (network : DeclaredNetwork) (row : Row) → IsPlace network row.port row.class → Covers network row → (least_row network (row.port, row.class)).bound ≤ row.bound
+pub least_bound-le : (network : DeclaredNetwork) (row : Row) → IsPlace network row.port row.class → Covers network row
+    → (least_row network (row.port, row.class)).bound ≤ row.bound
 least_bound-le network row at covers =
     let shorter = least_wait-le network row at covers in
     let sent = ap (λ (n : ℕ). (port_at network.topology.ports row.port).ps_per_bit * n) covers.sums.least in
     omega (arith, shorter, sent, covers.bound)
 
-row_is : (row : Row) (higher equal bursts lower least wait bound : ℕ) → row.higher ≡ higher → row.equal ≡ equal → row.bursts ≡ bursts → row.lower ≡ lower → row.least ≡ least → row.wait ≡ wait → row.bound ≡ bound
-    → row ≡ record { port = row.port; class = row.class; higher = higher; equal = equal; bursts = bursts; lower = lower; least = least; wait = wait; bound = bound }
+row_is : (row : Row) (higher equal bursts lower least wait bound : ℕ) → row.higher ≡ higher → row.equal ≡ equal
+    → row.bursts ≡ bursts → row.lower ≡ lower → row.least ≡ least → row.wait ≡ wait → row.bound ≡ bound
+    → row ≡ record {
+      port = row.port;
+      class = row.class;
+      higher = higher;
+      equal = equal;
+      bursts = bursts;
+      lower = lower;
+      least = least;
+      wait = wait;
+      bound = bound;
+    }
 row_is row higher equal bursts lower least wait bound a b c d e f g =
     ap (λ (n : ℕ). record row { higher = n }) a
     ∙ ap (λ (n : ℕ). record row { higher = higher; equal = n }) b
     ∙ ap (λ (n : ℕ). record row { higher = higher; equal = equal; bursts = n }) c
     ∙ ap (λ (n : ℕ). record row { higher = higher; equal = equal; bursts = bursts; lower = n }) d
     ∙ ap (λ (n : ℕ). record row { higher = higher; equal = equal; bursts = bursts; lower = lower; least = n }) e
-    ∙ ap (λ (n : ℕ). record row { higher = higher; equal = equal; bursts = bursts; lower = lower; least = least; wait = n }) f
-    ∙ ap (λ (n : ℕ). record row { higher = higher; equal = equal; bursts = bursts; lower = lower; least = least; wait = wait; bound = n }) g
+    ∙ ap (λ (n : ℕ).
+    record row { higher = higher; equal = equal; bursts = bursts; lower = lower; least = least; wait = n }) f
+    ∙ ap (λ (n : ℕ). record row {
+      higher = higher;
+      equal = equal;
+      bursts = bursts;
+      lower = lower;
+      least = least;
+      wait = wait;
+      bound = n;
+    }) g
 
 -- no other row of its place is the least
-pub least_row-only : (network : DeclaredNetwork) (row : Row) → IsPlace network row.port row.class → IsLeastRow network row → row ≡ least_row network (row.port, row.class)
+pub least_row-only : (network : DeclaredNetwork) (row : Row) → IsPlace network row.port row.class
+    → IsLeastRow network row → row ≡ least_row network (row.port, row.class)
 least_row-only network row at is =
     let port : Port = port_at network.topology.ports row.port in
     let sums : PortSums = port_sums network row.port row.class in
@@ -100,8 +132,12 @@ least_row-only network row at is =
     let c = least_wait-is network row.port row.class at fits in
     let long = work-is network row has in
     let higher = ap (λ (n : ℕ). least_wait port sums * (PS_PER_SECOND - n)) has.higher in
-    let up : row.wait ≤ least_wait port sums = is.least (least_wait port sums) (omega (arith, c.reaches, long, higher)) in
+    let up : row.wait ≤ least_wait port sums =
+    is.least (least_wait port sums) (omega (arith, c.reaches, long, higher)) in
     let wait : row.wait ≡ least_wait port sums = omega (arith, down, up) in
-    let bound : row.bound ≡ bound_of port (least_wait port sums) sums.least = is.covers.bound ∙ ap (λ (n : ℕ). bound_of port n row.least) wait ∙ ap (λ (n : ℕ). bound_of port (least_wait port sums) n) has.least in
-    row_is row sums.higher sums.equal sums.bursts sums.lower sums.least (least_wait port sums) (bound_of port (least_wait port sums) sums.least)
+    let bound : row.bound ≡ bound_of port (least_wait port sums) sums.least =
+    is.covers.bound ∙ ap (λ (n : ℕ). bound_of port n row.least) wait
+    ∙ ap (λ (n : ℕ). bound_of port (least_wait port sums) n) has.least in
+    row_is row sums.higher sums.equal sums.bursts sums.lower sums.least (least_wait port sums)
+    (bound_of port (least_wait port sums) sums.least)
     has.higher has.equal has.bursts has.lower has.least wait bound

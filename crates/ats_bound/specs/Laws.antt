@@ -20,12 +20,14 @@ LeastCertificateHolds = (network : DeclaredNetwork) → IsNetwork network → re
 -- where it has one, no certificate holds for it
 abbrev pub ReasonLeavesNone : Type 0
 ReasonLeavesNone =
-    (network : DeclaredNetwork) (reason : Reason) (rows : List Row) → IsNetwork network → reason_of network ≡ Some reason → ¬ Holds network rows
+    (network : DeclaredNetwork) (reason : Reason) (rows : List Row) → IsNetwork network
+    → reason_of network ≡ Some reason → ¬ Holds network rows
 
 -- a network has no other least certificate than the one that is computed
 abbrev pub LeastCertificateIsOne : Type 0
 LeastCertificateIsOne =
-    (network : DeclaredNetwork) (rows : List Row) → IsNetwork network → IsLeastCertificate network rows → rows ≡ least_certificate network
+    (network : DeclaredNetwork) (rows : List Row) → IsNetwork network → IsLeastCertificate network rows
+    → rows ≡ least_certificate network
 
 -- the computed row of a port and a class that some stream uses and that fit the link has the least wait that is enough
 abbrev pub ComputedRowIsLeast : Type 0

@@ -1,6 +1,7 @@
 //! Laws of the definitions.
 
-ghost use Rattle.ats_bound.specs.Laws.{ComputedRowIsLeast, LeastCertificateHolds, LeastCertificateIsOne, ReasonLeavesNone};
+ghost use Rattle.ats_bound.specs.Laws.{ComputedRowIsLeast, LeastCertificateHolds, LeastCertificateIsOne};
+ghost use Rattle.ats_bound.specs.Laws.{ReasonLeavesNone};
 
 /// A law: where a network has no reason against it, the certificate that is computed is the least, and holds.
 pub fn least_certificate_holds()

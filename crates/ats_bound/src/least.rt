@@ -14,15 +14,16 @@ use ats_num::Failure;
 use ats_tally::{Delays, Reason, first_late, first_overstay};
 use std::alloc::{AllocError, Global};
 
-/// The certificate of a network with the least waits, which holds. It takes time and memory linear in the number of ports
-/// and the sum of the paths' lengths.
+/// The certificate of a network with the least waits, which holds. It takes time and memory linear
+/// in the number of ports and the sum of the paths' lengths.
 ///
 /// # Errors
 ///
-/// A reason exactly where no certificate holds for the network: the first port and class, in the order of a certificate's
-/// rows, whose rates are more than the link can carry; where there is none, the first row with the least wait that is
-/// longer than the maximum residence time behind its port; where there is none either, the first stream whose least bounds
-/// are together over its deadline. `Failure::NoMemory` where memory runs out.
+/// A reason exactly where no certificate holds for the network: the first port and class, in the
+/// order of a certificate's rows, whose rates are more than the link can carry; where there is
+/// none, the first row with the least wait that is longer than the maximum residence time behind
+/// its port; where there is none either, the first stream whose least bounds are together over its
+/// deadline. `Failure::NoMemory` where memory runs out.
 pub fn make(alloc: Global, network: &Network) -> Result<Certificate, Failure<Reason>>
     ensures value { IfOk result (λ certificate. certificate ≡ least_certificate network.now) }
     ensures sound { OnOk result (reason_of network.now ≡ None) }

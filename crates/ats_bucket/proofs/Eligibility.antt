@@ -24,27 +24,36 @@ reached n rate q other c =
     omega (arith, mul-le-mul_right rate q_first, c.reaches)
 
 -- the computed eligibility time is the least
-pub eligibility_time-is : (rate : ℕ) (empty : ℤ) (group arrival bits : ℕ) → 1 ≤ rate → IsEligibility rate empty group arrival bits (eligibility_time rate empty group arrival bits)
+pub eligibility_time-is : (rate : ℕ) (empty : ℤ) (group arrival bits : ℕ) → 1 ≤ rate
+    → IsEligibility rate empty group arrival bits (eligibility_time rate empty group arrival bits)
 eligibility_time-is rate empty group arrival bits h =
     let z : ℤ = holds_at empty bits in
     let c : IsCeiling (nonnegative z) rate (ceiling (nonnegative z) rate) = ceiling-is (nonnegative z) rate h in
     record {
       arrived = omega arith;
       after_group = omega arith;
-      bucket = up_to_nonnegative z (eligibility_time rate empty group arrival bits * rate) (reached (nonnegative z) rate (ceiling (nonnegative z) rate) (max arrival group) c);
-      least = λ k a g b. (let q : ceiling (nonnegative z) rate ≤ k = c.least k (from_nonnegative z (k * rate) b) in omega arith);
+      bucket = up_to_nonnegative z (eligibility_time rate empty group arrival bits * rate)
+          (reached (nonnegative z) rate (ceiling (nonnegative z) rate) (max arrival group) c);
+      least = λ k a g b.
+          (let q : ceiling (nonnegative z) rate ≤ k = c.least k (from_nonnegative z (k * rate) b) in omega arith);
     }
 
 -- no other time is the least
-pub eligibility_time-only : (rate : ℕ) (empty : ℤ) (group arrival bits eligible : ℕ) → 1 ≤ rate → IsEligibility rate empty group arrival bits eligible → eligible ≡ eligibility_time rate empty group arrival bits
+pub eligibility_time-only : (rate : ℕ) (empty : ℤ) (group arrival bits eligible : ℕ) → 1 ≤ rate
+    → IsEligibility rate empty group arrival bits eligible → eligible ≡ eligibility_time rate empty group arrival bits
 eligibility_time-only rate empty group arrival bits eligible h e =
     let t = eligibility_time-is rate empty group arrival bits h in
     let low : eligible ≤ eligibility_time rate empty group arrival bits = e.least _ t.arrived t.after_group t.bucket in
-    let high : eligibility_time rate empty group arrival bits ≤ eligible = t.least eligible e.arrived e.after_group e.bucket in
+    let high : eligibility_time rate empty group arrival bits ≤ eligible =
+    t.least eligible e.arrived e.after_group e.bucket in
     omega arith
 
 -- the quotient of a bucket-full time is that of the bucket-empty time
-pub filled-is : (rate burst full bits filled : ℕ) (empty : ℤ) → 1 ≤ rate → empty ≡ pos full -ℤ pos (PS_PER_SECOND * burst) → IsCeiling (full + PS_PER_SECOND * bits - PS_PER_SECOND * burst) rate filled → filled ≡ ceiling (nonnegative (holds_at empty bits)) rate
+pub filled-is : (rate burst full bits filled : ℕ) (empty : ℤ)
+    → 1 ≤ rate → empty ≡ pos full -ℤ pos (PS_PER_SECOND * burst)
+    → IsCeiling (full + PS_PER_SECOND * bits - PS_PER_SECOND * burst) rate filled
+    → filled ≡ ceiling (nonnegative (holds_at empty bits)) rate
 filled-is rate burst full bits filled empty h e c =
-    let n = nonnegative-is (holds_at empty bits) (full + PS_PER_SECOND * bits) (PS_PER_SECOND * burst) (omega (arith, ints)) in
+    let n = nonnegative-is (holds_at empty bits) (full + PS_PER_SECOND * bits) (PS_PER_SECOND * burst)
+    (omega (arith, ints)) in
     rw n (ceiling-only _ rate filled h c)

@@ -23,4 +23,5 @@ time_between frames i j = slice_index (times_of frames) j - slice_index (times_o
 -- itself and to each later one there are no more bits than the rate gives in that time and the burst
 pub record Conforms (rate burst : ℕ) (frames : List Frame) : Type 0 where
   pub in_order : IsNonDecreasing (times_of frames)
-  pub within : (i j : ℕ) → i ≤ j → j < length frames → PS_PER_SECOND * bits_between frames i j ≤ rate * time_between frames i j + PS_PER_SECOND * burst
+  pub within : (i j : ℕ) → i ≤ j → j < length frames
+      → PS_PER_SECOND * bits_between frames i j ≤ rate * time_between frames i j + PS_PER_SECOND * burst

@@ -15,13 +15,13 @@ pub record Bucket : Type 0 where
 abbrev pub first_empty : ℕ → ℤ
 first_empty burst = neg_ℤ (pos (PS_PER_SECOND * burst))
 
--- when a bucket that was empty at this time holds so many bits; both times multiplied by the rate. For a frame's bits it is
--- the scheduler eligibility time, for the burst the bucket-full time
+-- when a bucket that was empty at this time holds so many bits; both times multiplied by the rate. For a frame's bits
+-- it is the scheduler eligibility time, for the burst the bucket-full time
 abbrev pub holds_at : ℤ → ℕ → ℤ
 holds_at empty bits = empty +ℤ pos (PS_PER_SECOND * bits)
 
--- the eligibility time: the least time at which the frame has arrived, that is not before the group eligibility time, and
--- at which the bucket holds the frame's bits
+-- the eligibility time: the least time at which the frame has arrived, that is not before the group eligibility time,
+-- and at which the bucket holds the frame's bits
 pub record IsEligibility (rate : ℕ) (empty : ℤ) (group arrival bits eligible : ℕ) : Type 0 where
   pub arrived : arrival ≤ eligible
   pub after_group : group ≤ eligible
@@ -30,7 +30,8 @@ pub record IsEligibility (rate : ℕ) (empty : ℤ) (group arrival bits eligible
 
 -- that time, computed
 abbrev pub eligibility_time : ℕ → ℤ → ℕ → ℕ → ℕ → ℕ
-eligibility_time rate empty group arrival bits = max (max arrival group) (ceiling (nonnegative (holds_at empty bits)) rate)
+eligibility_time rate empty group arrival bits =
+    max (max arrival group) (ceiling (nonnegative (holds_at empty bits)) rate)
 
 -- the bucket-empty time once a frame of so many bits was accepted with this eligibility time: where the bucket was full
 -- before, what overflowed is not saved

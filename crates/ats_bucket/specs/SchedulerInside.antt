@@ -12,7 +12,8 @@ bucket_of s = record { rate = s.rate; burst = s.burst_bits; empty = pos s.full -
 
 -- the fields that stand for a bucket
 abbrev pub inside_of : Bucket → Inside
-inside_of b = record { rate = b.rate; burst_bits = b.burst; full = nonnegative (b.empty +ℤ pos (PS_PER_SECOND * b.burst)) }
+inside_of b =
+    record { rate = b.rate; burst_bits = b.burst; full = nonnegative (b.empty +ℤ pos (PS_PER_SECOND * b.burst)) }
 
 full_again : (full saved : ℕ) → nonnegative ((pos full -ℤ pos saved) +ℤ pos saved) ≡ full
 full_again full saved =
@@ -23,4 +24,5 @@ full_again full saved =
 -- the fields are those that their bucket gives back
 pub inside_again : (s : Inside) → IsWithin s.rate s.burst_bits s.full → inside_of (bucket_of s) ≡ s
 inside_again s h =
-    ap (λ (full : ℕ). let i : Inside = record { rate = s.rate; burst_bits = s.burst_bits; full = full } in i) (full_again s.full (PS_PER_SECOND * s.burst_bits))
+    ap (λ (full : ℕ). let i : Inside = record { rate = s.rate; burst_bits = s.burst_bits; full = full } in i)
+    (full_again s.full (PS_PER_SECOND * s.burst_bits))

@@ -39,7 +39,8 @@ impl Model for Scheduler {
 }
 
 impl Scheduler {
-    /// A scheduler of this committed rate and this burst, of at most 1,000,000,000 bits, whose bucket is full at time 0.
+    /// A scheduler of this committed rate and this burst, of at most 1,000,000,000 bits, whose
+    /// bucket is full at time 0.
     pub fn new(rate: Rate, burst_bits: u64) -> Scheduler
         requires { burst_bits ≤ MAX_BURST_BITS }
         ensures { result
@@ -120,27 +121,4 @@ fn full_after(full: u128, rate: Rate, eligible: Ps, bits: u64) -> u128
 {
     let at = u128::from(eligible.0) * u128::from(rate.bps());
     full.max(at) + scaled(bits)
-}
-
-#[cfg(test)]
-mod tests {
-    use super::*;
-    use std::test::Fail;
-
-    #[test]
-    fn rounds_eligibility_up_and_keeps_the_bucket_exact(rt: HostRuntime) -> Result<(), Fail> {
-        let rate = Rate::new(11_000_000).expect(&rt, "a rate");
-        let mut scheduler = Scheduler::new(rate, 672);
-        assert_eq!(rt; scheduler.empty_time_scaled(), -672_000_000_000_000);
-        assert_eq!(rt; scheduler.propose(Ps(0), Ps(0), 672), Ps(0));
-        scheduler.accept(Ps(0), 672);
-        assert_eq!(rt; scheduler.propose(Ps(672_000), Ps(0), 672), Ps(61_090_910));
-        scheduler.accept(Ps(61_090_910), 672);
-        assert_eq!(rt; scheduler.empty_time_scaled(), 672_000_010_000_000);
-        assert_eq!(rt;
-            scheduler.propose(Ps(1_344_000), Ps(61_090_910), 672),
-            Ps(122_181_820)
-        );
-        Ok(())
-    }
 }

@@ -1,5 +1,6 @@
 -- The rows of a certificate, and one row more.
-use Rattle.std.proofs.Common.{◌≡◌, ℕ, ◌-◌, ◌<◌, List, [], ◌∷◌, ◌++◌, length, get_or, sym, subst, inl, inr, arith, ⊎_elim}
+use Rattle.std.proofs.Common.{◌≡◌, ℕ, ◌-◌, ◌<◌, List, [], ◌∷◌, ◌++◌, length, get_or, sym, subst, inl, inr, arith}
+use Rattle.std.proofs.Common.{⊎_elim}
 use Rattle.std.specs.List.{All, AllPairs}
 use Rattle.std.proofs.lemmas.Bool.{cases_eq}
 use Rattle.std.proofs.lemmas.List.Elements.{All-nil, All-cons, All-append}
@@ -17,7 +18,8 @@ before_trans a b c (inr (same, class)) (inl low) = inl (omega arith)
 before_trans a b c (inr (same, class)) (inr (equal, next)) = inr (omega arith, omega arith)
 
 -- a row that comes after the last one comes after each
-pub after_each : (rows : List Row) (row : Row) → AllPairs IsBefore rows → ComesAfter rows row → All (λ (r : Row). IsBefore r row) rows
+pub after_each : (rows : List Row) (row : Row) → AllPairs IsBefore rows → ComesAfter rows row
+    → All (λ (r : Row). IsBefore r row) rows
 after_each rows row ordered after k d within =
     let last = after (get_or rows (length rows - 1) d) (slice_get-get_or rows (length rows - 1) d (omega arith)) in
     ⊎_elim
@@ -31,10 +33,12 @@ after_each rows row ordered after k d within =
 
 -- a certificate without rows
 pub no_rows : (rows : List Row) → rows ≡ [] → AreRows rows
-no_rows rows e = subst AreRows (sym e) (record { each = All-nil IsRow; ordered = λ i j d before within. absurd (omega arith) })
+no_rows rows e =
+    subst AreRows (sym e) (record { each = All-nil IsRow; ordered = λ i j d before within. absurd (omega arith) })
 
 -- a certificate with one row more
-pub row_more : (rows new : List Row) (row : Row) → AreRows rows → IsRow row → ComesAfter rows row → new ≡ rows ++ row ∷ [] → AreRows new
+pub row_more : (rows new : List Row) (row : Row) → AreRows rows → IsRow row → ComesAfter rows row
+    → new ≡ rows ++ row ∷ [] → AreRows new
 row_more rows new row form in_form after e = subst AreRows (sym e) (record {
   each = All-append IsRow rows (row ∷ []) form.each (All-cons IsRow row [] in_form (All-nil IsRow));
   ordered = all_pairs_push IsBefore rows row form.ordered (after_each rows row form.ordered after);

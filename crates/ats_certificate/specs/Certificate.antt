@@ -1,4 +1,5 @@
-use Rattle.std.specs.Prelude.{◌≡◌, ℕ, ◌+◌, ◌-◌, ◌*◌, ◌<◌, ◌≤◌, Bool, ◌&&◌, ◌==◌, ◌⊎◌, IsTrue, IsSome, List, find, sum_by, All, AllPairs, Option, unwrap_or}
+use Rattle.std.specs.Prelude.{◌≡◌, ℕ, ◌+◌, ◌-◌, ◌*◌, ◌<◌, ◌≤◌, Bool, ◌&&◌, ◌==◌, ◌⊎◌, IsTrue, IsSome, List, find}
+use Rattle.std.specs.Prelude.{sum_by, All, AllPairs, Option, unwrap_or}
 use Rattle.std.specs.Option.{option_map, ForSome}
 use Rattle.ats_num.specs.declared.time.TheConstants.{PS_PER_SECOND, PS_PER_NS}
 use Rattle.ats_topology.specs.Port.{port_at}
@@ -45,10 +46,11 @@ bound_of port wait least = wait + port.ps_per_bit * least + port.latency.0
 abbrev pub FitsLink : Row → Type 0
 FitsLink row = row.higher + row.equal ≤ PS_PER_SECOND
 
--- the wait is long enough: at the rate that the higher classes leave, the link sends in it the longest lower frame and all
--- bursts, less the shortest frame of the class
+-- the wait is long enough: at the rate that the higher classes leave, the link sends in it the longest lower frame and
+-- all bursts, less the shortest frame of the class
 abbrev pub IsEnough : Port → Row → Type 0
-IsEnough port row = PS_PER_SECOND * (port.ps_per_bit * (row.lower + row.bursts - row.least)) ≤ row.wait * (PS_PER_SECOND - row.higher)
+IsEnough port row =
+    PS_PER_SECOND * (port.ps_per_bit * (row.lower + row.bursts - row.least)) ≤ row.wait * (PS_PER_SECOND - row.higher)
 
 -- a row covers its port and class: it says what the senders make of them, which fits the link, waits long enough, and
 -- gives the bound that follows
@@ -71,13 +73,15 @@ pub record RowHolds (network : DeclaredNetwork) (row : Row) : Type 0 where
 abbrev pub IsInTime : List Row → DeclaredStream → Type 0
 IsInTime rows stream = bound_along rows stream ≤ PS_PER_NS * stream.deadline_ns
 
--- there is one row for each port and class that some stream uses, in ascending order of ports and then classes, and no other
+-- there is one row for each port and class that some stream uses, in ascending order of ports and then classes, and no
+-- other
 pub record HasRows (network : DeclaredNetwork) (rows : List Row) : Type 0 where
   pub complete : (port class : ℕ) → IsTrue (is_used network port class) → IsSome (row_of rows port class)
   pub used : All (λ (row : Row). IsTrue (is_used network row.port row.class)) rows
   pub ordered : AllPairs IsBefore rows
 
--- a certificate holds for a network: it has the rows of the network, each row keeps what it must, and each stream is in time
+-- a certificate holds for a network: it has the rows of the network, each row keeps what it must, and each stream is in
+-- time
 pub record Holds (network : DeclaredNetwork) (rows : List Row) : Type 0 where
   pub rows_of : HasRows network rows
   pub each : All (RowHolds network) rows

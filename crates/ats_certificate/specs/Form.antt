@@ -4,8 +4,8 @@ use Rattle.ats_num.specs.declared.wire.TheConstants.{MAX_WIRE_BITS}
 use Rattle.ats_certificate.specs.Certificate.{IsBefore}
 use Rattle.ats_certificate.specs.declared.row.Row.{Row}
 
--- a row of a certificate: its class is 1 to 7, its frames have at most the bits of the longest one, and its other numbers
--- have at most 36 digits
+-- a row of a certificate: its class is 1 to 7, its frames have at most the bits of the longest one, and its other
+-- numbers have at most 36 digits
 pub record IsRow (row : Row) : Type 0 where
   pub class_least : 1 ≤ row.class
   pub class_most : row.class ≤ 7

@@ -47,9 +47,10 @@ least_where test amount senders = least_of (map amount (filter test senders))
 abbrev pub senders_at : ℕ → List Sender → List Sender
 senders_at port senders = filter (uses port) senders
 
--- what the senders at a port make of a class. higher: the picoseconds of each second that the rates of the higher classes
--- take; equal: the same of the class itself; bursts: the bursts of both, in bits; lower: the wire bits of the longest frame
--- of a lower class or a flow, 0 where there is none; least: the wire bits of the shortest frame of the class
+-- what the senders at a port make of a class. higher: the picoseconds of each second that the rates of the higher
+-- classes take; equal: the same of the class itself; bursts: the bursts of both, in bits; lower: the wire bits of the
+-- longest frame of a lower class or a flow, 0 where there is none; least: the wire bits of the shortest frame of the
+-- class
 pub record PortSums : Type 0 where
   pub higher : ℕ
   pub equal : ℕ
@@ -69,7 +70,8 @@ sums_over ps_per_bit class senders = record {
 
 -- the sums of a port of a network, for a class
 abbrev pub port_sums : DeclaredNetwork → ℕ → ℕ → PortSums
-port_sums network port class = sums_over (port_at network.topology.ports port).ps_per_bit class (senders_at port (senders_of network))
+port_sums network port class =
+    sums_over (port_at network.topology.ports port).ps_per_bit class (senders_at port (senders_of network))
 
 -- some stream of the class uses the port
 abbrev pub is_used : DeclaredNetwork → ℕ → ℕ → Bool

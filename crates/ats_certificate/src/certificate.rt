@@ -7,9 +7,10 @@ use crate::row::Row;
 use std::alloc::{AllocError, Global};
 use std::marker::Model;
 
-/// The rows of a certificate of delay bounds, each for a port and a class. They ascend strictly by port and then class, and
-/// each has a class of 1 to 7, a longest and a shortest frame of at most 16160 wire bits, and other numbers of at most 36
-/// digits. What they say need not be right: `ats_checker` judges that. Contracts see the list of rows.
+/// The rows of a certificate of delay bounds, each for a port and a class. They ascend strictly by
+/// port and then class, and each has a class of 1 to 7, a longest and a shortest frame of at most
+/// 16160 wire bits, and other numbers of at most 36 digits. What they say need not be right:
+/// `ats_checker` judges that. Contracts see the list of rows.
 #[derive(Drop)]
 pub struct Certificate {
     row_list: Vec<Row>,

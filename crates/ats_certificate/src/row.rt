@@ -3,8 +3,8 @@
 ghost use Rattle.std.specs.Prelude.{◌↔◌, IsTrue};
 ghost use Rattle.ats_certificate.specs.Certificate.{IsBefore};
 
-/// What a certificate says of a port and a class: what the declared streams and flows make of them, and the bound of each
-/// frame of that class.
+/// What a certificate says of a port and a class: what the declared streams and flows make of them,
+/// and the bound of each frame of that class.
 #[derive(Clone, Copy, Debug, PartialEq, Eq)]
 pub struct Row {
     /// The number of the port.
@@ -23,8 +23,8 @@ pub struct Row {
     pub least: u64,
     /// How long a frame may wait at the port from its eligibility, in picoseconds.
     pub wait: u128,
-    /// The bound, in picoseconds, on the time from a frame's eligibility at the port to its arrival behind it: the wait, the
-    /// transmission of the shortest frame, and the latency.
+    /// The bound, in picoseconds, on the time from a frame's eligibility at the port to its arrival
+    /// behind it: the wait, the transmission of the shortest frame, and the latency.
     pub bound: u128,
 }
 

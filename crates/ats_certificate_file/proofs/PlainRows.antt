@@ -1,5 +1,6 @@
 -- The fields that a row is written with are plain.
-use Rattle.std.proofs.Common.{◌≡◌, ◌∙◌, ℕ, ◌<◌, ◌^◌, Bool, true, false, cond, ◌&&◌, List, [], ◌∷◌, ◌++◌, length, None, Some, refl, sym, ap, arith, lit<}
+use Rattle.std.proofs.Common.{◌≡◌, ◌∙◌, ℕ, ◌<◌, ◌^◌, Bool, true, false, cond, ◌&&◌, List, [], ◌∷◌, ◌++◌, length, None}
+use Rattle.std.proofs.Common.{Some, refl, sym, ap, arith, lit<}
 use Rattle.std.specs.Prelude.{IsTrue, decimal, not, nat_le}
 use Rattle.std.specs.List.{All, list_all}
 use Rattle.std.specs.Char.{is_ascii_digit}
@@ -41,7 +42,8 @@ digit_byte c h = record {
   no_feed = λ e. false≢true (ap is_ascii_digit (sym e) ∙ h);
 }
 
-all_plain : (test : ℕ → Bool) → ((c : ℕ) → test c ≡ true → IsPlainByte c) → (text : List ℕ) → list_all test text ≡ true → All IsPlainByte text
+all_plain : (test : ℕ → Bool) → ((c : ℕ) → test c ≡ true → IsPlainByte c) → (text : List ℕ) → list_all test text ≡ true
+    → All IsPlainByte text
 all_plain test plain [] h = All-nil IsPlainByte
 all_plain test plain (c ∷ text) h =
     let parts = and_parts (test c) (list_all test text) h in
@@ -49,30 +51,43 @@ all_plain test plain (c ∷ text) h =
 
 -- so names are plain
 plain_name : (text : List ℕ) → IsTrue (is_name text) → All IsPlainByte text
-plain_name text h = all_plain is_name_byte name_byte text (and_parts (nat_le 1 (length text) && nat_le (length text) 32) (list_all is_name_byte text) h).1
+plain_name text h = all_plain is_name_byte name_byte text
+    (and_parts (nat_le 1 (length text) && nat_le (length text) 32) (list_all is_name_byte text) h).1
 
 -- and numbers of at most 36 digits
 plain_number : (n : ℕ) → n < 10 ^ 36 → All IsPlainByte (decimal n)
-plain_number n few = all_plain is_ascii_digit digit_byte (decimal n) (by (is_number (decimal n)) refl (reads_back n few))
+plain_number n few =
+    all_plain is_ascii_digit digit_byte (decimal n) (by (is_number (decimal n)) refl (reads_back n few))
   where
-    by : (b : Bool) → is_number (decimal n) ≡ b → cond b (Some (value_of (decimal n))) None ≡ Some n → list_all is_ascii_digit (decimal n) ≡ true
-    by true e g = (and_parts (nat_le 1 (length (decimal n)) && nat_le (length (decimal n)) 36 && not (has_needless_zero (decimal n))) (list_all is_ascii_digit (decimal n)) e).1
+    by : (b : Bool) → is_number (decimal n) ≡ b → cond b (Some (value_of (decimal n))) None ≡ Some n
+        → list_all is_ascii_digit (decimal n) ≡ true
+    by true e g = (and_parts (nat_le 1 (length (decimal n)) && nat_le (length (decimal n)) 36
+        && not (has_needless_zero (decimal n))) (list_all is_ascii_digit (decimal n)) e).1
     by false e g = cc g
 
 -- and names of ports
-plain_port : (nodes : List Node) (links : List Link) → AreSound nodes links → (p : ℕ) → p < length (ports_of nodes links)
+plain_port : (nodes : List Node) (links : List Link) → AreSound nodes links → (p : ℕ)
+    → p < length (ports_of nodes links)
     → All IsPlainByte (port_name (topology_of nodes links) p)
 plain_port nodes links sound p within =
     let port = port_at (ports_of nodes links) p in
     let between = ((topology_rules nodes links sound.sound).each_port p no_port within).between in
     let from = plain_name (node_at nodes port.from).name (sound.names port.from no_node between.from) in
     let to = plain_name (node_at nodes port.to).name (sound.names port.to no_node between.to) in
-    let sign : IsPlainByte 62 = record { ascii = lit< tt; no_comma = λ e. cc e; no_quote = λ e. cc e; no_return = λ e. cc e; no_feed = λ e. cc e } in
+    let sign : IsPlainByte 62 = record {
+      ascii = lit< tt;
+      no_comma = λ e. cc e;
+      no_quote = λ e. cc e;
+      no_return = λ e. cc e;
+      no_feed = λ e. cc e;
+    } in
     All-append IsPlainByte ((node_at nodes port.from).name ++ 62 ∷ []) (node_at nodes port.to).name
-    (All-append IsPlainByte (node_at nodes port.from).name (62 ∷ []) from (All-cons IsPlainByte 62 [] sign (All-nil IsPlainByte))) to
+    (All-append IsPlainByte (node_at nodes port.from).name (62 ∷ []) from
+    (All-cons IsPlainByte 62 [] sign (All-nil IsPlainByte))) to
 
 -- and the fields of a row
-pub plain_row : (nodes : List Node) (links : List Link) → AreSound nodes links → (row : Row) → IsRow row → row.port < length (ports_of nodes links)
+pub plain_row : (nodes : List Node) (links : List Link) → AreSound nodes links → (row : Row) → IsRow row
+    → row.port < length (ports_of nodes links)
     → IsPlain (fields_of (topology_of nodes links) row)
 plain_row nodes links sound row is within =
     let one = decimal row.bound ∷ [] in
@@ -99,7 +114,8 @@ plain_row nodes links sound row is within =
       visible = λ e. cc e;
     }
   where
-    next : (field : List ℕ) (fields : List (List ℕ)) → All IsPlainByte field → All (All IsPlainByte) fields → All (All IsPlainByte) (field ∷ fields)
+    next : (field : List ℕ) (fields : List (List ℕ)) → All IsPlainByte field → All (All IsPlainByte) fields
+        → All (All IsPlainByte) (field ∷ fields)
     next field fields first others = All-cons (All IsPlainByte) field fields first others
 
 -- and those of the header
@@ -111,7 +127,8 @@ plain_header = record {
   visible = λ e. cc e;
 }
   where
-    words : (fields : List (List ℕ)) → list_all (λ text. list_all is_name_byte text) fields ≡ true → All (All IsPlainByte) fields
+    words : (fields : List (List ℕ)) → list_all (λ text. list_all is_name_byte text) fields ≡ true
+        → All (All IsPlainByte) fields
     words [] h = All-nil (All IsPlainByte)
     words (field ∷ fields) h =
         let parts = and_parts (list_all is_name_byte field) (list_all (λ text. list_all is_name_byte text) fields) h in

@@ -8,7 +8,8 @@ use Rattle.ats_certificate_file.specs.Reading.{header}
 -- the fields that a row is written with
 abbrev pub fields_of : DeclaredTopology → Row → List (List ℕ)
 fields_of topology row =
-    port_name topology row.port ∷ decimal row.class ∷ decimal row.higher ∷ decimal row.equal ∷ decimal row.bursts ∷ decimal row.lower
+    port_name topology row.port ∷ decimal row.class ∷ decimal row.higher ∷ decimal row.equal ∷ decimal row.bursts
+    ∷ decimal row.lower
     ∷ decimal row.least ∷ decimal row.wait ∷ decimal row.bound ∷ []
 
 -- the plain text of a certificate: the header, and a record for each row

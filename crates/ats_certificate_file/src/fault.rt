@@ -6,13 +6,13 @@ ghost use Rattle.ats_certificate_file.specs.FaultText.{fault_text};
 use ats_num::Fault;
 use std::fmt;
 
-/// The first fault of a file that is no certificate file, with its record. Records are counted from 1, and the header is
-/// record 1. A record with several faults has the one that stands first here. It is displayed as the word for the fault and
-/// the record.
+/// The first fault of a file that is no certificate file, with its record. Records are counted from
+/// 1, and the header is record 1. A record with several faults has the one that stands first here.
+/// It is displayed as the word for the fault and the record.
 #[derive(Clone, Copy, Debug, PartialEq, Eq)]
 pub enum CertFault {
-    /// The first record is not the header, or a record has another number of fields than nine. A file without a record has
-    /// the bad row 1.
+    /// The first record is not the header, or a record has another number of fields than nine. A
+    /// file without a record has the bad row 1.
     BadRow(u32),
     /// The first field is not the name of a port.
     UnknownPort(u32),

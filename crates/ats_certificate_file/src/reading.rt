@@ -8,9 +8,9 @@ ghost use Rattle.ats_csv.specs.Reading.{same_fields};
 use crate::fault::CertFault;
 use crate::row::row_after;
 use ats_certificate::Certificate;
+use ats_csv::{Records, Taken};
 use ats_num::Failure;
 use ats_port_names::PortNames;
-use ats_csv::{Records, Taken};
 use ats_topology::Topology;
 use std::alloc::Global;
 
@@ -19,7 +19,8 @@ const HEADER: [&[u8]; 9] = [
     b"port", b"class", b"higher", b"equal", b"bursts", b"lower", b"least", b"wait", b"bound",
 ];
 
-/// The certificate that a file declares for the ports of a topology, or its first fault with its record, counted from 1.
+/// The certificate that a file declares for the ports of a topology, or its first fault with its
+/// record, counted from 1.
 pub fn read_certificate(
     alloc: Global,
     bytes: &[u8],

@@ -6,10 +6,10 @@ ghost use Rattle.ats_certificate_file.specs.Reading.{number_in, number_within, r
 
 use crate::fault::CertFault;
 use ats_certificate::{Certificate, Row};
+use ats_csv::Records;
 use ats_num::number;
 use ats_num::wire::MAX_WIRE_BITS;
 use ats_port_names::PortNames;
-use ats_csv::Records;
 
 // The row of record n, which has nine fields and is to come after the rows of a certificate.
 #[tactic(auto, unfolding(crate::specs::Reading::row_after))]

@@ -7,8 +7,8 @@ ghost use Rattle.ats_certificate_file.specs.Reading.{header};
 ghost use Rattle.ats_certificate_file.specs.Text.{certificate_text, fields_of};
 
 use ats_certificate::{Certificate, Row};
-use ats_port_names::write_port;
 use ats_csv::{Field, push_record};
+use ats_port_names::write_port;
 use ats_topology::Topology;
 use std::alloc::{AllocError, Global};
 

@@ -1,5 +1,6 @@
 -- The first value that a function gives along a list, and the first element that breaks a rule.
-use Rattle.std.proofs.Common.{◌≡◌, ◌↔◌, ℕ, ◌<◌, ◌≤◌, Bool, true, false, cond, List, [], ◌∷◌, ◌++◌, Option, Some, None, refl, sym, ap, subst, ◌∙◌, inl, inr}
+use Rattle.std.proofs.Common.{◌≡◌, ◌↔◌, ℕ, ◌<◌, ◌≤◌, Bool, true, false, cond, List, [], ◌∷◌, ◌++◌, Option, Some, None}
+use Rattle.std.proofs.Common.{refl, sym, ap, subst, ◌∙◌, inl, inr}
 use Rattle.std.specs.List.{All}
 use Rattle.std.specs.Option.{option_or}
 use Rattle.std.proofs.lemmas.Bool.{cases_lt}
@@ -20,33 +21,56 @@ pub record StandsAt {A B : Type 0} (given : A → Option B) (xs : List A) (found
   pub none : All (λ (x : A). given x ≡ None) before
   pub gives : given it ≡ Some found
 
-pub stands_at : {A B : Type 0} (given : A → Option B) (xs : List A) (found : B) → first_some given xs ≡ Some found → StandsAt given xs found
+pub stands_at : {A B : Type 0} (given : A → Option B) (xs : List A) (found : B) → first_some given xs ≡ Some found
+    → StandsAt given xs found
 stands_at given [] found h = absurd (none_some found h)
 stands_at {A} {B} given (x ∷ xs) found h = by (given x) refl (stands_at given xs found) h
   where
-    by : (o : Option B) → given x ≡ o → (first_some given xs ≡ Some found → StandsAt given xs found) → option_or o (first_some given xs) ≡ Some found → StandsAt given (x ∷ xs) found
+    by : (o : Option B) → given x ≡ o → (first_some given xs ≡ Some found → StandsAt given xs found)
+        → option_or o (first_some given xs) ≡ Some found → StandsAt given (x ∷ xs) found
     by None e later h =
         let r : StandsAt given xs found = later h in
-        record { before = x ∷ r.before; it = r.it; after = r.after; cut = ap (λ (ys : List A). x ∷ ys) r.cut; none = All-cons (λ (y : A). given y ≡ None) x r.before e r.none; gives = r.gives }
-    by (Some b) e later h = record { before = []; it = x; after = xs; cut = refl; none = All-nil (λ (y : A). given y ≡ None); gives = e ∙ h }
+        record {
+          before = x ∷ r.before;
+          it = r.it;
+          after = r.after;
+          cut = ap (λ (ys : List A). x ∷ ys) r.cut;
+          none = All-cons (λ (y : A). given y ≡ None) x r.before e r.none;
+          gives = r.gives;
+        }
+    by (Some b) e later h = record {
+      before = [];
+      it = x;
+      after = xs;
+      cut = refl;
+      none = All-nil (λ (y : A). given y ≡ None);
+      gives = e ∙ h;
+    }
 
 -- a function gives nothing exactly where a rule is kept
 abbrev pub Tests : {A B : Type 0} → (A → Option B) → (A → Type 0) → List A → Type 0
 Tests {A} given Rule xs = All (λ (x : A). (given x ≡ None) ↔ Rule x) xs
 
-pub all_kept : {A B : Type 0} (given : A → Option B) (Rule : A → Type 0) (xs : List A) → Tests given Rule xs → first_some given xs ≡ None → All Rule xs
+pub all_kept : {A B : Type 0} (given : A → Option B) (Rule : A → Type 0) (xs : List A) → Tests given Rule xs
+    → first_some given xs ≡ None → All Rule xs
 all_kept given Rule xs tests none = λ k d h. (tests k d h).0 (none_first given xs none k d h)
 
-pub none_given : {A B : Type 0} (given : A → Option B) (Rule : A → Type 0) (xs : List A) → Tests given Rule xs → All Rule xs → first_some given xs ≡ None
+pub none_given : {A B : Type 0} (given : A → Option B) (Rule : A → Type 0) (xs : List A) → Tests given Rule xs
+    → All Rule xs → first_some given xs ≡ None
 none_given given Rule xs tests kept = first_some-none given xs (λ k d h. (tests k d h).1 (kept k d h))
 
 -- so the first value stands at the first breach
-pub breach_at : {A B : Type 0} (given : A → Option B) (Rule : A → Type 0) (xs : List A) (found : B) → Tests given Rule xs → (at : StandsAt given xs found) → IsFirstBreach Rule xs at.it
+pub breach_at : {A B : Type 0} (given : A → Option B) (Rule : A → Type 0) (xs : List A) (found : B)
+    → Tests given Rule xs → (at : StandsAt given xs found) → IsFirstBreach Rule xs at.it
 breach_at {A} given Rule xs found tests at =
-    let split : Tests given Rule (at.before ++ at.it ∷ at.after) = subst (λ (ys : List A). Tests given Rule ys) (sym at.cut) tests in
-    let left : Tests given Rule at.before = all_left (λ (x : A). (given x ≡ None) ↔ Rule x) at.before (at.it ∷ at.after) split in
-    let right : Tests given Rule (at.it ∷ at.after) = all_right (λ (x : A). (given x ≡ None) ↔ Rule x) at.before (at.it ∷ at.after) split in
-    let here : (given at.it ≡ None) ↔ Rule at.it = All-head (λ (x : A). (given x ≡ None) ↔ Rule x) at.it at.after right in
+    let split : Tests given Rule (at.before ++ at.it ∷ at.after) =
+    subst (λ (ys : List A). Tests given Rule ys) (sym at.cut) tests in
+    let left : Tests given Rule at.before =
+    all_left (λ (x : A). (given x ≡ None) ↔ Rule x) at.before (at.it ∷ at.after) split in
+    let right : Tests given Rule (at.it ∷ at.after) =
+    all_right (λ (x : A). (given x ≡ None) ↔ Rule x) at.before (at.it ∷ at.after) split in
+    let here : (given at.it ≡ None) ↔ Rule at.it =
+    All-head (λ (x : A). (given x ≡ None) ↔ Rule x) at.it at.after right in
     record {
       before = at.before;
       after = at.after;
@@ -56,7 +80,8 @@ breach_at {A} given Rule xs found tests at =
     }
 
 -- what is so of each is so of the one that stands there
-pub it_keeps : {A B : Type 0} (given : A → Option B) (P : A → Type 0) (xs : List A) (found : B) → All P xs → (at : StandsAt given xs found) → P at.it
+pub it_keeps : {A B : Type 0} (given : A → Option B) (P : A → Type 0) (xs : List A) (found : B) → All P xs
+    → (at : StandsAt given xs found) → P at.it
 it_keeps {A} given P xs found all at =
     let split : All P (at.before ++ at.it ∷ at.after) = subst (λ (ys : List A). All P ys) (sym at.cut) all in
     All-head P at.it at.after (all_right P at.before (at.it ∷ at.after) split)
@@ -67,20 +92,26 @@ breach_keeps {A} Rule P xs x all first =
     All-head P x first.after (all_right P first.before (x ∷ first.after) split)
 
 -- and the first breach gives the first value
-pub given_at : {A B : Type 0} (given : A → Option B) (Rule : A → Type 0) (xs : List A) (x : A) (found : B) → Tests given Rule xs → IsFirstBreach Rule xs x
+pub given_at : {A B : Type 0} (given : A → Option B) (Rule : A → Type 0) (xs : List A) (x : A) (found : B)
+    → Tests given Rule xs → IsFirstBreach Rule xs x
     → ((given x ≡ None → ⊥) → given x ≡ Some found) → first_some given xs ≡ Some found
 given_at {A} {B} given Rule xs x found tests first gives =
-    let split : Tests given Rule (first.before ++ x ∷ first.after) = subst (λ (ys : List A). Tests given Rule ys) (sym first.cut) tests in
-    let left : Tests given Rule first.before = all_left (λ (x : A). (given x ≡ None) ↔ Rule x) first.before (x ∷ first.after) split in
-    let right : Tests given Rule (x ∷ first.after) = all_right (λ (x : A). (given x ≡ None) ↔ Rule x) first.before (x ∷ first.after) split in
+    let split : Tests given Rule (first.before ++ x ∷ first.after) =
+    subst (λ (ys : List A). Tests given Rule ys) (sym first.cut) tests in
+    let left : Tests given Rule first.before =
+    all_left (λ (x : A). (given x ≡ None) ↔ Rule x) first.before (x ∷ first.after) split in
+    let right : Tests given Rule (x ∷ first.after) =
+    all_right (λ (x : A). (given x ≡ None) ↔ Rule x) first.before (x ∷ first.after) split in
     let here : (given x ≡ None) ↔ Rule x = All-head (λ (x : A). (given x ≡ None) ↔ Rule x) x first.after right in
     ap (λ (ys : List A). first_some given ys) (sym first.cut)
     ∙ first_append given first.before (x ∷ first.after)
-    ∙ ap (λ (o : Option B). option_or o (first_some given (x ∷ first.after))) (none_given given Rule first.before left first.kept)
+    ∙ ap (λ (o : Option B). option_or o (first_some given (x ∷ first.after)))
+    (none_given given Rule first.before left first.kept)
     ∙ ap (λ (o : Option B). option_or o (first_some given first.after)) (gives (λ none. first.breaks (here.0 none)))
 
 -- a value that one of two searches gives
-pub or_else : {B P : Type 0} (a b : Option B) (found : B) → (a ≡ Some found → P) → (a ≡ None → b ≡ Some found → P) → option_or a b ≡ Some found → P
+pub or_else : {B P : Type 0} (a b : Option B) (found : B) → (a ≡ Some found → P) → (a ≡ None → b ≡ Some found → P)
+    → option_or a b ≡ Some found → P
 or_else None b found first second h = second refl h
 or_else (Some x) b found first second h = first h
 
@@ -98,7 +129,8 @@ or_none None = refl
 or_none (Some x) = refl
 
 -- a value that a test gives
-pub if_false : {B : Type 0} (P : B → Type 0) (t : Bool) (x found : B) → (t ≡ false → P x) → cond t None (Some x) ≡ Some found → P found
+pub if_false : {B : Type 0} (P : B → Type 0) (t : Bool) (x found : B) → (t ≡ false → P x)
+    → cond t None (Some x) ≡ Some found → P found
 if_false P true x found p h = absurd (none_some found h)
 if_false P false x found p h = subst P (some_is x found h) (p refl)
 

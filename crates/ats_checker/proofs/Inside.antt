@@ -34,12 +34,16 @@ module _ (network : DeclaredNetwork) (rows : List Row) (is : IsNetwork network) 
   of_missing found = first_where (missing rows) Inside (places_of network) found
       (λ k d h b some. (
       let at = get_or (places_of network) k d in
-      where_passed Inside (is_some (row_of rows at.0 at.1)) (RowMissing at.0 at.1) b (is_place network at.0 at.1 is (places_used network k d h)).within some))
+      where_passed Inside (is_some (row_of rows at.0 at.1)) (RowMissing at.0 at.1) b
+      (is_place network at.0 at.1 is (places_used network k d h)).within some))
 
-  of_wrong : (row : Row) (f : Field) (given right : ℕ) (found : Refusal) → row.port < length network.topology.ports → wrong row f given right ≡ Some found → Inside found
-  of_wrong row f given right found inside = where_passed Inside (given == right) (FieldWrong row.port row.class f right) found inside
+  of_wrong : (row : Row) (f : Field) (given right : ℕ) (found : Refusal) → row.port < length network.topology.ports
+      → wrong row f given right ≡ Some found → Inside found
+  of_wrong row f given right found inside =
+      where_passed Inside (given == right) (FieldWrong row.port row.class f right) found inside
 
-  of_fields : (row : Row) (sums : PortSums) (bound : ℕ) (found : Refusal) → row.port < length network.topology.ports → wrong_by row sums bound ≡ Some found → Inside found
+  of_fields : (row : Row) (sums : PortSums) (bound : ℕ) (found : Refusal) → row.port < length network.topology.ports
+      → wrong_by row sums bound ≡ Some found → Inside found
   of_fields row sums bound found inside =
       or_where Inside _ _ found (of_wrong row field.Higher row.higher sums.higher found inside)
       (or_where Inside _ _ found (of_wrong row field.Equal row.equal sums.equal found inside)
@@ -48,13 +52,15 @@ module _ (network : DeclaredNetwork) (rows : List Row) (is : IsNetwork network) 
       (or_where Inside _ _ found (of_wrong row field.Least row.least sums.least found inside)
       (of_wrong row field.Bound row.bound bound found inside)))))
 
-  of_load : (reason : Reason) → RowsInside network.topology rows → first_some overload_in rows ≡ Some reason → Inside (Network reason)
+  of_load : (reason : Reason) → RowsInside network.topology rows → first_some overload_in rows ≡ Some reason
+      → Inside (Network reason)
   of_load reason all = first_where overload_in (ReasonInside network.topology) rows reason
       (λ k d h b. (
       let row : Row = get_or rows k d in
       overload_inside network.topology row.port row.class (row.higher + row.equal) b (all k d h)))
 
-  of_stay : (reason : Reason) → RowsInside network.topology rows → first_some (overstay network) rows ≡ Some reason → Inside (Network reason)
+  of_stay : (reason : Reason) → RowsInside network.topology rows → first_some (overstay network) rows ≡ Some reason
+      → Inside (Network reason)
   of_stay reason all = first_where (overstay network) (ReasonInside network.topology) rows reason
       (λ k d h b. (
       let row : Row = get_or rows k d in
@@ -67,15 +73,18 @@ module _ (network : DeclaredNetwork) (rows : List Row) (is : IsNetwork network) 
       late_inside network.topology stream (bound_along rows stream) b))
 
   -- the port that is named is there, where the port of each row is
-  pub refusal_inside : RowsInside network.topology rows → (found : Refusal) → refusal_of network rows ≡ Some found → Inside found
+  pub refusal_inside : RowsInside network.topology rows → (found : Refusal) → refusal_of network rows ≡ Some found
+      → Inside found
   refusal_inside all found =
       or_where Inside _ _ found (of_missing found)
       (or_where Inside _ _ found (first_where (stray network) Inside rows found
-      (λ k d h b. where_passed Inside (is_used network (get_or rows k d).port (get_or rows k d).class) (RowStray (get_or rows k d).port (get_or rows k d).class) b (all k d h)))
+      (λ k d h b. where_passed Inside (is_used network (get_or rows k d).port (get_or rows k d).class)
+      (RowStray (get_or rows k d).port (get_or rows k d).class) b (all k d h)))
       (or_where Inside _ _ found (first_where (wrong_in network) Inside rows found
       (λ k d h b some. of_fields (get_or rows k d) _ _ b (all k d h) some))
       (or_where Inside _ _ found (by_network Inside (first_some overload_in rows) found (λ reason. of_load reason all))
       (or_where Inside _ _ found (first_where (short network) Inside rows found
       (λ k d h b. where_failed Inside _ _ b (all k d h)))
-      (or_where Inside _ _ found (by_network Inside (first_some (overstay network) rows) found (λ reason. of_stay reason all))
+      (or_where Inside _ _ found
+      (by_network Inside (first_some (overstay network) rows) found (λ reason. of_stay reason all))
       (by_network Inside (first_some (late rows) network.streams) found of_late))))))

@@ -20,24 +20,31 @@ use Rattle.ats_checker.specs.Rows.{IsUsedRow}
 use Rattle.ats_checker.proofs.Refused.{all_used, right_from, fits_from, place_fits}
 
 -- where no row is stray, each is used, and its port is there
-pub rows_used : (network : DeclaredNetwork) (rows : List Row) → IsNetwork network → first_some (stray network) rows ≡ None → All (IsUsedRow network) rows
+pub rows_used : (network : DeclaredNetwork) (rows : List Row) → IsNetwork network
+    → first_some (stray network) rows ≡ None → All (IsUsedRow network) rows
 rows_used network rows is none k d h =
-    let used : is_used network (get_or rows k d).port (get_or rows k d).class ≡ true = all_used network rows none k d h in
+    let used : is_used network (get_or rows k d).port (get_or rows k d).class ≡ true =
+    all_used network rows none k d h in
     record { used = used; inside = (is_place network (get_or rows k d).port (get_or rows k d).class is used).within }
 
 -- the higher classes of a right row that fits its link leave some of it
-pub higher_below : (network : DeclaredNetwork) (row : Row) → IsNetwork network → IsUsedRow network row → wrong_in network row ≡ None → overload_in row ≡ None → row.higher < PS_PER_SECOND
+pub higher_below : (network : DeclaredNetwork) (row : Row) → IsNetwork network → IsUsedRow network row
+    → wrong_in network row ≡ None → overload_in row ≡ None → row.higher < PS_PER_SECOND
 higher_below network row is used right fits =
     let rights : IsRight network row = right_from network row right in
-    let some = remains network row.port row.class (is_place network row.port row.class is used.used) (place_fits network row rights (fits_from row fits)) in
+    let some = remains network row.port row.class (is_place network row.port row.class is used.used)
+    (place_fits network row rights (fits_from row fits)) in
     omega (arith, some, rights.sums.higher)
 
 -- the least wait, from what the senders make of a right row's place
-pub least_is : (network : DeclaredNetwork) (row : Row) (tally : Tally) → wrong_in network row ≡ None → IsTally row.class (senders_at row.port (senders_of network)) tally
+pub least_is : (network : DeclaredNetwork) (row : Row) (tally : Tally) → wrong_in network row ≡ None
+    → IsTally row.class (senders_at row.port (senders_of network)) tally
     → wait_for (port_at network.topology.ports row.port).ps_per_bit row.higher tally
     ≡ least_wait (port_at network.topology.ports row.port) (port_sums network row.port row.class)
 least_is network row tally right h =
     let port : Port = port_at network.topology.ports row.port in
-    let same : sums_of port.ps_per_bit tally ≡ port_sums network row.port row.class = sums_are port.ps_per_bit row.class (senders_at row.port (senders_of network)) tally h in
-    ap (λ (n : ℕ). wait_for port.ps_per_bit n tally) ((right_from network row right).sums.higher ∙ sym (ap (λ (s : PortSums). s.higher) same))
+    let same : sums_of port.ps_per_bit tally ≡ port_sums network row.port row.class =
+    sums_are port.ps_per_bit row.class (senders_at row.port (senders_of network)) tally h in
+    ap (λ (n : ℕ). wait_for port.ps_per_bit n tally)
+    ((right_from network row right).sums.higher ∙ sym (ap (λ (s : PortSums). s.higher) same))
     ∙ ap (least_wait port) same

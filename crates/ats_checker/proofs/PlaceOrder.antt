@@ -1,5 +1,7 @@
 -- The places that a certificate must have, port by port and class by class.
-use Rattle.std.proofs.Common.{◌≡◌, ℕ, zero, suc, ◌+◌, ◌-◌, ◌<◌, ◌≤◌, Bool, true, false, cond, List, [], ◌∷◌, drop, length, get_or, map, filter, Option, Some, None, refl, sym, ap, ◌∙◌, arith, drop-cons, add-one}
+use Rattle.std.proofs.Common.{◌≡◌, ℕ, zero, suc, ◌+◌, ◌-◌, ◌<◌, ◌≤◌, Bool, true, false, cond, List, [], ◌∷◌, drop}
+use Rattle.std.proofs.Common.{length, get_or, map, filter, Option, Some, None, refl, sym, ap, ◌∙◌, arith, drop-cons}
+use Rattle.std.proofs.Common.{add-one}
 use Rattle.std.specs.Option.{option_or}
 use Rattle.ats_topology.specs.Port.{no_port}
 use Rattle.ats_topology.specs.declared.port.Port.{Port}
@@ -26,46 +28,63 @@ class_is : (class : ℕ) → 1 ≤ class → class < 8 → get_or classes (class
 class_is class least most = class_at (class - 1) (omega arith) ∙ omega arith
 
 -- a class without a refusal, and one with a refusal
-pub class_step : (given : ℕ → Option Refusal) (class : ℕ) → 1 ≤ class → class < 8 → given class ≡ None → first_some given (drop (class - 1) classes) ≡ first_some given (drop (class + 1 - 1) classes)
+pub class_step : (given : ℕ → Option Refusal) (class : ℕ) → 1 ≤ class → class < 8 → given class ≡ None
+    → first_some given (drop (class - 1) classes) ≡ first_some given (drop (class + 1 - 1) classes)
 class_step given class least most none =
     first_step given classes (class - 1) 0 (omega arith) (ap given (class_is class least most) ∙ none)
     ∙ ap (λ (n : ℕ). first_some given (drop n classes)) (omega arith)
 
-pub class_found : (given : ℕ → Option Refusal) (class : ℕ) (refusal : Refusal) → 1 ≤ class → class < 8 → given class ≡ Some refusal → first_some given (drop (class - 1) classes) ≡ Some refusal
-class_found given class refusal least most some = first_found given classes (class - 1) 0 refusal (omega arith) (ap given (class_is class least most) ∙ some)
+pub class_found : (given : ℕ → Option Refusal) (class : ℕ) (refusal : Refusal) → 1 ≤ class → class < 8
+    → given class ≡ Some refusal → first_some given (drop (class - 1) classes) ≡ Some refusal
+class_found given class refusal least most some =
+    first_found given classes (class - 1) 0 refusal (omega arith) (ap given (class_is class least most) ∙ some)
 
-pub class_end : (given : ℕ → Option Refusal) (class : ℕ) → 8 ≤ class → first_some given (drop (class - 1) classes) ≡ None
+pub class_end : (given : ℕ → Option Refusal) (class : ℕ) → 8 ≤ class
+    → first_some given (drop (class - 1) classes) ≡ None
 class_end given class past = first_end given classes (class - 1) (omega arith)
 
 -- the places of a port, class by class
 of_classes : (network : DeclaredNetwork) (rows : List Row) (port : ℕ) (cs : List ℕ)
-    → first_some (missing rows) (map (place port) (filter (λ class. is_used network port class) cs)) ≡ first_some (missing_at network rows port) cs
+    → first_some (missing rows) (map (place port) (filter (λ class. is_used network port class) cs))
+    ≡ first_some (missing_at network rows port) cs
 of_classes network rows port [] = refl
 of_classes network rows port (class ∷ cs) = by (is_used network port class) (of_classes network rows port cs)
   where
-    by : (b : Bool) → first_some (missing rows) (map (place port) (filter (λ class. is_used network port class) cs)) ≡ first_some (missing_at network rows port) cs
-        → first_some (missing rows) (map (place port) (cond b (class ∷ filter (λ class. is_used network port class) cs) (filter (λ class. is_used network port class) cs)))
+    by : (b : Bool) → first_some (missing rows) (map (place port) (filter (λ class. is_used network port class) cs))
+        ≡ first_some (missing_at network rows port) cs
+        → first_some (missing rows) (map (place port) (cond b (class ∷ filter (λ class. is_used network port class) cs)
+        (filter (λ class. is_used network port class) cs)))
         ≡ option_or (cond b (missing rows (port, class)) None) (first_some (missing_at network rows port) cs)
     by true h = ap (option_or (missing rows (port, class))) h
     by false h = h
 
-pub at_classes : (network : DeclaredNetwork) (rows : List Row) (port : ℕ) → first_some (missing rows) (places_at network port) ≡ first_some (missing_at network rows port) classes
+pub at_classes : (network : DeclaredNetwork) (rows : List Row) (port : ℕ)
+    → first_some (missing rows) (places_at network port) ≡ first_some (missing_at network rows port) classes
 at_classes network rows port = of_classes network rows port classes
 
 -- the places of the ports from one on
 from_port : (network : DeclaredNetwork) (rows : List Row) (port : ℕ) → port < length network.topology.ports
     → first_some (missing rows) (places_from network port (drop port network.topology.ports))
-    ≡ option_or (first_some (missing rows) (places_at network port)) (first_some (missing rows) (places_from network (port + 1) (drop (port + 1) network.topology.ports)))
+    ≡ option_or (first_some (missing rows) (places_at network port))
+    (first_some (missing rows) (places_from network (port + 1) (drop (port + 1) network.topology.ports)))
 from_port network rows port within =
-    ap (λ (ports : List Port). first_some (missing rows) (places_from network port ports)) (drop-cons network.topology.ports port no_port within ∙ ap (λ (n : ℕ). get_or network.topology.ports port no_port ∷ drop n network.topology.ports) (sym (add-one port)))
-    ∙ first_append (missing rows) (places_at network port) (places_from network (port + 1) (drop (port + 1) network.topology.ports))
+    ap (λ (ports : List Port). first_some (missing rows) (places_from network port ports))
+    (drop-cons network.topology.ports port no_port within ∙ ap
+    (λ (n : ℕ). get_or network.topology.ports port no_port ∷ drop n network.topology.ports) (sym (add-one port)))
+    ∙ first_append (missing rows) (places_at network port)
+    (places_from network (port + 1) (drop (port + 1) network.topology.ports))
 
-pub port_step : (network : DeclaredNetwork) (rows : List Row) (port : ℕ) → port < length network.topology.ports → first_some (missing rows) (places_at network port) ≡ None
-    → first_some (missing rows) (places_from network port (drop port network.topology.ports)) ≡ first_some (missing rows) (places_from network (port + 1) (drop (port + 1) network.topology.ports))
+pub port_step : (network : DeclaredNetwork) (rows : List Row) (port : ℕ) → port < length network.topology.ports
+    → first_some (missing rows) (places_at network port) ≡ None
+    → first_some (missing rows) (places_from network port (drop port network.topology.ports))
+    ≡ first_some (missing rows) (places_from network (port + 1) (drop (port + 1) network.topology.ports))
 port_step network rows port within none =
-    from_port network rows port within ∙ ap (λ (o : Option Refusal). option_or o (first_some (missing rows) (places_from network (port + 1) (drop (port + 1) network.topology.ports)))) none
+    from_port network rows port within ∙ ap (λ (o : Option Refusal). option_or o
+    (first_some (missing rows) (places_from network (port + 1) (drop (port + 1) network.topology.ports)))) none
 
-pub port_found : (network : DeclaredNetwork) (rows : List Row) (port : ℕ) (refusal : Refusal) → port < length network.topology.ports → first_some (missing rows) (places_at network port) ≡ Some refusal
+pub port_found : (network : DeclaredNetwork) (rows : List Row) (port : ℕ) (refusal : Refusal)
+    → port < length network.topology.ports → first_some (missing rows) (places_at network port) ≡ Some refusal
     → first_some (missing rows) (places_from network port (drop port network.topology.ports)) ≡ Some refusal
 port_found network rows port refusal within some =
-    from_port network rows port within ∙ ap (λ (o : Option Refusal). option_or o (first_some (missing rows) (places_from network (port + 1) (drop (port + 1) network.topology.ports)))) some
+    from_port network rows port within ∙ ap (λ (o : Option Refusal). option_or o
+    (first_some (missing rows) (places_from network (port + 1) (drop (port + 1) network.topology.ports)))) some

@@ -12,7 +12,8 @@ use Rattle.ats_tally.specs.declared.reason.Reason.TheVariants.{Overloaded, Resid
 use Rattle.ats_checker.specs.declared.refusal.Field.{Field}
 use Rattle.ats_checker.specs.declared.refusal.Field.TheVariants.{Higher, Equal, Bursts, Lower, Least, Bound}
 use Rattle.ats_checker.specs.declared.refusal.Refusal.{Refusal}
-use Rattle.ats_checker.specs.declared.refusal.Refusal.TheVariants.{RowMissing, RowStray, FieldWrong, WaitTooSmall, Network}
+use Rattle.ats_checker.specs.declared.refusal.Refusal.TheVariants.{RowMissing, RowStray, FieldWrong, WaitTooSmall}
+use Rattle.ats_checker.specs.declared.refusal.Refusal.TheVariants.{Network}
 
 -- the first of a list that breaks a rule: each before it keeps the rule
 pub record IsFirstBreach {A : Type 0} (Rule : A → Type 0) (xs : List A) (x : A) : Type 0 where

@@ -3,7 +3,8 @@ use Rattle.ats_topology.specs.Topology.{DeclaredTopology}
 use Rattle.ats_certificate.specs.declared.row.Row.{Row}
 use Rattle.ats_tally.specs.Reason.{ReasonInside}
 use Rattle.ats_checker.specs.declared.refusal.Refusal.{Refusal}
-use Rattle.ats_checker.specs.declared.refusal.Refusal.TheVariants.{RowMissing, RowStray, FieldWrong, WaitTooSmall, Network}
+use Rattle.ats_checker.specs.declared.refusal.Refusal.TheVariants.{RowMissing, RowStray, FieldWrong, WaitTooSmall}
+use Rattle.ats_checker.specs.declared.refusal.Refusal.TheVariants.{Network}
 
 -- the port of each row is a port of the topology
 abbrev pub RowsInside : DeclaredTopology → List Row → Type 0

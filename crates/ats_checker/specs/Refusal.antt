@@ -12,7 +12,8 @@ use Rattle.ats_tally.specs.declared.reason.Reason.{Reason}
 use Rattle.ats_checker.specs.declared.refusal.Field.{Field}
 use Rattle.ats_checker.specs.declared.refusal.Field.TheVariants as field
 use Rattle.ats_checker.specs.declared.refusal.Refusal.{Refusal}
-use Rattle.ats_checker.specs.declared.refusal.Refusal.TheVariants.{RowMissing, RowStray, FieldWrong, WaitTooSmall, Network}
+use Rattle.ats_checker.specs.declared.refusal.Refusal.TheVariants.{RowMissing, RowStray, FieldWrong, WaitTooSmall}
+use Rattle.ats_checker.specs.declared.refusal.Refusal.TheVariants.{Network}
 
 -- a port and a class without a row
 abbrev pub missing : List Row → ℕ × ℕ → Option Refusal

@@ -20,18 +20,19 @@ use ats_num::Failure;
 use ats_tally::{Delays, Tallies, first_late, first_overload, first_overstay};
 use std::alloc::Global;
 
-/// The delays that a certificate gives the streams of a network for which it holds, and only such a one: for each hop the
-/// bound, and for each stream their sum. The bounds are then sound: in each legal run of the network, each frame of a stream
-/// whose talker keeps its buckets is never discarded, is eligible at each next hop within the bound of the hop before, and
-/// arrives within its stream's sum. It takes time and memory linear in the numbers of ports and of rows and the sum of the
-/// paths' lengths.
+/// The delays that a certificate gives the streams of a network for which it holds, and only such a
+/// one: for each hop the bound, and for each stream their sum. The bounds are then sound: in each
+/// legal run of the network, each frame of a stream whose talker keeps its buckets is never
+/// discarded, is eligible at each next hop within the bound of the hop before, and arrives within
+/// its stream's sum. It takes time and memory linear in the numbers of ports and of rows and the
+/// sum of the paths' lengths.
 ///
 /// # Errors
 ///
-/// The first clause that fails, in the order that `Refusal` says, and there the first row, field or stream, exactly where
-/// the certificate does not hold; or `Failure::NoMemory` in its place, or in place of the delays, where memory runs out. So
-/// a certificate that holds is accepted, unless memory runs out. The port that a refusal names is one of the network's where
-/// each row's is.
+/// The first clause that fails, in the order that `Refusal` says, and there the first row, field or
+/// stream, exactly where the certificate does not hold; or `Failure::NoMemory` in its place, or in
+/// place of the delays, where memory runs out. So a certificate that holds is accepted, unless
+/// memory runs out. The port that a refusal names is one of the network's where each row's is.
 pub fn check<'a>(
     alloc: Global,
     network: &'a Network,
@@ -42,7 +43,8 @@ pub fn check<'a>(
     ensures sound { OnOk result (IsSound network.now certificate.now) }
     ensures refused { IfErr result (λ failure. IsDue failure (refusal_of network.now certificate.now)) }
     ensures fails { IfErr result (λ failure. (failure ≡ Failure.NoMemory) ⊎ ¬ Holds network.now certificate.now) }
-    ensures inside { RowsInside network.now.topology certificate.now → IfErr result (IfFault (RefusalInside network.now.topology)) }
+    ensures inside { RowsInside network.now.topology certificate.now
+        → IfErr result (IfFault (RefusalInside network.now.topology)) }
 {
     let delays = Delays::new(alloc, network, certificate)?;
     let tallies = Tallies::new(alloc, network)?;

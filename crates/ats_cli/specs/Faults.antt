@@ -11,4 +11,5 @@ faults_of counts name = count_of counts.words.now counts.counts.items counts.oth
 pub record Raises (name : List ℕ) (old new : FaultCounts) : Type 0 where
   pub words : new.words.now ≡ old.words.now
   pub raised : faults_of new name ≡ next_count (faults_of old name)
-  pub kept : (other : List ℕ) → place_of old.words.now other ≢ place_of old.words.now name → faults_of new other ≡ faults_of old other
+  pub kept : (other : List ℕ) → place_of old.words.now other ≢ place_of old.words.now name
+      → faults_of new other ≡ faults_of old other

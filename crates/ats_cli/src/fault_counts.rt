@@ -4,8 +4,9 @@ ghost use Rattle.std.specs.Prelude.{◌≡◌, ℕ, ◌≤◌, List, length, IfO
 
 use std::alloc::{AllocError, Global};
 
-/// A count of faults for each word of the program's call, from 0 to the last value of 64 bits, and one for all names that
-/// are no word. Names are compared byte for byte, and words that are the same share the first one's count.
+/// A count of faults for each word of the program's call, from 0 to the last value of 64 bits, and
+/// one for all names that are no word. Names are compared byte for byte, and words that are the
+/// same share the first one's count.
 #[derive(Drop)]
 pub struct FaultCounts<'a> {
     words: &'a [String],

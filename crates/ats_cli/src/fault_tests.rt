@@ -1,5 +1,5 @@
-//! Calls over files and a sink in memory: each read and each write failing in turn, a sink that takes few bytes at a time, one
-//! without room for the text, and files and a sink that never fail.
+//! Calls over files and a sink in memory: each read and each write failing in turn, a sink that
+//! takes few bytes at a time, one without room for the text, and files and a sink that never fail.
 
 use crate::laws::ats_surely;
 use crate::top::ats;
@@ -11,7 +11,9 @@ use std::test::Fail;
 const SHAPE: &[u8] = b"residence 1000000\nstream x 100000000 12336 64 1522\nframe 0 x 1522\n";
 
 const NETWORK: &[u8] =
-    b"format = 1\n[[station]]\nname = \"s1\"\n[[station]]\nname = \"s2\"\n[[link]]\na = \"s1\"\nb = \"s2\"\nmbps = 1000\npropagation_ns = 500\n[[stream]]\nname = \"a\"\npath = [\"s1\", \"s2\"]\nclass = 6\nrate_bps = 100000000\nburst_bits = 12336\nmin_octets = 64\nmax_octets = 1522\n";
+    b"format = 1\n[[station]]\nname = \"s1\"\n[[station]]\nname = \"s2\"\n[[link]]\na = \"s1\"\nb = \"s2\"\n\
+    mbps = 1000\npropagation_ns = 500\n[[stream]]\nname = \"a\"\npath = [\"s1\", \"s2\"]\nclass = 6\n\
+    rate_bps = 100000000\nburst_bits = 12336\nmin_octets = 64\nmax_octets = 1522\n";
 
 const CERTIFICATE: &[u8] =
     b"port,class,higher,equal,bursts,lower,least,wait,bound\ns1>s2,6,0,100000000000,12336,0,672,11664000,12836000\n";
@@ -60,8 +62,8 @@ fn files(alloc: Global) -> Result<Vec<(String, Vec<u8>)>, Fail> {
     Ok(held)
 }
 
-// The end of a call with these words and what it printed: the read and the write of these numbers fail, none of them where the
-// number is 0, and the sink has room for so many bytes.
+// The end of a call with these words and what it printed: the read and the write of these numbers
+// fail, none of them where the number is 0, and the sink has room for so many bytes.
 fn call(
     alloc: Global,
     words: &[&str],

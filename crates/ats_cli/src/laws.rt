@@ -10,15 +10,16 @@ use ats_command::Status;
 use ats_io::{Files, SureFiles, SureSink};
 use std::alloc::Global;
 
-/// Over files that tell their bytes and a sink, of which neither ever fails, a call ends with the status that is due, or
-/// with `NoMemory`.
+/// Over files that tell their bytes and a sink, of which neither ever fails, a call ends with the
+/// status that is due, or with `NoMemory`.
 pub fn ats_surely(
     alloc: Global,
     words: &[String],
     files: &mut SureFiles,
     out: &mut SureSink,
 ) -> Status
-    ensures { (result ≡ Status.NoMemory) ⊎ StatusIsDue (⟦<SureFiles as Files>⟧.told files.old) (command_of (texts_of words.now)) result }
+    ensures { (result ≡ Status.NoMemory)
+        ⊎ StatusIsDue (⟦<SureFiles as Files>⟧.told files.old) (command_of (texts_of words.now)) result }
 {
     ats(alloc, words, files, out)
 }

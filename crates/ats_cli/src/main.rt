@@ -1,5 +1,6 @@
-//! The program `ats`: it reads its words, runs the command that they name over the system's files and standard output, and
-//! ends with the status as its exit code. It writes nothing on standard error.
+//! The program `ats`: it reads its words, runs the command that they name over the system's files
+//! and standard output, and ends with the status as its exit code. It writes nothing on standard
+//! error.
 #![tactic(auto)]
 
 ghost use Rattle.std.specs.Prelude.{◌≡◌, ◌≢◌, ◌⊎◌, IfErr};

@@ -1,6 +1,7 @@
 //! Files of the system, read by name.
 
-ghost use Rattle.std.specs.Prelude.{◌≡◌, ℕ, ◌+◌, ◌<◌, ◌≤◌, List, length, None, IsSomeAnd, IfSome, IfNone, OnSome, IfOk, OnOk, OnErr};
+ghost use Rattle.std.specs.Prelude.{◌≡◌, ℕ, ◌+◌, ◌<◌, ◌≤◌, List, length, None, IsSomeAnd, IfSome, IfNone, OnSome, IfOk};
+ghost use Rattle.std.specs.Prelude.{OnOk, OnErr};
 ghost use Rattle.std.specs.Io.KnownBytes.{ReadConsumes};
 ghost use Rattle.ats_io.specs.Outside.{Rose, IfTold, Continues, IsPieceAt};
 ghost use Rattle.ats_cli.specs.Faults.{faults_of, Raises};
@@ -16,14 +17,16 @@ use std::io;
 use std::io::{Read, Seek, SeekFrom};
 use std::rt::Files;
 
-/// The files of a runtime, by their paths; a relative path starts at the process's folder. It tells the bytes of no name,
-/// and has a count of faults for each word of the program's call and one for all other names.
+/// The files of a runtime, by their paths; a relative path starts at the process's folder. It tells
+/// the bytes of no name, and has a count of faults for each word of the program's call and one for
+/// all other names.
 ///
-/// A read fails where the file is not there, may not be read or is a folder, and where the system reports any other error,
-/// an interrupted read among them.
+/// A read fails where the file is not there, may not be read or is a folder, and where the system
+/// reports any other error, an interrupted read among them.
 ///
-/// The file of the word that was read last stays open, and its place is set only where a read asks for another one than that
-/// where it stands: a pipe can be read once, from front to end. A name that is no word is opened for each read.
+/// The file of the word that was read last stays open, and its place is set only where a read asks
+/// for another one than that where it stands: a pipe can be read once, from front to end. A name
+/// that is no word is opened for each read.
 #[derive(Drop)]
 pub struct RealFiles<'a, R: Files + Drop> {
     rt: R,
@@ -40,11 +43,12 @@ struct OpenWord<F> {
 }
 
 impl<'a, R: Files + Drop> RealFiles<'a, R> {
-    /// The files, none of them open, with no fault yet, and a count for each of these words. `AllocError` where there is no
-    /// memory for the counts.
+    /// The files, none of them open, with no fault yet, and a count for each of these words.
+    /// `AllocError` where there is no memory for the counts.
     pub fn new(alloc: Global, rt: R, words: &'a [String]) -> Result<Self, AllocError>
         ensures words { IfOk result (λ made. made.faults.words.now ≡ words.entry.now) }
-        ensures faults { IfOk result (λ made. (name : List ℕ) → ⟦<RealFiles<'a, R> as ats_io::Files>⟧.faults made name ≡ 0) }
+        ensures faults { IfOk result
+            (λ made. (name : List ℕ) → ⟦<RealFiles<'a, R> as ats_io::Files>⟧.faults made name ≡ 0) }
     {
         Ok(RealFiles {
             rt,
@@ -58,7 +62,8 @@ impl<'a, R: Files + Drop> RealFiles<'a, R> {
         requires { at ≤ MAX_PLACE }
         ensures within { IfOk result (λ count. count ≤ length buf.new) }
         ensures faults { self.new.faults ≡ self.old.faults }
-        ensures stands { IfOk result (λ count. IfSome (place_of self.old.faults.words.now name.now) (λ word. IsSomeAnd self.new.current (Stands word (at + count)))) }
+        ensures stands { IfOk result (λ count. IfSome (place_of self.old.faults.words.now name.now)
+            (λ word. IsSomeAnd self.new.current (Stands word (at + count)))) }
         ensures closed { OnErr result (OnSome (place_of self.old.faults.words.now name.now) (self.new.current ≡ None)) }
         ensures others { IfNone (place_of self.old.faults.words.now name.now) (self.new.current ≡ self.old.current) }
     {
@@ -81,7 +86,8 @@ impl<'a, R: Files + Drop> RealFiles<'a, R> {
     }
 }
 
-// Reads from place `at` of a file that stands at `stands`. Where it stands there, the bytes are the ones that it has left.
+// Reads from place `at` of a file that stands at `stands`. Where it stands there, the bytes are the
+// ones that it has left.
 fn read_at<F: Read + Seek>(file: &mut F, stands: u64, at: u64, buf: &mut [u8]) -> io::Result<usize>
     ensures within { IfOk result (λ count. count ≤ length buf.new) }
     ensures in_place { stands ≡ at → ReadConsumes (F.remaining file.old) (F.remaining file.new) result buf.new }
@@ -105,7 +111,8 @@ impl<'a, R: Files + Drop> ats_io::Files for RealFiles<'a, R> {
         ensures failed { OnErr result (Rose (faults_of self.old.faults name.now) (faults_of self.new.faults name.now)) }
         ensures raised { OnErr result (Raises name.now self.old.faults self.new.faults) }
         ensures calm { OnOk result (self.new.faults ≡ self.old.faults) }
-        ensures continues { Continues ⟦<RealFiles<'a, R> as ats_io::Files>⟧.told ⟦<RealFiles<'a, R> as ats_io::Files>⟧.faults self.old self.new }
+        ensures continues { Continues ⟦<RealFiles<'a, R> as ats_io::Files>⟧.told
+            ⟦<RealFiles<'a, R> as ats_io::Files>⟧.faults self.old self.new }
     {
         match self.read_piece(name, at, buf) {
             Ok(count) => Ok(count),

@@ -7,11 +7,11 @@ ghost use Rattle.ats_io.specs.Outside.{Rose};
 use ats_io::{Failed, Sink};
 use std::io::Print;
 
-/// The standard output of a runtime. It tells nothing of what it took, and has one count of faults, from 0 to the last value
-/// of 64 bits.
+/// The standard output of a runtime. It tells nothing of what it took, and has one count of faults,
+/// from 0 to the last value of 64 bits.
 ///
-/// It keeps no buffer: what a write says was taken, the system has taken. A write fails where the system reports an error, as
-/// at a closed output or a full disk, and where it takes no byte.
+/// It keeps no buffer: what a write says was taken, the system has taken. A write fails where the
+/// system reports an error, as at a closed output or a full disk, and where it takes no byte.
 #[derive(Drop)]
 pub struct RealSink<R> {
     rt: R,

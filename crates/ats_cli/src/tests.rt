@@ -1,14 +1,15 @@
 use crate::real_files::RealFiles;
 use crate::real_sink::RealSink;
 use ats_io::{Files, ReadFault, read_whole, write_all};
+use ats_num::Failure;
 use std::cell::Cell;
 use std::fmt::Display;
 use std::io::Print;
 use std::test::Fail;
 use std::{fs, io, process};
 
-// Reads a file that it wrote itself in two pieces and past its end, whole, and again from an earlier place, and files that
-// are not there, one of which is no word.
+// Reads a file that it wrote itself in two pieces and past its end, whole, and again from an
+// earlier place, and files that are not there, one of which is no word.
 #[test]
 fn reads_files(rt: HostRuntime) -> Result<(), Fail> {
     let alloc = rt.alloc();
@@ -35,9 +36,15 @@ fn reads_files(rt: HostRuntime) -> Result<(), Fail> {
         read_whole(alloc, &mut files, path, 5)?.as_slice(),
         b"abcde".as_slice()
     );
-    assert!(rt; read_whole(alloc, &mut files, path, 4).err() == Some(ReadFault::TooLong));
-    assert!(rt; read_whole(alloc, &mut files, missing, 4).err() == Some(ReadFault::Failed));
-    assert!(rt; read_whole(alloc, &mut files, "/tmp", 4).err() == Some(ReadFault::Failed));
+    assert!(rt;
+        read_whole(alloc, &mut files, path, 4).err() == Some(Failure::Fault(ReadFault::TooLong))
+    );
+    assert!(rt;
+        read_whole(alloc, &mut files, missing, 4).err() == Some(Failure::Fault(ReadFault::Failed))
+    );
+    assert!(rt;
+        read_whole(alloc, &mut files, "/tmp", 4).err() == Some(Failure::Fault(ReadFault::Failed))
+    );
     fs::remove_file(&rt, path)?;
     Ok(())
 }

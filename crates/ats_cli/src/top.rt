@@ -18,33 +18,39 @@ use std::alloc::Global;
 /// Carries out the command that the words name, over these files, and prints its text to the sink.
 pub fn ats<F: Files, O: Sink>(alloc: Global, words: &[String], files: &mut F, out: &mut O) -> Status
     // Done, Words, Input and Refused have printed a text, whole. Where the files tell their bytes, it is due.
-    ensures printed { HasText result → Printed (F.told files.old) (command_of (texts_of words.now)) result (O.held out.old) (O.held out.new) }
+    ensures printed { HasText result
+        → Printed (F.told files.old) (command_of (texts_of words.now)) result (O.held out.old) (O.held out.new) }
 
     // Words comes exactly where the words are not in the command table, but where writing its line failed.
     ensures words { result ≡ Status.Words → command_of (texts_of words.now) ≡ table.Unknown }
-    ensures unknown { command_of (texts_of words.now) ≡ table.Unknown → (result ≡ Status.Words) ⊎ (result ≡ Status.WriteFailed) }
+    ensures unknown { command_of (texts_of words.now) ≡ table.Unknown
+        → (result ≡ Status.Words) ⊎ (result ≡ Status.WriteFailed) }
 
     // Done to `check NET CERT` means that the bounds of the certificate are sound in each legal run of the network.
     ensures sound { result ≡ Status.Done → IsSoundCheck (F.told files.old) (command_of (texts_of words.now)) }
 
     // ReadFailed and WriteFailed have a cause.
-    ensures read_failed { result ≡ Status.ReadFailed → ReadRose (F.told files.old) (command_of (texts_of words.now)) (F.faults files.old) (F.faults files.new) }
+    ensures read_failed { result ≡ Status.ReadFailed
+        → ReadRose (F.told files.old) (command_of (texts_of words.now)) (F.faults files.old) (F.faults files.new) }
     ensures write_failed { result ≡ Status.WriteFailed → Rose (O.faults out.old) (O.faults out.new) }
 
     // After WriteFailed a front of a due text was printed, and after ReadFailed and NoMemory nothing.
-    ensures cut_short { result ≡ Status.WriteFailed → PrintedPrefix (F.told files.old) (command_of (texts_of words.now)) (O.held out.old) (O.held out.new) }
+    ensures cut_short { result ≡ Status.WriteFailed
+        → PrintedPrefix (F.told files.old) (command_of (texts_of words.now)) (O.held out.old) (O.held out.new) }
     ensures silent { (result ≡ Status.ReadFailed) ⊎ (result ≡ Status.NoMemory) → O.held out.new ≡ O.held out.old }
 
     // Where the files tell their bytes and no fault came, the status that is due comes, or NoMemory.
-    ensures complete { IsTold (F.told files.old) (command_of (texts_of words.now)) → IsCalm (command_of (texts_of words.now)) (F.faults files.old) (F.faults files.new)
-        → ¬ Rose (O.faults out.old) (O.faults out.new) → (result ≡ Status.NoMemory) ⊎ StatusIsDue (F.told files.old) (command_of (texts_of words.now)) result }
+    ensures complete { IsTold (F.told files.old) (command_of (texts_of words.now))
+        → IsCalm (command_of (texts_of words.now)) (F.faults files.old) (F.faults files.new)
+        → ¬ Rose (O.faults out.old) (O.faults out.new)
+        → (result ≡ Status.NoMemory) ⊎ StatusIsDue (F.told files.old) (command_of (texts_of words.now)) result }
 
     // The files hold what they held, and no count of faults fell.
     ensures files { Continues F.told F.faults files.old files.new }
     ensures sink { O.faults out.old ≤ O.faults out.new }
 {
     match named_by(words) {
-        Some(command) => carry_out(alloc, &command, files, out),
+        Some(command) => carry_out(alloc, command, files, out),
         None => print(out, Status::Words, b"words\n"),
     }
 }
@@ -52,16 +58,19 @@ pub fn ats<F: Files, O: Sink>(alloc: Global, words: &[String], files: &mut F, ou
 // Carries out a command of the table, and prints its text.
 fn carry_out<F: Files, O: Sink>(
     alloc: Global,
-    command: &Command,
+    command: Command,
     files: &mut F,
     out: &mut O,
 ) -> Status
-    ensures printed { HasText result → Printed (F.told files.old) (view command.now) result (O.held out.old) (O.held out.new) }
+    ensures printed { HasText result
+        → Printed (F.told files.old) (view command.entry) result (O.held out.old) (O.held out.new) }
     ensures no_words { ¬ (result ≡ Status.Words) }
-    ensures sound { result ≡ Status.Done → IsSoundCheck (F.told files.old) (view command.now) }
-    ensures read_failed { result ≡ Status.ReadFailed → ReadRose (F.told files.old) (view command.now) (F.faults files.old) (F.faults files.new) }
+    ensures sound { result ≡ Status.Done → IsSoundCheck (F.told files.old) (view command.entry) }
+    ensures read_failed { result ≡ Status.ReadFailed
+        → ReadRose (F.told files.old) (view command.entry) (F.faults files.old) (F.faults files.new) }
     ensures write_failed { result ≡ Status.WriteFailed → Rose (O.faults out.old) (O.faults out.new) }
-    ensures cut_short { result ≡ Status.WriteFailed → PrintedPrefix (F.told files.old) (view command.now) (O.held out.old) (O.held out.new) }
+    ensures cut_short { result ≡ Status.WriteFailed
+        → PrintedPrefix (F.told files.old) (view command.entry) (O.held out.old) (O.held out.new) }
     ensures silent { (result ≡ Status.ReadFailed) ⊎ (result ≡ Status.NoMemory) → O.held out.new ≡ O.held out.old }
     ensures files { Continues F.told F.faults files.old files.new }
     ensures sink { O.faults out.old ≤ O.faults out.new }
@@ -71,13 +80,14 @@ fn carry_out<F: Files, O: Sink>(
 }
 
 // What a command of the table comes to.
-fn outcome_of<F: Files>(alloc: Global, command: &Command, files: &mut F) -> Result<Vec<u8>, Stop>
-    ensures due { Answers (F.told files.old) (view command.now) result }
-    ensures sound { OnOk result (IsSoundCheck (F.told files.old) (view command.now)) }
-    ensures failed { IsErrOf result Stop.ReadFailed → ReadRose (F.told files.old) (view command.now) (F.faults files.old) (F.faults files.new) }
+fn outcome_of<F: Files>(alloc: Global, command: Command, files: &mut F) -> Result<Vec<u8>, Stop>
+    ensures due { Answers (F.told files.old) (view command.entry) result }
+    ensures sound { OnOk result (IsSoundCheck (F.told files.old) (view command.entry)) }
+    ensures failed { IsErrOf result Stop.ReadFailed
+        → ReadRose (F.told files.old) (view command.entry) (F.faults files.old) (F.faults files.new) }
     ensures continues { Continues F.told F.faults files.old files.new }
 {
-    match *command {
+    match command {
         Command::Shape(file) => shape(alloc, file, files),
         Command::Show(net) => show(alloc, net, files),
         Command::Bound(net) => bound(alloc, net, files),

@@ -19,21 +19,27 @@ before_passed a b passed = grind (arith, nat_tests)
 one_row : (a b : Row) → Some a ≡ Some b → a ≡ b
 one_row a b h = cc
 
-last_passed : (last : Option Row) (row : Row) → comes_after last row ≡ true → (before : Row) → last ≡ Some before → IsBefore before row
+last_passed : (last : Option Row) (row : Row) → comes_after last row ≡ true → (before : Row) → last ≡ Some before
+    → IsBefore before row
 last_passed None row passed before is = cc
-last_passed (Some last) row passed before is = subst (λ (r : Row). IsBefore r row) (one_row last before is) (before_passed last row passed)
+last_passed (Some last) row passed before is =
+    subst (λ (r : Row). IsBefore r row) (one_row last before is) (before_passed last row passed)
 
 -- a row that is read comes after the last one
-comes_last : (topology : DeclaredTopology) (rows : List Row) (n : ℕ) (fields : List (List ℕ)) → IfOk (row_after topology rows n fields) (ComesAfter rows)
+comes_last : (topology : DeclaredTopology) (rows : List Row) (n : ℕ) (fields : List (List ℕ))
+    → IfOk (row_after topology rows n fields) (ComesAfter rows)
 unfolding row_after
 comes_last topology rows n fields =
     always (ComesAfter rows) (row_in topology n fields) _
-    (λ row. where_passed (ComesAfter rows) (comes_after (last_of rows) row) (RowOrder n) row (last_passed (last_of rows) row))
+    (λ row. where_passed (ComesAfter rows) (comes_after (last_of rows) row) (RowOrder n) row
+    (last_passed (last_of rows) row))
 
 -- the rows that a file declares ascend
-pub rows_ascend : (topology : DeclaredTopology) (bytes : List ℕ) (rows : List Row) → rows_of topology bytes ≡ Ok rows → AllPairs IsBefore rows
+pub rows_ascend : (topology : DeclaredTopology) (bytes : List ℕ) (rows : List Row) → rows_of topology bytes ≡ Ok rows
+    → AllPairs IsBefore rows
 rows_ascend topology =
     rows_keep topology (AllPairs IsBefore)
-    (λ rows n fields ordered. followed (ComesAfter rows) (λ row. AllPairs IsBefore (rows ++ row ∷ [])) (row_after topology rows n fields) (comes_last topology rows n fields)
+    (λ rows n fields ordered. followed (ComesAfter rows) (λ row. AllPairs IsBefore (rows ++ row ∷ []))
+    (row_after topology rows n fields) (comes_last topology rows n fields)
     (λ row after. all_pairs_push IsBefore rows row ordered (after_each rows row ordered after)))
     (λ i j d before within. absurd (omega arith))

@@ -16,29 +16,34 @@ some_is None h = cc
 some_is (Some bytes) h = refl
 
 -- the bytes of a name that are told
-pub told_is : (told : List ℕ → Option (List ℕ)) (name : List ℕ) → IsSome (told name) → told name ≡ Some (told_bytes told name)
+pub told_is : (told : List ℕ → Option (List ℕ)) (name : List ℕ) → IsSome (told name)
+    → told name ≡ Some (told_bytes told name)
 told_is told name h = some_is (told name) h
 
 -- what stops a step stops what goes on from it
-pub stops_all : {A B : Type 0} (stop : Stop) (due : Result A Answer) (next : A → Result B Answer) → IsStopOf stop due → IsStopOf stop (due >>= next)
+pub stops_all : {A B : Type 0} (stop : Stop) (due : Result A Answer) (next : A → Result B Answer) → IsStopOf stop due
+    → IsStopOf stop (due >>= next)
 stops_all (Input text) due next h = ap (λ d. d >>= next) h
 stops_all (Refused text) due next h = ap (λ d. d >>= next) h
 stops_all ReadFailed due next h = tt
 stops_all NoMemory due next h = tt
 
 -- what a step gives goes on
-pub goes_on : {X A B : Type 0} (seen : X → B) (result : Result X Stop) (due : Result A Answer) (value : A) (next : A → Result B Answer) → due ≡ Ok value → Gives seen result (next value) → Gives seen result (due >>= next)
+pub goes_on : {X A B : Type 0} (seen : X → B) (result : Result X Stop) (due : Result A Answer) (value : A) (next : A
+    → Result B Answer) → due ≡ Ok value → Gives seen result (next value) → Gives seen result (due >>= next)
 goes_on seen result due value next gives rest = subst (λ d. Gives seen result (d >>= next)) (sym gives) rest
 
 -- what stops a command settles it
-pub stop_settles : (stop : Stop) (due : Result (List ℕ) Answer) → IsStopOf stop due → IfSome (answer_of (Err stop)) (λ (answer : Answer). answer ≡ settled due)
+pub stop_settles : (stop : Stop) (due : Result (List ℕ) Answer) → IsStopOf stop due
+    → IfSome (answer_of (Err stop)) (λ (answer : Answer). answer ≡ settled due)
 stop_settles (Input text) due h = sym (ap settled h)
 stop_settles (Refused text) due h = sym (ap settled h)
 stop_settles ReadFailed due h = tt
 stop_settles NoMemory due h = tt
 
 -- so does its text
-pub text_settles : (text : List ℕ) (due : Result (List ℕ) Answer) → due ≡ Ok text → record { status = status.Done; text = text } ≡ settled due
+pub text_settles : (text : List ℕ) (due : Result (List ℕ) Answer) → due ≡ Ok text
+    → record { status = status.Done; text = text } ≡ settled due
 text_settles text due h = sym (ap settled h)
 
 -- an error that is handed on is the same
@@ -47,20 +52,26 @@ err_is (Ok x) stop h = absurd h
 err_is (Err e) stop h = ap Err h
 
 -- what the bytes of a file declare, once they were read
-pub declares : {X A F : Type 0} (seen : X → A) (result : Result X Stop) (file bytes whole text : List ℕ) (words : F → List ℕ) (reading : List ℕ → Result A F)
+pub declares : {X A F : Type 0} (seen : X → A) (result : Result X Stop) (file bytes whole text : List ℕ)
+    (words : F → List ℕ) (reading : List ℕ → Result A F)
     → bytes_in file bytes ≡ Ok whole → text ≡ whole → Gives seen result (declared_in file words (reading text))
     → Gives seen result (bytes_in file bytes >>= λ t. declared_in file words (reading t))
 declares seen result file bytes whole text words reading was_read same gives =
-    goes_on seen result (bytes_in file bytes) whole (λ t. declared_in file words (reading t)) was_read (subst (λ (t : List ℕ). Gives seen result (declared_in file words (reading t))) same gives)
+    goes_on seen result (bytes_in file bytes) whole (λ t. declared_in file words (reading t)) was_read
+    (subst (λ (t : List ℕ). Gives seen result (declared_in file words (reading t))) same gives)
 
 -- a step that stops a command settles it
-pub step_settles : {A : Type 0} (result : Result (Vec ℕ) Stop) (stop : Stop) (due : Result A Answer) (next : A → Result (List ℕ) Answer)
-    → result ≡ Err stop → IsStopOf stop due → IfSome (answer_of result) (λ (answer : Answer). answer ≡ settled (due >>= next))
+pub step_settles : {A : Type 0} (result : Result (Vec ℕ) Stop) (stop : Stop) (due : Result A Answer)
+    (next : A → Result (List ℕ) Answer)
+    → result ≡ Err stop → IsStopOf stop due
+    → IfSome (answer_of result) (λ (answer : Answer). answer ≡ settled (due >>= next))
 step_settles result stop due next is stops =
-    subst (λ (r : Result (Vec ℕ) Stop). IfSome (answer_of r) (λ (answer : Answer). answer ≡ settled (due >>= next))) (sym is) (stop_settles stop (due >>= next) (stops_all stop due next stops))
+    subst (λ (r : Result (Vec ℕ) Stop). IfSome (answer_of r) (λ (answer : Answer). answer ≡ settled (due >>= next)))
+    (sym is) (stop_settles stop (due >>= next) (stops_all stop due next stops))
 
 -- what a judgement gives settles a command
-pub result_settles : (result : Result (Vec ℕ) Stop) (due : Result (List ℕ) Answer) → Gives (λ (text : Vec ℕ). text.items) result due → IfSome (answer_of result) (λ (answer : Answer). answer ≡ settled due)
+pub result_settles : (result : Result (Vec ℕ) Stop) (due : Result (List ℕ) Answer) → Gives
+    (λ (text : Vec ℕ). text.items) result due → IfSome (answer_of result) (λ (answer : Answer). answer ≡ settled due)
 result_settles (Ok text) due h = text_settles text.items due h
 result_settles (Err stop) due h = stop_settles stop due h
 
@@ -77,7 +88,8 @@ one_error : {X : Type 0} (stop other : Stop) → (let r : Result X Stop = Err st
 one_error stop other h = cc
 
 -- two stops of one outcome are the same
-pub same_stop : {X : Type 0} (result : Result X Stop) (stop other : Stop) → result ≡ Err stop → result ≡ Err other → stop ≡ other
+pub same_stop : {X : Type 0} (result : Result X Stop) (stop other : Stop) → result ≡ Err stop → result ≡ Err other
+    → stop ≡ other
 same_stop {X} result stop other h k = one_error {X = X} stop other (sym h ∙ k)
 
 -- what is declared is no answer
@@ -85,8 +97,10 @@ pub declared_is_ok : {A : Type 0} (due : Result A Answer) (value : A) → due �
 declared_is_ok due value h = rw h refl
 
 -- a value that was declared keeps what each one keeps that is due
-pub declared_keeps : {A F : Type 0} (P : A → Type 0) (result : Result A Stop) (file : List ℕ) (words : F → List ℕ) (due : Result A F)
-    → Gives (λ (value : A). value) result (declared_in file words due) → ((value : A) → due ≡ Ok value → P value) → IfOk result P
+pub declared_keeps : {A F : Type 0} (P : A → Type 0) (result : Result A Stop) (file : List ℕ) (words : F → List ℕ)
+    (due : Result A F)
+    → Gives (λ (value : A). value) result (declared_in file words due) → ((value : A) → due ≡ Ok value → P value)
+    → IfOk result P
 declared_keeps P (Err stop) file words due h keeps = tt
 declared_keeps P (Ok value) file words (Err fault) h keeps = cc
 declared_keeps P (Ok value) file words (Ok other) h keeps = keeps value (let same : other ≡ value = cc in ap Ok same)

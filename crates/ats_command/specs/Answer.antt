@@ -1,6 +1,7 @@
 use Rattle.std.specs.Prelude.{ℕ, List, ◌++◌, codes, Result, Ok, Err}
 use Rattle.ats_command.specs.declared.status.Status.{Status}
-use Rattle.ats_command.specs.declared.status.Status.TheVariants.{Done, Words, Input, Refused, ReadFailed, WriteFailed, NoMemory}
+use Rattle.ats_command.specs.declared.status.Status.TheVariants.{Done, Words, Input, Refused, ReadFailed, WriteFailed}
+use Rattle.ats_command.specs.declared.status.Status.TheVariants.{NoMemory}
 
 -- how a call ends, and what it prints
 pub record Answer : Type 0 where

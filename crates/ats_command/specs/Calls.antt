@@ -7,11 +7,13 @@ use Rattle.ats_command.specs.declared.status.Status.{Status}
 
 -- a text was printed, whole; with the status it is due, where the files tell their bytes
 abbrev pub Printed : (List ℕ → Option (List ℕ)) → Command → Status → Option (List ℕ) → Option (List ℕ) → Type 0
-Printed told command status old new = (text : List ℕ) × (new ≡ appended old text) × (IsTold told command → IsDue told command (record { status = status; text = text }))
+Printed told command status old new = (text : List ℕ) × (new ≡ appended old text)
+    × (IsTold told command → IsDue told command (record { status = status; text = text }))
 
 -- a front of a text was printed; the text is due, where the files tell their bytes
 abbrev pub PrintedPrefix : (List ℕ → Option (List ℕ)) → Command → Option (List ℕ) → Option (List ℕ) → Type 0
-PrintedPrefix told command old new = IsTold told command → (answer : Answer) × IsDue told command answer × TakesPrefix answer.text old new
+PrintedPrefix told command old new = IsTold told command
+    → (answer : Answer) × IsDue told command answer × TakesPrefix answer.text old new
 
 -- a fault came at a file that the command comes to
 abbrev pub ReadRose : (List ℕ → Option (List ℕ)) → Command → (List ℕ → ℕ) → (List ℕ → ℕ) → Type 0

@@ -17,8 +17,10 @@ judged text (Some why) = Err (record { status = Refused; text = refused_text why
 
 -- the certificate with the least waits, unless no certificate of the network holds
 unfoldable pub bound_judged : DeclaredNetwork → Result (List ℕ) Answer
-bound_judged network = judged (certificate_text network.topology (least_certificate network)) (option_map (reason_text network.topology) (reason_of network))
+bound_judged network = judged (certificate_text network.topology (least_certificate network))
+    (option_map (reason_text network.topology) (reason_of network))
 
 -- the bounds and sums of the streams, unless the certificate does not hold
 unfoldable pub check_judged : DeclaredNetwork → List Row → Result (List ℕ) Answer
-check_judged network rows = judged (accepted_text network rows) (option_map (refusal_text network.topology) (refusal_of network rows))
+check_judged network rows =
+    judged (accepted_text network rows) (option_map (refusal_text network.topology) (refusal_of network rows))

@@ -10,4 +10,5 @@ pub record IsOnlyDue (told : List ℕ → Option (List ℕ)) (words : List (List
 
 -- for all words, and all bytes told under the names of their files, just one answer is due
 abbrev pub OneAnswerIsDue : Type 0
-OneAnswerIsDue = (told : List ℕ → Option (List ℕ)) (words : List (List ℕ)) → IsTold told (command_of words) → (answer : Answer) × IsOnlyDue told words answer
+OneAnswerIsDue = (told : List ℕ → Option (List ℕ)) (words : List (List ℕ)) → IsTold told (command_of words)
+    → (answer : Answer) × IsOnlyDue told words answer

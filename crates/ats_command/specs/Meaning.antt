@@ -8,7 +8,8 @@ use Rattle.ats_soundness_law.specs.Sound.{IsSound}
 use Rattle.ats_command.specs.Input.{network_in, rows_in}
 use Rattle.ats_command.specs.Due.{bound_answer, check_answer}
 use Rattle.ats_command.specs.declared.status.Status.{Status}
-use Rattle.ats_command.specs.declared.status.Status.TheVariants.{Done, Words, Input, Refused, ReadFailed, WriteFailed, NoMemory}
+use Rattle.ats_command.specs.declared.status.Status.TheVariants.{Done, Words, Input, Refused, ReadFailed, WriteFailed}
+use Rattle.ats_command.specs.declared.status.Status.TheVariants.{NoMemory}
 
 -- a file of these bytes declares this network, and the text writes its least certificate, which holds and is sound
 pub record IsBounded (net bytes text : List ℕ) (network : DeclaredNetwork) : Type 0 where
@@ -39,7 +40,8 @@ abbrev pub BoundMeans : Type 0
 BoundMeans = (net bytes : List ℕ) → BoundSays net bytes (bound_answer net bytes).text (bound_answer net bytes).status
 
 -- two files of these bytes declare this network and these rows, which hold for it and are sound
-pub record IsAccepted (net certificate net_bytes certificate_bytes : List ℕ) (network : DeclaredNetwork) (rows : List Row) : Type 0 where
+pub record IsAccepted (net certificate net_bytes certificate_bytes : List ℕ) (network : DeclaredNetwork)
+    (rows : List Row) : Type 0 where
   pub network_declared : network_in net net_bytes ≡ Ok network
   pub rows_declared : rows_in network.topology certificate certificate_bytes ≡ Ok rows
   pub rules : IsNetwork network
@@ -47,7 +49,8 @@ pub record IsAccepted (net certificate net_bytes certificate_bytes : List ℕ) (
   pub sound : IsSound network rows
 
 -- they declare this network and these rows, which do not hold for it
-pub record IsRefused (net certificate net_bytes certificate_bytes : List ℕ) (network : DeclaredNetwork) (rows : List Row) : Type 0 where
+pub record IsRefused (net certificate net_bytes certificate_bytes : List ℕ) (network : DeclaredNetwork)
+    (rows : List Row) : Type 0 where
   pub network_declared : network_in net net_bytes ≡ Ok network
   pub rows_declared : rows_in network.topology certificate certificate_bytes ≡ Ok rows
   pub rules : IsNetwork network
@@ -61,9 +64,11 @@ pub record HasNoRows (net certificate net_bytes certificate_bytes : List ℕ) (n
 -- what an answer to `check NET CERT` says of the bytes of both files, by its status; the same four never come
 abbrev pub CheckSays : List ℕ → List ℕ → List ℕ → List ℕ → Status → Type 0
 CheckSays net certificate net_bytes certificate_bytes Done =
-    (network : DeclaredNetwork) × (rows : List Row) × IsAccepted net certificate net_bytes certificate_bytes network rows
+    (network : DeclaredNetwork) × (rows : List Row)
+    × IsAccepted net certificate net_bytes certificate_bytes network rows
 CheckSays net certificate net_bytes certificate_bytes Input =
-    IsErr (network_in net net_bytes) ⊎ ((network : DeclaredNetwork) × HasNoRows net certificate net_bytes certificate_bytes network)
+    IsErr (network_in net net_bytes)
+    ⊎ ((network : DeclaredNetwork) × HasNoRows net certificate net_bytes certificate_bytes network)
 CheckSays net certificate net_bytes certificate_bytes Refused =
     (network : DeclaredNetwork) × (rows : List Row) × IsRefused net certificate net_bytes certificate_bytes network rows
 CheckSays net certificate net_bytes certificate_bytes Words = ⊥
@@ -74,4 +79,5 @@ CheckSays net certificate net_bytes certificate_bytes NoMemory = ⊥
 -- so for all file words and bytes
 abbrev pub CheckMeans : Type 0
 CheckMeans = (net certificate net_bytes certificate_bytes : List ℕ)
-    → CheckSays net certificate net_bytes certificate_bytes (check_answer net certificate net_bytes certificate_bytes).status
+    → CheckSays net certificate net_bytes certificate_bytes
+    (check_answer net certificate net_bytes certificate_bytes).status

@@ -24,9 +24,11 @@ abbrev pub Gives : {X A : Type 0} → (X → A) → Result X Stop → Result A A
 Gives seen (Ok x) due = due ≡ Ok (seen x)
 Gives seen (Err stop) due = IsStopOf stop due
 
--- what was read from a file is passed on: what the reading was to give, or an answer with the words that its fault is shown as
+-- what was read from a file is passed on: what the reading was to give, or an answer with the words that its fault is
+-- shown as
 abbrev pub PassesOn : {X F : Type 0} → (F → Option (List ℕ)) → List ℕ → Result X (Failure F) → Result X Stop → Type 0
-PassesOn {X} {F} shown file read result = (words : F → List ℕ) (due : Result X F) → ((fault : F) → shown fault ≡ Some (words fault))
+PassesOn {X} {F} shown file read result = (words : F → List ℕ) (due : Result X F)
+    → ((fault : F) → shown fault ≡ Some (words fault))
     → reading.Gives read due → Gives (λ (x : X). x) result (declared_in file words due)
 
 -- the answer that the outcome of a command makes, if it makes one
@@ -43,7 +45,8 @@ Answers told command outcome = IsTold told command → IfSome (answer_of outcome
 
 -- the answer that an outcome makes, with this status, was printed, whole
 abbrev pub Prints : Result (Vec ℕ) Stop → Status → Option (List ℕ) → Option (List ℕ) → Type 0
-Prints outcome status old new = (text : List ℕ) × (new ≡ appended old text) × (answer_of outcome ≡ Some (record { status = status; text = text }))
+Prints outcome status old new = (text : List ℕ) × (new ≡ appended old text)
+    × (answer_of outcome ≡ Some (record { status = status; text = text }))
 
 -- a front of its text was printed
 abbrev pub PrintsFront : Result (Vec ℕ) Stop → Option (List ℕ) → Option (List ℕ) → Type 0

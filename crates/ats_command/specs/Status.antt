@@ -1,6 +1,7 @@
 use Rattle.std.specs.Prelude.{ℕ}
 use Rattle.ats_command.specs.declared.status.Status.{Status}
-use Rattle.ats_command.specs.declared.status.Status.TheVariants.{Done, Words, Input, Refused, ReadFailed, WriteFailed, NoMemory}
+use Rattle.ats_command.specs.declared.status.Status.TheVariants.{Done, Words, Input, Refused, ReadFailed, WriteFailed}
+use Rattle.ats_command.specs.declared.status.Status.TheVariants.{NoMemory}
 
 -- the program's exit code
 abbrev pub code_of : Status → ℕ

@@ -14,18 +14,19 @@ use crate::outcome::Stop;
 use ats_bound::make;
 use ats_certificate_file::write_certificate;
 use ats_io::Files;
-use ats_verdict_text::write_reason;
 use ats_network::Network;
 use ats_num::Failure;
 use ats_tally::Reason;
 use ats_topology::Topology;
+use ats_verdict_text::write_reason;
 use std::alloc::{AllocError, Global};
 
-/// The text of `bound NET`. It stops where the network's file has a fault or can't be read, and where no certificate of the
-/// network holds.
+/// The text of `bound NET`. It stops where the network's file has a fault or can't be read, and
+/// where no certificate of the network holds.
 pub fn bound<F: Files>(alloc: Global, net: &str, files: &mut F) -> Result<Vec<u8>, Stop>
     ensures due { Answers (F.told files.old) (table.Bound net.now) result }
-    ensures failed { IsErrOf result Stop.ReadFailed → ReadRose (F.told files.old) (table.Bound net.now) (F.faults files.old) (F.faults files.new) }
+    ensures failed { IsErrOf result Stop.ReadFailed
+        → ReadRose (F.told files.old) (table.Bound net.now) (F.faults files.old) (F.faults files.new) }
     ensures continues { Continues F.told F.faults files.old files.new }
 {
     let network = network_in(alloc, net, files)?;

@@ -16,14 +16,14 @@ use crate::outcome::Stop;
 use ats_certificate::Certificate;
 use ats_checker::Refusal;
 use ats_io::Files;
-use ats_verdict_text::{accepted, write_refusal};
 use ats_network::Network;
 use ats_num::Failure;
 use ats_topology::Topology;
+use ats_verdict_text::{accepted, write_refusal};
 use std::alloc::{AllocError, Global};
 
-/// The text of `check NET CERT`. It stops where the network's file and then where the certificate's has a fault or can't be
-/// read, and where the certificate does not hold.
+/// The text of `check NET CERT`. It stops where the network's file and then where the certificate's
+/// has a fault or can't be read, and where the certificate does not hold.
 pub fn check<F: Files>(
     alloc: Global,
     net: &str,
@@ -32,7 +32,8 @@ pub fn check<F: Files>(
 ) -> Result<Vec<u8>, Stop>
     ensures due { Answers (F.told files.old) (table.Check net.now certificate.now) result }
     ensures sound { OnOk result (IsSoundCheck (F.told files.old) (table.Check net.now certificate.now)) }
-    ensures failed { IsErrOf result Stop.ReadFailed → ReadRose (F.told files.old) (table.Check net.now certificate.now) (F.faults files.old) (F.faults files.new) }
+    ensures failed { IsErrOf result Stop.ReadFailed
+        → ReadRose (F.told files.old) (table.Check net.now certificate.now) (F.faults files.old) (F.faults files.new) }
     ensures continues { Continues F.told F.faults files.old files.new }
 {
     let network = network_in(alloc, net, files)?;

@@ -22,10 +22,11 @@ use std::fmt::Display;
 /// The most bytes of a file that declares a shape, a network or a certificate.
 pub const MAX_BYTES: u64 = 16_777_216;
 
-/// The shape that a file declares. `Input` exactly where the file is too long or has a fault, and `ReadFailed` only where a
-/// fault came at it.
+/// The shape that a file declares. `Input` exactly where the file is too long or has a fault, and
+/// `ReadFailed` only where a fault came at it.
 pub fn shape_in<F: Files>(alloc: Global, file: &str, files: &mut F) -> Result<Shape, Stop>
-    ensures due { IfTold (F.told files.old file.now) (λ bytes. Gives (λ shape. shape) result (shape_in file.now bytes)) }
+    ensures due { IfTold (F.told files.old file.now)
+        (λ bytes. Gives (λ shape. shape) result (shape_in file.now bytes)) }
     ensures failed { IsErrOf result Stop.ReadFailed → Rose (F.faults files.old file.now) (F.faults files.new file.now) }
     ensures continues { Continues F.told F.faults files.old files.new }
 {
@@ -33,10 +34,11 @@ pub fn shape_in<F: Files>(alloc: Global, file: &str, files: &mut F) -> Result<Sh
     declared(alloc, file, read_shape(alloc, &bytes))
 }
 
-/// The network that a file declares. `Input` exactly where the file is too long or has a fault, and `ReadFailed` only where
-/// a fault came at it.
+/// The network that a file declares. `Input` exactly where the file is too long or has a fault, and
+/// `ReadFailed` only where a fault came at it.
 pub fn network_in<F: Files>(alloc: Global, file: &str, files: &mut F) -> Result<Network, Stop>
-    ensures due { IfTold (F.told files.old file.now) (λ bytes. Gives (λ network. network) result (network_in file.now bytes)) }
+    ensures due { IfTold (F.told files.old file.now)
+        (λ bytes. Gives (λ network. network) result (network_in file.now bytes)) }
     ensures failed { IsErrOf result Stop.ReadFailed → Rose (F.faults files.old file.now) (F.faults files.new file.now) }
     ensures continues { Continues F.told F.faults files.old files.new }
 {
@@ -44,15 +46,17 @@ pub fn network_in<F: Files>(alloc: Global, file: &str, files: &mut F) -> Result<
     declared(alloc, file, read_network(alloc, &bytes))
 }
 
-/// The certificate that a file declares for the ports of a topology, each row for one of them. `Input` exactly where the
-/// file is too long or has a fault, and `ReadFailed` only where a fault came at it.
+/// The certificate that a file declares for the ports of a topology, each row for one of them.
+/// `Input` exactly where the file is too long or has a fault, and `ReadFailed` only where a fault
+/// came at it.
 pub fn certificate_in<F: Files>(
     alloc: Global,
     file: &str,
     topology: &Topology,
     files: &mut F,
 ) -> Result<Certificate, Stop>
-    ensures due { IfTold (F.told files.old file.now) (λ bytes. Gives (λ rows. rows) result (rows_in topology.now file.now bytes)) }
+    ensures due { IfTold (F.told files.old file.now)
+        (λ bytes. Gives (λ rows. rows) result (rows_in topology.now file.now bytes)) }
     ensures inside { IfOk result (RowsInside topology.now) }
     ensures failed { IsErrOf result Stop.ReadFailed → Rose (F.faults files.old file.now) (F.faults files.new file.now) }
     ensures continues { Continues F.told F.faults files.old files.new }
@@ -64,7 +68,8 @@ pub fn certificate_in<F: Files>(
 // The bytes of a file that is not too long.
 fn bytes_in<F: Files>(alloc: Global, file: &str, files: &mut F) -> Result<Vec<u8>, Stop>
     ensures few { IfOk result (λ bytes. length bytes.items ≤ MAX_BYTES) }
-    ensures due { IfTold (F.told files.old file.now) (λ bytes. Gives (λ whole. whole.items) result (bytes_in file.now bytes)) }
+    ensures due { IfTold (F.told files.old file.now)
+        (λ bytes. Gives (λ whole. whole.items) result (bytes_in file.now bytes)) }
     ensures failed { IsErrOf result Stop.ReadFailed → Rose (F.faults files.old file.now) (F.faults files.new file.now) }
     ensures continues { Continues F.told F.faults files.old files.new }
 {
@@ -96,7 +101,8 @@ fn declared<T, E: Fault + Display>(
 
 // The line that tells the fault of a file.
 fn input_line<E: Display>(alloc: Global, file: &str, fault: &E) -> Result<Vec<u8>, AllocError>
-    ensures { IfOk result (λ text. (words : List ℕ) → E.output fault.now ≡ Some words → text.items ≡ input_text file.now words) }
+    ensures { IfOk result
+        (λ text. (words : List ℕ) → E.output fault.now ≡ Some words → text.items ≡ input_text file.now words) }
 {
     Ok(format!(in alloc; "input {file} {fault}\n")?.into_bytes())
 }

@@ -15,9 +15,9 @@ pub fn what_bound_answers()
     ensures { BoundMeans }
 {}
 
-/// What each answer to `check` means, by its status. `Done`: the files declare a network and rows that hold for it and are
-/// sound. `Refused`: they declare a network and rows that do not hold for it. `Input`: one of them does not declare what it
-/// should. No other status comes.
+/// What each answer to `check` means, by its status. `Done`: the files declare a network and rows
+/// that hold for it and are sound. `Refused`: they declare a network and rows that do not hold for
+/// it. `Input`: one of them does not declare what it should. No other status comes.
 pub fn what_check_answers()
     ensures { CheckMeans }
 {}

@@ -1,5 +1,6 @@
-//! What a command of the program answers: the command table, the files of a command, the text that each comes to or the stop
-//! in its place, the status, and how they are printed; and which answers are due, with laws about them.
+//! What a command of the program answers: the command table, the files of a command, the text that
+//! each comes to or the stop in its place, the status, and how they are printed; and which answers
+//! are due, with laws about them.
 #![tactic(auto)]
 
 pub mod bound_command;

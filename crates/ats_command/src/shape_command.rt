@@ -16,7 +16,8 @@ use std::alloc::{AllocError, Global};
 /// The text of `shape FILE`. It stops where the file has a fault or can't be read.
 pub fn shape<F: Files>(alloc: Global, file: &str, files: &mut F) -> Result<Vec<u8>, Stop>
     ensures due { Answers (F.told files.old) (table.Shape file.now) result }
-    ensures failed { IsErrOf result Stop.ReadFailed → ReadRose (F.told files.old) (table.Shape file.now) (F.faults files.old) (F.faults files.new) }
+    ensures failed { IsErrOf result Stop.ReadFailed
+        → ReadRose (F.told files.old) (table.Shape file.now) (F.faults files.old) (F.faults files.new) }
     ensures continues { Continues F.told F.faults files.old files.new }
 {
     let shape = shape_in(alloc, file, files)?;

@@ -14,7 +14,8 @@ use std::alloc::Global;
 /// The text of `show NET`. It stops where the network's file has a fault or can't be read.
 pub fn show<F: Files>(alloc: Global, net: &str, files: &mut F) -> Result<Vec<u8>, Stop>
     ensures due { Answers (F.told files.old) (table.Show net.now) result }
-    ensures failed { IsErrOf result Stop.ReadFailed → ReadRose (F.told files.old) (table.Show net.now) (F.faults files.old) (F.faults files.new) }
+    ensures failed { IsErrOf result Stop.ReadFailed
+        → ReadRose (F.told files.old) (table.Show net.now) (F.faults files.old) (F.faults files.new) }
     ensures continues { Continues F.told F.faults files.old files.new }
 {
     let network = network_in(alloc, net, files)?;

@@ -1,5 +1,6 @@
 -- The number of records that are asked of a text makes no difference, once it is above the number of bytes.
-use Rattle.std.proofs.Common.{◌≡◌, ◌≤◌, ◌<◌, ◌+◌, ◌⊎◌, ℕ, zero, suc, List, [], ◌∷◌, length, Option, Some, None, refl, sym, ◌∙◌, ap, inl, inr, add-one, arith}
+use Rattle.std.proofs.Common.{◌≡◌, ◌≤◌, ◌<◌, ◌+◌, ◌⊎◌, ℕ, zero, suc, List, [], ◌∷◌, length, Option, Some, None, refl}
+use Rattle.std.proofs.Common.{sym, ◌∙◌, ap, inl, inr, add-one, arith}
 use Rattle.std.proofs.lemmas.Bool.{cases_Bool}
 use Rattle.csv.specs.Machine.{Read, ends_at_end, field_after, fields_after, is_end, next_record, step}
 use Rattle.csv.specs.Reading.{default_config, is_bom, records_from, records_next, strip_bom}
@@ -24,7 +25,8 @@ shrinks cfg s fields field (c ∷ rest) read e = elim (cases_Bool (is_end (step 
   | inl ends ↦ let f = rw ends at e in
       let left : read.2 ≡ rest = cc f in
       inl (rw left (omega arith))
-  | inr goes ↦ later (shrinks cfg (step cfg s c).0 (fields_after (step cfg s c).1 fields field) (field_after (step cfg s c).1 c field) rest read (rw goes at e))
+  | inr goes ↦ later (shrinks cfg (step cfg s c).0 (fields_after (step cfg s c).1 fields field)
+      (field_after (step cfg s c).1 c field) rest read (rw goes at e))
 ]
   where
     later : Shrinks rest read → Shrinks (c ∷ rest) read
@@ -43,31 +45,40 @@ counted : (cfg : Config) (n m : ℕ) (s : State) (bytes : List ℕ) → length b
 unfolding records_from
 counted cfg zero m s bytes l k = absurd (omega arith)
 counted cfg (suc n) zero s bytes l k = absurd (omega arith)
-counted cfg (suc n) (suc m) s bytes l k = by (next_record cfg s [] [] bytes) refl (λ read. counted cfg n m read.1 read.2)
+counted cfg (suc n) (suc m) s bytes l k =
+    by (next_record cfg s [] [] bytes) refl (λ read. counted cfg n m read.1 read.2)
   where
-    after : (read : Read) → Shrinks bytes read → (length read.2 < n → length read.2 < m → records_from cfg n read.1 read.2 ≡ records_from cfg m read.1 read.2)
+    after : (read : Read) → Shrinks bytes read
+        → (length read.2 < n → length read.2 < m → records_from cfg n read.1 read.2 ≡ records_from cfg m read.1 read.2)
         → records_from cfg n read.1 read.2 ≡ records_from cfg m read.1 read.2
     after read (inl less) more = more (omega arith) (omega arith)
     after read (inr (none, start, end)) more = rw (start, end) (nothing cfg n ∙ sym (nothing cfg m))
 
     by : (o : Option Read) → next_record cfg s [] [] bytes ≡ o
-        → ((read : Read) → length read.2 < n → length read.2 < m → records_from cfg n read.1 read.2 ≡ records_from cfg m read.1 read.2)
-        → records_next (records_from cfg n) (next_record cfg s [] [] bytes) ≡ records_next (records_from cfg m) (next_record cfg s [] [] bytes)
+        → ((read : Read) → length read.2 < n → length read.2 < m
+        → records_from cfg n read.1 read.2 ≡ records_from cfg m read.1 read.2)
+        → records_next (records_from cfg n) (next_record cfg s [] [] bytes)
+        ≡ records_next (records_from cfg m) (next_record cfg s [] [] bytes)
     by None e more = rw e refl
-    by (Some read) e more = rw e (ap (λ rest. read.0 ∷ rest) (after read (shrinks cfg s [] [] bytes read e) (more read)))
+    by (Some read) e more =
+        rw e (ap (λ rest. read.0 ∷ rest) (after read (shrinks cfg s [] [] bytes read e) (more read)))
 
 -- the first record of a text, and those after it
-pub counted-first : (cfg : Config) (s : State) (bytes : List ℕ) (read : Read) → next_record cfg s [] [] bytes ≡ Some read
+pub counted-first : (cfg : Config) (s : State) (bytes : List ℕ) (read : Read)
+    → next_record cfg s [] [] bytes ≡ Some read
     → records_from cfg (length bytes + 1) s bytes ≡ read.0 ∷ records_from cfg (length read.2 + 1) read.1 read.2
 unfolding records_from
-counted-first cfg s bytes read e = rw (add-one (length bytes), e) (ap (λ rest. read.0 ∷ rest) (after (shrinks cfg s [] [] bytes read e)))
+counted-first cfg s bytes read e =
+    rw (add-one (length bytes), e) (ap (λ rest. read.0 ∷ rest) (after (shrinks cfg s [] [] bytes read e)))
   where
-    after : Shrinks bytes read → records_from cfg (length bytes) read.1 read.2 ≡ records_from cfg (length read.2 + 1) read.1 read.2
+    after : Shrinks bytes read
+        → records_from cfg (length bytes) read.1 read.2 ≡ records_from cfg (length read.2 + 1) read.1 read.2
     after (inl less) = counted cfg (length bytes) (length read.2 + 1) read.1 read.2 (omega arith) (omega arith)
     after (inr (none, start, end)) = rw (start, end) (nothing cfg (length bytes) ∙ sym (nothing cfg 1))
 
 -- a text in which no record begins
-pub counted-none : (cfg : Config) (s : State) (bytes : List ℕ) → next_record cfg s [] [] bytes ≡ None → records_from cfg (length bytes + 1) s bytes ≡ []
+pub counted-none : (cfg : Config) (s : State) (bytes : List ℕ) → next_record cfg s [] [] bytes ≡ None
+    → records_from cfg (length bytes + 1) s bytes ≡ []
 unfolding records_from
 counted-none cfg s bytes e = rw (add-one (length bytes), e) refl
 
@@ -77,7 +88,8 @@ unfolding records_from
 counted_few cfg zero s bytes = omega arith
 counted_few cfg (suc n) s bytes = by (next_record cfg s [] [] bytes) (λ read. counted_few cfg n read.1 read.2)
   where
-    by : (o : Option Read) → ((read : Read) → length (records_from cfg n read.1 read.2) ≤ n) → length (records_next (records_from cfg n) o) ≤ suc n
+    by : (o : Option Read) → ((read : Read) → length (records_from cfg n read.1 read.2) ≤ n)
+        → length (records_next (records_from cfg n) o) ≤ suc n
     by None more = omega arith
     by (Some read) more = let few = more read in omega arith
 

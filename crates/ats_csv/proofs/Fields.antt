@@ -1,5 +1,6 @@
 -- The fields of a record by their places.
-use Rattle.std.proofs.Common.{Bool, Bor, ◌≡◌, ◌≢◌, ◌∙◌, ◌<◌, ◌+◌, ℕ, zero, suc, List, [], ◌∷◌, get_or, length, map, take, refl, sym, arith}
+use Rattle.std.proofs.Common.{Bool, Bor, ◌≡◌, ◌≢◌, ◌∙◌, ◌<◌, ◌+◌, ℕ, zero, suc, List, [], ◌∷◌, get_or, length, map}
+use Rattle.std.proofs.Common.{take, refl, sym, arith}
 use Rattle.std.proofs.lemmas.List.{get_or-map, length-map, take_more_same}
 use Rattle.std.proofs.lemmas.Option.{unwrap_or-slice_get}
 use Rattle.std.specs.Bool.{Decides, one_answer}
@@ -20,10 +21,12 @@ field_at_is (field ∷ fields) (suc place) = field_at_is fields place
 -- the element of a list of slices at a place that it has
 field_of_now : (fields : List (Bor (List ℕ))) (place : ℕ) (d : Bor (List ℕ)) → place < length fields
     → field_of (map (λ f. f.now) fields) place ≡ (get_or fields place d).now
-field_of_now fields place d within = unwrap_or-slice_get (map (λ f. f.now) fields) place [] ∙ get_or-map (λ f. f.now) fields place d [] within
+field_of_now fields place d within = unwrap_or-slice_get (map (λ f. f.now) fields) place []
+    ∙ get_or-map (λ f. f.now) fields place d [] within
 
 -- one field more is the same
-pub same_more : (xs : List (List ℕ)) (fields : List (Bor (List ℕ))) (place : ℕ) (d : Bor (List ℕ)) → length xs ≡ length fields → place < length fields
+pub same_more : (xs : List (List ℕ)) (fields : List (Bor (List ℕ))) (place : ℕ) (d : Bor (List ℕ))
+    → length xs ≡ length fields → place < length fields
     → take place xs ≡ take place (map (λ f. f.now) fields) → field_of xs place ≡ (get_or fields place d).now
     → take (place + 1) xs ≡ take (place + 1) (map (λ f. f.now) fields)
 same_more xs fields place d even within so_far here =
@@ -38,7 +41,9 @@ pub differs : (xs : List (List ℕ)) (fields : List (Bor (List ℕ))) (place : �
 differs xs fields place d within other same = other (rw same (field_of_now fields place d within))
 
 -- a test that tells whether two records are equal is that of their fields
-pub same_fields_from : (test : Bool) (some others : List (List ℕ)) → Decides test (some ≡ others) → test ≡ same_fields some others
+pub same_fields_from : (test : Bool) (some others : List (List ℕ)) → Decides test (some ≡ others)
+    → test ≡ same_fields some others
 unfolding same_fields
 same_fields_from test some others decides =
-    one_answer test (pointwise bytes_eq some others) decides (slice_eq-Decides bytes_eq-Decides some others (pointwise bytes_eq some others) refl)
+    one_answer test (pointwise bytes_eq some others) decides
+    (slice_eq-Decides bytes_eq-Decides some others (pointwise bytes_eq some others) refl)

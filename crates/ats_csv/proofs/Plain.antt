@@ -1,5 +1,6 @@
 -- How the plain text of records is put together.
-use Rattle.std.proofs.Common.{◌≡◌, ◌<◌, ◌+◌, ℕ, List, [], ◌∷◌, ◌++◌, get_or, length, map, take, refl, ap, append_assoc, append-nil}
+use Rattle.std.proofs.Common.{◌≡◌, ◌<◌, ◌+◌, ℕ, List, [], ◌∷◌, ◌++◌, get_or, length, map, take, refl, ap, append_assoc}
+use Rattle.std.proofs.Common.{append-nil}
 use Rattle.std.specs.List.{join_with_byte}
 use Rattle.std.proofs.lemmas.Grind.{flat_map-append}
 use Rattle.std.proofs.lemmas.List.{map_more}
@@ -15,10 +16,16 @@ join_is field (next ∷ fields) = ap (λ text. field ++ (44 ∷ text)) (join_is 
 pub joined : (text : List ℕ) (fields : List Field) (first : Field) (rest : List Field) → fields ≡ first ∷ rest
     → text ++ join_with_byte 44 (map bytes_of fields) ≡ (text ++ bytes_of first) ++ further (map bytes_of rest)
 joined text fields first rest e =
-    rw (e, join_is (bytes_of first) (map bytes_of rest), append_assoc text (bytes_of first) (further (map bytes_of rest))) refl
+    rw (
+      e,
+      join_is (bytes_of first) (map bytes_of rest),
+      append_assoc text (bytes_of first) (further (map bytes_of rest)),
+    ) refl
 
 -- one field more
 pub further_more : (fields : List Field) (place : ℕ) (d : Field) → place < length fields
-    → further (map bytes_of (take (place + 1) fields)) ≡ further (map bytes_of (take place fields)) ++ (44 ∷ bytes_of (get_or fields place d))
+    → further (map bytes_of (take (place + 1) fields))
+    ≡ further (map bytes_of (take place fields)) ++ (44 ∷ bytes_of (get_or fields place d))
 further_more fields place d within =
-    rw (map_more bytes_of fields place d within, flat_map-append (λ (field : List ℕ). 44 ∷ field)) (ap (λ text. further (map bytes_of (take place fields)) ++ text) (simp append-nil))
+    rw (map_more bytes_of fields place d within, flat_map-append (λ (field : List ℕ). 44 ∷ field))
+    (ap (λ text. further (map bytes_of (take place fields)) ++ text) (simp append-nil))

@@ -1,5 +1,6 @@
 -- The plain text of plain records reads as these records.
-use Rattle.std.proofs.Common.{◌≡◌, ◌∙◌, ◌<◌, ◌≤◌, ◌+◌, ◌==◌, ℕ, zero, suc, false, List, [], ◌∷◌, ◌++◌, Some, length, refl, ap, length-append, arith}
+use Rattle.std.proofs.Common.{◌≡◌, ◌∙◌, ◌<◌, ◌≤◌, ◌+◌, ◌==◌, ℕ, zero, suc, false, List, [], ◌∷◌, ◌++◌, Some, length}
+use Rattle.std.proofs.Common.{refl, ap, length-append, arith}
 use Rattle.std.specs.Prelude.{All}
 use Rattle.std.specs.List.{list_any}
 use Rattle.std.proofs.lemmas.Bool.{ne_eqb}
@@ -17,7 +18,8 @@ use Rattle.ats_csv.specs.Reading.{records_of}
 
 -- a plain byte calls for no quotation marks
 plain_byte : (byte : ℕ) → IsPlainByte byte → needs_byte default_writer byte ≡ false
-plain_byte byte p = rw (ne_eqb byte 44 p.no_comma, ne_eqb byte 34 p.no_quote, ne_eqb byte 13 p.no_return, ne_eqb byte 10 p.no_feed) refl
+plain_byte byte p =
+    rw (ne_eqb byte 44 p.no_comma, ne_eqb byte 34 p.no_quote, ne_eqb byte 13 p.no_return, ne_eqb byte 10 p.no_feed) refl
 
 plain_field : (field : List ℕ) → All IsPlainByte field → list_any (needs_byte default_writer) field ≡ false
 plain_field [] p = refl
@@ -28,7 +30,8 @@ plain_field (byte ∷ field) p =
 field_plain : (field : List ℕ) → All IsPlainByte field → field_text default_writer field ≡ field
 field_plain field p = rw (plain_field field p) refl
 
-further_plain : (fields : List (List ℕ)) → All (All IsPlainByte) fields → fields_text default_writer fields ≡ further fields
+further_plain : (fields : List (List ℕ)) → All (All IsPlainByte) fields
+    → fields_text default_writer fields ≡ further fields
 unfolding fields_text
 further_plain [] p = refl
 further_plain (field ∷ fields) p =
@@ -37,7 +40,8 @@ further_plain (field ∷ fields) p =
     rw (head, tail) refl
 
 -- a plain record shows a byte
-shown : (field : List ℕ) (fields : List (List ℕ)) → IsPlain (field ∷ fields) → is_blank default_writer (field ∷ fields) ≡ false
+shown : (field : List ℕ) (fields : List (List ℕ)) → IsPlain (field ∷ fields)
+    → is_blank default_writer (field ∷ fields) ≡ false
 unfolding is_blank
 shown [] [] p = absurd (p.visible refl)
 shown (byte ∷ field) [] p =
@@ -98,16 +102,20 @@ begins (fields ∷ records) p = first fields (text_of records) (All-head IsPlain
   where
     first : (fields : List (List ℕ)) (tail : List ℕ) → IsPlain fields → BeginsPlain (record_text fields ++ tail)
     first [] tail q = absurd (q.some refl)
-    first ((byte ∷ field) ∷ []) tail q = (All-head IsPlainByte byte field (All-head (All IsPlainByte) (byte ∷ field) [] q.bytes)).ascii
+    first ((byte ∷ field) ∷ []) tail q =
+        (All-head IsPlainByte byte field (All-head (All IsPlainByte) (byte ∷ field) [] q.bytes)).ascii
     first ([] ∷ []) tail q = absurd (q.visible refl)
-    first ((byte ∷ field) ∷ next ∷ fields) tail q = (All-head IsPlainByte byte field (All-head (All IsPlainByte) (byte ∷ field) (next ∷ fields) q.bytes)).ascii
+    first ((byte ∷ field) ∷ next ∷ fields) tail q =
+        (All-head IsPlainByte byte field (All-head (All IsPlainByte) (byte ∷ field) (next ∷ fields) q.bytes)).ascii
     first ([] ∷ next ∷ fields) tail q = omega arith
 
 pub plain_reads_back : PlainReadsBack
 unfolding records_of
 plain_reads_back records p =
-    rw (unmarked (text_of records) (begins records p)) (records_taken (length (text_of records) + 1) records p (omega arith))
+    rw (unmarked (text_of records) (begins records p))
+    (records_taken (length (text_of records) + 1) records p (omega arith))
 
 pub mark_is_passed : MarkIsPassed
 unfolding records_of
-mark_is_passed records p = rw (marked (text_of records)) (records_taken (length (text_of records) + 1) records p (omega arith))
+mark_is_passed records p =
+    rw (marked (text_of records)) (records_taken (length (text_of records) + 1) records p (omega arith))

@@ -1,6 +1,8 @@
-use Rattle.std.specs.Prelude.{◌≡◌, ℕ, ◌+◌, Bool, true, false, List, [], ◌∷◌, length, Option, Some, None, IsSome, IfSome, IsSomeAnd, ◌≢◌}
+use Rattle.std.specs.Prelude.{◌≡◌, ℕ, ◌+◌, Bool, true, false, List, [], ◌∷◌, length, Option, Some, None, IsSome, IfSome}
+use Rattle.std.specs.Prelude.{IsSomeAnd, ◌≢◌}
 use Rattle.std.specs.Borrow.{Bor}
-use Rattle.csv.specs.Reading.{Ready, default_config, is_flexible, reader_config, reader_state, reader_trim, records_from, source_of}
+use Rattle.csv.specs.Reading.{Ready, default_config, is_flexible, reader_config, reader_state, reader_trim}
+use Rattle.csv.specs.Reading.{records_from, source_of}
 use Rattle.csv.specs.declared.parser.State.{State}
 use Rattle.csv.specs.declared.reader.Reader.{Reader}
 use Rattle.csv.specs.declared.reader.Trim.TheVariants as trim
@@ -26,8 +28,8 @@ records_in state (Some bytes) = records_from default_config (length bytes + 1) s
 abbrev pub records_left : SliceReader → List (List (List ℕ))
 records_left reader = records_in (reader_state reader) (unread_bytes reader)
 
--- the reader reads on: with the default settings but for the width, which is not its to judge, without a header, and over
--- bytes that are known
+-- the reader reads on: with the default settings but for the width, which is not its to judge, without a header, and
+-- over bytes that are known
 pub record ReadsOnward (reader : SliceReader) : Type 0 where
   pub config : reader_config reader ≡ default_config
   pub trim : reader_trim reader ≡ trim.None

@@ -8,4 +8,5 @@ PlainReadsBack = (records : List (List (List ℕ))) → All IsPlain records → 
 
 -- a byte order mark in front of it changes nothing
 abbrev pub MarkIsPassed : Type 0
-MarkIsPassed = (records : List (List (List ℕ))) → All IsPlain records → records_of (0xEF ∷ 0xBB ∷ 0xBF ∷ text_of records) ≡ records
+MarkIsPassed = (records : List (List (List ℕ))) → All IsPlain records
+    → records_of (0xEF ∷ 0xBB ∷ 0xBF ∷ text_of records) ≡ records

@@ -28,8 +28,8 @@ pub record IsPlainByte (byte : ℕ) : Type 0 where
   pub no_return : byte ≢ 13
   pub no_feed : byte ≢ 10
 
--- a record whose plain text reads back: its fields have plain bytes only, and it is neither without a field nor one empty
--- field, since both have the text of a blank line
+-- a record whose plain text reads back: its fields have plain bytes only, and it is neither without a field nor one
+-- empty field, since both have the text of a blank line
 pub record IsPlain (fields : List (List ℕ)) : Type 0 where
   pub bytes : All (All IsPlainByte) fields
   pub some : fields ≢ []

@@ -1,11 +1,13 @@
-use Rattle.std.specs.Prelude.{◌≡◌, ◌≢◌, ℕ, Bool, List, [], ◌∷◌, length, Option, Some, IfSome, IsSomeAnd, unwrap_or, slice_get}
+use Rattle.std.specs.Prelude.{◌≡◌, ◌≢◌, ℕ, Bool, List, [], ◌∷◌, length, Option, Some, IfSome, IsSomeAnd, unwrap_or}
+use Rattle.std.specs.Prelude.{slice_get}
 use Rattle.std.specs.Cmp.Lexicographic.{pointwise}
 use Rattle.std.specs.Str.{bytes_eq}
 use Rattle.csv.specs.Reading.{default_config, records, strip_bom}
 use Rattle.ats_csv.specs.declared.records.Taken.{Taken}
 use Rattle.ats_csv.specs.declared.records.Taken.TheVariants.{Record, OtherWidth, End}
 
--- the records of a file: what csv reads of its bytes by its default settings, behind a byte order mark where there is one
+-- the records of a file: what csv reads of its bytes by its default settings, behind a byte order mark where there is
+-- one
 unfoldable pub records_of : List ℕ → List (List (List ℕ))
 records_of bytes = records default_config (strip_bom bytes)
 

@@ -1,6 +1,7 @@
 //! The records of a file, one after the other.
 
-ghost use Rattle.std.specs.Prelude.{◌≡◌, ◌+◌, ◌<◌, ◌≤◌, ◌↔◌, [], None, true, false, length, map, IsTrue, IsErr, IfOk, OnErr, OnOk, MatchBool};
+ghost use Rattle.std.specs.Prelude.{◌≡◌, ◌+◌, ◌<◌, ◌≤◌, ◌↔◌, [], None, true, false, length, map, IsTrue, IsErr, IfOk};
+ghost use Rattle.std.specs.Prelude.{OnErr, OnOk, MatchBool};
 ghost use Rattle.ats_csv.specs.Reading.{Takes, field_of, records_of, same_fields};
 ghost use Rattle.ats_csv.specs.Inside.{Compares, ReadsOnward, ReadsRecord, records_left};
 ghost use Rattle.csv.specs.Records.{fields_of};
@@ -30,9 +31,10 @@ enum Stage {
 
 /// The records of a CSV file in memory, taken one at a time. Contracts see it as the record `Progress`.
 ///
-/// They are read by the default settings of `csv`, without a header treated apart: fields between commas, records that end
-/// at LF, CR LF or a lone CR, quotation marks around a field that has one of these, no record for a blank line, and a byte
-/// order mark at the start passed over. A last record needs no end, and nothing but memory stops a reading.
+/// They are read by the default settings of `csv`, without a header treated apart: fields between
+/// commas, records that end at LF, CR LF or a lone CR, quotation marks around a field that has one
+/// of these, no record for a blank line, and a byte order mark at the start passed over. A last
+/// record needs no end, and nothing but memory stops a reading.
 #[derive(Drop)]
 pub struct Records<'a> {
     reader: Reader<&'a [u8]>,
@@ -48,7 +50,12 @@ impl<'a> Model for Records<'a> {
 
     ghost Value = { Progress };
 
-    ghost view = { λ r. record { left = left_at r.stage r.reader; width = r.width; fields = fields_of r.row; failed = has_failed_at r.stage } };
+    ghost view = { λ r. record {
+      left = left_at r.stage r.reader;
+      width = r.width;
+      fields = fields_of r.row;
+      failed = has_failed_at r.stage;
+    } };
 
     ghost invariant = { λ r. KeepsReading r.stage r.reader };
 }
@@ -63,8 +70,8 @@ impl<'a> Records<'a> {
         ensures fields { result.fields ≡ [] }
         ensures failed { result.failed ≡ false }
     {
-        // Widths are compared here: of a record that csv refuses for its width it promises neither the fields nor what is
-        // left behind it.
+        // Widths are compared here: of a record that csv refuses for its width it promises neither
+        // the fields nor what is left behind it.
         let reader = ReaderBuilder::new()
             .has_headers(false)
             .flexible(true)
@@ -77,8 +84,8 @@ impl<'a> Records<'a> {
         }
     }
 
-    /// Takes the next record, and says whether it is as wide as the first one; or tells that none is left. After `AllocError`
-    /// each further call answers `AllocError`.
+    /// Takes the next record, and says whether it is as wide as the first one; or tells that none
+    /// is left. After `AllocError` each further call answers `AllocError`.
     pub fn advance(&mut self) -> Result<Taken, AllocError>
         ensures taken { IfOk result (λ taken. Takes taken self.old self.new) }
         ensures failed { OnErr result (self.new.failed ≡ true) }
@@ -127,7 +134,8 @@ impl<'a> Records<'a> {
 #[tactic(auto, using(crate::proofs::Next::read_found))]
 fn read(reader: &mut Reader<&[u8]>, row: &mut ByteRecord) -> Result<bool, AllocError>
     requires { ReadsOnward reader.old }
-    ensures { IfOk result (λ found. MatchBool found (ReadsRecord reader.old reader.new (fields_of row.new)) (records_left reader.old ≡ [])) }
+    ensures { IfOk result (λ found.
+        MatchBool found (ReadsRecord reader.old reader.new (fields_of row.new)) (records_left reader.old ≡ [])) }
 {
     match reader.read_byte_record(row) {
         Ok(found) => Ok(found),

@@ -16,8 +16,8 @@ pub enum Field<'a> {
     Number(u128),
 }
 
-/// Appends the plain text of a record: its fields as they stand, a comma between each two, and LF. It reads back where the
-/// record is plain. After `AllocError` nothing is said of `out`.
+/// Appends the plain text of a record: its fields as they stand, a comma between each two, and LF.
+/// It reads back where the record is plain. After `AllocError` nothing is said of `out`.
 pub fn push_record(out: &mut Vec<u8>, fields: &[Field]) -> Result<(), AllocError>
     ensures { OnOk result (out.new.items ≡ out.old.items ++ record_text (map bytes_of fields.now)) }
 {

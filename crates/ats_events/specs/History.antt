@@ -15,9 +15,11 @@ Makes before old (Pop (Some entry)) new = Pops before old new entry
 Makes before old (Pop None) new = (old.entries ≡ []) × (new ≡ old)
 
 -- what a list of calls makes of an agenda, each within its conditions
-abbrev pub MakeInTurn : {O E : Type 0} → (Moment → Moment → Type 0) → Contents O E → List (Step E) → Contents O E → Type 0
+abbrev pub MakeInTurn : {O E : Type 0} → (Moment → Moment → Type 0) → Contents O E → List (Step E)
+    → Contents O E → Type 0
 MakeInTurn before old [] new = new ≡ old
-MakeInTurn {O} {E} before old (step ∷ steps) new = (next : Contents O E) × Makes before old step next × MakeInTurn before next steps new
+MakeInTurn {O} {E} before old (step ∷ steps) new =
+    (next : Contents O E) × Makes before old step next × MakeInTurn before next steps new
 
 -- the entries that these calls inserted, in their order
 abbrev pub inserted_of : {E : Type 0} → List (Step E) → List (Moment × E)

@@ -21,9 +21,10 @@ pub trait Actor<O: TimeOrder> {
     /// The first actor is a later state of the second.
     ghost follows: { Self → Self → Type 0 };
 
-    /// Handles an event whose entry was just popped, and may insert others. Before the call, what holds does so with this
-    /// entry put back, and its moment is the last popped one and is before those of all entries. After it, less is left,
-    /// what holds does so again, the actor follows the one that it was, and the agenda has its capacity and order still.
+    /// Handles an event whose entry was just popped, and may insert others. Before the call, what
+    /// holds does so with this entry put back, and its moment is the last popped one and is before
+    /// those of all entries. After it, less is left, what holds does so again, the actor follows
+    /// the one that it was, and the agenda has its capacity and order still.
     fn handle(&mut self, moment: Moment, event: Self::Event, agenda: &mut Agenda<O, Self::Event>)
         requires holds { holds self.old ((moment, event) ∷ agenda.old.entries) agenda.old.capacity agenda.old.order }
         requires last { agenda.old.last ≡ Some moment }
@@ -38,14 +39,17 @@ pub trait Actor<O: TimeOrder> {
     ghost reflexive: { (actor : Self) → follows actor actor };
 
     /// An actor that follows a second, which follows a third, follows the third.
-    ghost transitive: { (third second first : Self) → follows third second → follows second first → follows third first };
+    ghost transitive: { (third second first : Self) → follows third second → follows second first
+        → follows third first };
 
     /// What holds does not depend on the order in which the entries are listed.
-    ghost permuted: { (actor : Self) (entries other : List (Moment × Self.Event)) (capacity : ℕ) (order : O) → IsPermutation entries other → holds actor entries capacity order → holds actor other capacity order };
+    ghost permuted: { (actor : Self) (entries other : List (Moment × Self.Event)) (capacity : ℕ) (order : O)
+        → IsPermutation entries other → holds actor entries capacity order → holds actor other capacity order };
 }
 
-/// Gives the actor one event after another, each time the one whose moment is before those of all others that are in the
-/// agenda then, until the agenda is empty. It takes no memory. Which moment is popped last is left open.
+/// Gives the actor one event after another, each time the one whose moment is before those of all
+/// others that are in the agenda then, until the agenda is empty. It takes no memory. Which moment
+/// is popped last is left open.
 pub fn drive<O: TimeOrder, A: Actor<O>>(actor: &mut A, agenda: &mut Agenda<O, A::Event>)
     requires { A.holds actor.old agenda.old.entries agenda.old.capacity agenda.old.order }
     ensures empty { agenda.new.entries ≡ [] }

@@ -11,10 +11,11 @@ use crate::order::{TimeOrder, is_before};
 use std::alloc::{AllocError, Global};
 use std::marker::Model;
 
-/// The events that are still to happen, each at a moment of its own, all after the moment that was popped last: callers see to
-/// that by the conditions of `insert`, and it is not told again. Contracts see
-/// the entries as a list of moments and events, whose order means nothing, the capacity and the order that the agenda was
-/// opened with, and the moment that was popped last, where there is one.
+/// The events that are still to happen, each at a moment of its own, all after the moment that was
+/// popped last: callers see to that by the conditions of `insert`, and it is not told again.
+/// Contracts see the entries as a list of moments and events, whose order means nothing, the
+/// capacity and the order that the agenda was opened with, and the moment that was popped last,
+/// where there is one.
 #[derive(Drop)]
 pub struct Agenda<O: TimeOrder, E: Copy> {
     entries: Vec<(Moment, E)>,
@@ -37,7 +38,8 @@ impl<O: TimeOrder, E: Copy> Model for Agenda<O, E> {
 }
 
 impl<O: TimeOrder, E: Copy> Agenda<O, E> {
-    /// An empty agenda with room for so many entries, whose moments stand in this order. `AllocError` where memory runs out.
+    /// An empty agenda with room for so many entries, whose moments stand in this order.
+    /// `AllocError` where memory runs out.
     pub fn open(alloc: Global, capacity: u32, order: O) -> Result<Agenda<O, E>, AllocError>
         ensures { IfOk result (λ agenda. agenda ≡ opened capacity order) }
     {
@@ -61,8 +63,9 @@ impl<O: TimeOrder, E: Copy> Agenda<O, E> {
         self.entries.push((moment, event)).unwrap();
     }
 
-    /// Takes out the entry whose moment is before all others. This moment is after the one popped before. `None` exactly
-    /// where the agenda is empty, and then nothing changes. It takes no memory.
+    /// Takes out the entry whose moment is before all others. This moment is after the one popped
+    /// before. `None` exactly where the agenda is empty, and then nothing changes. It takes no
+    /// memory.
     pub fn pop(&mut self) -> Option<(Moment, E)>
         ensures popped { IfSome result (λ entry. Pops (O.before self.old.order) self.old self.new entry) }
         ensures after { IfSome result (λ entry. ForSome self.old.last (λ last. O.before self.old.order last entry.0)) }

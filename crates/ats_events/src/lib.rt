@@ -1,5 +1,5 @@
-//! Events in the order of time: moments, the lawful orders of moments, an agenda of what is still to happen, and the loop that
-//! handles it.
+//! Events in the order of time: moments, the lawful orders of moments, an agenda of what is still
+//! to happen, and the loop that handles it.
 #![tactic(auto)]
 
 pub mod actor;

@@ -3,16 +3,19 @@
 ghost use Rattle.std.specs.Prelude.{◌≢◌, ◌↔◌, IsTrue};
 ghost use Rattle.std.specs.Bool.{OnTrue, OnFalse};
 ghost use Rattle.ats_events.specs.declared.moment.Moment.{Moment};
-ghost use Rattle.ats_events.specs.Order.{IsInRange, IsIrreflexive, IsTransitive, IsTotal, IsTimed, IsBeforeByRank, IsBeforeUp, IsBeforeDown, IsBeforeScrambled};
+ghost use Rattle.ats_events.specs.Order.{IsInRange, IsIrreflexive, IsTransitive, IsTotal, IsTimed, IsBeforeByRank};
+ghost use Rattle.ats_events.specs.Order.{IsBeforeUp, IsBeforeDown, IsBeforeScrambled};
 ghost use Rattle.ats_events.specs.Ranked.{up_irreflexive, up_transitive, up_total, up_timed};
 ghost use Rattle.ats_events.specs.Ranked.{down_irreflexive, down_transitive, down_total, down_timed};
-ghost use Rattle.ats_events.specs.Ranked.{scrambled_irreflexive, scrambled_transitive, scrambled_total, scrambled_timed};
+ghost use Rattle.ats_events.specs.Ranked.{scrambled_irreflexive, scrambled_transitive, scrambled_total};
+ghost use Rattle.ats_events.specs.Ranked.{scrambled_timed};
 
 use crate::moment::Moment;
 
-/// A lawful order of moments. Time decides, and at equal times the phase; what happens at one time in one phase stands in
-/// an order that each implementation chooses. No moment is before itself, what is before a moment is before all that
-/// this moment is before, and of two different moments one is before the other.
+/// A lawful order of moments. Time decides, and at equal times the phase; what happens at one time
+/// in one phase stands in an order that each implementation chooses. No moment is before itself,
+/// what is before a moment is before all that this moment is before, and of two different moments
+/// one is before the other.
 pub trait TimeOrder: Copy {
     /// The first moment is before the second.
     ghost before: { Self → Moment → Moment → Type 0 };

@@ -1,4 +1,5 @@
-use Rattle.std.proofs.Common.{◌≡◌, ℕ, ◌<◌, Bool, true, false, List, [], ◌∷◌, length, All, sym, ap, ◌∙◌, refl, subst, eq-eqb, arith}
+use Rattle.std.proofs.Common.{◌≡◌, ℕ, ◌<◌, Bool, true, false, List, [], ◌∷◌, length, All, sym, ap, ◌∙◌, refl, subst}
+use Rattle.std.proofs.Common.{eq-eqb, arith}
 use Rattle.std.specs.Prelude.{◌≢◌, ◌==◌, filter, slice_index, if◌then◌else◌}
 use Rattle.std.proofs.lemmas.Map.Views.{exact_unsigned_eq}
 use Rattle.std.proofs.lemmas.Bool.{false≢true}
@@ -8,17 +9,26 @@ use Rattle.ats_group.specs.declared.member.Member.{Member}
 use Rattle.ats_group.specs.declared.verdict.Verdict.{Verdict}
 use Rattle.ats_group.specs.Group.{State, Offer, judged, next, verdicts_of, state_after}
 use Rattle.ats_group.specs.Standing.{Standing, member_at, declared_of, group_of, residence_of, state_of}
-use Rattle.ats_group.specs.Laws.{verdict_at, standing_next, IsStep, standing_last, verdicts_in, offers_to, EachGroupIsAFold}
+use Rattle.ats_group.specs.Laws.{verdict_at, standing_next, IsStep, standing_last, verdicts_in, offers_to}
+use Rattle.ats_group.specs.Laws.{EachGroupIsAFold}
 use Rattle.ats_group.proofs.StepLemmas.{each_frame, the_rest}
 
 -- one frame before the others: it is the fold's step where it passes the test, and changes nothing elsewhere
-verdicts_more : (test : Bool) (declared : ℕ → Declared) (residence : ℕ) (state later : State) (offer : Offer) (v : Verdict) (verdicts : List Verdict) (offers : List Offer) → verdicts ≡ verdicts_of declared residence later offers → (test ≡ true → v ≡ judged declared residence state offer) → (test ≡ true → later ≡ next declared residence state offer) → (test ≡ false → later ≡ state) → (if test then v ∷ verdicts else verdicts) ≡ verdicts_of declared residence state (if test then offer ∷ offers else offers)
+verdicts_more : (test : Bool) (declared : ℕ → Declared) (residence : ℕ) (state later : State)
+    (offer : Offer) (v : Verdict) (verdicts : List Verdict) (offers : List Offer)
+    → verdicts ≡ verdicts_of declared residence later offers → (test ≡ true → v ≡ judged declared residence state offer)
+    → (test ≡ true → later ≡ next declared residence state offer) → (test ≡ false → later ≡ state) → (if test
+    then v ∷ verdicts else verdicts) ≡ verdicts_of declared residence state (if test then offer ∷ offers else offers)
 verdicts_more true declared residence state later offer v verdicts offers e j n s =
-    ap (λ (x : Verdict). x ∷ verdicts) (j refl) ∙ ap (λ (xs : List Verdict). judged declared residence state offer ∷ xs) (e ∙ ap (λ (x : State). verdicts_of declared residence x offers) (n refl))
+    ap (λ (x : Verdict). x ∷ verdicts) (j refl) ∙ ap (λ (xs : List Verdict). judged declared residence state offer ∷ xs)
+    (e ∙ ap (λ (x : State). verdicts_of declared residence x offers) (n refl))
 verdicts_more false declared residence state later offer v verdicts offers e j n s =
     e ∙ ap (λ (x : State). verdicts_of declared residence x offers) (s refl)
 
-state_more : (test : Bool) (declared : ℕ → Declared) (residence : ℕ) (state later last : State) (offer : Offer) (offers : List Offer) → last ≡ state_after declared residence later offers → (test ≡ true → later ≡ next declared residence state offer) → (test ≡ false → later ≡ state) → last ≡ state_after declared residence state (if test then offer ∷ offers else offers)
+state_more : (test : Bool) (declared : ℕ → Declared) (residence : ℕ) (state later last : State)
+    (offer : Offer) (offers : List Offer) → last ≡ state_after declared residence later offers
+    → (test ≡ true → later ≡ next declared residence state offer) → (test ≡ false → later ≡ state)
+    → last ≡ state_after declared residence state (if test then offer ∷ offers else offers)
 state_more true declared residence state later last offer offers e n s =
     e ∙ ap (λ (x : State). state_after declared residence x offers) (n refl)
 state_more false declared residence state later last offer offers e n s =
@@ -28,20 +38,28 @@ not_same : (m n : ℕ) → (m == n) ≡ false → m ≢ n
 not_same m n e = λ p. false≢true (sym e ∙ eq-eqb m n p)
 
 -- the same fold, told by the members and residences of another moment
-like : (s t : Standing) (group : ℕ) (offers : List Offer) → t.members ≡ s.members → t.residences_ns ≡ s.residences_ns → (state : State) → verdicts_of (declared_of t) (residence_of t group) state (offers_to t group offers) ≡ verdicts_of (declared_of s) (residence_of s group) state (offers_to s group offers)
+like : (s t : Standing) (group : ℕ) (offers : List Offer) → t.members ≡ s.members → t.residences_ns ≡ s.residences_ns
+    → (state : State) → verdicts_of (declared_of t) (residence_of t group) state (offers_to t group offers)
+    ≡ verdicts_of (declared_of s) (residence_of s group) state (offers_to s group offers)
 like s t group offers m r state =
-    ap (λ (ms : List Member). verdicts_of (λ (i : ℕ). (member_at ms i).declared) (residence_of t group) state (filter (λ (o : Offer). (member_at ms o.member).group == group) offers)) m
+    ap (λ (ms : List Member). verdicts_of (λ (i : ℕ). (member_at ms i).declared) (residence_of t group) state
+    (filter (λ (o : Offer). (member_at ms o.member).group == group) offers)) m
     ∙ ap (λ (rs : List ℕ). verdicts_of (declared_of s) (slice_index rs group) state (offers_to s group offers)) r
 
-state_like : (s t : Standing) (group : ℕ) (offers : List Offer) → t.members ≡ s.members → t.residences_ns ≡ s.residences_ns → (state : State) → state_after (declared_of t) (residence_of t group) state (offers_to t group offers) ≡ state_after (declared_of s) (residence_of s group) state (offers_to s group offers)
+state_like : (s t : Standing) (group : ℕ) (offers : List Offer) → t.members ≡ s.members
+    → t.residences_ns ≡ s.residences_ns → (state : State) → state_after (declared_of t) (residence_of t group) state
+    (offers_to t group offers) ≡ state_after (declared_of s) (residence_of s group) state (offers_to s group offers)
 state_like s t group offers m r state =
-    ap (λ (ms : List Member). state_after (λ (i : ℕ). (member_at ms i).declared) (residence_of t group) state (filter (λ (o : Offer). (member_at ms o.member).group == group) offers)) m
+    ap (λ (ms : List Member). state_after (λ (i : ℕ). (member_at ms i).declared) (residence_of t group) state
+    (filter (λ (o : Offer). (member_at ms o.member).group == group) offers)) m
     ∙ ap (λ (rs : List ℕ). state_after (declared_of s) (slice_index rs group) state (offers_to s group offers)) r
 
-step_in : (standing : Standing) (offer : Offer) (group : ℕ) → IsStep standing offer (group_of standing offer.member) → group_of standing offer.member ≡ group → IsStep standing offer group
+step_in : (standing : Standing) (offer : Offer) (group : ℕ) → IsStep standing offer (group_of standing offer.member)
+    → group_of standing offer.member ≡ group → IsStep standing offer group
 step_in standing offer group i e = let P : ℕ → Type 0 = λ (g : ℕ). IsStep standing offer g in subst P e i
 
-members_in : (s t : Standing) (offers : List Offer) → t.members ≡ s.members → All (λ (o : Offer). o.member < length s.members) offers → All (λ (o : Offer). o.member < length t.members) offers
+members_in : (s t : Standing) (offers : List Offer) → t.members ≡ s.members
+    → All (λ (o : Offer). o.member < length s.members) offers → All (λ (o : Offer). o.member < length t.members) offers
 members_in s t offers e a = rw e a
 
 pub each_group : EachGroupIsAFold
@@ -49,16 +67,22 @@ each_group standing [] group k a = record { verdicts = refl; state = refl }
 each_group standing (offer ∷ offers) group k a =
     let later : Standing = standing_next standing offer in
     let kept = the_rest standing offer k in
-    let rest = each_group later offers group kept.lawful (members_in standing later offers kept.members (All-tail (λ (o : Offer). o.member < length standing.members) offer offers a)) in
+    let rest = each_group later offers group kept.lawful (members_in standing later offers kept.members
+    (All-tail (λ (o : Offer). o.member < length standing.members) offer offers a)) in
     let step = each_frame standing offer k (a 0 offer (omega arith)) in
     let test : Bool = group_of standing offer.member == group in
-    let in_group : test ≡ true → IsStep standing offer group = λ e. step_in standing offer group step (exact_unsigned_eq (group_of standing offer.member) group e) in
-    let elsewhere : test ≡ false → state_of later group ≡ state_of standing group = λ e. step.others group (λ p. not_same (group_of standing offer.member) group e (sym p)) in
+    let in_group : test ≡ true → IsStep standing offer group =
+    λ e. step_in standing offer group step (exact_unsigned_eq (group_of standing offer.member) group e) in
+    let elsewhere : test ≡ false → state_of later group ≡ state_of standing group =
+    λ e. step.others group (λ p. not_same (group_of standing offer.member) group e (sym p)) in
     record {
-      verdicts = verdicts_more test (declared_of standing) (residence_of standing group) (state_of standing group) (state_of later group) offer (verdict_at standing offer) (verdicts_in later group offers) (offers_to standing group offers)
+      verdicts = verdicts_more test (declared_of standing) (residence_of standing group) (state_of standing group)
+          (state_of later group) offer (verdict_at standing offer) (verdicts_in later group offers)
+          (offers_to standing group offers)
           (rest.verdicts ∙ like standing later group offers kept.members kept.residences (state_of later group))
           (λ e. (in_group e).verdict) (λ e. (in_group e).own) elsewhere;
-      state = state_more test (declared_of standing) (residence_of standing group) (state_of standing group) (state_of later group) (state_of (standing_last later offers) group) offer (offers_to standing group offers)
+      state = state_more test (declared_of standing) (residence_of standing group) (state_of standing group)
+          (state_of later group) (state_of (standing_last later offers) group) offer (offers_to standing group offers)
           (rest.state ∙ state_like standing later group offers kept.members kept.residences (state_of later group))
           (λ e. (in_group e).own) elsewhere;
     }

@@ -1,4 +1,5 @@
-use Rattle.std.proofs.Common.{◌≡◌, ℕ, ◌<◌, Bool, true, false, List, length, set, sym, ap, ◌∙◌, refl, eq-eqb, inl, inr, replicate}
+use Rattle.std.proofs.Common.{◌≡◌, ℕ, ◌<◌, Bool, true, false, List, length, set, sym, ap, ◌∙◌, refl, eq-eqb, inl, inr}
+use Rattle.std.proofs.Common.{replicate}
 use Rattle.std.specs.Prelude.{◌≢◌, ◌==◌, ℤ, pos, if◌then◌else◌}
 use Rattle.std.proofs.Math.Path.{fun_ext}
 use Rattle.std.proofs.Math.ListN.{get_or-map}
@@ -10,7 +11,8 @@ use Rattle.ats_group.specs.declared.member.Member.{Member}
 use Rattle.ats_group.specs.declared.verdict.Verdict.{Verdict}
 use Rattle.ats_group.specs.declared.verdict.Verdict.TheVariants.{Eligible, Late, Size}
 use Rattle.ats_group.specs.Group.{State, Offer, judged, after, verdict_on, empty_once}
-use Rattle.ats_group.specs.Standing.{Standing, IsStanding, no_member, declared_of, group_of, time_at, empty_at, opened, residence_of, state_of, standing_after}
+use Rattle.ats_group.specs.Standing.{Standing, IsStanding, no_member, declared_of, group_of, time_at, empty_at, opened}
+use Rattle.ats_group.specs.Standing.{residence_of, state_of, standing_after}
 use Rattle.ats_group.specs.Laws.{verdict_at, EachFrameIsAStep, OpenedIsFirst, Outlasts, EachFrameKeepsTheRest}
 use Rattle.ats_group.proofs.Kept.{standing-after}
 
@@ -31,31 +33,44 @@ same n x y = at_true (n == n) x y (eq-eqb n n refl)
 other : (m n : ℕ) (x y : ℤ) → m ≢ n → (if m == n then x else y) ≡ y
 other m n x y e = at_false (m == n) x y (ne_eqb m n e)
 
-state_is : (s t : ℕ) (e f : ℕ → ℤ) → s ≡ t → ((i : ℕ) → e i ≡ f i) → (let x : State = record { time = s; empty = e } in x) ≡ record { time = t; empty = f }
+state_is : (s t : ℕ) (e f : ℕ → ℤ) → s ≡ t → ((i : ℕ) → e i ≡ f i)
+    → (let x : State = record { time = s; empty = e } in x) ≡ record { time = t; empty = f }
 state_is s t e f p q = let g : e ≡ f = fun_ext q in cc
 
 -- the member's own group
-own_verdict : (standing : Standing) (offer : Offer) → verdict_at standing offer ≡ judged (declared_of standing) (residence_of standing (group_of standing offer.member)) (state_of standing (group_of standing offer.member)) offer
+own_verdict : (standing : Standing) (offer : Offer) → verdict_at standing offer ≡ judged (declared_of standing)
+    (residence_of standing (group_of standing offer.member)) (state_of standing (group_of standing offer.member)) offer
 own_verdict standing offer =
-    ap (λ (b : ℤ). verdict_on (declared_of standing offer.member) (residence_of standing (group_of standing offer.member)) (time_at standing.times (group_of standing offer.member)) b offer.arrival offer.octets)
+    ap (λ (b : ℤ).
+    verdict_on (declared_of standing offer.member) (residence_of standing (group_of standing offer.member))
+    (time_at standing.times (group_of standing offer.member)) b offer.arrival offer.octets)
     (sym (same (group_of standing offer.member) (empty_at standing.empties offer.member) _))
 
 -- one member's bucket-empty time after an eligible frame: its own frame, then another member's
-at_member : (empties : List ℤ) (member group : ℕ) (x : ℤ) (once : ℤ → ℤ) (y : ℤ) → member < length empties → x ≡ once (empty_at empties member) → (if group == group then empty_at (set empties member x) member else y) ≡ (if member == member then once (if group == group then empty_at empties member else y) else (if group == group then empty_at empties member else y))
+at_member : (empties : List ℤ) (member group : ℕ) (x : ℤ) (once : ℤ → ℤ) (y : ℤ) → member < length empties
+    → x ≡ once (empty_at empties member) → (if group == group then empty_at (set empties member x) member else y)
+    ≡ (if member == member then once (if group == group then empty_at empties member else y)
+    else (if group == group then empty_at empties member else y))
 at_member empties member group x once y h e =
     same group (empty_at (set empties member x) member) y
     ∙ get_or-set_same empties member x (pos 0) h
     ∙ e
     ∙ ap once (sym (same group (empty_at empties member) y))
-    ∙ sym (same member (once (if group == group then empty_at empties member else y)) (if group == group then empty_at empties member else y))
+    ∙ sym (same member (once (if group == group then empty_at empties member else y))
+    (if group == group then empty_at empties member else y))
 
-at_another : (empties : List ℤ) (member i : ℕ) (x w y : ℤ) (b : Bool) → i ≢ member → (if b then empty_at (set empties member x) i else y) ≡ (if i == member then w else (if b then empty_at empties i else y))
+at_another : (empties : List ℤ) (member i : ℕ) (x w y : ℤ) (b : Bool) → i ≢ member → (if b
+    then empty_at (set empties member x) i else y) ≡ (if i == member then w else (if b then empty_at empties i else y))
 at_another empties member i x w y b n =
     ap (λ (z : ℤ). if b then z else y) (get_or-set_other empties member i x (pos 0) n)
     ∙ sym (other i member w (if b then empty_at empties i else y) n)
 
 -- the bucket-empty times of the member's own group after an eligible frame
-own_empty : (empties : List ℤ) (member : ℕ) (x : ℤ) (once : ℕ → ℤ → ℤ) (groups : ℕ → ℕ) (firsts : ℕ → ℤ) → member < length empties → x ≡ once member (empty_at empties member) → (i : ℕ) → (if groups i == groups member then empty_at (set empties member x) i else firsts i) ≡ (if i == member then once i (if groups i == groups member then empty_at empties i else firsts i) else (if groups i == groups member then empty_at empties i else firsts i))
+own_empty : (empties : List ℤ) (member : ℕ) (x : ℤ) (once : ℕ → ℤ → ℤ) (groups : ℕ → ℕ) (firsts : ℕ → ℤ)
+    → member < length empties → x ≡ once member (empty_at empties member) → (i : ℕ)
+    → (if groups i == groups member then empty_at (set empties member x) i else firsts i)
+    ≡ (if i == member then once i (if groups i == groups member then empty_at empties i else firsts i)
+    else (if groups i == groups member then empty_at empties i else firsts i))
 own_empty empties member x once groups firsts h e i =
     elim (cases_eq i member) [
       | inl p ↦ rw p (at_member empties member (groups member) x (once member) (firsts member) h e)
@@ -63,66 +78,86 @@ own_empty empties member x once groups firsts h e i =
     ]
 
 -- those of every other group stay
-other_empty : (empties : List ℤ) (member group : ℕ) (x : ℤ) (groups : ℕ → ℕ) (firsts : ℕ → ℤ) → group ≢ groups member → (i : ℕ) → (if groups i == group then empty_at (set empties member x) i else firsts i) ≡ (if groups i == group then empty_at empties i else firsts i)
+other_empty : (empties : List ℤ) (member group : ℕ) (x : ℤ) (groups : ℕ → ℕ) (firsts : ℕ → ℤ)
+    → group ≢ groups member → (i : ℕ) → (if groups i == group then empty_at (set empties member x) i else firsts i)
+    ≡ (if groups i == group then empty_at empties i else firsts i)
 other_empty empties member group x groups firsts n i =
     elim (cases_eq i member) [
       | inl p ↦
           (let m : groups i ≢ group = λ q. n (sym q ∙ ap groups p) in
           other (groups i) group _ (firsts i) m ∙ sym (other (groups i) group (empty_at empties i) (firsts i) m))
-      | inr m ↦ ap (λ (z : ℤ). if groups i == group then z else firsts i) (get_or-set_other empties member i x (pos 0) m)
+      | inr m ↦
+          ap (λ (z : ℤ). if groups i == group then z else firsts i) (get_or-set_other empties member i x (pos 0) m)
     ]
 
 -- the member's own group takes the fold's step
-own_after : (standing : Standing) (offer : Offer) (v : Verdict) → group_of standing offer.member < length standing.times → offer.member < length standing.empties → state_of (standing_after standing offer.member offer.octets v) (group_of standing offer.member) ≡ after (declared_of standing) (state_of standing (group_of standing offer.member)) offer v
+own_after : (standing : Standing) (offer : Offer) (v : Verdict)
+    → group_of standing offer.member < length standing.times → offer.member < length standing.empties
+    → state_of (standing_after standing offer.member offer.octets v) (group_of standing offer.member)
+    ≡ after (declared_of standing) (state_of standing (group_of standing offer.member)) offer v
 own_after standing offer (Eligible e) t m =
     state_is _ _ _ _
     (ap (λ (p : Ps). p.0) (get_or-set_same standing.times (group_of standing offer.member) e (record { 0 = 0 }) t))
-    (own_empty standing.empties offer.member _ (λ (i : ℕ) (b : ℤ). empty_once (declared_of standing i) b e.0 offer.octets) (group_of standing) (λ (i : ℕ). first_empty (declared_of standing i).burst_bits) m refl)
+    (own_empty standing.empties offer.member _ (λ (i : ℕ) (b : ℤ). empty_once (declared_of standing i)
+    b e.0 offer.octets) (group_of standing) (λ (i : ℕ). first_empty (declared_of standing i).burst_bits) m refl)
 own_after standing offer (Late e) t m = refl
 own_after standing offer Size t m = refl
 
 -- the others stay
-other_after : (standing : Standing) (offer : Offer) (v : Verdict) (group : ℕ) → group ≢ group_of standing offer.member → state_of (standing_after standing offer.member offer.octets v) group ≡ state_of standing group
+other_after : (standing : Standing) (offer : Offer) (v : Verdict) (group : ℕ) → group ≢ group_of standing offer.member
+    → state_of (standing_after standing offer.member offer.octets v) group ≡ state_of standing group
 other_after standing offer (Eligible e) group n =
     state_is _ _ _ _
-    (ap (λ (p : Ps). p.0) (get_or-set_other standing.times (group_of standing offer.member) group e (record { 0 = 0 }) n))
-    (other_empty standing.empties offer.member group _ (group_of standing) (λ (i : ℕ). first_empty (declared_of standing i).burst_bits) n)
+    (ap (λ (p : Ps). p.0)
+    (get_or-set_other standing.times (group_of standing offer.member) group e (record { 0 = 0 }) n))
+    (other_empty standing.empties offer.member group _ (group_of standing)
+    (λ (i : ℕ). first_empty (declared_of standing i).burst_bits) n)
 other_after standing offer (Late e) group n = refl
 other_after standing offer Size group n = refl
 
-group_in : (standing : Standing) (member : ℕ) → IsStanding standing → member < length standing.members → group_of standing member < length standing.times
+group_in : (standing : Standing) (member : ℕ) → IsStanding standing → member < length standing.members
+    → group_of standing member < length standing.times
 group_in standing member k h = rw k.times (k.members member no_member h).group
 
-member_in : (standing : Standing) (member : ℕ) → IsStanding standing → member < length standing.members → member < length standing.empties
+member_in : (standing : Standing) (member : ℕ) → IsStanding standing → member < length standing.members
+    → member < length standing.empties
 member_in standing member k h = rw k.empties h
 
 pub each_frame : EachFrameIsAStep
 each_frame standing offer k h = record {
   verdict = own_verdict standing offer;
   own =
-      own_after standing offer (verdict_at standing offer) (group_in standing offer.member k h) (member_in standing offer.member k h)
-      ∙ ap (after (declared_of standing) (state_of standing (group_of standing offer.member)) offer) (own_verdict standing offer);
+      own_after standing offer (verdict_at standing offer) (group_in standing offer.member k h)
+      (member_in standing offer.member k h)
+      ∙ ap (after (declared_of standing) (state_of standing (group_of standing offer.member)) offer)
+      (own_verdict standing offer);
   others = λ group n. other_after standing offer (verdict_at standing offer) group n;
 }
 
-outlasts_at : (standing : Standing) (member octets : ℕ) (v : Verdict) → IsStanding (standing_after standing member octets v) → Outlasts standing (standing_after standing member octets v)
+outlasts_at : (standing : Standing) (member octets : ℕ) (v : Verdict)
+    → IsStanding (standing_after standing member octets v) → Outlasts standing (standing_after standing member octets v)
 outlasts_at standing member octets (Eligible e) k = record { members = refl; residences = refl; lawful = k }
 outlasts_at standing member octets (Late e) k = record { members = refl; residences = refl; lawful = k }
 outlasts_at standing member octets Size k = record { members = refl; residences = refl; lawful = k }
 
 pub the_rest : EachFrameKeepsTheRest
 the_rest standing offer k =
-    outlasts_at standing offer.member offer.octets (verdict_at standing offer) (standing-after standing offer.member offer.arrival offer.octets k)
+    outlasts_at standing offer.member offer.octets (verdict_at standing offer)
+    (standing-after standing offer.member offer.arrival offer.octets k)
 
 zero_at : (n group : ℕ) → time_at (replicate n (record { 0 = 0 })) group ≡ 0
 zero_at n group =
     elim (cases_lt group n) [
       | inl h ↦ ap (λ (p : Ps). p.0) (get_or-replicate n group (record { 0 = 0 }) (record { 0 = 0 }) h)
-      | inr h ↦ ap (λ (p : Ps). p.0) (get_or_past (replicate n (record { 0 = 0 })) group (record { 0 = 0 }) (rw (length-replicate n (let p : Ps = record { 0 = 0 } in p)) h))
+      | inr h ↦ ap (λ (p : Ps). p.0) (get_or_past (replicate n (record { 0 = 0 })) group (record { 0 = 0 })
+          (rw (length-replicate n (let p : Ps = record { 0 = 0 } in p)) h))
     ]
 
 pub opened_first : OpenedIsFirst
 opened_first residences members group =
     state_is _ _ _ _ (zero_at (length residences) group)
-    (λ (i : ℕ). ap (λ (z : ℤ). if group_of (opened residences members) i == group then z else first_empty (declared_of (opened residences members) i).burst_bits) (get_or-map (λ (m : Member). first_empty m.declared.burst_bits) members i no_member)
-    ∙ either (group_of (opened residences members) i == group) (first_empty (declared_of (opened residences members) i).burst_bits))
+    (λ (i : ℕ). ap (λ (z : ℤ). if group_of (opened residences members) i == group
+    then z else first_empty (declared_of (opened residences members) i).burst_bits)
+    (get_or-map (λ (m : Member). first_empty m.declared.burst_bits) members i no_member)
+    ∙ either (group_of (opened residences members) i == group)
+    (first_empty (declared_of (opened residences members) i).burst_bits))

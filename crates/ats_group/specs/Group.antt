@@ -18,19 +18,22 @@ is_declared_size declared octets = nat_le declared.min_octets octets && nat_le o
 
 -- the verdict on a frame that would be eligible at this time, where it may stay until `latest`
 abbrev pub verdict_by : ℕ → ℕ → Verdict
-verdict_by latest eligible = if nat_le eligible latest then Eligible (record { 0 = eligible }) else Late (record { 0 = eligible })
+verdict_by latest eligible = if nat_le eligible latest then Eligible (record { 0 = eligible })
+    else Late (record { 0 = eligible })
 
--- the verdict on a frame of a member with this bucket-empty time, in a group with this maximum residence time and this group
--- eligibility time
+-- the verdict on a frame of a member with this bucket-empty time, in a group with this maximum residence time and this
+-- group eligibility time
 abbrev pub verdict_on : Declared → ℕ → ℕ → ℤ → ℕ → ℕ → Verdict
 verdict_on declared residence_ns time empty arrival octets =
     if is_declared_size declared octets
-    then verdict_by (arrival + PS_PER_NS * residence_ns) (eligibility_time declared.rate empty time arrival (bits_of octets))
+    then verdict_by (arrival + PS_PER_NS * residence_ns)
+    (eligibility_time declared.rate empty time arrival (bits_of octets))
     else Size
 
 -- the bucket-empty time of a member once a frame of so many octets was accepted, eligible at this time
 abbrev pub empty_once : Declared → ℤ → ℕ → ℕ → ℤ
-empty_once declared empty eligible octets = empty_after declared.rate declared.burst_bits empty eligible (bits_of octets)
+empty_once declared empty eligible octets =
+    empty_after declared.rate declared.burst_bits empty eligible (bits_of octets)
 
 -- what one group keeps: its group eligibility time, and each member's bucket-empty time multiplied by its rate
 pub record State : Type 0 where
@@ -58,7 +61,8 @@ abbrev pub after : (ℕ → Declared) → State → Offer → Verdict → State
 after declared state offer (Eligible e) =
     record {
       time = e.0;
-      empty = λ member. if member == offer.member then empty_once (declared member) (state.empty member) e.0 offer.octets else state.empty member;
+      empty = λ member. if member == offer.member
+          then empty_once (declared member) (state.empty member) e.0 offer.octets else state.empty member;
     }
 after declared state offer (Late e) = state
 after declared state offer Size = state
@@ -71,14 +75,17 @@ next declared residence_ns state offer = after declared state offer (judged decl
 abbrev pub verdicts_of : (ℕ → Declared) → ℕ → State → List Offer → List Verdict
 verdicts_of declared residence_ns state [] = []
 verdicts_of declared residence_ns state (offer ∷ offers) =
-    judged declared residence_ns state offer ∷ verdicts_of declared residence_ns (next declared residence_ns state offer) offers
+    judged declared residence_ns state offer ∷ verdicts_of declared residence_ns
+    (next declared residence_ns state offer) offers
 
 -- what the group keeps after these frames
 abbrev pub state_after : (ℕ → Declared) → ℕ → State → List Offer → State
 state_after declared residence_ns state [] = state
-state_after declared residence_ns state (offer ∷ offers) = state_after declared residence_ns (next declared residence_ns state offer) offers
+state_after declared residence_ns state (offer ∷ offers) =
+    state_after declared residence_ns (next declared residence_ns state offer) offers
 
--- the bounds of the time of a verdict: at most a second after the arrival; where late, after it, and below the end of time
+-- the bounds of the time of a verdict: at most a second after the arrival; where late, after it, and below the end of
+-- time
 abbrev pub InTime : Verdict → ℕ → Type 0
 InTime (Eligible e) arrival = (arrival ≤ e.0) × (e.0 ≤ arrival + PS_PER_SECOND)
 InTime (Late e) arrival = (arrival < e.0) × (e.0 ≤ END + PS_PER_SECOND * MAX_WIRE_BITS)

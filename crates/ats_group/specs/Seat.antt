@@ -33,7 +33,11 @@ MayAccept bucket octets Size = Unit {0}
 -- the seat after that
 abbrev pub seat_after : Seat → ℕ → ℕ → Seat
 seat_after seat eligible octets =
-    record seat { scheduler = record seat.scheduler { empty = empty_after seat.scheduler.rate seat.scheduler.burst seat.scheduler.empty eligible (bits_of octets) } }
+    record seat {
+      scheduler = record seat.scheduler {
+        empty = empty_after seat.scheduler.rate seat.scheduler.burst seat.scheduler.empty eligible (bits_of octets);
+      };
+    }
 
 abbrev pub members_of : List Seat → List Member
 members_of seats = map (λ (s : Seat). s.member) seats

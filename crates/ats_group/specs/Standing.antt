@@ -1,4 +1,5 @@
-use Rattle.std.specs.Prelude.{◌≡◌, ℕ, ◌<◌, ◌==◌, ℤ, pos, List, length, map, replicate, slice_index, slice_index_or, slice_set, All, if◌then◌else◌}
+use Rattle.std.specs.Prelude.{◌≡◌, ℕ, ◌<◌, ◌==◌, ℤ, pos, List, length, map, replicate, slice_index, slice_index_or}
+use Rattle.std.specs.Prelude.{slice_set, All, if◌then◌else◌}
 use Rattle.ats_num.specs.declared.time.Ps.{Ps}
 use Rattle.ats_bucket.specs.Scheduler.{first_empty}
 use Rattle.ats_group.specs.declared.member.Declared.{Declared}
@@ -7,8 +8,8 @@ use Rattle.ats_group.specs.declared.verdict.Verdict.{Verdict}
 use Rattle.ats_group.specs.declared.verdict.Verdict.TheVariants.{Eligible, Late, Size}
 use Rattle.ats_group.specs.Group.{State, verdict_on, empty_once, IsRuled}
 
--- where all groups stand: the maximum residence time of each group in nanoseconds, the members, the group eligibility time of each
--- group, and the bucket-empty time of each member, multiplied by its rate
+-- where all groups stand: the maximum residence time of each group in nanoseconds, the members, the group eligibility
+-- time of each group, and the bucket-empty time of each member, multiplied by its rate
 pub record Standing : Type 0 where
   pub residences_ns : List ℕ
   pub members : List Member
@@ -45,7 +46,8 @@ abbrev pub state_of : Standing → ℕ → State
 state_of standing group =
     record {
       time = time_at standing.times group;
-      empty = λ member. if group_of standing member == group then empty_at standing.empties member else first_empty (declared_of standing member).burst_bits;
+      empty = λ member. if group_of standing member == group then empty_at standing.empties member
+          else first_empty (declared_of standing member).burst_bits;
     }
 
 -- each member's bucket-empty time at first
@@ -66,21 +68,24 @@ opened residences_ns members =
 abbrev pub verdict_of : Standing → ℕ → ℕ → ℕ → Verdict
 verdict_of standing member arrival octets =
     let group = group_of standing member in
-    verdict_on (declared_of standing member) (residence_of standing group) (time_at standing.times group) (empty_at standing.empties member) arrival octets
+    verdict_on (declared_of standing member) (residence_of standing group) (time_at standing.times group)
+    (empty_at standing.empties member) arrival octets
 
 -- where the groups stand after a verdict on a frame of a member
 abbrev pub standing_after : Standing → ℕ → ℕ → Verdict → Standing
 standing_after standing member octets (Eligible e) =
     record standing {
       times = slice_set standing.times (group_of standing member) e;
-      empties = slice_set standing.empties member (empty_once (declared_of standing member) (empty_at standing.empties member) e.0 octets);
+      empties = slice_set standing.empties member
+          (empty_once (declared_of standing member) (empty_at standing.empties member) e.0 octets);
     }
 standing_after standing member octets (Late e) = standing
 standing_after standing member octets Size = standing
 
 -- where the groups stand after a frame of a member
 abbrev pub value_after : Standing → ℕ → ℕ → ℕ → Standing
-value_after standing member arrival octets = standing_after standing member octets (verdict_of standing member arrival octets)
+value_after standing member arrival octets =
+    standing_after standing member octets (verdict_of standing member arrival octets)
 
 -- a member's group is one of so many, and what is declared of it keeps the rules of a stream
 pub record IsMember (groups : ℕ) (m : Member) : Type 0 where

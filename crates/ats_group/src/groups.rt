@@ -4,7 +4,8 @@ ghost use Rattle.std.specs.Prelude.{◌≡◌, ℕ, ◌-◌, ◌<◌, ◌≤◌,
 ghost use Rattle.ats_num.specs.declared.time.TheConstants.{PS_PER_SECOND, END};
 ghost use Rattle.ats_group.specs.declared.member.TheConstants.{MAX_RESIDENCE_NS};
 ghost use Rattle.ats_group.specs.Group.{InTime};
-ghost use Rattle.ats_group.specs.Standing.{opened, verdict_of, value_after, time_at, first_empties, IsStanding, AreMembers, AreRuled};
+ghost use Rattle.ats_group.specs.Standing.{opened, verdict_of, value_after, time_at, first_empties, IsStanding};
+ghost use Rattle.ats_group.specs.Standing.{AreMembers, AreRuled};
 ghost use Rattle.ats_group.specs.Seat.{IsSeat, standing_of, members_of, empties_of, IsKept};
 
 use crate::member::Member;
@@ -36,9 +37,10 @@ impl Model for Groups {
 }
 
 impl Groups {
-    /// Opens one group for each maximum residence time (at most 1,000,000,000 ns), and a scheduler for each member. Group
-    /// eligibility times are 0 at first, and buckets are full at time 0. Conditions: a member names one of these groups,
-    /// and its declaration keeps the rules of `ats_streams`. `AllocError` where memory runs out.
+    /// Opens one group for each maximum residence time (at most 1,000,000,000 ns), and a scheduler
+    /// for each member. Group eligibility times are 0 at first, and buckets are full at time 0.
+    /// Conditions: a member names one of these groups, and its declaration keeps the rules of
+    /// `ats_streams`. `AllocError` where memory runs out.
     pub fn open(
         alloc: Global,
         residences_ns: &[u32],
@@ -57,10 +59,11 @@ impl Groups {
         })
     }
 
-    /// Takes a frame of a member through its group. A frame that its declaration does not allow is `Size`. For any other
-    /// the member's scheduler proposes an eligibility time: one that lies within the maximum residence time makes the
-    /// frame `Eligible`, sets the group eligibility time and charges the member's bucket; a later one makes it `Late`.
-    /// Frames that are not eligible leave no trace. It takes no memory, and arrivals are at most `END` less a second.
+    /// Takes a frame of a member through its group. A frame that its declaration does not allow is
+    /// `Size`. For any other the member's scheduler proposes an eligibility time: one that lies
+    /// within the maximum residence time makes the frame `Eligible`, sets the group eligibility
+    /// time and charges the member's bucket; a later one makes it `Late`. Frames that are not
+    /// eligible leave no trace. It takes no memory, and arrivals are at most `END` less a second.
     pub fn process(&mut self, member: u32, arrival: Ps, octets: u32) -> Verdict
         requires member { member < length self.old.members }
         requires arrival { arrival.0 ≤ END - PS_PER_SECOND }

@@ -3,14 +3,17 @@ use Rattle.std.proofs.Common.{◌≡◌, ℕ, ◌≤◌, List, ◌++◌, Option,
 use Rattle.ats_io.specs.Outside.{Rose, Continues, appended}
 
 -- the outside goes on from where it stands
-pub Continues-refl : {S : Type 0} {told : S → List ℕ → Option (List ℕ)} {faults : S → List ℕ → ℕ} (s : S) → Continues told faults s s
+pub Continues-refl : {S : Type 0} {told : S → List ℕ → Option (List ℕ)} {faults : S → List ℕ → ℕ} (s : S)
+    → Continues told faults s s
 Continues-refl s = record { holds = refl; counts = λ name. omega arith }
 
 -- two steps are one
-pub Continues-trans : {S : Type 0} {told : S → List ℕ → Option (List ℕ)} {faults : S → List ℕ → ℕ} {r s t : S} → Continues told faults r s → Continues told faults s t → Continues told faults r t
+pub Continues-trans : {S : Type 0} {told : S → List ℕ → Option (List ℕ)} {faults : S → List ℕ → ℕ} {r s t : S}
+    → Continues told faults r s → Continues told faults s t → Continues told faults r t
 Continues-trans {faults = faults} {r = r} {s = s} {t = t} h k = record {
   holds = k.holds ∙ h.holds;
-  counts = λ name. let a : faults r name ≤ faults s name = h.counts name in let b : faults s name ≤ faults t name = k.counts name in omega arith;
+  counts = λ name. let a : faults r name ≤ faults s name = h.counts name in
+      let b : faults s name ≤ faults t name = k.counts name in omega arith;
 }
 
 -- a fault that came since a later count came since an earlier one

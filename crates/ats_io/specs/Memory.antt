@@ -1,4 +1,5 @@
-use Rattle.std.specs.Prelude.{ℕ, ◌+◌, ◌-◌, ◌^◌, ◌==◌, min, Bool, List, [], map, Option, Some, None, option_map, unwrap_or, position, slice_index, String, Vec, string_bytes}
+use Rattle.std.specs.Prelude.{ℕ, ◌+◌, ◌-◌, ◌^◌, ◌==◌, min, Bool, List, [], map, Option, Some, None, option_map}
+use Rattle.std.specs.Prelude.{unwrap_or, position, slice_index, String, Vec, string_bytes}
 use Rattle.std.specs.List.{find, list_any}
 use Rattle.std.specs.Str.{bytes_eq}
 use Rattle.std.specs.declared.alloc.Global.{Global}
@@ -11,8 +12,8 @@ pairs_of files = map (λ file. (string_bytes file.0, file.1.items)) files
 abbrev pub has_name : List ℕ → String Global × Vec ℕ Global → Bool
 has_name name file = bytes_eq (string_bytes file.0) name
 
--- files in memory: their names and bytes, the count of faults of each, the count that all other names share, the number of
--- calls so far, and the numbers of the calls that are to fail
+-- files in memory: their names and bytes, the count of faults of each, the count that all other names share, the number
+-- of calls so far, and the numbers of the calls that are to fail
 pub record HeldFiles : Type 0 where
   pub files : List (List ℕ × List ℕ)
   pub counts : List ℕ
@@ -20,8 +21,8 @@ pub record HeldFiles : Type 0 where
   pub calls : ℕ
   pub fails : List ℕ
 
--- a sink in memory: its bytes, how many there may be, how many it takes a call at most, the numbers of the calls that are to
--- fail, the number of calls so far, and the count of faults
+-- a sink in memory: its bytes, how many there may be, how many it takes a call at most, the numbers of the calls that
+-- are to fail, the number of calls so far, and the count of faults
 pub record HeldText : Type 0 where
   pub bytes : List ℕ
   pub room : ℕ

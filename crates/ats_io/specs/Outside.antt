@@ -9,11 +9,13 @@ abbrev pub IfTold : Option (List ℕ) → (List ℕ → Type 0) → Type 0
 IfTold held P = (bytes : List ℕ) → held ≡ Some bytes → P bytes
 
 -- the outside goes on from `old` to `new`: each name holds what it held, and no count of faults fell
-pub record Continues {S : Type 0} (told : S → List ℕ → Option (List ℕ)) (faults : S → List ℕ → ℕ) (old new : S) : Type 0 where
+pub record Continues {S : Type 0} (told : S → List ℕ → Option (List ℕ)) (faults : S → List ℕ → ℕ)
+    (old new : S) : Type 0 where
   pub holds : told new ≡ told old
   pub counts : (name : List ℕ) → faults old name ≤ faults new name
 
--- the first `count` bytes of the buffer are the ones that stand in `bytes` from place `at`; there are none only at their end
+-- the first `count` bytes of the buffer are the ones that stand in `bytes` from place `at`; there are none only at
+-- their end
 pub record IsPieceAt (bytes : List ℕ) (at count : ℕ) (buffer : List ℕ) : Type 0 where
   pub piece : take count buffer ≡ take count (drop at bytes)
   pub within : count ≤ length (drop at bytes)

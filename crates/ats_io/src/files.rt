@@ -8,20 +8,22 @@ use crate::fault::Failed;
 /// The greatest place in a file from which a read may ask, in bytes.
 pub const MAX_PLACE: u64 = 268_435_456;
 
-/// Files by name. Contracts see the bytes that each name holds, where the implementation tells them, and for each name a
-/// count of faults. The held bytes never change, and no count falls.
+/// Files by name. Contracts see the bytes that each name holds, where the implementation tells
+/// them, and for each name a count of faults. The held bytes never change, and no count falls.
 pub trait Files {
     ghost told: { Self → List ℕ → Option (List ℕ) };
 
     ghost faults: { Self → List ℕ → ℕ };
 
-    /// Reads bytes of the file `name` from place `at` into the front of the buffer, and gives their number: 0 only at or
-    /// past the end of the file. `Failed` comes only where the count of the name rose.
+    /// Reads bytes of the file `name` from place `at` into the front of the buffer, and gives their
+    /// number: 0 only at or past the end of the file. `Failed` comes only where the count of the
+    /// name rose.
     fn read(&mut self, name: &str, at: u64, buf: &mut [u8]) -> Result<usize, Failed>
         requires room { 0 < length buf.old }
         requires place { at ≤ MAX_PLACE }
         ensures within { IfOk result (λ count. count ≤ length buf.new) }
-        ensures piece { IfOk result (λ count. IfTold (told self.old name.now) (λ bytes. IsPieceAt bytes at count buf.new)) }
+        ensures piece { IfOk result
+            (λ count. IfTold (told self.old name.now) (λ bytes. IsPieceAt bytes at count buf.new)) }
         ensures failed { OnErr result (Rose (faults self.old name.now) (faults self.new name.now)) }
         ensures continues { Continues told faults self.old self.new };
 }

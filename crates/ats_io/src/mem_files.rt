@@ -1,8 +1,10 @@
 //! Files in memory whose reads fail where it is planned.
 
-ghost use Rattle.std.specs.Prelude.{◌≡◌, ℕ, ◌<◌, ◌≤◌, ◌||◌, List, length, drop, min, position, is_err, is_none, Option, IfOk, IfSome, OnErr};
+ghost use Rattle.std.specs.Prelude.{◌≡◌, ℕ, ◌<◌, ◌≤◌, ◌||◌, List, length, drop, min, position, is_err, is_none, Option};
+ghost use Rattle.std.specs.Prelude.{IfOk, IfSome, OnErr};
 ghost use Rattle.ats_io.specs.Outside.{Rose, IfTold, Continues, IsPieceAt};
-ghost use Rattle.ats_io.specs.Memory.{pairs_of, bytes_of, count_at, count_of, next_count, has_name, is_named, is_planned};
+ghost use Rattle.ats_io.specs.Memory.{pairs_of, bytes_of, count_at, count_of, next_count, has_name, is_named};
+ghost use Rattle.ats_io.specs.Memory.{is_planned};
 
 use crate::fault::Failed;
 use crate::files::{Files, MAX_PLACE};
@@ -12,10 +14,11 @@ use std::marker::Model;
 
 /// Files for tests: lists of bytes under names, where reads fail when a test wants them to.
 ///
-/// A name means the first entry with exactly its bytes; what that entry has is told. A read gives all the bytes from the
-/// place on, as far as the buffer has room. It fails where there is no such entry, and where its number, the first read
-/// being 1, is in the list that was given. Each entry has its own count of faults, and the names without an entry have one
-/// together. Counters that reach the greatest `u64` stay there. In contracts it is the record `HeldFiles`.
+/// A name means the first entry with exactly its bytes; what that entry has is told. A read gives
+/// all the bytes from the place on, as far as the buffer has room. It fails where there is no such
+/// entry, and where its number, the first read being 1, is in the list that was given. Each entry
+/// has its own count of faults, and the names without an entry have one together. Counters that
+/// reach the greatest `u64` stay there. In contracts it is the record `HeldFiles`.
 #[derive(Drop)]
 pub struct MemFiles {
     files: Vec<(String, Vec<u8>)>,
@@ -31,20 +34,27 @@ impl Model for MemFiles {
 
     ghost Value = { HeldFiles };
 
-    ghost view = { λ s. record { files = pairs_of s.files.items; counts = s.counts.items; others = s.others; calls = s.calls; fails = s.fails.items } };
+    ghost view = { λ s. record {
+      files = pairs_of s.files.items;
+      counts = s.counts.items;
+      others = s.others;
+      calls = s.calls;
+      fails = s.fails.items;
+    } };
 
     ghost invariant = { λ s. vec_len s.counts ≡ vec_len s.files };
 }
 
 impl MemFiles {
-    /// These files, with no fault yet; the calls with the numbers in `fails` are to fail. `AllocError` where there is no
-    /// memory for the counts.
+    /// These files, with no fault yet; the calls with the numbers in `fails` are to fail.
+    /// `AllocError` where there is no memory for the counts.
     pub fn new(
         alloc: Global,
         files: Vec<(String, Vec<u8>)>,
         fails: Vec<u32>,
     ) -> Result<Self, AllocError>
-        ensures told { IfOk result (λ made. (name : List ℕ) → ⟦<MemFiles as Files>⟧.told made name ≡ bytes_of (pairs_of files.items) name) }
+        ensures told { IfOk result
+            (λ made. (name : List ℕ) → ⟦<MemFiles as Files>⟧.told made name ≡ bytes_of (pairs_of files.items) name) }
         ensures faults { IfOk result (λ made. (name : List ℕ) → ⟦<MemFiles as Files>⟧.faults made name ≡ 0) }
         ensures held { IfOk result (λ made. made.files ≡ pairs_of files.items) }
         ensures calls { IfOk result (λ made. made.calls ≡ 0) }
@@ -70,11 +80,15 @@ impl Files for MemFiles {
         requires room { 0 < length buf.old }
         requires place { at ≤ MAX_PLACE }
         ensures within { IfOk result (λ count. count ≤ length buf.new) }
-        ensures piece { IfOk result (λ count. IfTold (bytes_of self.old.files name.now) (λ bytes. IsPieceAt bytes at count buf.new)) }
-        ensures failed { OnErr result (Rose (count_of self.old.files self.old.counts self.old.others name.now) (count_of self.new.files self.new.counts self.new.others name.now)) }
+        ensures piece { IfOk result
+            (λ count. IfTold (bytes_of self.old.files name.now) (λ bytes. IsPieceAt bytes at count buf.new)) }
+        ensures failed { OnErr result (Rose (count_of self.old.files self.old.counts self.old.others name.now)
+            (count_of self.new.files self.new.counts self.new.others name.now)) }
         ensures continues { Continues ⟦<MemFiles as Files>⟧.told ⟦<MemFiles as Files>⟧.faults self.old self.new }
-        ensures full { IfOk result (λ count. IfTold (bytes_of self.old.files name.now) (λ bytes. count ≡ min (length buf.new) (length (drop at bytes)))) }
-        ensures fails { is_err result ≡ (is_none (position (is_named name.now) self.old.files) || is_planned self.old.fails (next_count self.old.calls)) }
+        ensures full { IfOk result (λ count. IfTold (bytes_of self.old.files name.now)
+            (λ bytes. count ≡ min (length buf.new) (length (drop at bytes)))) }
+        ensures fails { is_err result ≡ (is_none (position (is_named name.now) self.old.files)
+            || is_planned self.old.fails (next_count self.old.calls)) }
         ensures calls { self.new.calls ≡ next_count self.old.calls }
         ensures plan { self.new.fails ≡ self.old.fails }
     {
@@ -106,10 +120,14 @@ fn read_named(
     requires paired { length counts.old ≡ length files.now }
     requires room { 0 < length buf.old }
     ensures within { IfOk result (λ count. count ≤ length buf.new) }
-    ensures piece { IfOk result (λ count. IfTold (bytes_of (pairs_of files.now) name.now) (λ bytes. IsPieceAt bytes at count buf.new)) }
-    ensures full { IfOk result (λ count. IfTold (bytes_of (pairs_of files.now) name.now) (λ bytes. count ≡ min (length buf.new) (length (drop at bytes)))) }
-    ensures failed { OnErr result (Rose (count_of (pairs_of files.now) counts.old others.old name.now) (count_of (pairs_of files.now) counts.new others.new name.now)) }
-    ensures grows { (other : List ℕ) → count_of (pairs_of files.now) counts.old others.old other ≤ count_of (pairs_of files.now) counts.new others.new other }
+    ensures piece { IfOk result
+        (λ count. IfTold (bytes_of (pairs_of files.now) name.now) (λ bytes. IsPieceAt bytes at count buf.new)) }
+    ensures full { IfOk result (λ count. IfTold (bytes_of (pairs_of files.now) name.now)
+        (λ bytes. count ≡ min (length buf.new) (length (drop at bytes)))) }
+    ensures failed { OnErr result (Rose (count_of (pairs_of files.now) counts.old others.old name.now)
+        (count_of (pairs_of files.now) counts.new others.new name.now)) }
+    ensures grows { (other : List ℕ) → count_of (pairs_of files.now) counts.old others.old other
+        ≤ count_of (pairs_of files.now) counts.new others.new other }
     ensures fails { is_err result ≡ (is_none (position (is_named name.now) (pairs_of files.now)) || fails) }
     ensures paired { length counts.new ≡ length counts.old }
 {

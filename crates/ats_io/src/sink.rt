@@ -5,15 +5,15 @@ ghost use Rattle.ats_io.specs.Outside.{Rose, appended};
 
 use crate::fault::Failed;
 
-/// A taker of bytes. Contracts see the bytes that it holds, where the implementation tells them, and a count of faults that
-/// never falls.
+/// A taker of bytes. Contracts see the bytes that it holds, where the implementation tells them,
+/// and a count of faults that never falls.
 pub trait Sink {
     ghost held: { Self → Option (List ℕ) };
 
     ghost faults: { Self → ℕ };
 
-    /// Takes bytes from the front of the piece, at least one, and gives their number. `Failed` comes only where the count
-    /// of faults rose, and then nothing is taken.
+    /// Takes bytes from the front of the piece, at least one, and gives their number. `Failed`
+    /// comes only where the count of faults rose, and then nothing is taken.
     fn write(&mut self, piece: &[u8]) -> Result<usize, Failed>
         requires { 0 < length piece.now }
         ensures some { IfOk result (λ count. 0 < count) }

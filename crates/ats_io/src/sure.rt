@@ -1,6 +1,7 @@
 //! Files and a sink that never fail.
 
-ghost use Rattle.std.specs.Prelude.{◌≡◌, ℕ, ◌<◌, ◌≤◌, List, [], None, Some, length, drop, min, IfOk, Ok, option_map, unwrap_or};
+ghost use Rattle.std.specs.Prelude.{◌≡◌, ℕ, ◌<◌, ◌≤◌, List, [], None, Some, length, drop, min, IfOk, Ok, option_map};
+ghost use Rattle.std.specs.Prelude.{unwrap_or};
 ghost use Rattle.std.specs.List.{find};
 ghost use Rattle.ats_io.specs.Outside.{IfTold, Continues, IsPieceAt};
 ghost use Rattle.ats_io.specs.Memory.{pairs_of, has_name, bytes_or_none};
@@ -11,8 +12,9 @@ use crate::plan;
 use crate::sink::Sink;
 use std::marker::Model;
 
-/// Files in memory that cannot fail: there is no fault to count, and a name without an entry is an empty file. What a name
-/// has is always told. In contracts it is the list of its entries, names and bytes.
+/// Files in memory that cannot fail: there is no fault to count, and a name without an entry is an
+/// empty file. What a name has is always told. In contracts it is the list of its entries, names
+/// and bytes.
 #[derive(Drop)]
 pub struct SureFiles {
     files: Vec<(String, Vec<u8>)>,
@@ -28,11 +30,12 @@ impl Model for SureFiles {
 }
 
 impl SureFiles {
-    /// Files that hold these entries, each a name and its bytes. Names may be the same: then the first is held. It takes no
-    /// memory and has no errors.
+    /// Files that hold these entries, each a name and its bytes. Names may be the same: then the
+    /// first is held. It takes no memory and has no errors.
     pub fn new(files: Vec<(String, Vec<u8>)>) -> Self
         ensures held { result ≡ pairs_of files.items }
-        ensures told { (name : List ℕ) → ⟦<SureFiles as Files>⟧.told result name ≡ Some (bytes_or_none (pairs_of files.items) name) }
+        ensures told { (name : List ℕ)
+            → ⟦<SureFiles as Files>⟧.told result name ≡ Some (bytes_or_none (pairs_of files.items) name) }
         ensures faults { (name : List ℕ) → ⟦<SureFiles as Files>⟧.faults result name ≡ 0 }
     {
         SureFiles { files }
@@ -44,14 +47,15 @@ impl Files for SureFiles {
 
     ghost faults = { λ _ _. 0 };
 
-    /// Puts bytes of the file `name` from place `at`, in bytes, into the front of the buffer, as many as are there and fit,
-    /// and gives their number. It is never `Failed`.
+    /// Puts bytes of the file `name` from place `at`, in bytes, into the front of the buffer, as
+    /// many as are there and fit, and gives their number. It is never `Failed`.
     #[tactic(auto, using(crate::proofs::Pairs::bytes_of_pairs))]
     fn read(&mut self, name: &str, at: u64, buf: &mut [u8]) -> Result<usize, Failed>
         requires room { 0 < length buf.old }
         requires place { at ≤ MAX_PLACE }
         ensures within { IfOk result (λ count. count ≤ length buf.new) }
-        ensures piece { IfOk result (λ count. IfTold (Some (bytes_or_none self.old name.now)) (λ bytes. IsPieceAt bytes at count buf.new)) }
+        ensures piece { IfOk result
+            (λ count. IfTold (Some (bytes_or_none self.old name.now)) (λ bytes. IsPieceAt bytes at count buf.new)) }
         ensures continues { Continues ⟦<SureFiles as Files>⟧.told ⟦<SureFiles as Files>⟧.faults self.old self.new }
         ensures full { result ≡ Ok (min (length buf.new) (length (drop at (bytes_or_none self.old name.now)))) }
         ensures same { self.new ≡ self.old }

@@ -1,6 +1,7 @@
 //! Lines and words of a text.
 
-ghost use Rattle.std.specs.Prelude.{◌≡◌, ◌==◌, ◌<◌, ◌≤◌, ◌∷◌, length, drop, position, IfSome, IsSome, ◌↔◌, slice_get, slice_range, option_copied, slice_index, ◌-◌};
+ghost use Rattle.std.specs.Prelude.{◌≡◌, ◌==◌, ◌<◌, ◌≤◌, ◌∷◌, length, drop, position, IfSome, IsSome, ◌↔◌, slice_get};
+ghost use Rattle.std.specs.Prelude.{slice_range, option_copied, slice_index, ◌-◌};
 ghost use Rattle.ats_io.specs.Text.{lines_of, words_of};
 
 /// The line that begins at place `at` of the text: the place where it ends, and the place where the next line begins. A

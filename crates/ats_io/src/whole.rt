@@ -1,6 +1,7 @@
 //! Reads of whole files and writes of whole texts.
 
-ghost use Rattle.std.specs.Prelude.{◌≡◌, ◌+◌, ◌-◌, ◌<◌, ◌≤◌, [], Err, length, take, IfOk, OnOk, OnErr, IsOk, IsErrOf, IsOkUnless, vec_len};
+ghost use Rattle.std.specs.Prelude.{◌≡◌, ◌+◌, ◌-◌, ◌<◌, ◌≤◌, [], Err, length, take, IfOk, OnOk, OnErr, IsOk, IsErrOf};
+ghost use Rattle.std.specs.Prelude.{IsOkUnless, vec_len};
 ghost use Rattle.ats_num.specs.Failure.{Gives};
 ghost use Rattle.ats_io.specs.Outside.{Rose, IfTold, Continues, TakesPrefix, appended};
 ghost use Rattle.ats_io.specs.declared.files.TheConstants.{MAX_PLACE};
@@ -14,11 +15,11 @@ use std::alloc::{AllocError, Global};
 /// The most bytes that one call asks of a file.
 const PIECE: usize = 65_536;
 
-/// The bytes of the file `name`, read from front to end. Conditions: the limit, in bytes, is at most 268,435,456. At most
-/// one byte past the limit is read.
+/// The bytes of the file `name`, read from front to end. Conditions: the limit, in bytes, is at
+/// most 268,435,456. At most one byte past the limit is read.
 ///
-/// `Failed`: a read failed, and the count of faults of the name rose. `TooLong`: the file has more bytes than the limit.
-/// `Failure::NoMemory`: memory ran out.
+/// `Failed`: a read failed, and the count of faults of the name rose. `TooLong`: the file has more
+/// bytes than the limit. `Failure::NoMemory`: memory ran out.
 pub fn read_whole<F: Files>(
     alloc: Global,
     files: &mut F,
@@ -63,8 +64,9 @@ fn new_buffer(alloc: Global) -> Result<Vec<u8>, AllocError>
     Ok(buffer)
 }
 
-/// Writes the whole text, in as many pieces as the sink takes. `Failed` comes only where the count of faults of the sink
-/// rose, and then a front of the text was taken. An empty text makes no call. It takes no memory.
+/// Writes the whole text, in as many pieces as the sink takes. `Failed` comes only where the count
+/// of faults of the sink rose, and then a front of the text was taken. An empty text makes no call.
+/// It takes no memory.
 pub fn write_all<O: Sink>(out: &mut O, text: &[u8]) -> Result<(), Failed>
     ensures taken { OnOk result (O.held out.new ≡ appended (O.held out.old) text.now) }
     ensures cut_short { OnErr result (TakesPrefix text.now (O.held out.old) (O.held out.new)) }

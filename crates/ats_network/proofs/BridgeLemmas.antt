@@ -1,4 +1,5 @@
-use Rattle.std.proofs.Common.{◌≡◌, ◌≢◌, ℕ, ◌<◌, Bool, true, false, List, [], ◌∷◌, length, refl, sym, ap, subst, ◌∙◌, arith}
+use Rattle.std.proofs.Common.{◌≡◌, ◌≢◌, ℕ, ◌<◌, Bool, true, false, List, [], ◌∷◌, length, refl, sym, ap, subst, ◌∙◌}
+use Rattle.std.proofs.Common.{arith}
 use Rattle.std.proofs.lemmas.Bool.{eq-eqb}
 use Rattle.std.specs.List.{All, AllPairs}
 use Rattle.ats_topology.specs.Node.{is_station}
@@ -13,9 +14,10 @@ use Rattle.ats_network.proofs.Appended.{pairs_head, pairs_tail}
 use Rattle.ats_network.proofs.CountLemmas.{one_passes}
 use Rattle.ats_network.proofs.PathLemmas.{nodes_to}
 
--- where two ports of a walk follow each other and the second does not lead back, they meet at a bridge: a station has one port
--- alone, which leads back
-meet : (topology : DeclaredTopology) (p q : ℕ) → IsTopology topology → p < length topology.ports → q < length topology.ports → (port_at topology.ports q).from ≡ (port_at topology.ports p).to
+-- where two ports of a walk follow each other and the second does not lead back, they meet at a bridge: a station has
+-- one port alone, which leads back
+meet : (topology : DeclaredTopology) (p q : ℕ) → IsTopology topology → p < length topology.ports
+    → q < length topology.ports → (port_at topology.ports q).from ≡ (port_at topology.ports p).to
     → (port_at topology.ports p).from ≢ (port_at topology.ports q).to → MeetAtBridge topology p q
 meet topology p q is in_p in_q next onward = record {
   bridge = record {
@@ -38,27 +40,35 @@ meet topology p q is in_p in_q next onward = record {
     never station =
         let alone : HasOnePort topology.ports node = is.stations node there station in
         let same : q ≡ back.back =
-        one_passes (leaves node) topology.ports q back.back no_port alone.leaves in_q back.within (eq-eqb (port_at topology.ports q).from node next) (eq-eqb (port_at topology.ports back.back).from node back.from) in
+        one_passes (leaves node) topology.ports q back.back no_port alone.leaves in_q back.within
+        (eq-eqb (port_at topology.ports q).from node next)
+        (eq-eqb (port_at topology.ports back.back).from node back.from) in
         onward (sym (ap (λ (r : ℕ). (port_at topology.ports r).to) same ∙ back.to))
 
-    by : (b : Bool) → is_station (node_at topology.nodes node).kind ≡ b → is_station (node_at topology.nodes node).kind ≡ false
+    by : (b : Bool) → is_station (node_at topology.nodes node).kind ≡ b
+        → is_station (node_at topology.nodes node).kind ≡ false
     by true e = absurd (never e)
     by false e = e
 
 -- so do all neighbours on a walk that comes to no node twice
-meet_along : (topology : DeclaredTopology) (a : ℕ) (path : List ℕ) (b : ℕ) → IsTopology topology → IsWalk topology.ports a b path → AllPairs (λ m n. m ≢ n) (a ∷ nodes_to topology.ports path) → AllNeighbours (MeetAtBridge topology) path
+meet_along : (topology : DeclaredTopology) (a : ℕ) (path : List ℕ) (b : ℕ) → IsTopology topology
+    → IsWalk topology.ports a b path → AllPairs (λ m n. m ≢ n) (a ∷ nodes_to topology.ports path)
+    → AllNeighbours (MeetAtBridge topology) path
 meet_along topology a [] b is walk apart = tt
 meet_along topology a (p ∷ []) b is walk apart = tt
 meet_along topology a (p ∷ q ∷ path) b is walk apart =
     let ports : List Port = topology.ports in
-    let others : All (λ n. a ≢ n) (nodes_to ports (p ∷ q ∷ path)) = pairs_head (λ m n. m ≢ n) a (nodes_to ports (p ∷ q ∷ path)) apart in
+    let others : All (λ n. a ≢ n) (nodes_to ports (p ∷ q ∷ path)) =
+    pairs_head (λ m n. m ≢ n) a (nodes_to ports (p ∷ q ∷ path)) apart in
     let further : a ≢ (port_at ports q).to = others 1 0 (omega arith) in (
       meet topology p q is walk.0.within walk.1.0.within walk.1.0.from (λ e. further (sym walk.0.from ∙ e)),
-      meet_along topology (port_at ports p).to (q ∷ path) b is walk.1 (pairs_tail (λ m n. m ≢ n) a (nodes_to ports (p ∷ q ∷ path)) apart),
+      meet_along topology (port_at ports p).to (q ∷ path) b is walk.1
+          (pairs_tail (λ m n. m ≢ n) a (nodes_to ports (p ∷ q ∷ path)) apart),
     )
 
 pub meet_at_bridges : PathsMeetAtBridges
 meet_at_bridges topology [] is valid = tt
 meet_at_bridges topology (p ∷ path) is valid =
     meet_along topology (port_at topology.ports p).from (p ∷ path) valid.listener is
-    (subst (λ (n : ℕ). IsWalk topology.ports n valid.listener (p ∷ path)) (sym valid.walk.0.from) valid.walk) valid.apart
+    (subst (λ (n : ℕ). IsWalk topology.ports n valid.listener (p ∷ path)) (sym valid.walk.0.from) valid.walk)
+    valid.apart

@@ -1,4 +1,5 @@
-use Rattle.std.proofs.Common.{◌≡◌, ℕ, ◌<◌, false, List, [], ◌∷◌, ◌++◌, map, length, Option, Some, None, sym, arith, append_assoc, length-append}
+use Rattle.std.proofs.Common.{◌≡◌, ℕ, ◌<◌, false, List, [], ◌∷◌, ◌++◌, map, length, Option, Some, None, sym, arith}
+use Rattle.std.proofs.Common.{append_assoc, length-append}
 use Rattle.std.specs.Prelude.{is_some}
 use Rattle.std.proofs.lemmas.List.{map-append, append-nil}
 use Rattle.std.proofs.lemmas.List.Elements.{All-append, All-push}
@@ -16,23 +17,31 @@ use Rattle.ats_network.proofs.Appended.{all_left, all_right}
 use Rattle.ats_network.proofs.NameLemmas.{names_of-senders, apart_insert}
 use Rattle.ats_network.proofs.IdentityLemmas.{share_push}
 
-stream_names-push : (streams : List DeclaredStream) (stream : DeclaredStream) → stream_names (streams ++ stream ∷ []) ≡ stream_names streams ++ stream.name ∷ []
+stream_names-push : (streams : List DeclaredStream) (stream : DeclaredStream)
+    → stream_names (streams ++ stream ∷ []) ≡ stream_names streams ++ stream.name ∷ []
 stream_names-push streams stream = map-append (λ (s : DeclaredStream). s.name) streams (stream ∷ [])
 
-flow_names-push : (flows : List DeclaredFlow) (flow : DeclaredFlow) → flow_names (flows ++ flow ∷ []) ≡ flow_names flows ++ flow.name ∷ []
+flow_names-push : (flows : List DeclaredFlow) (flow : DeclaredFlow)
+    → flow_names (flows ++ flow ∷ []) ≡ flow_names flows ++ flow.name ∷ []
 flow_names-push flows flow = map-append (λ (f : DeclaredFlow). f.name) flows (flow ∷ [])
 
 -- a network with one stream more keeps what a network keeps
-pub pushed_stream : (network : DeclaredNetwork) (stream : DeclaredStream) → IsNetwork network → IsStream stream → IsValidPath network.topology stream.path
-    → place_of stream.name (names_of (senders_of network)) ≡ None → is_identity_taken network.streams stream.identity ≡ false → length network.streams < MAX_STREAMS → IsNetwork (with_stream network stream)
+pub pushed_stream : (network : DeclaredNetwork) (stream : DeclaredStream) → IsNetwork network → IsStream stream
+    → IsValidPath network.topology stream.path
+    → place_of stream.name (names_of (senders_of network)) ≡ None → is_identity_taken network.streams stream.identity
+    ≡ false → length network.streams < MAX_STREAMS → IsNetwork (with_stream network stream)
 pushed_stream network stream is keeps valid absent free room = record {
   topology = is.topology;
   streams = All-push IsStream network.streams stream is.streams keeps;
   flows = is.flows;
   paths =
       rw (map-append stream_sender network.streams (stream ∷ []))
-      (All-append Goes (streams ++ stream_sender stream ∷ []) flows (All-push Goes streams (stream_sender stream) (all_left Goes streams flows is.paths) valid) (all_right Goes streams flows is.paths));
-  names = rw (names_of-senders (with_stream network stream), stream_names-push network.streams stream) (apart_insert (stream_names network.streams) (flow_names network.flows) stream.name (rw (names_of-senders network) at is.names) (rw (names_of-senders network) at absent));
+      (All-append Goes (streams ++ stream_sender stream ∷ []) flows
+      (All-push Goes streams (stream_sender stream) (all_left Goes streams flows is.paths) valid)
+      (all_right Goes streams flows is.paths));
+  names = rw (names_of-senders (with_stream network stream), stream_names-push network.streams stream)
+      (apart_insert (stream_names network.streams) (flow_names network.flows) stream.name
+      (rw (names_of-senders network) at is.names) (rw (names_of-senders network) at absent));
   identities = share_push network.streams stream is.identities free;
   few_streams = omega (arith, length-append network.streams (stream ∷ []));
   few_flows = is.few_flows;
@@ -48,15 +57,18 @@ pushed_stream network stream is keeps valid absent free room = record {
     Goes s = IsValidPath network.topology s.path
 
 -- and so does one with one flow more
-pub pushed_flow : (network : DeclaredNetwork) (flow : DeclaredFlow) → IsNetwork network → IsFlow flow → IsValidPath network.topology flow.path
-    → place_of flow.name (names_of (senders_of network)) ≡ None → length network.flows < MAX_FLOWS → IsNetwork (with_flow network flow)
+pub pushed_flow : (network : DeclaredNetwork) (flow : DeclaredFlow) → IsNetwork network → IsFlow flow
+    → IsValidPath network.topology flow.path
+    → place_of flow.name (names_of (senders_of network)) ≡ None → length network.flows < MAX_FLOWS
+    → IsNetwork (with_flow network flow)
 pushed_flow network flow is keeps valid absent room = record {
   topology = is.topology;
   streams = is.streams;
   flows = All-push IsFlow network.flows flow is.flows keeps;
   paths =
       rw (map-append flow_sender network.flows (flow ∷ []))
-      (All-append Goes streams (flows ++ flow_sender flow ∷ []) (all_left Goes streams flows is.paths) (All-push Goes flows (flow_sender flow) (all_right Goes streams flows is.paths) valid));
+      (All-append Goes streams (flows ++ flow_sender flow ∷ []) (all_left Goes streams flows is.paths)
+      (All-push Goes flows (flow_sender flow) (all_right Goes streams flows is.paths) valid));
   names = rw (names_of-senders (with_flow network flow), flow_names-push network.flows flow) apart;
   identities = is.identities;
   few_streams = is.few_streams;
@@ -76,15 +88,19 @@ pushed_flow network flow is keeps valid absent room = record {
     names = stream_names network.streams ++ flow_names network.flows
 
     last : AreApart ((names ++ flow.name ∷ []) ++ [])
-    last = apart_insert names [] flow.name (rw (append-nil names) (rw (names_of-senders network) at is.names)) (rw (append-nil names) (rw (names_of-senders network) at absent))
+    last = apart_insert names [] flow.name (rw (append-nil names) (rw (names_of-senders network) at is.names))
+        (rw (append-nil names) (rw (names_of-senders network) at absent))
 
     apart : AreApart (stream_names network.streams ++ (flow_names network.flows ++ flow.name ∷ []))
-    apart = rw (← append_assoc (stream_names network.streams) (flow_names network.flows) (flow.name ∷ [])) (rw (append-nil (names ++ flow.name ∷ [])) at last)
+    apart = rw (← append_assoc (stream_names network.streams) (flow_names network.flows) (flow.name ∷ []))
+        (rw (append-nil (names ++ flow.name ∷ [])) at last)
 
 no_some : (n : ℕ) → is_some (Some n) ≡ false → ⊥
 no_some n h = cc
 
 -- a name that a look-up did not find
-pub not_found : (found : Option ℕ) (name : List ℕ) (network : DeclaredNetwork) → found ≡ place_of name (names_of (senders_of network)) → is_some found ≡ false → place_of name (names_of (senders_of network)) ≡ None
+pub not_found : (found : Option ℕ) (name : List ℕ) (network : DeclaredNetwork)
+    → found ≡ place_of name (names_of (senders_of network)) → is_some found ≡ false
+    → place_of name (names_of (senders_of network)) ≡ None
 not_found None name network same h = sym same
 not_found (Some n) name network same h = absurd (no_some n h)

@@ -1,4 +1,5 @@
-use Rattle.std.proofs.Common.{◌≡◌, ℕ, zero, suc, ◌<◌, ◌≤◌, Bool, true, false, cond, List, [], ◌∷◌, length, Option, Some, None, refl, sym, ap, subst, ◌∙◌, arith, eqb, ⊎_elim}
+use Rattle.std.proofs.Common.{◌≡◌, ℕ, zero, suc, ◌<◌, ◌≤◌, Bool, true, false, cond, List, [], ◌∷◌, length, Option, Some}
+use Rattle.std.proofs.Common.{None, refl, sym, ap, subst, ◌∙◌, arith, eqb, ⊎_elim}
 use Rattle.std.specs.Prelude.{is_some, IsTrue, IfSome, IfNone, IfOk, Result, Ok, Err}
 use Rattle.std.specs.Global.{Vec}
 use Rattle.std.specs.Option.{option_map}
@@ -17,7 +18,8 @@ use Rattle.ats_topology.proofs.Leaving.{IsLeastPort, find-leaving, find-leaving_
 use Rattle.ats_topology.proofs.LawLemmas.{walk_is_one}
 use Rattle.ats_network.specs.Shortest.{first_walk, shortest_of}
 use Rattle.ats_network.specs.Laws.{ShortestIsLeast}
-use Rattle.ats_network.proofs.FirstLemmas.{IsFirst, first_along-some, first_along-none, IsLeastOf, first_of-some, first_of-none}
+use Rattle.ats_network.proofs.FirstLemmas.{IsFirst, first_along-some, first_along-none, IsLeastOf, first_of-some}
+use Rattle.ats_network.proofs.FirstLemmas.{first_of-none}
 use Rattle.ats_network.proofs.SimpleWalks.{SimpleWalk, simple_walk, simple_short}
 
 no_some : {X : Type 0} (x : X) → None ≡ Some x → ⊥
@@ -35,19 +37,24 @@ passes None p h = absurd (h refl)
 passes (Some walk) p h = refl
 
 -- where there is a walk of so many ports, one is computed
-pub walk_found : (n : ℕ) (ports : List Port) (a b : ℕ) (walk : List ℕ) → IsWalk ports a b walk → length walk ≡ n → first_walk n ports a b ≡ None → ⊥
-walk_found zero ports a b [] is long none = no_some [] (sym none ∙ ap (λ (t : Bool). cond t (Some []) None) (eq-eqb a b is))
+pub walk_found : (n : ℕ) (ports : List Port) (a b : ℕ) (walk : List ℕ) → IsWalk ports a b walk → length walk ≡ n
+    → first_walk n ports a b ≡ None → ⊥
+walk_found zero ports a b [] is long none =
+    no_some [] (sym none ∙ ap (λ (t : Bool). cond t (Some []) None) (eq-eqb a b is))
 walk_found zero ports a b (p ∷ walk) is long none = omega arith
 walk_found (suc n) ports a b [] is long none = omega arith
 walk_found (suc n) ports a b (p ∷ walk) is long none =
-    let there : is_some (through n ports b p) ≡ true = passes (first_walk n ports (port_at ports p).to b) p (walk_found n ports (port_at ports p).to b walk is.1 (omega arith)) in
-    find-leaving_some (λ q. is_some (through n ports b q)) a ports p is.0 there (first_along-none (through n ports b) (leaving a ports) none)
+    let there : is_some (through n ports b p) ≡ true = passes (first_walk n ports (port_at ports p).to b) p
+    (walk_found n ports (port_at ports p).to b walk is.1 (omega arith)) in
+    find-leaving_some (λ q. is_some (through n ports b q)) a ports p is.0 there
+    (first_along-none (through n ports b) (leaving a ports) none)
 
 -- what is computed for so many ports: a walk of them, and the first of those
 pub record IsFirstWalk (ports : List Port) (a b n : ℕ) (walk : List ℕ) : Type 0 where
   pub is : IsWalk ports a b walk
   pub long : length walk ≡ n
-  pub first : (other : List ℕ) → IsWalk ports a b other → length other ≡ n → IsTrue (is_le (slice_cmp nat_cmp walk other))
+  pub first : (other : List ℕ) → IsWalk ports a b other → length other ≡ n
+      → IsTrue (is_le (slice_cmp nat_cmp walk other))
 
 le_less : (m n : ℕ) (o : Ordering) → m < n → IsTrue (is_le (ordering_then (nat_cmp m n) o))
 le_less m n o below =
@@ -60,24 +67,30 @@ le_equal m n o same h =
     ap (λ (p : Ordering). is_le (ordering_then p o)) equal ∙ h
 
 -- the first walk through the first port from which the rest can be gone
-first_step : (n : ℕ) (ports : List Port) (a b p : ℕ) (rest : List ℕ) → IsLeastPort (λ q. is_some (through n ports b q)) a ports p → IsFirstWalk ports (port_at ports p).to b n rest → IsFirstWalk ports a b (suc n) (p ∷ rest)
+first_step : (n : ℕ) (ports : List Port) (a b p : ℕ) (rest : List ℕ)
+    → IsLeastPort (λ q. is_some (through n ports b q)) a ports p → IsFirstWalk ports (port_at ports p).to b n rest
+    → IsFirstWalk ports a b (suc n) (p ∷ rest)
 first_step n ports a b p rest port walk = record {
   is = (port.leaves, walk.is);
   long = omega (arith, walk.long);
   first = first;
 }
   where
-    first : (other : List ℕ) → IsWalk ports a b other → length other ≡ suc n → IsTrue (is_le (slice_cmp nat_cmp (p ∷ rest) other))
+    first : (other : List ℕ) → IsWalk ports a b other → length other ≡ suc n
+        → IsTrue (is_le (slice_cmp nat_cmp (p ∷ rest) other))
     first [] is long = absurd (omega arith)
     first (q ∷ other) is long =
-        let there : is_some (through n ports b q) ≡ true = passes (first_walk n ports (port_at ports q).to b) q (walk_found n ports (port_at ports q).to b other is.1 (omega arith)) in
+        let there : is_some (through n ports b q) ≡ true = passes (first_walk n ports (port_at ports q).to b) q
+        (walk_found n ports (port_at ports q).to b other is.1 (omega arith)) in
         let least : p ≤ q = port.least q is.0 there in
         ⊎_elim
-        (λ same. le_equal p q (slice_cmp nat_cmp rest other) same (walk.first other (subst (λ (k : ℕ). IsWalk ports (port_at ports k).to b other) (sym same) is.1) (omega arith)))
+        (λ same. le_equal p q (slice_cmp nat_cmp rest other) same
+        (walk.first other (subst (λ (k : ℕ). IsWalk ports (port_at ports k).to b other) (sym same) is.1) (omega arith)))
         (λ ne. le_less p q (slice_cmp nat_cmp rest other) (omega arith))
         (cases_eq p q)
 
-pub first_walk-is : (n : ℕ) (ports : List Port) (a b : ℕ) (walk : List ℕ) → first_walk n ports a b ≡ Some walk → IsFirstWalk ports a b n walk
+pub first_walk-is : (n : ℕ) (ports : List Port) (a b : ℕ) (walk : List ℕ) → first_walk n ports a b ≡ Some walk
+    → IsFirstWalk ports a b n walk
 first_walk-is zero ports a b walk h = by (eqb a b) refl h
   where
     alone : (other : List ℕ) → length other ≡ 0 → IsTrue (is_le (slice_cmp nat_cmp [] other))
@@ -90,23 +103,31 @@ first_walk-is zero ports a b walk h = by (eqb a b) refl h
         (record { is = eqb-true a b e; long = refl; first = λ other is long. alone other long })
     by false e h = absurd (no_some walk h)
 first_walk-is (suc n) ports a b walk h =
-    let f : IsFirst (through n ports b) (leaving a ports) walk = first_along-some (through n ports b) (leaving a ports) walk h in
-    by f (first_walk n ports (port_at ports f.number).to b) refl f.gives (first_walk-is n ports (port_at ports f.number).to b)
+    let f : IsFirst (through n ports b) (leaving a ports) walk =
+    first_along-some (through n ports b) (leaving a ports) walk h in
+    by f (first_walk n ports (port_at ports f.number).to b) refl f.gives
+    (first_walk-is n ports (port_at ports f.number).to b)
   where
-    by : (f : IsFirst (through n ports b) (leaving a ports) walk) (o : Option (List ℕ)) → first_walk n ports (port_at ports f.number).to b ≡ o → option_map (λ (rest : List ℕ). f.number ∷ rest) o ≡ Some walk
-        → ((rest : List ℕ) → first_walk n ports (port_at ports f.number).to b ≡ Some rest → IsFirstWalk ports (port_at ports f.number).to b n rest) → IsFirstWalk ports a b (suc n) walk
+    by : (f : IsFirst (through n ports b) (leaving a ports) walk) (o : Option (List ℕ))
+        → first_walk n ports (port_at ports f.number).to b ≡ o
+        → option_map (λ (rest : List ℕ). f.number ∷ rest) o ≡ Some walk
+        → ((rest : List ℕ) → first_walk n ports (port_at ports f.number).to b ≡ Some rest
+        → IsFirstWalk ports (port_at ports f.number).to b n rest) → IsFirstWalk ports a b (suc n) walk
     by f None e g more = absurd (no_some walk g)
     by f (Some rest) e g more =
         subst (IsFirstWalk ports a b (suc n)) (some_is (f.number ∷ rest) walk g)
-        (first_step n ports a b f.number rest (find-leaving (λ q. is_some (through n ports b q)) a ports f.number f.found) (more rest e))
+        (first_step n ports a b f.number rest
+        (find-leaving (λ q. is_some (through n ports b q)) a ports f.number f.found) (more rest e))
 
 abbrev by_length : DeclaredTopology → ℕ → ℕ → ℕ → Option (List ℕ)
 by_length topology a b n = first_walk n topology.ports a b
 
 -- the walk of fewest ports is the least
-computed_least : (topology : DeclaredTopology) (a b : ℕ) (walk : List ℕ) → shortest_of topology a b ≡ Some walk → IsLeastWalk topology.ports a b walk
+computed_least : (topology : DeclaredTopology) (a b : ℕ) (walk : List ℕ) → shortest_of topology a b ≡ Some walk
+    → IsLeastWalk topology.ports a b walk
 computed_least topology a b walk h =
-    let l : IsLeastOf (by_length topology a b) (length topology.nodes) walk = first_of-some (by_length topology a b) (length topology.nodes) walk h in
+    let l : IsLeastOf (by_length topology a b) (length topology.nodes) walk =
+    first_of-some (by_length topology a b) (length topology.nodes) walk h in
     let w : IsFirstWalk topology.ports a b l.number walk = first_walk-is l.number topology.ports a b walk l.gives in
     record {
       walk_is = w.is;
@@ -114,7 +135,8 @@ computed_least topology a b walk h =
       first = λ other is long. w.first other is (long ∙ w.long);
     }
   where
-    least : (l : IsLeastOf (by_length topology a b) (length topology.nodes) walk) → length walk ≡ l.number → (other : List ℕ) → IsWalk topology.ports a b other → length walk ≤ length other
+    least : (l : IsLeastOf (by_length topology a b) (length topology.nodes) walk) → length walk ≡ l.number
+        → (other : List ℕ) → IsWalk topology.ports a b other → length walk ≤ length other
     least l long other is = ⊎_elim
         (λ below. absurd (walk_found (length other) topology.ports a b other is refl (l.before (length other) below)))
         (λ above. omega arith)
@@ -125,12 +147,15 @@ shortest_least topology a b is in_a in_b = record {
   least = computed_least topology a b;
   none = λ none walk goes.
       let s : SimpleWalk topology.ports a b = simple_walk topology.ports a walk b goes in
-      walk_found (length s.walk) topology.ports a b s.walk s.is refl (first_of-none (by_length topology a b) (length topology.nodes) none (length s.walk) (simple_short topology a b is in_a s));
+      walk_found (length s.walk) topology.ports a b s.walk s.is refl (first_of-none (by_length topology a b)
+      (length topology.nodes) none (length s.walk) (simple_short topology a b is in_a s));
 }
 
 -- so what a search found is what is computed
-pub found_is : (topology : DeclaredTopology) (a b : ℕ) (found : Option (Vec ℕ)) → IsTopology topology → a < length topology.nodes → b < length topology.nodes
-    → IfSome found (λ walk. IsLeastWalk topology.ports a b walk.items) → IfNone found (NoWalk topology.ports a b) → option_map (λ (walk : Vec ℕ). walk.items) found ≡ shortest_of topology a b
+pub found_is : (topology : DeclaredTopology) (a b : ℕ) (found : Option (Vec ℕ)) → IsTopology topology
+    → a < length topology.nodes → b < length topology.nodes
+    → IfSome found (λ walk. IsLeastWalk topology.ports a b walk.items) → IfNone found (NoWalk topology.ports a b)
+    → option_map (λ (walk : Vec ℕ). walk.items) found ≡ shortest_of topology a b
 found_is topology a b None is in_a in_b walk none = by (shortest_of topology a b) refl
   where
     by : (o : Option (List ℕ)) → shortest_of topology a b ≡ o → None ≡ shortest_of topology a b
@@ -140,10 +165,13 @@ found_is topology a b (Some walk) is in_a in_b least none = by (shortest_of topo
   where
     by : (o : Option (List ℕ)) → shortest_of topology a b ≡ o → Some walk.items ≡ shortest_of topology a b
     by None e = absurd ((shortest_least topology a b is in_a in_b).none e walk.items least.walk_is)
-    by (Some other) e = ap Some (walk_is_one topology.ports a b walk.items other least (computed_least topology a b other e)) ∙ sym e
+    by (Some other) e =
+        ap Some (walk_is_one topology.ports a b walk.items other least (computed_least topology a b other e)) ∙ sym e
 
-pub result_is : (topology : DeclaredTopology) (a b : ℕ) (result : Result (Option (Vec ℕ)) AllocError) → IsTopology topology → a < length topology.nodes → b < length topology.nodes
-    → IfOk result (λ found. IfSome found (λ walk. IsLeastWalk topology.ports a b walk.items)) → IfOk result (λ found. IfNone found (NoWalk topology.ports a b))
+pub result_is : (topology : DeclaredTopology) (a b : ℕ) (result : Result (Option (Vec ℕ)) AllocError)
+    → IsTopology topology → a < length topology.nodes → b < length topology.nodes
+    → IfOk result (λ found. IfSome found (λ walk. IsLeastWalk topology.ports a b walk.items))
+    → IfOk result (λ found. IfNone found (NoWalk topology.ports a b))
     → IfOk result (λ found. option_map (λ (walk : Vec ℕ). walk.items) found ≡ shortest_of topology a b)
 result_is topology a b (Ok found) is in_a in_b walk none = found_is topology a b found is in_a in_b walk none
 result_is topology a b (Err e) is in_a in_b walk none = tt

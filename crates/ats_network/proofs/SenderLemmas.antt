@@ -1,4 +1,5 @@
-use Rattle.std.proofs.Common.{◌≡◌, ◌≢◌, ℕ, ◌-◌, ◌<◌, ◌≤◌, List, [], ◌∷◌, map, length, sym, ap, ◌∙◌, arith, length-append}
+use Rattle.std.proofs.Common.{◌≡◌, ◌≢◌, ℕ, ◌-◌, ◌<◌, ◌≤◌, List, [], ◌∷◌, map, length, sym, ap, ◌∙◌, arith}
+use Rattle.std.proofs.Common.{length-append}
 use Rattle.std.specs.List.{All, AllPairs}
 use Rattle.std.proofs.lemmas.List.{get_or-append_right, get_or-map, length-map}
 use Rattle.std.proofs.lemmas.List.Elements.{All-nil, All-cons, All-head, All-tail, All-append}
@@ -31,7 +32,8 @@ ports_apart topology (p ∷ path) valid =
     pairs_unmap (λ q. (port_at topology.ports q).to) (p ∷ path)
     (pairs_tail (λ m n. m ≢ n) (port_at topology.ports p).from (nodes_to topology.ports (p ∷ path)) valid.apart)
 
-is_sender : (topology : DeclaredTopology) (s : Sender) → IsTopology topology → IsValidPath topology s.path → IsPath s.path → s.class ≤ MAX_CLASS → AreSizes s.min_octets s.max_octets
+is_sender : (topology : DeclaredTopology) (s : Sender) → IsTopology topology → IsValidPath topology s.path
+    → IsPath s.path → s.class ≤ MAX_CLASS → AreSizes s.min_octets s.max_octets
     → (1 ≤ s.class → KeepsRules s.rate s.burst_bits s.min_octets s.max_octets) → IsSender topology s
 is_sender topology s is valid path class sizes shaped = record {
   path = path;
@@ -44,21 +46,31 @@ is_sender topology s is valid path class sizes shaped = record {
   shaped = shaped;
 }
 
-streams_are : (topology : DeclaredTopology) (streams : List DeclaredStream) → IsTopology topology → All IsStream streams → All (λ (s : Sender). IsValidPath topology s.path) (map stream_sender streams) → All (IsSender topology) (map stream_sender streams)
+streams_are : (topology : DeclaredTopology) (streams : List DeclaredStream) → IsTopology topology
+    → All IsStream streams → All (λ (s : Sender). IsValidPath topology s.path) (map stream_sender streams)
+    → All (IsSender topology) (map stream_sender streams)
 streams_are topology [] is keep valid = All-nil (IsSender topology)
 streams_are topology (s ∷ streams) is keep valid =
     let rules : IsStream s = All-head IsStream s streams keep in
     All-cons (IsSender topology) (stream_sender s) (map stream_sender streams)
-    (is_sender topology (stream_sender s) is (All-head (λ (s : Sender). IsValidPath topology s.path) (stream_sender s) (map stream_sender streams) valid) rules.path rules.class.most rules.rules.sizes (λ _. rules.rules))
-    (streams_are topology streams is (All-tail IsStream s streams keep) (All-tail (λ (s : Sender). IsValidPath topology s.path) (stream_sender s) (map stream_sender streams) valid))
+    (is_sender topology (stream_sender s) is (All-head (λ (s : Sender). IsValidPath topology s.path) (stream_sender s)
+    (map stream_sender streams) valid) rules.path rules.class.most rules.rules.sizes (λ _. rules.rules))
+    (streams_are topology streams is (All-tail IsStream s streams keep)
+    (All-tail (λ (s : Sender). IsValidPath topology s.path) (stream_sender s) (map stream_sender streams) valid))
 
-flows_are : (topology : DeclaredTopology) (flows : List DeclaredFlow) → IsTopology topology → All IsFlow flows → All (λ (s : Sender). IsValidPath topology s.path) (map flow_sender flows) → All (IsSender topology) (map flow_sender flows)
+flows_are : (topology : DeclaredTopology) (flows : List DeclaredFlow) → IsTopology topology
+    → All IsFlow flows → All (λ (s : Sender). IsValidPath topology s.path) (map flow_sender flows)
+    → All (IsSender topology) (map flow_sender flows)
 flows_are topology [] is keep valid = All-nil (IsSender topology)
 flows_are topology (f ∷ flows) is keep valid =
     let rules : IsFlow f = All-head IsFlow f flows keep in
     All-cons (IsSender topology) (flow_sender f) (map flow_sender flows)
-    (is_sender topology (flow_sender f) is (All-head (λ (s : Sender). IsValidPath topology s.path) (flow_sender f) (map flow_sender flows) valid) rules.path (omega arith) (record { least = omega arith; ordered = rules.size.least; most = rules.size.most }) (λ positive. absurd (omega arith)))
-    (flows_are topology flows is (All-tail IsFlow f flows keep) (All-tail (λ (s : Sender). IsValidPath topology s.path) (flow_sender f) (map flow_sender flows) valid))
+    (is_sender topology (flow_sender f) is
+    (All-head (λ (s : Sender). IsValidPath topology s.path) (flow_sender f) (map flow_sender flows) valid)
+    rules.path (omega arith) (record { least = omega arith; ordered = rules.size.least; most = rules.size.most })
+    (λ positive. absurd (omega arith)))
+    (flows_are topology flows is (All-tail IsFlow f flows keep)
+    (All-tail (λ (s : Sender). IsValidPath topology s.path) (flow_sender f) (map flow_sender flows) valid))
 
 pub each_is_sender : EachIsSender
 each_is_sender network is =
@@ -73,7 +85,8 @@ no_flow : DeclaredFlow
 no_flow = record { name = []; path = []; max_octets = 0 }
 
 -- a sender past the streams is of class 0
-pub flow_class : (network : DeclaredNetwork) (n : ℕ) → length network.streams ≤ n → n < length (senders_of network) → (sender_at network n).class ≡ 0
+pub flow_class : (network : DeclaredNetwork) (n : ℕ) → length network.streams ≤ n → n < length (senders_of network)
+    → (sender_at network n).class ≡ 0
 flow_class network n past within =
     let streams : List Sender = map stream_sender network.streams in
     let flows : List Sender = map flow_sender network.flows in
@@ -81,4 +94,5 @@ flow_class network n past within =
     let second : length flows ≡ length network.flows = length-map network.flows flow_sender in
     let below : n - length network.streams < length network.flows = omega (arith, length-append streams flows) in
     ap (λ (s : Sender). s.class)
-    (get_or-append_right streams flows (length network.streams) n no_sender first past ∙ get_or-map flow_sender network.flows (n - length network.streams) no_flow no_sender below)
+    (get_or-append_right streams flows (length network.streams) n no_sender first past
+    ∙ get_or-map flow_sender network.flows (n - length network.streams) no_flow no_sender below)

@@ -13,13 +13,16 @@ EachIsSender = (network : DeclaredNetwork) → IsNetwork network → All (IsSend
 
 -- the ports of a valid path meet at bridges: each but the last leads to one, and each but the first leaves one
 abbrev pub PathsMeetAtBridges : Type 0
-PathsMeetAtBridges = (topology : DeclaredTopology) (path : List ℕ) → IsTopology topology → IsValidPath topology path → AllNeighbours (MeetAtBridge topology) path
+PathsMeetAtBridges = (topology : DeclaredTopology) (path : List ℕ) → IsTopology topology → IsValidPath topology path
+    → AllNeighbours (MeetAtBridge topology) path
 
 -- what the walk that is computed says, and what none says
 pub record IsShortest (topology : DeclaredTopology) (a b : ℕ) : Type 0 where
   pub least : (walk : List ℕ) → shortest_of topology a b ≡ Some walk → IsLeastWalk topology.ports a b walk
   pub none : shortest_of topology a b ≡ None → NoWalk topology.ports a b
 
--- between two nodes of a topology, the walk that is computed is the least, and there is none only where no walk leads there
+-- between two nodes of a topology, the walk that is computed is the least, and there is none only where no walk leads
+-- there
 abbrev pub ShortestIsLeast : Type 0
-ShortestIsLeast = (topology : DeclaredTopology) (a b : ℕ) → IsTopology topology → a < length topology.nodes → b < length topology.nodes → IsShortest topology a b
+ShortestIsLeast = (topology : DeclaredTopology) (a b : ℕ) → IsTopology topology → a < length topology.nodes
+    → b < length topology.nodes → IsShortest topology a b

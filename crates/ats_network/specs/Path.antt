@@ -15,8 +15,8 @@ abbrev pub nodes_along : List Port → List ℕ → List ℕ
 nodes_along ports [] = []
 nodes_along ports (p ∷ path) = (port_at ports p).from ∷ map (λ q. (port_at ports q).to) (p ∷ path)
 
--- a path leads from a station to another one, each of its ports leaves the node to which the one before leads, and no node
--- occurs twice
+-- a path leads from a station to another one, each of its ports leaves the node to which the one before leads, and no
+-- node occurs twice
 pub record IsValidPath (topology : DeclaredTopology) (path : List ℕ) : Type 0 where
   pub talker : ℕ
   pub listener : ℕ

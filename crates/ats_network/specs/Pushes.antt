@@ -1,4 +1,5 @@
-use Rattle.std.specs.Prelude.{◌≡◌, ℕ, Bool, false, ◌&&◌, ◌==◌, nat_le, if◌then◌else◌, List, [], ◌∷◌, ◌++◌, length, Option, Some, None, is_some}
+use Rattle.std.specs.Prelude.{◌≡◌, ℕ, Bool, false, ◌&&◌, ◌==◌, nat_le, if◌then◌else◌, List, [], ◌∷◌, ◌++◌, length}
+use Rattle.std.specs.Prelude.{Option, Some, None, is_some}
 use Rattle.std.specs.List.{position_from}
 use Rattle.ats_num.specs.Places.{place_of}
 use Rattle.ats_streams.specs.Stream.{DeclaredStream}
@@ -38,7 +39,8 @@ abbrev pub is_identity_taken : List DeclaredStream → Option (ℕ × ℕ) → B
 is_identity_taken streams None = false
 is_identity_taken streams (Some identity) = is_some (place_identified identity streams)
 
--- why a stream can't be added, if it can't: its name is taken, then its identity, then as many streams as may be are there
+-- why a stream can't be added, if it can't: its name is taken, then its identity, then as many streams as may be are
+-- there
 abbrev pub stream_push_fault : DeclaredNetwork → DeclaredStream → Option PushFault
 stream_push_fault network stream =
     if is_name_taken network stream.name then Some NameTaken

@@ -3,8 +3,8 @@ use Rattle.ats_num.specs.declared.wire.TheConstants.{MIN_OCTETS}
 use Rattle.ats_streams.specs.Stream.{DeclaredStream}
 use Rattle.ats_streams.specs.Flow.{DeclaredFlow}
 
--- what a network's ports and schedulers know of a declared stream or flow: its name's bytes, the numbers of its ports, its
--- class, its committed rate in bits per second, its committed burst in bits, and its least and greatest octets
+-- what a network's ports and schedulers know of a declared stream or flow: its name's bytes, the numbers of its ports,
+-- its class, its committed rate in bits per second, its committed burst in bits, and its least and greatest octets
 pub record Sender : Type 0 where
   pub name : List ℕ
   pub path : List ℕ

@@ -32,8 +32,9 @@ AllNeighbours R [] = Unit {0}
 AllNeighbours R (p ∷ []) = Unit {0}
 AllNeighbours R (p ∷ q ∷ path) = R p q × AllNeighbours R (q ∷ path)
 
--- what each sender of a network keeps: a valid path of 1 to 16 different ports of the topology that meet at bridges, a class of
--- at most 7, and sizes of frames; and, where its class is not 0, a rate and a burst as a declared stream has them
+-- what each sender of a network keeps: a valid path of 1 to 16 different ports of the topology that meet at bridges, a
+-- class of at most 7, and sizes of frames; and, where its class is not 0, a rate and a burst as a declared stream has
+-- them
 pub record IsSender (topology : DeclaredTopology) (sender : Sender) : Type 0 where
   pub path : IsPath sender.path
   pub valid : IsValidPath topology sender.path

@@ -16,23 +16,27 @@ flow_names flows = map (λ (f : DeclaredFlow). f.name) flows
 
 -- the number that a map has for a destination address and VLAN identifier
 abbrev pub number_at : BTreeMap (ℕ × ℕ) ℕ → ℕ → ℕ → Option ℕ
-number_at identities address vlan = get (λ x y. ordering_then (nat_cmp x.0 y.0) (nat_cmp x.1 y.1)) identities (address, vlan)
+number_at identities address vlan =
+    get (λ x y. ordering_then (nat_cmp x.0 y.0) (nat_cmp x.1 y.1)) identities (address, vlan)
 
 -- the map has no number for what may be declared
 abbrev pub IsUnidentified : BTreeMap (ℕ × ℕ) ℕ → Option (ℕ × ℕ) → Type 0
-IsUnidentified identities declared = (address vlan : ℕ) → IsTrue (is_identity (address, vlan) declared) → number_at identities address vlan ≡ None
+IsUnidentified identities declared = (address vlan : ℕ) → IsTrue (is_identity (address, vlan) declared)
+    → number_at identities address vlan ≡ None
 
 -- the new map has this number for what is declared, where it is, and for all else what the old one has
 abbrev pub Identifies : BTreeMap (ℕ × ℕ) ℕ → BTreeMap (ℕ × ℕ) ℕ → Option (ℕ × ℕ) → ℕ → Type 0
 Identifies old new declared place =
-    (address vlan : ℕ) → number_at new address vlan ≡ (if is_identity (address, vlan) declared then Some place else number_at old address vlan)
+    (address vlan : ℕ) → number_at new address vlan
+    ≡ (if is_identity (address, vlan) declared then Some place else number_at old address vlan)
 
 -- both maps have the same numbers
 abbrev pub FindsSame : BTreeMap (ℕ × ℕ) ℕ → BTreeMap (ℕ × ℕ) ℕ → Type 0
 FindsSame old new = (address vlan : ℕ) → number_at new address vlan ≡ number_at old address vlan
 
 -- streams beside a table of their names and a map that finds each by its identity
-pub record AreStreams (streams : List DeclaredStream) (names : List (List ℕ)) (identities : BTreeMap (ℕ × ℕ) ℕ) : Type 0 where
+pub record AreStreams (streams : List DeclaredStream) (names : List (List ℕ))
+    (identities : BTreeMap (ℕ × ℕ) ℕ) : Type 0 where
   pub named : names ≡ stream_names streams
   pub identified : (address vlan : ℕ) → number_at identities address vlan ≡ place_identified (address, vlan) streams
   pub few : length streams ≤ MAX_STREAMS

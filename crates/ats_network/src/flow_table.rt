@@ -5,8 +5,7 @@ ghost use Rattle.ats_num.specs.Places.{place_of};
 ghost use Rattle.ats_network.specs.Tables.{flow_names};
 
 use crate::network::MAX_FLOWS;
-use ats_num::NameTable;
-use ats_num::Name;
+use ats_num::{Name, NameTable};
 use ats_streams::Flow;
 use std::alloc::{AllocError, Global};
 use std::marker::Model;

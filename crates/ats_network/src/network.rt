@@ -1,13 +1,15 @@
 //! Networks.
 
-ghost use Rattle.std.specs.Prelude.{◌≡◌, ◌↔◌, ◌<◌, ◌≤◌, [], length, None, IsTrue, IsNone, IfSome, IfErr, IsErrOf, OnOk, OnErr};
+ghost use Rattle.std.specs.Prelude.{◌≡◌, ◌↔◌, ◌<◌, ◌≤◌, [], length, None, IsTrue, IsNone, IfSome, IfErr, IsErrOf, OnOk};
+ghost use Rattle.std.specs.Prelude.{OnErr};
 ghost use Rattle.ats_num.specs.Failure.{IsDue};
 ghost use Rattle.ats_num.specs.Places.{place_of};
 ghost use Rattle.ats_network.specs.Network.{IsNetwork, declared_network, senders_of, names_of};
 ghost use Rattle.ats_network.specs.Path.{IsValidPath};
 ghost use Rattle.ats_network.specs.Senders.{sender_at};
 ghost use Rattle.ats_network.specs.Residence.{residence_after, leads_to_station};
-ghost use Rattle.ats_network.specs.Pushes.{with_stream, with_flow, place_identified, is_identity_taken, stream_push_fault, flow_push_fault};
+ghost use Rattle.ats_network.specs.Pushes.{with_stream, with_flow, place_identified, is_identity_taken};
+ghost use Rattle.ats_network.specs.Pushes.{stream_push_fault, flow_push_fault};
 
 use crate::fault::PushFault;
 use crate::flow_table::FlowTable;
@@ -25,10 +27,10 @@ pub const MAX_STREAMS: usize = 4096;
 /// The most flows of a network.
 pub const MAX_FLOWS: usize = 1024;
 
-/// A network: nodes and links with their ports, and the streams and flows that are declared over them. Each stream and flow
-/// has a valid path and a name of its own, and no two streams declare one destination address and VLAN identifier. The
-/// streams in their order and then the flows in theirs are the senders, numbered from 0. Contracts see the topology and the
-/// two lists.
+/// A network: nodes and links with their ports, and the streams and flows that are declared over
+/// them. Each stream and flow has a valid path and a name of its own, and no two streams declare
+/// one destination address and VLAN identifier. The streams in their order and then the flows in
+/// theirs are the senders, numbered from 0. Contracts see the topology and the two lists.
 #[derive(Drop)]
 pub struct Network {
     shape: Topology,
@@ -104,8 +106,8 @@ impl Network {
         Some(self.stream_table.as_slice().len() as u32 + flow)
     }
 
-    /// The number of the stream with this destination address and VLAN identifier; `None` exactly where no stream declares
-    /// them.
+    /// The number of the stream with this destination address and VLAN identifier; `None` exactly
+    /// where no stream declares them.
     pub fn stream_identified(&self, address: u64, vlan: u16) -> Option<u32>
         ensures number { result ≡ place_identified (address, vlan) self.now.streams }
         ensures rules { IsNetwork self.now }
@@ -155,9 +157,9 @@ impl Network {
         self.flow_table.as_slice()[place - streams.len()].name()
     }
 
-    /// Whether a stream or a flow of this network may have these ports as its path: each exists and leaves the node to
-    /// which the one before leads, the path begins and ends at different stations, and no node occurs twice. A path may be
-    /// of any length here. It takes no memory.
+    /// Whether a stream or a flow of this network may have these ports as its path: each exists and
+    /// leaves the node to which the one before leads, the path begins and ends at different
+    /// stations, and no node occurs twice. A path may be of any length here. It takes no memory.
     pub fn valid_path(&self, path: &[u32]) -> bool
         ensures valid { IsTrue result ↔ IsValidPath self.now.topology path.now }
         ensures rules { IsNetwork self.now }
@@ -165,8 +167,8 @@ impl Network {
         is_valid_path(&self.shape, path)
     }
 
-    /// The maximum residence time, in nanoseconds, of the bridge that a port leads to: 0 to 1,000,000,000. `None` exactly
-    /// where the port leads to a station.
+    /// The maximum residence time, in nanoseconds, of the bridge that a port leads to: 0 to
+    /// 1,000,000,000. `None` exactly where the port leads to a station.
     pub fn residence(&self, port: u32) -> Option<u32>
         requires { port < length self.now.topology.ports }
         ensures value { result ≡ residence_after self.now.topology port }
@@ -188,9 +190,10 @@ impl Network {
     ///
     /// # Errors
     ///
-    /// The network stays as it was. The first of these, in this order: `NameTaken` exactly where a stream or a flow has the
-    /// name; `IdentityTaken` exactly where a stream has the same destination address and VLAN identifier; `Limit` exactly
-    /// where 4096 streams are there; `Failure::NoMemory` where memory runs out.
+    /// The network stays as it was. The first of these, in this order: `NameTaken` exactly where a
+    /// stream or a flow has the name; `IdentityTaken` exactly where a stream has the same
+    /// destination address and VLAN identifier; `Limit` exactly where 4096 streams are there;
+    /// `Failure::NoMemory` where memory runs out.
     pub fn push_stream(&mut self, stream: Stream) -> Result<(), Failure<PushFault>>
         requires { IsValidPath self.old.topology stream.path }
         ensures ok { OnOk result (self.new ≡ with_stream self.old stream) }
@@ -216,8 +219,9 @@ impl Network {
     ///
     /// # Errors
     ///
-    /// The network stays as it was. The first of these, in this order: `NameTaken` exactly where a stream or a flow has the
-    /// name; `Limit` exactly where 1024 flows are there; `Failure::NoMemory` where memory runs out.
+    /// The network stays as it was. The first of these, in this order: `NameTaken` exactly where a
+    /// stream or a flow has the name; `Limit` exactly where 1024 flows are there;
+    /// `Failure::NoMemory` where memory runs out.
     pub fn push_flow(&mut self, flow: Flow) -> Result<(), Failure<PushFault>>
         requires { IsValidPath self.old.topology flow.path }
         ensures ok { OnOk result (self.new ≡ with_flow self.old flow) }

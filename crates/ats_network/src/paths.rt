@@ -7,9 +7,9 @@ ghost use Rattle.ats_network.specs.PathSteps.{walk_end, ends_of, comes_to, part_
 
 use ats_topology::{Port, Topology};
 
-/// Whether these are the numbers of the ports of a valid path: each exists and leaves the node to which the one before
-/// leads, the path begins and ends at different stations, and no node occurs twice. It takes no memory, and compares each
-/// two ports of the path at most once.
+/// Whether these are the numbers of the ports of a valid path: each exists and leaves the node to
+/// which the one before leads, the path begins and ends at different stations, and no node occurs
+/// twice. It takes no memory, and compares each two ports of the path at most once.
 pub fn is_valid_path(topology: &Topology, path: &[u32]) -> bool
     ensures { IsTrue result ↔ IsValidPath topology.now path.now }
 {

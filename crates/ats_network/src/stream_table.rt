@@ -6,15 +6,14 @@ ghost use Rattle.ats_network.specs.Pushes.{place_identified, is_identity_taken};
 ghost use Rattle.ats_network.specs.Tables.{stream_names, IsUnidentified, Identifies, FindsSame};
 
 use crate::network::MAX_STREAMS;
-use ats_num::NameTable;
-use ats_num::Name;
+use ats_num::{Name, NameTable};
 use ats_streams::Stream;
 use std::alloc::{AllocError, Global};
 use std::collections::BTreeMap;
 use std::marker::Model;
 
-/// Streams of different names and different identities, numbered from 0 in the order in which they came. Contracts see the
-/// list of them.
+/// Streams of different names and different identities, numbered from 0 in the order in which they
+/// came. Contracts see the list of them.
 #[derive(Drop)]
 pub(crate) struct StreamTable {
     streams: Vec<Stream>,

@@ -1,4 +1,5 @@
-use Rattle.std.proofs.Common.{◌≡◌, ℕ, ◌+◌, ◌-◌, ◌^◌, ◌<◌, ◌≤◌, Bool, true, false, cond, List, [], ◌∷◌, length, Option, Some, None, Result, Ok, Err, refl, subst, arith}
+use Rattle.std.proofs.Common.{◌≡◌, ℕ, ◌+◌, ◌-◌, ◌^◌, ◌<◌, ◌≤◌, Bool, true, false, cond, List, [], ◌∷◌, length, Option}
+use Rattle.std.proofs.Common.{Some, None, Result, Ok, Err, refl, subst, arith}
 use Rattle.std.specs.Prelude.{nat_lt}
 use Rattle.std.specs.List.{All}
 use Rattle.std.specs.Option.{ForSome}
@@ -8,7 +9,8 @@ use Rattle.toml.specs.Data.{Members, get_member}
 use Rattle.ats_network_toml.specs.Document.{DeclaredDocument, DeclaredRoute, DeclaredStream, DeclaredFlow, IsIdentity}
 use Rattle.ats_network_toml.specs.Entries.{station_in, bridge_in, link_in, stream_in, flow_in, route_at, long_at}
 use Rattle.ats_network_toml.specs.Kinds.{address_in}
-use Rattle.ats_network_toml.specs.Reading.{Arrays, entries_from, entries_in, arrays_in, arrays_read, document_in, document_of, tree_of}
+use Rattle.ats_network_toml.specs.Reading.{Arrays, entries_from, entries_in, arrays_in, arrays_read, document_in}
+use Rattle.ats_network_toml.specs.Reading.{document_of, tree_of}
 use Rattle.ats_num.specs.Failure.{◌>>=◌, or_fault}
 use Rattle.ats_network_toml.specs.Walk.{Entry, has, formed, name_at, whole_at, deadline_at, identity_at, at}
 use Rattle.ats_network_toml.specs.Words.{key_text}
@@ -29,28 +31,46 @@ use Rattle.ats_network_file.proofs.Identities.{address_kept, whole_kept}
 abbrev pub Identified : DeclaredStream → Type 0
 Identified stream = ForSome stream.identity IsIdentity
 
-identity_from : (given : Bool) (address vlan : Result ℕ DocumentFault) → ((a : ℕ) → address ≡ Ok a → a < 2 ^ 48) → ((v : ℕ) → vlan ≡ Ok v → (1 ≤ v) × (v ≤ 4094))
-    → (o : Option (ℕ × ℕ)) → cond given (address >>= λ a. vlan >>= λ v. Ok (Some (a, v))) (Ok None) ≡ Ok o → ForSome o IsIdentity
+identity_from : (given : Bool) (address vlan : Result ℕ DocumentFault) → ((a : ℕ) → address ≡ Ok a → a < 2 ^ 48)
+    → ((v : ℕ) → vlan ≡ Ok v → (1 ≤ v) × (v ≤ 4094))
+    → (o : Option (ℕ × ℕ)) → cond given (address >>= λ a. vlan >>= λ v. Ok (Some (a, v))) (Ok None) ≡ Ok o
+    → ForSome o IsIdentity
 identity_from false address vlan f g o h = λ pair is. cc
 identity_from true (Err e) vlan f g o h = cc
 identity_from true (Ok a) (Err e) f g o h = cc
 identity_from true (Ok a) (Ok v) f g o h = λ pair is.
     let same : (a, v) ≡ pair = cc in
-    let is_one : IsIdentity (a, v) = record { address = f a refl; vlan_least = (g v refl).0; vlan_most = (g v refl).1 } in
+    let is_one : IsIdentity (a, v) =
+    record { address = f a refl; vlan_least = (g v refl).0; vlan_most = (g v refl).1 } in
     subst (λ (p : ℕ × ℕ). IsIdentity p) same is_one
 
 identity_kept : (e : Entry) (o : Option (ℕ × ℕ)) → identity_at e ≡ Ok o → ForSome o IsIdentity
 identity_kept e o h =
     identity_from (has e key.Address) (at e key.Address address_in) (whole_at e key.Vlan 1 4094)
-    (λ a is. address_kept (get_member (key_text key.Address) e.members) a (or_fault_ok (fault.WrongKind e.table e.number key.Address) _ a is))
-    (λ v is. whole_kept 1 4094 (get_member (key_text key.Vlan) e.members) v (or_fault_ok (fault.WrongKind e.table e.number key.Vlan) _ v is))
+    (λ a is. address_kept (get_member (key_text key.Address) e.members) a
+    (or_fault_ok (fault.WrongKind e.table e.number key.Address) _ a is))
+    (λ v is. whole_kept 1 4094 (get_member (key_text key.Vlan) e.members) v
+    (or_fault_ok (fault.WrongKind e.table e.number key.Vlan) _ v is))
     o h
 
 -- the identity of a stream entry is what its table gives
-stream_identity : (well : Result (Unit {0}) DocumentFault) (name : Result (List ℕ) DocumentFault) (route : Result DeclaredRoute DocumentFault)
-    (class rate burst least most deadline : Result ℕ DocumentFault) (identity : Result (Option (ℕ × ℕ)) DocumentFault) (s : DeclaredStream)
-    → (well >>= λ _. name >>= λ name. route >>= λ route. class >>= λ class. rate >>= λ rate. burst >>= λ burst. least >>= λ least. most >>= λ most. deadline >>= λ deadline. identity >>= λ identity.
-    Ok (record { name = name; route = route; class = class; rate_bps = rate; burst_bits = burst; min_octets = least; max_octets = most; deadline_ns = deadline; identity = identity })) ≡ Ok s
+stream_identity : (well : Result (Unit {0}) DocumentFault) (name : Result (List ℕ) DocumentFault)
+    (route : Result DeclaredRoute DocumentFault)
+    (class rate burst least most deadline : Result ℕ DocumentFault) (identity : Result (Option (ℕ × ℕ)) DocumentFault)
+    (s : DeclaredStream)
+    → (well >>= λ _. name >>= λ name. route >>= λ route. class >>= λ class. rate >>= λ rate. burst >>= λ burst. least
+    >>= λ least. most >>= λ most. deadline >>= λ deadline. identity >>= λ identity.
+    Ok (record {
+      name = name;
+      route = route;
+      class = class;
+      rate_bps = rate;
+      burst_bits = burst;
+      min_octets = least;
+      max_octets = most;
+      deadline_ns = deadline;
+      identity = identity;
+    })) ≡ Ok s
     → identity ≡ Ok s.identity
 stream_identity (Err e) n r c ra b l m d i s h = cc
 stream_identity (Ok w) (Err e) r c ra b l m d i s h = cc
@@ -67,15 +87,18 @@ stream_identity (Ok w) (Ok n) (Ok r) (Ok c) (Ok ra) (Ok b) (Ok l) (Ok m) (Ok d) 
 stream_kept : (e : Entry) (s : DeclaredStream) → stream_in e ≡ Ok s → Identified s
 stream_kept e s h =
     identity_kept e s.identity
-    (stream_identity (formed e) (name_at e key.Name) (route_at e) (long_at e key.Class) (long_at e key.RateBps) (long_at e key.BurstBits) (long_at e key.MinOctets) (long_at e key.MaxOctets) (deadline_at e) (identity_at e) s h)
+    (stream_identity (formed e) (name_at e key.Name) (route_at e) (long_at e key.Class) (long_at e key.RateBps)
+    (long_at e key.BurstBits) (long_at e key.MinOctets) (long_at e key.MaxOctets) (deadline_at e) (identity_at e) s h)
 
 -- entries that are read are as many as the tables, and each keeps what an entry keeps
 record Entries {A : Type 0} (P : A → Type 0) (most : ℕ) (xs : List A) : Type 0 where
   each : All P xs
   few : length xs ≤ most
 
-entries_kept : {A : Type 0} (P : A → Type 0) (read : Entry → Result A DocumentFault) → ((e : Entry) (x : A) → read e ≡ Ok x → P x)
-    → (t : Table) (n : ℕ) (tables : List Members) (xs : List A) → entries_from read t n tables ≡ Ok xs → Entries P (length tables) xs
+entries_kept : {A : Type 0} (P : A → Type 0) (read : Entry → Result A DocumentFault)
+    → ((e : Entry) (x : A) → read e ≡ Ok x → P x)
+    → (t : Table) (n : ℕ) (tables : List Members) (xs : List A) → entries_from read t n tables ≡ Ok xs
+    → Entries P (length tables) xs
 entries_kept P read keeps t n [] xs h =
     let none : [] ≡ xs = cc in
     subst (λ (ys : List _). Entries P 0 ys) none (record { each = All-nil P; few = omega arith })
@@ -86,13 +109,19 @@ entries_kept P read keeps t n (ms ∷ tables) xs h =
     let kept : Entries P (length tables) rest.first = entries_kept P read keeps t (n + 1) tables rest.first rest.is in
     let same : one.first ∷ rest.first ≡ xs = cc (rest.then) in
     subst (λ (ys : List _). Entries P (length (ms ∷ tables)) ys) same
-    (record { each = All-cons P one.first rest.first (keeps entry one.first one.is) kept.each; few = omega (arith, kept.few) })
+    (record {
+      each = All-cons P one.first rest.first (keeps entry one.first one.is) kept.each;
+      few = omega (arith, kept.few);
+    })
 
-array_kept : {A : Type 0} (P : A → Type 0) (read : Entry → Result A DocumentFault) → ((e : Entry) (x : A) → read e ≡ Ok x → P x)
-    → (t : Table) (most : ℕ) (tables : List Members) (xs : List A) → entries_in read t most tables ≡ Ok xs → Entries P most xs
+array_kept : {A : Type 0} (P : A → Type 0) (read : Entry → Result A DocumentFault)
+    → ((e : Entry) (x : A) → read e ≡ Ok x → P x)
+    → (t : Table) (most : ℕ) (tables : List Members) (xs : List A) → entries_in read t most tables ≡ Ok xs
+    → Entries P most xs
 array_kept P read keeps t most tables xs h = by (nat_lt most (length tables)) refl h
   where
-    by : (over : Bool) → nat_lt most (length tables) ≡ over → cond over (Err (fault.Limit t)) (entries_from read t 1 tables) ≡ Ok xs → Entries P most xs
+    by : (over : Bool) → nat_lt most (length tables) ≡ over
+        → cond over (Err (fault.Limit t)) (entries_from read t 1 tables) ≡ Ok xs → Entries P most xs
     by true is h = cc
     by false is h =
         let kept : Entries P (length tables) xs = entries_kept P read keeps t 1 tables xs h in
@@ -105,12 +134,16 @@ pub record Kept (d : DeclaredDocument) : Type 0 where
   pub few_streams : length d.streams ≤ 4096
   pub few_flows : length d.flows ≤ 1024
 
-arrays_from : (stations : Result (List StationEntry) DocumentFault) (bridges : List StationEntry → Result (List BridgeEntry) DocumentFault) (links : Result (List LinkEntry) DocumentFault)
+arrays_from : (stations : Result (List StationEntry) DocumentFault) (bridges : List StationEntry
+    → Result (List BridgeEntry) DocumentFault) (links : Result (List LinkEntry) DocumentFault)
     (streams : Result (List DeclaredStream) DocumentFault) (flows : Result (List DeclaredFlow) DocumentFault)
-    → ((xs : List DeclaredStream) → streams ≡ Ok xs → Entries Identified 4096 xs) → ((xs : List DeclaredFlow) → flows ≡ Ok xs → Entries (λ _. Unit {0}) 1024 xs)
+    → ((xs : List DeclaredStream) → streams ≡ Ok xs → Entries Identified 4096 xs)
+    → ((xs : List DeclaredFlow) → flows ≡ Ok xs → Entries (λ _. Unit {0}) 1024 xs)
     → (d : DeclaredDocument)
-    → (stations >>= λ stations. bridges stations >>= λ bridges. links >>= λ links. streams >>= λ streams. flows >>= λ flows.
-    Ok (record { stations = stations; bridges = bridges; links = links; streams = streams; flows = flows })) ≡ Ok d → Kept d
+    → (stations >>= λ stations. bridges stations >>= λ bridges. links >>= λ links. streams
+    >>= λ streams. flows >>= λ flows.
+    Ok (record { stations = stations; bridges = bridges; links = links; streams = streams; flows = flows })) ≡ Ok d
+    → Kept d
 arrays_from stations bridges links streams flows f g d h =
     let a = both stations _ d h in
     let b = both (bridges a.first) _ d a.then in
@@ -119,19 +152,25 @@ arrays_from stations bridges links streams flows f g d h =
     let l = both flows _ d s.then in
     let streams_kept : Entries Identified 4096 s.first = f s.first s.is in
     let flows_kept : Entries (λ _. Unit {0}) 1024 l.first = g l.first l.is in
-    let document : DeclaredDocument = record { stations = a.first; bridges = b.first; links = c.first; streams = s.first; flows = l.first } in
+    let document : DeclaredDocument =
+    record { stations = a.first; bridges = b.first; links = c.first; streams = s.first; flows = l.first } in
     let same : document ≡ d = cc (l.then) in
-    subst Kept same (record { identified = streams_kept.each; few_streams = streams_kept.few; few_flows = flows_kept.few })
+    subst Kept same
+    (record { identified = streams_kept.each; few_streams = streams_kept.few; few_flows = flows_kept.few })
 
 arrays_kept : (arrays : Arrays) (d : DeclaredDocument) → arrays_read arrays ≡ Ok d → Kept d
 arrays_kept arrays d h =
-    arrays_from (entries_in station_in table.Station 1024 arrays.stations) (λ stations. entries_in bridge_in table.Bridge (1024 - length stations) arrays.bridges) (entries_in link_in table.Link 2048 arrays.links)
+    arrays_from (entries_in station_in table.Station 1024 arrays.stations)
+    (λ stations. entries_in bridge_in table.Bridge (1024 - length stations) arrays.bridges)
+    (entries_in link_in table.Link 2048 arrays.links)
     (entries_in stream_in table.Stream 4096 arrays.streams) (entries_in flow_in table.Flow 1024 arrays.flows)
-    (array_kept Identified stream_in stream_kept table.Stream 4096 arrays.streams) (array_kept (λ _. Unit {0}) flow_in (λ e x is. tt) table.Flow 1024 arrays.flows) d h
+    (array_kept Identified stream_in stream_kept table.Stream 4096 arrays.streams)
+    (array_kept (λ _. Unit {0}) flow_in (λ e x is. tt) table.Flow 1024 arrays.flows) d h
 
 -- what a text declares keeps it
 pub document_kept : (text : List ℕ) (d : DeclaredDocument) → document_of text ≡ Ok d → Kept d
 document_kept text d h =
     let tree = both (or_fault fault.NotToml (tree_of text)) document_in d h in
-    let arrays = both (arrays_in (record { table = table.Top; number = 0; members = tree.first })) arrays_read d tree.then in
+    let arrays =
+    both (arrays_in (record { table = table.Top; number = 0; members = tree.first })) arrays_read d tree.then in
     arrays_kept arrays.first d arrays.then

@@ -48,11 +48,17 @@ rules_kept rate burst least most h =
     let c = passed (nat_lt burst (bits_of most)) _ _ b.none in
     let d = passed (nat_lt MAX_BURST_BITS burst) _ _ c.none in
     let rated : Between 1 MAX_BPS rate = between 1 MAX_BPS rate a.test in
-    let sizes : ((nat_lt least MIN_OCTETS || nat_lt most least) ≡ false) × (nat_lt MAX_OCTETS most ≡ false) = or_parts (nat_lt least MIN_OCTETS || nat_lt most least) (nat_lt MAX_OCTETS most) b.test in
-    let ordered : (nat_lt least MIN_OCTETS ≡ false) × (nat_lt most least ≡ false) = or_parts (nat_lt least MIN_OCTETS) (nat_lt most least) sizes.0 in
+    let sizes : ((nat_lt least MIN_OCTETS || nat_lt most least) ≡ false) × (nat_lt MAX_OCTETS most ≡ false) =
+    or_parts (nat_lt least MIN_OCTETS || nat_lt most least) (nat_lt MAX_OCTETS most) b.test in
+    let ordered : (nat_lt least MIN_OCTETS ≡ false) × (nat_lt most least ≡ false) =
+    or_parts (nat_lt least MIN_OCTETS) (nat_lt most least) sizes.0 in
     record {
       rate = record { positive = rated.above; within = rated.below };
-      sizes = record { least = ltb-false least MIN_OCTETS ordered.0; ordered = ltb-false most least ordered.1; most = ltb-false MAX_OCTETS most sizes.1 };
+      sizes = record {
+        least = ltb-false least MIN_OCTETS ordered.0;
+        ordered = ltb-false most least ordered.1;
+        most = ltb-false MAX_OCTETS most sizes.1;
+      };
       covers = ltb-false burst (bits_of most) c.test;
       burst = ltb-false MAX_BURST_BITS burst d.test;
     }
@@ -61,7 +67,8 @@ rules_kept rate burst least most h =
 pub stream_keeps : (s : DeclaredStream) → MayIdentify s.identity → stream_fault s ≡ None → IsStream s
 stream_keeps s identity h =
     let a = passed (nat_lt s.class 1 || nat_lt MAX_CLASS s.class) _ _ h in
-    let b = none_of (rules_fault s.rate s.burst_bits s.min_octets s.max_octets) (limit_fault s.path s.deadline_ns) a.none in
+    let b =
+    none_of (rules_fault s.rate s.burst_bits s.min_octets s.max_octets) (limit_fault s.path s.deadline_ns) a.none in
     let c = passed (nat_lt (length s.path) 1 || nat_lt MAX_PORTS (length s.path)) _ _ b.then in
     let d = passed (nat_lt s.deadline_ns 1 || nat_lt MAX_DEADLINE_NS s.deadline_ns) _ _ c.none in
     let class : Between 1 MAX_CLASS s.class = between 1 MAX_CLASS s.class a.test in

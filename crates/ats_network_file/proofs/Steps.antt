@@ -29,6 +29,7 @@ pub record Sound {A F : Type 0} (fault : Option F) (x y : A) : Type 0 where
   pub none : fault ≡ None
   pub same : x ≡ y
 
-pub unless_ok : {A F G : Type 0} (wrap : F → G) (fault : Option F) (x y : A) → unless wrap fault x ≡ Ok y → Sound fault x y
+pub unless_ok : {A F G : Type 0} (wrap : F → G) (fault : Option F) (x y : A) → unless wrap fault x ≡ Ok y
+    → Sound fault x y
 unless_ok wrap None x y h = record { none = refl; same = cc }
 unless_ok wrap (Some e) x y h = cc

@@ -1,4 +1,5 @@
-use Rattle.std.proofs.Common.{◌≡◌, ◌≢◌, ℕ, ◌<◌, Bool, true, false, not, ◌&&◌, ◌||◌, List, [], ◌∷◌, map, length, refl, sym, ap, subst, ◌∙◌, arith, eqb, ltb}
+use Rattle.std.proofs.Common.{◌≡◌, ◌≢◌, ℕ, ◌<◌, Bool, true, false, not, ◌&&◌, ◌||◌, List, [], ◌∷◌, map, length, refl}
+use Rattle.std.proofs.Common.{sym, ap, subst, ◌∙◌, arith, eqb, ltb}
 use Rattle.std.specs.List.{All, AllPairs, list_any}
 use Rattle.std.proofs.lemmas.Bool.{eqb-true, eq-eqb, ne_eqb, and_parts, or_parts}
 use Rattle.std.proofs.lemmas.Bool.Decides.{nat_tests}
@@ -33,20 +34,26 @@ both_true true b h k = k
 both_true false b h k = absurd (true_false (sym h))
 
 -- what passes the test of a walk is one, to the node where its last port leads
-walk_passed : (ports : List Port) (a : ℕ) (path : List ℕ) → is_walk ports a path ≡ true → IsWalk ports a (last_node ports a path) path
+walk_passed : (ports : List Port) (a : ℕ) (path : List ℕ) → is_walk ports a path ≡ true
+    → IsWalk ports a (last_node ports a path) path
 walk_passed ports a [] h = refl
 walk_passed ports a (p ∷ path) h =
-    let parts : ((ltb p (length ports) && eqb (port_at ports p).from a) ≡ true) × (is_walk ports (port_at ports p).to path ≡ true) =
+    let parts : ((ltb p (length ports) && eqb (port_at ports p).from a) ≡ true)
+    × (is_walk ports (port_at ports p).to path ≡ true) =
     and_parts (ltb p (length ports) && eqb (port_at ports p).from a) (is_walk ports (port_at ports p).to path) h in
-    let first : (ltb p (length ports) ≡ true) × (eqb (port_at ports p).from a ≡ true) = and_parts (ltb p (length ports)) (eqb (port_at ports p).from a) parts.0 in
-    (record { within = below p (length ports) first.0; from = eqb-true (port_at ports p).from a first.1 }, walk_passed ports (port_at ports p).to path parts.1)
+    let first : (ltb p (length ports) ≡ true) × (eqb (port_at ports p).from a ≡ true) =
+    and_parts (ltb p (length ports)) (eqb (port_at ports p).from a) parts.0 in (
+      record { within = below p (length ports) first.0; from = eqb-true (port_at ports p).from a first.1 },
+      walk_passed ports (port_at ports p).to path parts.1,
+    )
 
 -- a walk passes the test
 walk_passes : (ports : List Port) (a b : ℕ) (path : List ℕ) → IsWalk ports a b path → is_walk ports a path ≡ true
 walk_passes ports a b [] w = refl
 walk_passes ports a b (p ∷ path) w =
     both_true (ltb p (length ports) && eqb (port_at ports p).from a) (is_walk ports (port_at ports p).to path)
-    (both_true (ltb p (length ports)) (eqb (port_at ports p).from a) (is_below p (length ports) w.0.within) (eq-eqb (port_at ports p).from a w.0.from))
+    (both_true (ltb p (length ports)) (eqb (port_at ports p).from a) (is_below p (length ports) w.0.within)
+    (eq-eqb (port_at ports p).from a w.0.from))
     (walk_passes ports (port_at ports p).to b path w.1)
 
 -- and its last port leads to its end
@@ -61,13 +68,15 @@ station_passed topology n h =
     record { within = below n (length topology.nodes) parts.0; station = parts.1 }
 
 station_passes : (topology : DeclaredTopology) (n : ℕ) → IsStationAt topology n → is_station_at topology n ≡ true
-station_passes topology n h = both_true (ltb n (length topology.nodes)) (is_station (node_at topology.nodes n).kind) (is_below n (length topology.nodes) h.within) h.station
+station_passes topology n h = both_true (ltb n (length topology.nodes)) (is_station (node_at topology.nodes n).kind)
+    (is_below n (length topology.nodes) h.within) h.station
 
 -- a number that does not occur in a list differs from each element
 differs : (n : ℕ) (ns : List ℕ) → list_any (λ m. eqb m n) ns ≡ false → All (λ m. n ≢ m) ns
 differs n [] h = All-nil (λ m. n ≢ m)
 differs n (m ∷ ns) h =
-    let parts : (eqb m n ≡ false) × (list_any (λ m. eqb m n) ns ≡ false) = or_parts (eqb m n) (list_any (λ m. eqb m n) ns) h in
+    let parts : (eqb m n ≡ false) × (list_any (λ m. eqb m n) ns ≡ false) =
+    or_parts (eqb m n) (list_any (λ m. eqb m n) ns) h in
     All-cons (λ m. n ≢ m) m ns (λ e. true_false (sym (eq-eqb m n (sym e)) ∙ parts.0)) (differs n ns parts.1)
 
 occurs_not : (n : ℕ) (ns : List ℕ) → All (λ m. n ≢ m) ns → list_any (λ m. eqb m n) ns ≡ false
@@ -80,22 +89,28 @@ occurs_not n (m ∷ ns) h =
 apart_passed : (ns : List ℕ) → are_apart ns ≡ true → AllPairs (λ a b. a ≢ b) ns
 apart_passed [] h = λ i j d before within. absurd (omega arith)
 apart_passed (n ∷ ns) h =
-    let parts : (not (list_any (λ m. eqb m n) ns) ≡ true) × (are_apart ns ≡ true) = and_parts (not (list_any (λ m. eqb m n) ns)) (are_apart ns) h in
-    AllPairs-cons (λ a b. a ≢ b) n ns (differs n ns (not_false (list_any (λ m. eqb m n) ns) parts.0)) (apart_passed ns parts.1)
+    let parts : (not (list_any (λ m. eqb m n) ns) ≡ true) × (are_apart ns ≡ true) =
+    and_parts (not (list_any (λ m. eqb m n) ns)) (are_apart ns) h in
+    AllPairs-cons (λ a b. a ≢ b) n ns (differs n ns (not_false (list_any (λ m. eqb m n) ns) parts.0))
+    (apart_passed ns parts.1)
 
 apart_passes : (ns : List ℕ) → AllPairs (λ a b. a ≢ b) ns → are_apart ns ≡ true
 apart_passes [] pairs = refl
 apart_passes (n ∷ ns) pairs =
-    both_true (not (list_any (λ m. eqb m n) ns)) (are_apart ns) (ap not (occurs_not n ns (pairs_head (λ a b. a ≢ b) n ns pairs)))
+    both_true (not (list_any (λ m. eqb m n) ns)) (are_apart ns)
+    (ap not (occurs_not n ns (pairs_head (λ a b. a ≢ b) n ns pairs)))
     (apart_passes ns (pairs_tail (λ a b. a ≢ b) n ns pairs))
 
 -- what holds of each node to which a port leads holds of the last
-last_of : (P : ℕ → Type 0) (ports : List Port) (a p : ℕ) (path : List ℕ) → All P (map (λ q. (port_at ports q).to) (p ∷ path)) → P (last_node ports a (p ∷ path))
+last_of : (P : ℕ → Type 0) (ports : List Port) (a p : ℕ) (path : List ℕ)
+    → All P (map (λ q. (port_at ports q).to) (p ∷ path)) → P (last_node ports a (p ∷ path))
 last_of P ports a p [] h = All-head P (port_at ports p).to [] h
-last_of P ports a p (q ∷ path) h = last_of P ports (port_at ports p).to q path (All-tail P (port_at ports p).to (map (λ q. (port_at ports q).to) (q ∷ path)) h)
+last_of P ports a p (q ∷ path) h = last_of P ports (port_at ports p).to q path
+    (All-tail P (port_at ports p).to (map (λ q. (port_at ports q).to) (q ∷ path)) h)
 
 -- what passes the test of a valid path is one
-pub valid_passed : (topology : DeclaredTopology) (path : List ℕ) → is_valid topology path ≡ true → IsValidPath topology path
+pub valid_passed : (topology : DeclaredTopology) (path : List ℕ) → is_valid topology path ≡ true
+    → IsValidPath topology path
 valid_passed topology [] h = absurd (true_false (sym h))
 valid_passed topology (p ∷ path) h =
     let from = (port_at topology.ports p).from in
@@ -106,7 +121,8 @@ valid_passed topology (p ∷ path) h =
     and_parts (walks && is_station_at topology from && is_station_at topology to) (are_apart nodes) h in
     let three : ((walks && is_station_at topology from) ≡ true) × (is_station_at topology to ≡ true) =
     and_parts (walks && is_station_at topology from) (is_station_at topology to) four.0 in
-    let two : (walks ≡ true) × (is_station_at topology from ≡ true) = and_parts walks (is_station_at topology from) three.0 in
+    let two : (walks ≡ true) × (is_station_at topology from ≡ true) =
+    and_parts walks (is_station_at topology from) three.0 in
     let apart : AllPairs (λ a b. a ≢ b) nodes = apart_passed nodes four.1 in
     record {
       talker = from;
@@ -114,12 +130,14 @@ valid_passed topology (p ∷ path) h =
       walk = walk_passed topology.ports from (p ∷ path) two.0;
       begins = station_passed topology from two.1;
       ends = station_passed topology to three.1;
-      differ = last_of (λ n. from ≢ n) topology.ports from p path (pairs_head (λ a b. a ≢ b) from (map (λ q. (port_at topology.ports q).to) (p ∷ path)) apart);
+      differ = last_of (λ n. from ≢ n) topology.ports from p path
+          (pairs_head (λ a b. a ≢ b) from (map (λ q. (port_at topology.ports q).to) (p ∷ path)) apart);
       apart = apart;
     }
 
 -- a valid path passes it
-pub valid_passes : (topology : DeclaredTopology) (path : List ℕ) → IsValidPath topology path → is_valid topology path ≡ true
+pub valid_passes : (topology : DeclaredTopology) (path : List ℕ) → IsValidPath topology path
+    → is_valid topology path ≡ true
 valid_passes topology [] valid = absurd (valid.differ valid.walk)
 valid_passes topology (p ∷ path) valid =
     let from = (port_at topology.ports p).from in
@@ -127,7 +145,8 @@ valid_passes topology (p ∷ path) valid =
     let nodes = nodes_along topology.ports (p ∷ path) in
     let walks = is_walk topology.ports from (p ∷ path) in
     let begin : valid.talker ≡ from = sym valid.walk.0.from in
-    let walk : IsWalk topology.ports from valid.listener (p ∷ path) = subst (λ (a : ℕ). IsWalk topology.ports a valid.listener (p ∷ path)) begin valid.walk in
+    let walk : IsWalk topology.ports from valid.listener (p ∷ path) =
+    subst (λ (a : ℕ). IsWalk topology.ports a valid.listener (p ∷ path)) begin valid.walk in
     let end : valid.listener ≡ to = sym (walk_ends topology.ports from valid.listener (p ∷ path) walk) in
     both_true (walks && is_station_at topology from && is_station_at topology to) (are_apart nodes)
     (both_true (walks && is_station_at topology from) (is_station_at topology to)
@@ -143,12 +162,14 @@ same_test false true f g = g refl
 same_test false false f g = refl
 
 -- a valid path of a topology has fewer ports than there are nodes
-pub valid_short : (topology : DeclaredTopology) (path : List ℕ) → IsTopology topology → IsValidPath topology path → length path < length topology.nodes
+pub valid_short : (topology : DeclaredTopology) (path : List ℕ) → IsTopology topology → IsValidPath topology path
+    → length path < length topology.nodes
 valid_short topology [] is valid = absurd (valid.differ valid.walk)
 valid_short topology (p ∷ path) is valid =
     let walk : SimpleWalk topology.ports valid.talker valid.listener = record {
       walk = p ∷ path;
       is = valid.walk;
-      apart = subst (λ (n : ℕ). AllPairs (λ a b. a ≢ b) (n ∷ nodes_to topology.ports (p ∷ path))) valid.walk.0.from valid.apart;
+      apart = subst (λ (n : ℕ). AllPairs (λ a b. a ≢ b) (n ∷ nodes_to topology.ports (p ∷ path)))
+          valid.walk.0.from valid.apart;
     } in
     simple_short topology valid.talker valid.listener is valid.begins.within walk

@@ -3,7 +3,8 @@ use Rattle.ats_topology.specs.FaultText as topology
 use Rattle.ats_streams.specs.Fault.{text_of}
 use Rattle.ats_network_toml.specs.FaultText as form
 use Rattle.ats_network_file.specs.declared.fault.NetFault.{NetFault}
-use Rattle.ats_network_file.specs.declared.fault.NetFault.TheVariants.{Form, Topology, BadPath, Sender, SenderTwice, IdentityTwice}
+use Rattle.ats_network_file.specs.declared.fault.NetFault.TheVariants.{Form, Topology, BadPath, Sender, SenderTwice}
+use Rattle.ats_network_file.specs.declared.fault.NetFault.TheVariants.{IdentityTwice}
 
 -- the words for a fault
 abbrev pub fault_text : NetFault → List ℕ

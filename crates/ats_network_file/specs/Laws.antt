@@ -7,7 +7,8 @@ use Rattle.ats_network_file.specs.Routes.{is_valid}
 
 -- the test of a path passes exactly the valid paths
 abbrev pub PassesValidPaths : Type 0
-PassesValidPaths = (topology : DeclaredTopology) (path : List ℕ) → IsTrue (is_valid topology path) ↔ IsValidPath topology path
+PassesValidPaths = (topology : DeclaredTopology) (path : List ℕ)
+    → IsTrue (is_valid topology path) ↔ IsValidPath topology path
 
 -- what a text declares is a network
 abbrev pub EachIsNetwork : Type 0

@@ -19,7 +19,8 @@ use Rattle.ats_network_toml.specs.declared.fault.DocumentFault.{DocumentFault}
 use Rattle.ats_num.specs.Failure.{◌>>=◌, or_fault, ok_where, unless}
 use Rattle.ats_network_file.specs.Routes.{ports_of, is_valid}
 use Rattle.ats_network_file.specs.declared.fault.NetFault.{NetFault}
-use Rattle.ats_network_file.specs.declared.fault.NetFault.TheVariants.{Form, Topology, BadPath, Sender, SenderTwice, IdentityTwice}
+use Rattle.ats_network_file.specs.declared.fault.NetFault.TheVariants.{Form, Topology, BadPath, Sender, SenderTwice}
+use Rattle.ats_network_file.specs.declared.fault.NetFault.TheVariants.{IdentityTwice}
 
 -- what the text declares in its tables, or its first fault of form
 abbrev pub tables_of : Result file.DeclaredDocument DocumentFault → Result file.DeclaredDocument NetFault
@@ -55,7 +56,8 @@ path_in topology t n route = do
 
 -- a stream entry over a path
 abbrev pub stream_over : List ℕ → file.DeclaredStream → DeclaredStream
-stream_over path e = declared_stream e.name path e.class e.rate_bps e.burst_bits e.min_octets e.max_octets e.deadline_ns e.identity
+stream_over path e =
+    declared_stream e.name path e.class e.rate_bps e.burst_bits e.min_octets e.max_octets e.deadline_ns e.identity
 
 -- a flow entry over a path
 abbrev pub flow_over : List ℕ → file.DeclaredFlow → DeclaredFlow
@@ -96,7 +98,8 @@ flow_added network n e = do
   flow_pushed network n flow
 
 -- the entries of an array, the first of which has this number, one after another
-abbrev pub all_added : {E : Type 0} → (DeclaredNetwork → ℕ → E → Result DeclaredNetwork NetFault) → DeclaredNetwork → ℕ → List E → Result DeclaredNetwork NetFault
+abbrev pub all_added : {E : Type 0} → (DeclaredNetwork → ℕ → E → Result DeclaredNetwork NetFault) → DeclaredNetwork → ℕ
+    → List E → Result DeclaredNetwork NetFault
 all_added added network n [] = Ok network
 all_added added network n (e ∷ entries) = do
   next ← added network n e

@@ -1,4 +1,5 @@
-use Rattle.std.specs.Prelude.{ℕ, Bool, true, false, ◌&&◌, ◌==◌, nat_lt, not, List, [], ◌∷◌, Option, Some, None, option_and_then, length}
+use Rattle.std.specs.Prelude.{ℕ, Bool, true, false, ◌&&◌, ◌==◌, nat_lt, not, List, [], ◌∷◌, Option, Some, None}
+use Rattle.std.specs.Prelude.{option_and_then, length}
 use Rattle.std.specs.List.{list_any}
 use Rattle.ats_num.specs.Places.{place_of}
 use Rattle.ats_topology.specs.Node.{is_station, names_of}
@@ -34,12 +35,14 @@ ports_along ports (a ∷ nodes) = ports_through ports a nodes
 abbrev pub ports_of : DeclaredTopology → file.DeclaredRoute → Option (List ℕ)
 ports_of topology (file.path names) = option_and_then (ports_along topology.ports) (nodes_named topology names)
 ports_of topology (file.ends from to) =
-    option_and_then (λ a. option_and_then (λ b. shortest_of topology a b) (place_of to (names_of topology.nodes))) (place_of from (names_of topology.nodes))
+    option_and_then (λ a. option_and_then (λ b. shortest_of topology a b) (place_of to (names_of topology.nodes)))
+    (place_of from (names_of topology.nodes))
 
 -- each port exists and leaves the node to which the one before leads; the first leaves this node
 abbrev pub is_walk : List Port → ℕ → List ℕ → Bool
 is_walk ports a [] = true
-is_walk ports a (p ∷ path) = nat_lt p (length ports) && (port_at ports p).from == a && is_walk ports (port_at ports p).to path
+is_walk ports a (p ∷ path) =
+    nat_lt p (length ports) && (port_at ports p).from == a && is_walk ports (port_at ports p).to path
 
 -- the node to which the last of these ports leads, from this node on
 abbrev pub last_node : List Port → ℕ → List ℕ → ℕ

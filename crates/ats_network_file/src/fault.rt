@@ -9,17 +9,18 @@ use ats_streams::StreamFault;
 use ats_topology::TopologyFault;
 use std::fmt;
 
-/// The first fault of a text that declares no network. The entries of an array are counted from 1. It is displayed as the
-/// words for a fault of form, those for a fault of the topology, `bad-path TABLE ENTRY`, `TABLE ENTRY FAULT` with the words
-/// for a fault of a stream, `sender-twice TABLE ENTRY` or `identity-twice ENTRY`.
+/// The first fault of a text that declares no network. The entries of an array are counted from 1.
+/// It is displayed as the words for a fault of form, those for a fault of the topology, `bad-path
+/// TABLE ENTRY`, `TABLE ENTRY FAULT` with the words for a fault of a stream, `sender-twice TABLE
+/// ENTRY` or `identity-twice ENTRY`.
 #[derive(Clone, Copy, Debug, PartialEq, Eq)]
 pub enum NetFault {
     /// The text does not have the form of a network file.
     Form(DocumentFault),
     /// The nodes and links have a fault; stations are counted before bridges.
     Topology(TopologyFault),
-    /// The route of a stream or flow has an unknown node, no link between neighbours, no walk between its ends, or is no
-    /// valid path.
+    /// The route of a stream or flow has an unknown node, no link between neighbours, no walk
+    /// between its ends, or is no valid path.
     BadPath {
         /// `Stream` or `Flow`.
         table: Table,

@@ -8,8 +8,8 @@ ghost use Rattle.ats_network_file.specs.Reading.{flow_over, flow_made, flow_push
 
 use crate::fault::NetFault;
 use crate::routes::path_in;
-use ats_network_toml::{FlowEntry, Table};
 use ats_network::{Network, PushFault};
+use ats_network_toml::{FlowEntry, Table};
 use ats_num::Failure;
 use ats_streams::Flow;
 use std::alloc::Global;

@@ -7,8 +7,8 @@ use crate::fault::NetFault;
 use crate::flows::add_flows;
 use crate::nodes::topology_in;
 use crate::streams::add_streams;
-use ats_network_toml::{Document, read_document};
 use ats_network::Network;
+use ats_network_toml::{Document, read_document};
 use ats_num::Failure;
 use std::alloc::Global;
 
@@ -16,10 +16,11 @@ use std::alloc::Global;
 ///
 /// # Errors
 ///
-/// The first fault of this walk. `Form`: the faults of form, as `ats_network_toml::read_document` names them: the text is no
-/// TOML, a key is missing, unknown or of the wrong kind, an array is over its limit. Then `Topology`: the first fault of the
-/// nodes, which are the stations and behind them the bridges, and the links. Then the streams in order and the flows in
-/// order, of each `BadPath`, `Sender`, `SenderTwice` and, for a stream, `IdentityTwice`, in this order.
+/// The first fault of this walk. `Form`: the faults of form, as `ats_network_toml::read_document`
+/// names them: the text is no TOML, a key is missing, unknown or of the wrong kind, an array is
+/// over its limit. Then `Topology`: the first fault of the nodes, which are the stations and behind
+/// them the bridges, and the links. Then the streams in order and the flows in order, of each
+/// `BadPath`, `Sender`, `SenderTwice` and, for a stream, `IdentityTwice`, in this order.
 pub fn read_network(alloc: Global, bytes: &[u8]) -> Result<Network, Failure<NetFault>>
     ensures { Gives result (network_of bytes.now) }
 {

@@ -11,8 +11,8 @@ ghost use Rattle.ats_network_file.specs.Routes.{nodes_named, ports_along, ports_
 ghost use Rattle.ats_network_file.specs.Reading.{path_in};
 
 use crate::fault::NetFault;
-use ats_network_toml::{Route, Table};
 use ats_network::{is_valid_path, shortest};
+use ats_network_toml::{Route, Table};
 use ats_num::{Failure, Name};
 use ats_topology::Topology;
 use std::alloc::{AllocError, Global};
@@ -38,8 +38,8 @@ pub(crate) fn path_in(
     Ok(path)
 }
 
-// Whether these ports make a valid path. Such a path has fewer ports than there are nodes, so that of a longer one no two
-// ports are compared.
+// Whether these ports make a valid path. Such a path has fewer ports than there are nodes, so that
+// of a longer one no two ports are compared.
 fn is_valid(topology: &Topology, path: &[u32]) -> bool
     ensures test { result ≡ is_valid topology.now path.now }
     ensures valid { IsTrue result ↔ IsValidPath topology.now path.now }
@@ -56,7 +56,8 @@ fn ports_of(
     topology: &Topology,
     route: &Route,
 ) -> Result<Option<Vec<u32>>, AllocError>
-    ensures { IfOk result (λ found. option_map (λ (path : Vec ℕ). path.items) found ≡ ports_of topology.now (route_seen route.now)) }
+    ensures { IfOk result
+        (λ found. option_map (λ (path : Vec ℕ). path.items) found ≡ ports_of topology.now (route_seen route.now)) }
 {
     match route {
         Route::Path(names) => ports_through(alloc, topology, names),
@@ -70,7 +71,8 @@ fn ports_through(
     topology: &Topology,
     names: &[Name],
 ) -> Result<Option<Vec<u32>>, AllocError>
-    ensures { IfOk result (λ found. option_map (λ (path : Vec ℕ). path.items) found ≡ ports_of topology.now (file.path names.now)) }
+    ensures { IfOk result
+        (λ found. option_map (λ (path : Vec ℕ). path.items) found ≡ ports_of topology.now (file.path names.now)) }
 {
     match nodes_named(alloc, topology, names)? {
         Some(nodes) => ports_along(alloc, topology, &nodes),
@@ -85,7 +87,8 @@ fn ports_between(
     from: &Name,
     to: &Name,
 ) -> Result<Option<Vec<u32>>, AllocError>
-    ensures { IfOk result (λ found. option_map (λ (path : Vec ℕ). path.items) found ≡ ports_of topology.now (file.ends from.now to.now)) }
+    ensures { IfOk result
+        (λ found. option_map (λ (path : Vec ℕ). path.items) found ≡ ports_of topology.now (file.ends from.now to.now)) }
 {
     let Some(a) = topology.node_named(from) else {
         return Ok(None);
@@ -102,7 +105,8 @@ fn nodes_named(
     topology: &Topology,
     names: &[Name],
 ) -> Result<Option<Vec<u32>>, AllocError>
-    ensures { IfOk result (λ found. option_map (λ (nodes : Vec ℕ). nodes.items) found ≡ nodes_named topology.now names.now) }
+    ensures { IfOk result
+        (λ found. option_map (λ (nodes : Vec ℕ). nodes.items) found ≡ nodes_named topology.now names.now) }
 {
     let mut nodes = Vec::new(alloc);
     for name in names {
@@ -120,7 +124,8 @@ fn ports_along(
     topology: &Topology,
     nodes: &[u32],
 ) -> Result<Option<Vec<u32>>, AllocError>
-    ensures { IfOk result (λ found. option_map (λ (path : Vec ℕ). path.items) found ≡ ports_along topology.now.ports nodes.now) }
+    ensures { IfOk result
+        (λ found. option_map (λ (path : Vec ℕ). path.items) found ≡ ports_along topology.now.ports nodes.now) }
 {
     let Some((first, rest)) = nodes.split_first() else {
         return Ok(None);

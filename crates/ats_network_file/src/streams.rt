@@ -8,8 +8,8 @@ ghost use Rattle.ats_network_file.specs.Reading.{stream_over, stream_made, strea
 
 use crate::fault::NetFault;
 use crate::routes::path_in;
-use ats_network_toml::{StreamEntry, Table};
 use ats_network::{Network, PushFault};
+use ats_network_toml::{StreamEntry, Table};
 use ats_num::Failure;
 use ats_streams::Stream;
 use std::alloc::Global;

@@ -1,4 +1,5 @@
-use Rattle.std.proofs.Common.{◌≡◌, ℕ, ◌+◌, ◌<◌, List, [], ◌∷◌, ◌++◌, length, take, get_or, map, subst, sym, ◌∙◌, ap, All, arith, append_assoc}
+use Rattle.std.proofs.Common.{◌≡◌, ℕ, ◌+◌, ◌<◌, List, [], ◌∷◌, ◌++◌, length, take, get_or, map, subst, sym, ◌∙◌, ap}
+use Rattle.std.proofs.Common.{All, arith, append_assoc}
 use Rattle.std.specs.List.{flat_map, enumerate_from}
 use Rattle.std.proofs.lemmas.List.{flat_map_more, take_more, length-map, take_all}
 use Rattle.std.proofs.Math.ListN.{get_or-map}
@@ -21,19 +22,23 @@ made_of : {X Y : Type 0} (P : Y → Type 0) (f : X → Y) (xs : List X) → All 
 made_of P f xs all = λ k d lt. subst P (get_or-map f xs k d) (all k (f d) (omega (arith, length-map xs f)))
 
 -- the ports of each stream and each flow of a network are ports of its topology
-pub ports_of_streams : (network : DeclaredNetwork) → IsNetwork network → All (λ (s : DeclaredStream). ArePorts network.topology.ports s.path) network.streams
+pub ports_of_streams : (network : DeclaredNetwork) → IsNetwork network
+    → All (λ (s : DeclaredStream). ArePorts network.topology.ports s.path) network.streams
 ports_of_streams network is =
     let Is : Sender → Type 0 = IsSender network.topology in
     let streams : List Sender = map stream_sender network.streams in
     let flows : List Sender = map flow_sender network.flows in
-    λ k d lt. (made_of Is stream_sender network.streams (all_left Is streams flows (each_is_sender network is)) k d lt).ports
+    λ k d lt.
+    (made_of Is stream_sender network.streams (all_left Is streams flows (each_is_sender network is)) k d lt).ports
 
-pub ports_of_flows : (network : DeclaredNetwork) → IsNetwork network → All (λ (f : DeclaredFlow). ArePorts network.topology.ports f.path) network.flows
+pub ports_of_flows : (network : DeclaredNetwork) → IsNetwork network
+    → All (λ (f : DeclaredFlow). ArePorts network.topology.ports f.path) network.flows
 ports_of_flows network is =
     let Is : Sender → Type 0 = IsSender network.topology in
     let streams : List Sender = map stream_sender network.streams in
     let flows : List Sender = map flow_sender network.flows in
-    λ k d lt. (made_of Is flow_sender network.flows (all_right Is streams flows (each_is_sender network is)) k d lt).ports
+    λ k d lt.
+    (made_of Is flow_sender network.flows (all_right Is streams flows (each_is_sender network is)) k d lt).ports
 
 -- the line of the next port
 pub next_port : (topology : DeclaredTopology) (n : ℕ) (x before after : List ℕ) → n < length topology.ports
@@ -44,7 +49,8 @@ next_port topology n x before after within so_far line =
     let numbered : List (ℕ × Port) = enumerate_from 0 topology.ports in
     let inside : n < length numbered = omega (arith, length-enumerate_from 0 topology.ports) in
     let at_n : get_or numbered n (0, no_port) ≡ (n, port_at topology.ports n) =
-    get_or-enumerate_from 0 topology.ports n (0, no_port) within ∙ ap (λ (k : ℕ). (k, port_at topology.ports n)) (omega arith) in
+    get_or-enumerate_from 0 topology.ports n (0, no_port) within
+    ∙ ap (λ (k : ℕ). (k, port_at topology.ports n)) (omega arith) in
     let more : take (n + 1) numbered ≡ take n numbered ++ (n, port_at topology.ports n) ∷ [] =
     take_more numbered n (0, no_port) inside ∙ ap (λ (p : ℕ × Port). take n numbered ++ p ∷ []) at_n in
     line ∙ ap (λ (t : List ℕ). t ++ port_line topology (n, port_at topology.ports n)) so_far
@@ -56,13 +62,17 @@ pub all_ports : (topology : DeclaredTopology) (n : ℕ) (x text : List ℕ) → 
     → text ≡ x ++ flat_map (port_line topology) (take n (enumerate_from 0 topology.ports))
     → text ≡ x ++ flat_map (port_line topology) (enumerate_from 0 topology.ports)
 all_ports topology n x text end written =
-    written ∙ ap (λ (ports : List (ℕ × Port)). x ++ flat_map (port_line topology) ports) (take_all n (enumerate_from 0 topology.ports) (omega (arith, length-enumerate_from 0 topology.ports)))
+    written ∙ ap (λ (ports : List (ℕ × Port)). x ++ flat_map (port_line topology) ports)
+    (take_all n (enumerate_from 0 topology.ports) (omega (arith, length-enumerate_from 0 topology.ports)))
 
-joined : (x a b c d e f g : List ℕ) → (((x ++ (a ++ b)) ++ (c ++ d)) ++ (e ++ f)) ++ g ≡ x ++ (a ++ b ++ c ++ d ++ e ++ f ++ g)
+joined : (x a b c d e f g : List ℕ)
+    → (((x ++ (a ++ b)) ++ (c ++ d)) ++ (e ++ f)) ++ g ≡ x ++ (a ++ b ++ c ++ d ++ e ++ f ++ g)
 joined x a b c d e f g = simp append_assoc
 
 -- three words with a number each, and an end, written one after another
-pub three_written : (x a b c d e f g one two three four : List ℕ) → one ≡ x ++ (a ++ b) → two ≡ one ++ (c ++ d) → three ≡ two ++ (e ++ f) → four ≡ three ++ g
+pub three_written : (x a b c d e f g one two three four : List ℕ) → one ≡ x ++ (a ++ b) → two ≡ one ++ (c ++ d)
+    → three ≡ two ++ (e ++ f) → four ≡ three ++ g
     → four ≡ x ++ (a ++ b ++ c ++ d ++ e ++ f ++ g)
 three_written x a b c d e f g one two three four p q r s =
-    s ∙ ap (λ (z : List ℕ). z ++ g) (r ∙ ap (λ (z : List ℕ). z ++ (e ++ f)) (q ∙ ap (λ (z : List ℕ). z ++ (c ++ d)) p)) ∙ joined x a b c d e f g
+    s ∙ ap (λ (z : List ℕ). z ++ g) (r ∙ ap (λ (z : List ℕ). z ++ (e ++ f)) (q ∙ ap (λ (z : List ℕ). z ++ (c ++ d)) p))
+    ∙ joined x a b c d e f g

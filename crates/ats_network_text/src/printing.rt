@@ -6,7 +6,8 @@ ghost use Rattle.ats_topology.specs.Port.{port_at};
 ghost use Rattle.ats_topology.specs.Walks.{ArePorts};
 ghost use Rattle.ats_streams.specs.Stream.{DeclaredStream};
 ghost use Rattle.ats_streams.specs.Flow.{DeclaredFlow};
-ghost use Rattle.ats_network_text.specs.Text.{port_line, path_text, sender_line, stream_line, flow_line, totals_line, show_text};
+ghost use Rattle.ats_network_text.specs.Text.{port_line, path_text, sender_line, stream_line, flow_line, totals_line};
+ghost use Rattle.ats_network_text.specs.Text.{show_text};
 
 use ats_network::Network;
 use ats_port_names::write_port;
@@ -15,9 +16,9 @@ use ats_topology::Topology;
 use itoa::{Buffer, Integer};
 use std::alloc::{AllocError, Global};
 
-/// A line for each port by number, with its picoseconds per bit and its latency in picoseconds; a line for each stream and
-/// then for each flow, with its class and the ports of its path; and a line of totals. `AllocError` where there is no memory
-/// for the text.
+/// A line for each port by number, with its picoseconds per bit and its latency in picoseconds; a
+/// line for each stream and then for each flow, with its class and the ports of its path; and a
+/// line of totals. `AllocError` where there is no memory for the text.
 #[tactic(auto, unfolding(crate::specs::Text::show_text))]
 pub fn show(alloc: Global, network: &Network) -> Result<Vec<u8>, AllocError>
     ensures { IfOk result (λ text. text.items ≡ show_text network.now) }
@@ -34,7 +35,8 @@ pub fn show(alloc: Global, network: &Network) -> Result<Vec<u8>, AllocError>
 
 // The lines of the ports.
 fn write_ports(out: &mut Vec<u8>, topology: &Topology) -> Result<(), AllocError>
-    ensures { OnOk result (out.new.items ≡ out.old.items ++ flat_map (port_line topology.now) (enumerate_from 0 topology.now.ports)) }
+    ensures { OnOk result
+        (out.new.items ≡ out.old.items ++ flat_map (port_line topology.now) (enumerate_from 0 topology.now.ports)) }
 {
     for port in 0..topology.ports().len() as u32 {
         write_port_line(out, topology, port)?;
@@ -46,7 +48,8 @@ fn write_ports(out: &mut Vec<u8>, topology: &Topology) -> Result<(), AllocError>
 #[tactic(auto, unfolding(crate::specs::Text::port_line))]
 fn write_port_line(out: &mut Vec<u8>, topology: &Topology, port: u32) -> Result<(), AllocError>
     requires { port < length topology.now.ports }
-    ensures { OnOk result (out.new.items ≡ out.old.items ++ port_line topology.now (port, port_at topology.now.ports port)) }
+    ensures { OnOk result
+        (out.new.items ≡ out.old.items ++ port_line topology.now (port, port_at topology.now.ports port)) }
 {
     let sends = topology.ports()[port as usize];
     write_number(out, b"port ", port)?;

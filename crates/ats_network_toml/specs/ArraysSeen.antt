@@ -5,7 +5,13 @@ use Rattle.ats_network_toml.specs.declared.arrays.Arrays.{Arrays}
 
 -- the tables that the arrays hold
 abbrev pub arrays_seen : Arrays → due.Arrays
-arrays_seen a = record { stations = tables_of a.stations.now; bridges = tables_of a.bridges.now; links = tables_of a.links.now; streams = tables_of a.streams.now; flows = tables_of a.flows.now }
+arrays_seen a = record {
+  stations = tables_of a.stations.now;
+  bridges = tables_of a.bridges.now;
+  links = tables_of a.links.now;
+  streams = tables_of a.streams.now;
+  flows = tables_of a.flows.now;
+}
 
 -- they are arrays of tables
 pub record AreArrays (a : Arrays) : Type 0 where

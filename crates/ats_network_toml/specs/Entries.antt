@@ -57,7 +57,17 @@ stream_in e = do
   most ← long_at e key.MaxOctets
   deadline ← deadline_at e
   identity ← identity_at e
-  Ok (record { name = name; route = route; class = class; rate_bps = rate; burst_bits = burst; min_octets = least; max_octets = most; deadline_ns = deadline; identity = identity })
+  Ok (record {
+    name = name;
+    route = route;
+    class = class;
+    rate_bps = rate;
+    burst_bits = burst;
+    min_octets = least;
+    max_octets = most;
+    deadline_ns = deadline;
+    identity = identity;
+  })
 
 abbrev pub flow_in : Entry → Result DeclaredFlow DocumentFault
 flow_in e = do

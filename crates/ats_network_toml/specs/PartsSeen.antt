@@ -3,4 +3,10 @@ use Rattle.ats_network_toml.specs.declared.document.Parts.{Parts}
 
 -- what the lists hold
 abbrev pub parts_seen : Parts → DeclaredDocument
-parts_seen p = record { stations = p.stations.items; bridges = p.bridges.items; links = p.links.items; streams = p.streams.items; flows = p.flows.items }
+parts_seen p = record {
+  stations = p.stations.items;
+  bridges = p.bridges.items;
+  links = p.links.items;
+  streams = p.streams.items;
+  flows = p.flows.items;
+}

@@ -13,7 +13,8 @@ use Rattle.ats_network_toml.specs.declared.fault.DocumentFault.{DocumentFault}
 use Rattle.ats_network_toml.specs.declared.fault.DocumentFault.TheVariants.{NotToml, Limit}
 
 -- the entries of an array from the one with this number on, or the first fault in them
-abbrev pub entries_from : {A : Type 0} → (Entry → Result A DocumentFault) → Table → ℕ → List Members → Result (List A) DocumentFault
+abbrev pub entries_from : {A : Type 0} → (Entry → Result A DocumentFault) → Table → ℕ → List Members
+    → Result (List A) DocumentFault
 entries_from read table n [] = Ok []
 entries_from read table n (ms ∷ rest) = do
   entry ← read (record { table = table; number = n; members = ms })
@@ -21,8 +22,10 @@ entries_from read table n (ms ∷ rest) = do
   Ok (entry ∷ more)
 
 -- the entries of an array, of at most so many
-abbrev pub entries_in : {A : Type 0} → (Entry → Result A DocumentFault) → Table → ℕ → List Members → Result (List A) DocumentFault
-entries_in read table most tables = if nat_lt most (length tables) then Err (Limit table) else entries_from read table 1 tables
+abbrev pub entries_in : {A : Type 0} → (Entry → Result A DocumentFault) → Table → ℕ → List Members
+    → Result (List A) DocumentFault
+entries_in read table most tables = if nat_lt most (length tables) then Err (Limit table)
+    else entries_from read table 1 tables
 
 -- the arrays of the top table
 pub record Arrays : Type 0 where

@@ -1,4 +1,5 @@
-use Rattle.std.specs.Prelude.{ℕ, Bool, true, false, not, ◌&&◌, ◌||◌, List, [], Option, Some, None, is_some, option_and_then, Result, Ok, Err, if◌then◌else◌}
+use Rattle.std.specs.Prelude.{ℕ, Bool, true, false, not, ◌&&◌, ◌||◌, List, [], Option, Some, None, is_some}
+use Rattle.std.specs.Prelude.{option_and_then, Result, Ok, Err, if◌then◌else◌}
 use Rattle.std.specs.List.{list_any, find}
 use Rattle.std.specs.Str.{bytes_eq}
 use Rattle.toml.specs.Data.{Data, Members, no_members, member, get_member}
@@ -90,5 +91,6 @@ deadline_at e = if has e key.DeadlineNs then whole_at e key.DeadlineNs 0 9223372
 -- destination address and VLAN identifier, where they are given
 abbrev pub identity_at : Entry → Result (Option (ℕ × ℕ)) DocumentFault
 identity_at e =
-    if has e key.Address then (at e key.Address address_in >>= λ address. whole_at e key.Vlan 1 4094 >>= λ vlan. Ok (Some (address, vlan)))
+    if has e key.Address then (at e key.Address address_in >>= λ address. whole_at e key.Vlan 1 4094
+    >>= λ vlan. Ok (Some (address, vlan)))
     else Ok None

@@ -46,5 +46,6 @@ keys_of Top = key.Format ∷ key.Station ∷ key.Bridge ∷ key.Link ∷ key.Str
 keys_of Station = key.Name ∷ []
 keys_of Bridge = key.Name ∷ key.ProcessingNs ∷ key.ResidenceNs ∷ []
 keys_of Link = key.A ∷ key.B ∷ key.Mbps ∷ key.PropagationNs ∷ []
-keys_of Stream = key.Name ∷ key.Path ∷ key.From ∷ key.To ∷ key.Class ∷ key.RateBps ∷ key.BurstBits ∷ key.MinOctets ∷ key.MaxOctets ∷ key.DeadlineNs ∷ key.Address ∷ key.Vlan ∷ []
+keys_of Stream = key.Name ∷ key.Path ∷ key.From ∷ key.To ∷ key.Class ∷ key.RateBps ∷ key.BurstBits ∷ key.MinOctets
+    ∷ key.MaxOctets ∷ key.DeadlineNs ∷ key.Address ∷ key.Vlan ∷ []
 keys_of Flow = key.Name ∷ key.Path ∷ key.From ∷ key.To ∷ key.MaxOctets ∷ []

@@ -16,8 +16,8 @@ use ats_num::Failure;
 use std::alloc::Global;
 use toml::Value;
 
-/// The entries of an array of a table, or the first fault in them: more than so many, or the first fault of the first entry
-/// with one.
+/// The entries of an array of a table, or the first fault in them: more than so many, or the first
+/// fault of the first entry with one.
 pub(crate) fn read_entries<E: FromSection>(
     alloc: Global,
     table: Table,
@@ -65,7 +65,8 @@ impl<'a> Arrays<'a> {
 
     /// The arrays of a top table, or its first fault.
     pub(crate) fn read(top: &Section<'a>) -> Result<Self, DocumentFault>
-        ensures ok { IfOk result (λ arrays. (arrays_in (entry_of top.now) ≡ Ok (arrays_seen arrays)) × AreArrays arrays) }
+        ensures ok { IfOk result
+            (λ arrays. (arrays_in (entry_of top.now) ≡ Ok (arrays_seen arrays)) × AreArrays arrays) }
         ensures err { IfErr result (λ e. arrays_in (entry_of top.now) ≡ Err e) }
     {
         top.formed()?;

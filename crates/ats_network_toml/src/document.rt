@@ -17,7 +17,8 @@ pub const MAX_STREAMS: usize = 4096;
 /// The most flows of a network file.
 pub const MAX_FLOWS: usize = 1024;
 
-/// What a network file declares: the entries of its arrays, each in file order and within its limit. Contracts see the lists.
+/// What a network file declares: the entries of its arrays, each in file order and within its
+/// limit. Contracts see the lists.
 #[derive(Debug, Drop)]
 pub struct Document {
     pub(crate) station_list: Vec<StationEntry>,
@@ -32,9 +33,21 @@ impl Model for Document {
 
     ghost Value = { DeclaredDocument };
 
-    ghost view = { λ d. record { stations = d.station_list.items; bridges = d.bridge_list.items; links = d.link_list.items; streams = d.stream_list.items; flows = d.flow_list.items } };
+    ghost view = { λ d. record {
+      stations = d.station_list.items;
+      bridges = d.bridge_list.items;
+      links = d.link_list.items;
+      streams = d.stream_list.items;
+      flows = d.flow_list.items;
+    } };
 
-    ghost invariant = { λ d. IsDocument (record { stations = d.station_list.items; bridges = d.bridge_list.items; links = d.link_list.items; streams = d.stream_list.items; flows = d.flow_list.items }) };
+    ghost invariant = { λ d. IsDocument (record {
+      stations = d.station_list.items;
+      bridges = d.bridge_list.items;
+      links = d.link_list.items;
+      streams = d.stream_list.items;
+      flows = d.flow_list.items;
+    }) };
 }
 
 /// The lists of a document, each in file order.

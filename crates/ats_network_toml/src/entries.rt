@@ -18,8 +18,8 @@ pub(crate) trait FromSection: Drop {
     // What stands in a table, or its first fault.
     ghost reads: { Entry → Result Self DocumentFault };
 
-    /// What stands in a table, or its first fault: the first missing key, then an unknown key, then the first key of the
-    /// wrong kind.
+    /// What stands in a table, or its first fault: the first missing key, then an unknown key, then
+    /// the first key of the wrong kind.
     fn read(alloc: Global, section: &Section) -> Result<Self, Failure<DocumentFault>>
         ensures { Gives result (reads (entry_of section.now)) };
 }
@@ -144,9 +144,29 @@ impl Model for StreamEntry {
 
     ghost Value = { DeclaredStream };
 
-    ghost view = { λ s. record { name = s.name; route = route_seen s.route; class = s.class; rate_bps = s.rate_bps; burst_bits = s.burst_bits; min_octets = s.min_octets; max_octets = s.max_octets; deadline_ns = s.deadline_ns; identity = s.identity } };
+    ghost view = { λ s. record {
+      name = s.name;
+      route = route_seen s.route;
+      class = s.class;
+      rate_bps = s.rate_bps;
+      burst_bits = s.burst_bits;
+      min_octets = s.min_octets;
+      max_octets = s.max_octets;
+      deadline_ns = s.deadline_ns;
+      identity = s.identity;
+    } };
 
-    ghost invariant = { λ s. IsStreamEntry (record { name = s.name; route = route_seen s.route; class = s.class; rate_bps = s.rate_bps; burst_bits = s.burst_bits; min_octets = s.min_octets; max_octets = s.max_octets; deadline_ns = s.deadline_ns; identity = s.identity }) };
+    ghost invariant = { λ s. IsStreamEntry (record {
+      name = s.name;
+      route = route_seen s.route;
+      class = s.class;
+      rate_bps = s.rate_bps;
+      burst_bits = s.burst_bits;
+      min_octets = s.min_octets;
+      max_octets = s.max_octets;
+      deadline_ns = s.deadline_ns;
+      identity = s.identity;
+    }) };
 }
 
 impl FromSection for StreamEntry {

@@ -2,7 +2,8 @@
 
 ghost use Rattle.std.specs.Prelude.{◌≡◌, ◌≤◌, ◌<◌, ◌^◌, ◌&&◌, nat_le, slice_index, IfSome};
 ghost use Rattle.toml.specs.View.{view};
-ghost use Rattle.ats_network_toml.specs.Kinds.{some_where, name_in, whole_in, digit_at, pair_at, joined_at, address_of, address_in};
+ghost use Rattle.ats_network_toml.specs.Kinds.{some_where, name_in, whole_in, digit_at, pair_at, joined_at, address_of};
+ghost use Rattle.ats_network_toml.specs.Kinds.{address_in};
 
 use ats_num::Name;
 use toml::Value;
@@ -40,8 +41,8 @@ fn ranged(n: u64, least: u64, most: u64) -> Option<u64>
     }
 }
 
-/// The number that an address writes, where a value is a string of six pairs of hexadecimal digits joined by `:`. The first
-/// pair stands highest.
+/// The number that an address writes, where a value is a string of six pairs of hexadecimal digits
+/// joined by `:`. The first pair stands highest.
 pub(crate) fn address_in(value: &Value) -> Option<u64>
     ensures value { result ≡ address_in (view value.now) }
     ensures within { IfSome result (λ n. n < 2 ^ 48) }

@@ -18,10 +18,11 @@ use std::alloc::Global;
 ///
 /// # Errors
 ///
-/// `NotToml` exactly where the bytes are no UTF-8 or no TOML document. Else the first fault of this walk: the top table,
-/// then the stations, the bridges, the links, the streams and the flows, each array in its order. At a table: the first
-/// missing key in the order of `Table::keys`; then `Unknown`, where a key stands there that is none of these; then the first
-/// key of the wrong kind in that order. On reaching an array with more entries than its limit: `Limit`, with the bridges
+/// `NotToml` exactly where the bytes are no UTF-8 or no TOML document. Else the first fault of this
+/// walk: the top table, then the stations, the bridges, the links, the streams and the flows, each
+/// array in its order. At a table: the first missing key in the order of `Table::keys`; then
+/// `Unknown`, where a key stands there that is none of these; then the first key of the wrong kind
+/// in that order. On reaching an array with more entries than its limit: `Limit`, with the bridges
 /// counted on from the stations.
 pub fn read_document(alloc: Global, bytes: &[u8]) -> Result<Document, Failure<DocumentFault>>
     ensures { Gives result (document_of bytes.now) }

@@ -5,7 +5,8 @@ ghost use Rattle.std.specs.Option.{ForSome};
 ghost use Rattle.toml.specs.Data.{get_member};
 ghost use Rattle.toml.specs.View.{view, items_view, table_view};
 ghost use Rattle.ats_network_toml.specs.Words.{key_text};
-ghost use Rattle.ats_network_toml.specs.Walk.{has, is_due, is_missing, missing_key, is_known, has_unknown, formed, at, name_at, whole_at, tables_at, path_at, identity_at, deadline_at};
+ghost use Rattle.ats_network_toml.specs.Walk.{has, is_due, is_missing, missing_key, is_known, has_unknown, formed, at};
+ghost use Rattle.ats_network_toml.specs.Walk.{name_at, whole_at, tables_at, path_at, identity_at, deadline_at};
 ghost use Rattle.ats_num.specs.Failure.{or_fault, GivesSeen};
 ghost use Rattle.ats_network_toml.specs.Kinds.{name_in, address_in, all_in};
 ghost use Rattle.ats_network_toml.specs.Entries.{route_at};
@@ -27,8 +28,8 @@ pub(crate) const MAX_WHOLE: u64 = 9_223_372_036_854_775_807;
 /// The deadline of a stream that declares none, in nanoseconds.
 pub(crate) const DEFAULT_DEADLINE_NS: u64 = 1_000_000_000;
 
-/// One table of a file: which it is, its number among those of its array, counted from 1 (0 for the top table), and what
-/// stands in it.
+/// One table of a file: which it is, its number among those of its array, counted from 1 (0 for the
+/// top table), and what stands in it.
 #[derive(Clone, Copy)]
 pub(crate) struct Section<'a> {
     table: Table,
@@ -183,7 +184,8 @@ impl<'a> Section<'a> {
 
     /// The tables of the array that stands with a key; none where nothing stands there.
     pub(crate) fn tables(&self, key: Key) -> Result<&'a [Value], DocumentFault>
-        ensures ok { IfOk result (λ vs. (tables_at (entry_of self.now) key ≡ Ok (tables_of vs.now)) × IsTrue (are_tables vs.now)) }
+        ensures ok { IfOk result
+            (λ vs. (tables_at (entry_of self.now) key ≡ Ok (tables_of vs.now)) × IsTrue (are_tables vs.now)) }
         ensures err { IfErr result (λ e. tables_at (entry_of self.now) key ≡ Err e) }
     {
         let value = match self.value(key) {

@@ -1,4 +1,5 @@
-use Rattle.std.proofs.Common.{◌≡◌, ℕ, ◌+◌, ◌<◌, ◌^◌, Bool, true, false, cond, List, [], ◌∷◌, ◌++◌, length, Option, Some, None, refl, sym, ◌∙◌, ap, arith, length-append}
+use Rattle.std.proofs.Common.{◌≡◌, ℕ, ◌+◌, ◌<◌, ◌^◌, Bool, true, false, cond, List, [], ◌∷◌, ◌++◌, length, Option, Some}
+use Rattle.std.proofs.Common.{None, refl, sym, ◌∙◌, ap, arith, length-append}
 use Rattle.std.specs.Prelude.{is_some, IfSome}
 use Rattle.std.specs.List.{position_from}
 use Rattle.std.specs.Str.{bytes_eq}
@@ -12,14 +13,20 @@ use Rattle.ats_num.specs.Places.{place_of, AreNumbered}
 
 -- a search goes on to an element at the end only where nothing before it passed
 abbrev after_push : (t : List ℕ → Bool) (i : ℕ) (xs : List (List ℕ)) (x : List ℕ) → Option ℕ
-after_push t i xs x = cond (is_some (position_from t i xs)) (position_from t i xs) (cond (t x) (Some (i + length xs)) None)
+after_push t i xs x =
+    cond (is_some (position_from t i xs)) (position_from t i xs) (cond (t x) (Some (i + length xs)) None)
 
-position_from-push : (t : List ℕ → Bool) (i : ℕ) (xs : List (List ℕ)) (x : List ℕ) → position_from t i (xs ++ x ∷ []) ≡ after_push t i xs x
+position_from-push : (t : List ℕ → Bool) (i : ℕ) (xs : List (List ℕ)) (x : List ℕ)
+    → position_from t i (xs ++ x ∷ []) ≡ after_push t i xs x
 position_from-push t i [] x = ap (λ n. cond (t x) (Some n) None) (omega arith)
-position_from-push t i (y ∷ ys) x = by (t y) (position_from-push t (i + 1) ys x ∙ ap (λ n. cond (is_some (position_from t (i + 1) ys)) (position_from t (i + 1) ys) (cond (t x) (Some n) None)) (omega arith))
+position_from-push t i (y ∷ ys) x = by (t y) (position_from-push t (i + 1) ys x ∙ ap (λ n.
+    cond (is_some (position_from t (i + 1) ys)) (position_from t (i + 1) ys) (cond (t x) (Some n) None)) (omega arith))
   where
-    by : (b : Bool) → position_from t (i + 1) (ys ++ x ∷ []) ≡ cond (is_some (position_from t (i + 1) ys)) (position_from t (i + 1) ys) (cond (t x) (Some (i + length (y ∷ ys))) None)
-        → cond b (Some i) (position_from t (i + 1) (ys ++ x ∷ [])) ≡ cond (is_some (cond b (Some i) (position_from t (i + 1) ys))) (cond b (Some i) (position_from t (i + 1) ys)) (cond (t x) (Some (i + length (y ∷ ys))) None)
+    by : (b : Bool) → position_from t (i + 1) (ys ++ x ∷ []) ≡ cond (is_some (position_from t (i + 1) ys))
+        (position_from t (i + 1) ys) (cond (t x) (Some (i + length (y ∷ ys))) None)
+        → cond b (Some i) (position_from t (i + 1) (ys ++ x ∷ []))
+        ≡ cond (is_some (cond b (Some i) (position_from t (i + 1) ys)))
+        (cond b (Some i) (position_from t (i + 1) ys)) (cond (t x) (Some (i + length (y ∷ ys))) None)
     by true h = refl
     by false h = h
 
@@ -34,7 +41,9 @@ bytes_eq_symm : (xs ys : List ℕ) → bytes_eq xs ys ≡ bytes_eq ys xs
 bytes_eq_symm xs ys = nat_list_eq_equiv.symm xs ys
 
 -- after a new name is put at the end, the map that has its place finds each name at its place
-pub numbered_push : (names : List (List ℕ)) (name : List ℕ) (old new : BTreeMap (List ℕ) ℕ) → AreNumbered names old → place_of name names ≡ None → length names < 2 ^ 32 → Updates (slice_cmp nat_cmp) old new name (Some (length names)) → AreNumbered (names ++ name ∷ []) new
+pub numbered_push : (names : List (List ℕ)) (name : List ℕ) (old new : BTreeMap (List ℕ) ℕ)
+    → AreNumbered names old → place_of name names ≡ None → length names < 2 ^ 32
+    → Updates (slice_cmp nat_cmp) old new name (Some (length names)) → AreNumbered (names ++ name ∷ []) new
 numbered_push names name old new numbered absent few updates = record {
   found = λ q. by q (bytes_eq q name) refl;
   few = omega (arith, length-append names (name ∷ []));
@@ -47,11 +56,14 @@ numbered_push names name old new numbered absent few updates = record {
     by q true e =
         let same : q ≡ name = bytes_eq_is q name e in
         updates.0 q ∙ ap (λ b. cond b (Some (length names)) (get (slice_cmp nat_cmp) old q)) (at_name q ∙ e)
-        ∙ sym (position_from-push (bytes_eq q) 0 names name ∙ ap (λ o. cond (is_some o) o (cond (bytes_eq q name) (Some (0 + length names)) None)) (ap (λ p. place_of p names) same ∙ absent)
+        ∙ sym (position_from-push (bytes_eq q) 0 names name ∙ ap (λ o. cond (is_some o) o
+        (cond (bytes_eq q name) (Some (0 + length names)) None)) (ap (λ p. place_of p names) same ∙ absent)
         ∙ ap (λ b. cond b (Some (0 + length names)) None) e ∙ ap Some (omega arith))
     by q false e =
-        updates.0 q ∙ ap (λ b. cond b (Some (length names)) (get (slice_cmp nat_cmp) old q)) (at_name q ∙ e) ∙ numbered.found q
-        ∙ sym (position_from-push (bytes_eq q) 0 names name ∙ ap (λ b. cond (is_some (place_of q names)) (place_of q names) (cond b (Some (0 + length names)) None)) e ∙ chosen (place_of q names))
+        updates.0 q ∙ ap (λ b. cond b (Some (length names)) (get (slice_cmp nat_cmp) old q)) (at_name q ∙ e)
+        ∙ numbered.found q
+        ∙ sym (position_from-push (bytes_eq q) 0 names name ∙ ap (λ b. cond (is_some (place_of q names))
+        (place_of q names) (cond b (Some (0 + length names)) None)) e ∙ chosen (place_of q names))
 
 none_is : (n : ℕ) → None ≡ Some n → ⊥
 none_is n h = cc
@@ -59,18 +71,22 @@ none_is n h = cc
 some_is : (a b : ℕ) → Some a ≡ Some b → a ≡ b
 some_is a b h = cc
 
-from_lt : (t : List ℕ → Bool) (i : ℕ) (xs : List (List ℕ)) (place : ℕ) → position_from t i xs ≡ Some place → place < i + length xs
+from_lt : (t : List ℕ → Bool) (i : ℕ) (xs : List (List ℕ)) (place : ℕ) → position_from t i xs ≡ Some place
+    → place < i + length xs
 from_lt t i [] place h = absurd (none_is place h)
 from_lt t i (x ∷ xs) place h = by (t x) (from_lt t (i + 1) xs place) h
   where
-    by : (b : Bool) → (position_from t (i + 1) xs ≡ Some place → place < (i + 1) + length xs) → cond b (Some i) (position_from t (i + 1) xs) ≡ Some place → place < i + length (x ∷ xs)
+    by : (b : Bool) → (position_from t (i + 1) xs ≡ Some place → place < (i + 1) + length xs)
+        → cond b (Some i) (position_from t (i + 1) xs) ≡ Some place → place < i + length (x ∷ xs)
     by true more h = let e = some_is i place h in omega arith
     by false more h = let e = more h in omega arith
 
 -- a place that is found is one of the list
-pub place_of-lt : (name : List ℕ) (names : List (List ℕ)) (place : ℕ) → place_of name names ≡ Some place → place < length names
+pub place_of-lt : (name : List ℕ) (names : List (List ℕ)) (place : ℕ) → place_of name names ≡ Some place
+    → place < length names
 place_of-lt name names place found = omega (arith, from_lt (bytes_eq name) 0 names place found)
 
-pub found_within : (name : List ℕ) (names : List (List ℕ)) (found : Option ℕ) → found ≡ place_of name names → IfSome found (λ place. place < length names)
+pub found_within : (name : List ℕ) (names : List (List ℕ)) (found : Option ℕ) → found ≡ place_of name names
+    → IfSome found (λ place. place < length names)
 found_within name names None h = tt
 found_within name names (Some place) h = place_of-lt name names place (sym h)

@@ -17,7 +17,8 @@ use std::marker::Model;
 /// The most bytes of a name.
 pub const MAX_BYTES: usize = 32;
 
-/// A name: 1 to 32 ASCII letters, digits, `_` or `-`. It is copied like a number, and in contracts it is the list of its bytes.
+/// A name: 1 to 32 ASCII letters, digits, `_` or `-`. It is copied like a number, and in contracts
+/// it is the list of its bytes.
 #[derive(Clone, Copy)]
 pub struct Name {
     text: [u8; 32],

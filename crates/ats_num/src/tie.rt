@@ -2,10 +2,12 @@
 
 ghost use Rattle.std.specs.Prelude.{◌≡◌, ◌≢◌, ℕ, ◌+◌, ◌-◌, ◌*◌, ◌<◌, ◌^◌, bit_xor};
 ghost use Rattle.std.proofs.Common.{arith};
-ghost use Rattle.ats_num.specs.Tie.{AreDistinct, Ascends, late_key, mixed_key, late_distinct, late_ascends, mixed_distinct, mixed_ascends};
+ghost use Rattle.ats_num.specs.Tie.{AreDistinct, Ascends, late_key, mixed_key, late_distinct, late_ascends};
+ghost use Rattle.ats_num.specs.Tie.{mixed_distinct, mixed_ascends};
 
-/// A lawful choice among frames that are eligible at the same time in one class: the frame with the least key goes first.
-/// The standard leaves this choice open; two frames of one sender keep their order.
+/// A lawful choice among frames that are eligible at the same time in one class: the frame with the
+/// least key goes first. The standard leaves this choice open; two frames of one sender keep their
+/// order.
 pub trait Tie: Copy {
     /// The key of a frame of a sender.
     ghost key: { Self → ℕ → ℕ → ℕ };
@@ -29,8 +31,8 @@ pub struct Early;
 #[derive(Clone, Copy, Debug, PartialEq, Eq)]
 pub struct Late;
 
-/// The sender whose number, combined with this one bit by bit by exclusive or, is less goes first, and of one sender the
-/// earlier frame.
+/// The sender whose number, combined with this one bit by bit by exclusive or, is less goes first,
+/// and of one sender the earlier frame.
 #[derive(Clone, Copy, Debug, PartialEq, Eq)]
 pub struct Mixed(pub u32);
 

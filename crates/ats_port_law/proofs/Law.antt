@@ -34,7 +34,8 @@ record Case (network : DeclaredNetwork) (row : Row) (sent : List Transmission) :
   offered : IsOffered network row.port sent
 
 -- each transmission takes time
-takes_time : (network : DeclaredNetwork) (row : Row) (sent : List Transmission) → Case network row sent → TakesTime (port_at network.topology.ports row.port).ps_per_bit sent
+takes_time : (network : DeclaredNetwork) (row : Row) (sent : List Transmission) → Case network row sent
+    → TakesTime (port_at network.topology.ports row.port).ps_per_bit sent
 takes_time network row sent c k d h =
     let ps : ℕ = (port_at network.topology.ports row.port).ps_per_bit in
     let x : Transmission = get_or sent k d in
@@ -44,25 +45,31 @@ takes_time network row sent c k d h =
     omega (arith, product, bits)
 
 -- a lower frame is no longer than the row says
-lower_frames : (network : DeclaredNetwork) (row : Row) (sent : List Transmission) → Case network row sent → All (λ (y : Transmission). y.class < row.class → y.bits ≤ row.lower) sent
+lower_frames : (network : DeclaredNetwork) (row : Row) (sent : List Transmission) → Case network row sent
+    → All (λ (y : Transmission). y.class < row.class → y.bits ≤ row.lower) sent
 lower_frames network row sent c k d h below =
     let y : Transmission = get_or sent k d in
     let declared = c.offered.each k d h in
-    let reaches = greatest_reaches row.port (is_below row.class) longest (senders_of network) y.sender no_sender declared.exists declared.uses
+    let reaches = greatest_reaches row.port (is_below row.class) longest (senders_of network)
+    y.sender no_sender declared.exists declared.uses
     (lt-ltb (sender_at network y.sender).class row.class (omega (arith, declared.class, below))) in
     omega (arith, declared.most, reaches, c.covers.sums.lower)
 
 -- a frame of the class is no shorter than the row says
-least_frame : (network : DeclaredNetwork) (row : Row) (sent : List Transmission) → Case network row sent → (k : ℕ) (d : Transmission) → k < length sent → (get_or sent k d).class ≡ row.class → row.least ≤ (get_or sent k d).bits
+least_frame : (network : DeclaredNetwork) (row : Row) (sent : List Transmission) → Case network row sent
+    → (k : ℕ) (d : Transmission) → k < length sent → (get_or sent k d).class ≡ row.class
+    → row.least ≤ (get_or sent k d).bits
 least_frame network row sent c k d h class =
     let x : Transmission = get_or sent k d in
     let declared = c.offered.each k d h in
-    let reaches = least_reaches row.port (is_of row.class) shortest (senders_of network) x.sender no_sender declared.exists declared.uses
+    let reaches = least_reaches row.port (is_of row.class) shortest (senders_of network)
+    x.sender no_sender declared.exists declared.uses
     (eq-eqb (sender_at network x.sender).class row.class (sym declared.class ∙ class)) in
     omega (arith, declared.least, reaches, c.covers.sums.least)
 
 -- where there is one, the class has a rate
-equal_rate : (network : DeclaredNetwork) (row : Row) (sent : List Transmission) → Case network row sent → (k : ℕ) (d : Transmission) → k < length sent → (get_or sent k d).class ≡ row.class → 1 ≤ row.equal
+equal_rate : (network : DeclaredNetwork) (row : Row) (sent : List Transmission) → Case network row sent
+    → (k : ℕ) (d : Transmission) → k < length sent → (get_or sent k d).class ≡ row.class → 1 ≤ row.equal
 equal_rate network row sent c k d h class =
     let ps : ℕ = (port_at network.topology.ports row.port).ps_per_bit in
     let x : Transmission = get_or sent k d in
@@ -70,7 +77,8 @@ equal_rate network row sent c k d h class =
     let declared = c.offered.each k d h in
     let ranked : s.class ≡ row.class = sym declared.class ∙ class in
     let rates : ℕ = sum_where (is_of row.class) (λ (s : Sender). s.rate) (senders_at row.port (senders_of network)) in
-    let reaches : s.rate ≤ rates = sum_reaches row.port (is_of row.class) (λ (s : Sender). s.rate) (senders_of network) x.sender no_sender declared.exists declared.uses (eq-eqb s.class row.class ranked) in
+    let reaches : s.rate ≤ rates = sum_reaches row.port (is_of row.class) (λ (s : Sender). s.rate) (senders_of network)
+    x.sender no_sender declared.exists declared.uses (eq-eqb s.class row.class ranked) in
     let rate : 1 ≤ s.rate = has_rate network x.sender c.net declared.exists (omega (arith, ranked, c.some)) in
     let fast : 10 ≤ ps = (c.net.topology.each_port row.port _ c.port).rate.least in
     let product : 10 * rates ≤ ps * rates = mul-le-mul_right rates fast in
@@ -78,8 +86,10 @@ equal_rate network row sent c k d h class =
     omega (arith, product, equal, reaches, rate)
 
 -- the walk begins at the frame itself
-first_head : (network : DeclaredNetwork) (row : Row) (sent : List Transmission) → Case network row sent → (k : ℕ) (d : Transmission) → k < length sent → (get_or sent k d).class ≡ row.class
-    → Head (port_at network.topology.ports row.port).ps_per_bit row.class sent d (get_or sent k d) (get_or sent k d).start
+first_head : (network : DeclaredNetwork) (row : Row) (sent : List Transmission) → Case network row sent
+    → (k : ℕ) (d : Transmission) → k < length sent → (get_or sent k d).class ≡ row.class
+    → Head (port_at network.topology.ports row.port).ps_per_bit row.class sent d (get_or sent k d)
+    (get_or sent k d).start
 first_head network row sent c k d h class =
     let ps : ℕ = (port_at network.topology.ports row.port).ps_per_bit in
     let x : Transmission = get_or sent k d in
@@ -96,10 +106,14 @@ first_head network row sent c k d h class =
       fills = omega (arith, takes, mul-le-mul_left ps bits);
     }
 
--- the bits of a walk became eligible since its moment: those of the class by the time of the frame, the others by its start
-walk_counts : (network : DeclaredNetwork) (row : Row) (sent : List Transmission) → Case network row sent → (k : ℕ) (d : Transmission) → k < length sent → (get_or sent k d).class ≡ row.class
-    → (w : Walked (port_at network.topology.ports row.port).ps_per_bit row.class row.lower sent (get_or sent k d)) → (j : ℕ) → j < length sent
-    → bits_in_walk row.class w.first (get_or sent k d).start (get_or sent j d) ≤ counted row.class w.since (get_or sent k d).eligible (get_or sent k d).start (get_or sent j d)
+-- the bits of a walk became eligible since its moment: those of the class by the time of the frame, the others by its
+-- start
+walk_counts : (network : DeclaredNetwork) (row : Row) (sent : List Transmission) → Case network row sent
+    → (k : ℕ) (d : Transmission) → k < length sent → (get_or sent k d).class ≡ row.class
+    → (w : Walked (port_at network.topology.ports row.port).ps_per_bit row.class row.lower sent (get_or sent k d))
+    → (j : ℕ) → j < length sent
+    → bits_in_walk row.class w.first (get_or sent k d).start (get_or sent j d)
+    ≤ counted row.class w.since (get_or sent k d).eligible (get_or sent k d).start (get_or sent j d)
 walk_counts network row sent c k d h class w j hj =
     let ps : ℕ = (port_at network.topology.ports row.port).ps_per_bit in
     let x : Transmission = get_or sent k d in
@@ -110,26 +124,34 @@ walk_counts network row sent c k d h class w j hj =
       | inl inside ↦ (
           let part = in_walk-parts row.class w.first x.start y inside in
           let since : w.since ≤ y.eligible = w.late j d hj part.ranked part.after in
-          let bits : bits_in_walk row.class w.first x.start y ≡ y.bits = in_walk row.class w.first x.start y part.ranked part.after part.before in
+          let bits : bits_in_walk row.class w.first x.start y ≡ y.bits =
+          in_walk row.class w.first x.start y part.ranked part.after part.before in
           elim (cases_lt row.class y.class) as (λ _. Goal) [
             | inl above ↦ (
                 let waits : y.eligible ≤ y.start = c.rule.waits j d hj in
-                let counts : counted row.class w.since x.eligible x.start y ≡ eligible_bits w.since x.start y = counted-above row.class w.since x.eligible x.start y above in
-                let all : eligible_bits w.since x.start y ≡ y.bits = bits_in-inside w.since x.start (frame_of y) since (omega (arith, waits, part.before)) in
+                let counts : counted row.class w.since x.eligible x.start y ≡ eligible_bits w.since x.start y =
+                counted-above row.class w.since x.eligible x.start y above in
+                let all : eligible_bits w.since x.start y ≡ y.bits =
+                bits_in-inside w.since x.start (frame_of y) since (omega (arith, waits, part.before)) in
                 omega (arith, bits, counts, all))
             | inr not_above ↦ (
                 let same : y.class ≡ row.class = omega (arith, part.ranked, not_above) in
-                let by : y.eligible ≤ x.eligible = eligible_no_later ps sent c.rule (takes_time network row sent c) j k d hj h (same ∙ sym class) part.before in
-                let counts : counted row.class w.since x.eligible x.start y ≡ eligible_bits w.since x.eligible y = counted-of row.class w.since x.eligible x.start y same in
-                let all : eligible_bits w.since x.eligible y ≡ y.bits = bits_in-inside w.since x.eligible (frame_of y) since by in
+                let by : y.eligible ≤ x.eligible = eligible_no_later ps sent c.rule (takes_time network row sent c)
+                j k d hj h (same ∙ sym class) part.before in
+                let counts : counted row.class w.since x.eligible x.start y ≡ eligible_bits w.since x.eligible y =
+                counted-of row.class w.since x.eligible x.start y same in
+                let all : eligible_bits w.since x.eligible y ≡ y.bits =
+                bits_in-inside w.since x.eligible (frame_of y) since by in
                 omega (arith, bits, counts, all))
           ])
     ]
 
 -- what the walk comes to, in numbers
-walk_numbers : (network : DeclaredNetwork) (row : Row) (sent : List Transmission) → (c : Case network row sent) → (k : ℕ) (d : Transmission) → k < length sent → (get_or sent k d).class ≡ row.class
+walk_numbers : (network : DeclaredNetwork) (row : Row) (sent : List Transmission) → (c : Case network row sent)
+    → (k : ℕ) (d : Transmission) → k < length sent → (get_or sent k d).class ≡ row.class
     → (w : Walked (port_at network.topology.ports row.port).ps_per_bit row.class row.lower sent (get_or sent k d))
-    → Walk PS_PER_SECOND (port_at network.topology.ports row.port).ps_per_bit w.since (get_or sent k d).eligible (get_or sent k d).start (get_or sent k d).end
+    → Walk PS_PER_SECOND (port_at network.topology.ports row.port).ps_per_bit w.since (get_or sent k d).eligible
+    (get_or sent k d).start (get_or sent k d).end
     (walk_bits row.class w.first (get_or sent k d).start sent)
     (sum_where (is_above row.class) (λ (s : Sender). s.rate) (senders_at row.port (senders_of network)))
     (sum_where (is_of row.class) (λ (s : Sender). s.rate) (senders_at row.port (senders_of network)))
@@ -140,9 +162,12 @@ walk_numbers network row sent c k d h class w =
     let waits : x.eligible ≤ x.start = c.rule.waits k d h in
     let counted_bits : Transmission → ℕ = counted row.class w.since x.eligible x.start in
     let counts = sum_by-le-all (bits_in_walk row.class w.first x.start) counted_bits sent
-    (All-from_get_or (λ (y : Transmission). bits_in_walk row.class w.first x.start y ≤ counted_bits y) sent d (walk_counts network row sent c k d h class w)) in
-    let shares = all_shares network row.port row.class w.since x.eligible x.start sent c.offered c.some eligible (omega (arith, eligible, waits)) in
-    let total = shares_total PS_PER_SECOND row.port row.class (x.start - w.since) (x.eligible - w.since) (senders_of network) in
+    (All-from_get_or (λ (y : Transmission). bits_in_walk row.class w.first x.start y ≤ counted_bits y) sent d
+    (walk_counts network row sent c k d h class w)) in
+    let shares = all_shares network row.port row.class w.since x.eligible x.start sent c.offered c.some eligible
+    (omega (arith, eligible, waits)) in
+    let total =
+    shares_total PS_PER_SECOND row.port row.class (x.start - w.since) (x.eligible - w.since) (senders_of network) in
     record {
       higher_is = c.covers.sums.higher;
       equal_is = c.covers.sums.equal;
@@ -157,16 +182,26 @@ walk_numbers network row sent c k d h class w =
       within = omega (arith, counts, shares, total, c.covers.sums.bursts);
     }
 
-law_at : (network : DeclaredNetwork) (row : Row) (sent : List Transmission) → Case network row sent → All (IsWithinBound network row) sent
+law_at : (network : DeclaredNetwork) (row : Row) (sent : List Transmission) → Case network row sent
+    → All (IsWithinBound network row) sent
 law_at network row sent c k d h class =
     let ps : ℕ = (port_at network.topology.ports row.port).ps_per_bit in
     let x : Transmission = get_or sent k d in
     let head = first_head network row sent c k d h class in
-    let w : Walked ps row.class row.lower sent x = walk ps row.class row.lower sent d x c.rule (takes_time network row sent c) (lower_frames network row sent c) x.start head in
-    let within : x.end ≤ x.eligible + (row.wait + ps * row.least) = ends_within _ _ _ _ _ _ _ _ _ _ _ _ _ _ _ _ (walk_numbers network row sent c k d h class w) in
+    let w : Walked ps row.class row.lower sent x = walk ps row.class row.lower sent d x c.rule
+    (takes_time network row sent c) (lower_frames network row sent c) x.start head in
+    let within : x.end ≤ x.eligible + (row.wait + ps * row.least) =
+    ends_within _ _ _ _ _ _ _ _ _ _ _ _ _ _ _ _ (walk_numbers network row sent c k d h class w) in
     omega (arith, within, c.covers.bound)
 
 pub law : PortLaw
 law network row sent net used covers rule offered =
     let place = used_place network row.port row.class net used in
-    law_at network row sent (record { net = net; port = place.within; some = place.ranked; covers = covers; rule = rule; offered = offered })
+    law_at network row sent (record {
+      net = net;
+      port = place.within;
+      some = place.ranked;
+      covers = covers;
+      rule = rule;
+      offered = offered;
+    })

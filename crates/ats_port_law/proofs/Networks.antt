@@ -17,7 +17,8 @@ use Rattle.ats_network.specs.Network.{IsNetwork, declared_network}
 -- Closed networks: what computes shows that they are networks.
 
 -- nodes and links without a fault make a network to which streams and flows can be added
-pub bare : (nodes : List Node) (links : List Link) → topology_fault nodes links ≡ None → IsNetwork (declared_network (topology_of nodes links) [] [])
+pub bare : (nodes : List Node) (links : List Link) → topology_fault nodes links ≡ None
+    → IsNetwork (declared_network (topology_of nodes links) [] [])
 bare nodes links sound = record {
   topology = topology_rules nodes links sound;
   streams = All-nil IsStream;
@@ -44,9 +45,12 @@ three_apart a b c ab ac bc (suc zero) (suc (suc (suc j))) d order h = absurd (om
 three_apart a b c ab ac bc (suc (suc i)) j d order h = absurd (omega arith)
 
 -- a path of two ports over a bridge
-pub over_bridge : (t : DeclaredTopology) (p q : ℕ) → p < length t.ports → q < length t.ports → (port_at t.ports q).from ≡ (port_at t.ports p).to
+pub over_bridge : (t : DeclaredTopology) (p q : ℕ) → p < length t.ports → q < length t.ports
+    → (port_at t.ports q).from ≡ (port_at t.ports p).to
     → IsStationAt t (port_at t.ports p).from → IsStationAt t (port_at t.ports q).to
-    → ((port_at t.ports p).from == (port_at t.ports p).to) ≡ false → ((port_at t.ports p).from == (port_at t.ports q).to) ≡ false → ((port_at t.ports p).to == (port_at t.ports q).to) ≡ false
+    → ((port_at t.ports p).from == (port_at t.ports p).to) ≡ false
+    → ((port_at t.ports p).from == (port_at t.ports q).to) ≡ false
+    → ((port_at t.ports p).to == (port_at t.ports q).to) ≡ false
     → IsValidPath t (p ∷ q ∷ [])
 over_bridge t p q first second meet begins ends up through down = record {
   talker = (port_at t.ports p).from;
@@ -55,5 +59,7 @@ over_bridge t p q first second meet begins ends up through down = record {
   begins = begins;
   ends = ends;
   differ = differ (port_at t.ports p).from (port_at t.ports q).to through;
-  apart = three_apart _ _ _ (differ (port_at t.ports p).from (port_at t.ports p).to up) (differ (port_at t.ports p).from (port_at t.ports q).to through) (differ (port_at t.ports p).to (port_at t.ports q).to down);
+  apart = three_apart _ _ _ (differ (port_at t.ports p).from (port_at t.ports p).to up)
+      (differ (port_at t.ports p).from (port_at t.ports q).to through)
+      (differ (port_at t.ports p).to (port_at t.ports q).to down);
 }

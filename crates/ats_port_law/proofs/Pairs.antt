@@ -1,4 +1,5 @@
-use Rattle.std.proofs.Common.{◌≡◌, ℕ, suc, ◌+◌, ◌*◌, ◌<◌, ◌≤◌, List, [], ◌∷◌, length, get_or, All, subst, inl, inr, arith}
+use Rattle.std.proofs.Common.{◌≡◌, ℕ, suc, ◌+◌, ◌*◌, ◌<◌, ◌≤◌, List, [], ◌∷◌, length, get_or, All, subst, inl, inr}
+use Rattle.std.proofs.Common.{arith}
 use Rattle.std.specs.Prelude.{◌≢◌, ◌⊎◌}
 use Rattle.std.proofs.lemmas.Bool.{cases_order, cases_eq, cases_lt}
 use Rattle.std.proofs.lemmas.List.Elements.{All-cons}
@@ -16,7 +17,8 @@ pub record EndsAt (sent : List Transmission) (d : Transmission) (time : ℕ) : T
   pub end : (get_or sent place d).end ≡ time
 
 -- none ends at a time, or one does
-pub gap_or_end : (sent : List Transmission) (d : Transmission) (time : ℕ) → All (λ (z : Transmission). z.end ≢ time) sent ⊎ EndsAt sent d time
+pub gap_or_end : (sent : List Transmission) (d : Transmission) (time : ℕ)
+    → All (λ (z : Transmission). z.end ≢ time) sent ⊎ EndsAt sent d time
 gap_or_end [] d time = inl (λ k e h. absurd (omega arith))
 gap_or_end (z ∷ zs) d time =
     let Goal : Type 0 = All (λ (z : Transmission). z.end ≢ time) (z ∷ zs) ⊎ EndsAt (z ∷ zs) d time in
@@ -29,24 +31,31 @@ gap_or_end (z ∷ zs) d time =
     ]
 
 -- two that take time and are apart do not start together
-starts_differ : (ps : ℕ) (x y : Transmission) → x.end ≡ x.start + ps * x.bits → y.end ≡ y.start + ps * y.bits → 1 ≤ ps * x.bits → 1 ≤ ps * y.bits → AreApart x y → x.start ≡ y.start → (P : Type 0) → P
+starts_differ : (ps : ℕ) (x y : Transmission) → x.end ≡ x.start + ps * x.bits → y.end ≡ y.start + ps * y.bits
+    → 1 ≤ ps * x.bits → 1 ≤ ps * y.bits → AreApart x y → x.start ≡ y.start → (P : Type 0) → P
 starts_differ ps x y tx ty lx ly (inl a) e P = absurd (omega arith)
 starts_differ ps x y tx ty lx ly (inr a) e P = absurd (omega arith)
 
 -- so of two that start together each is the other
-pub same_place : (ps : ℕ) (sent : List Transmission) → KeepsPortRule ps sent → TakesTime ps sent → (i j : ℕ) (d : Transmission) → i < length sent → j < length sent → (get_or sent i d).start ≡ (get_or sent j d).start → i ≡ j
+pub same_place : (ps : ℕ) (sent : List Transmission) → KeepsPortRule ps sent
+    → TakesTime ps sent → (i j : ℕ) (d : Transmission) → i < length sent → j < length sent
+    → (get_or sent i d).start ≡ (get_or sent j d).start → i ≡ j
 same_place ps sent r long i j d hi hj e =
     elim (cases_order i j) as (λ _. i ≡ j) [
       | inl same ↦ same
       | inr o ↦ elim o as (λ _. i ≡ j) [
-        | inl before ↦ starts_differ ps (get_or sent i d) (get_or sent j d) (r.takes i d hi) (r.takes j d hj) (long i d hi) (long j d hj) (r.apart i j d before hj) e (i ≡ j)
-        | inr after ↦ starts_differ ps (get_or sent j d) (get_or sent i d) (r.takes j d hj) (r.takes i d hi) (long j d hj) (long i d hi) (r.apart j i d after hi) (omega (arith, e)) (i ≡ j)
+        | inl before ↦ starts_differ ps (get_or sent i d) (get_or sent j d) (r.takes i d hi) (r.takes j d hj)
+            (long i d hi) (long j d hj) (r.apart i j d before hj) e (i ≡ j)
+        | inr after ↦ starts_differ ps (get_or sent j d) (get_or sent i d) (r.takes j d hj) (r.takes i d hi)
+            (long j d hj) (long i d hi) (r.apart j i d after hi) (omega (arith, e)) (i ≡ j)
       ]
     ]
 
 -- of one class, a frame that starts no later became eligible no later
-pub eligible_no_later : (ps : ℕ) (sent : List Transmission) → KeepsPortRule ps sent → TakesTime ps sent → (i j : ℕ) (d : Transmission) → i < length sent → j < length sent
-    → (get_or sent i d).class ≡ (get_or sent j d).class → (get_or sent i d).start ≤ (get_or sent j d).start → (get_or sent i d).eligible ≤ (get_or sent j d).eligible
+pub eligible_no_later : (ps : ℕ) (sent : List Transmission) → KeepsPortRule ps sent → TakesTime ps sent
+    → (i j : ℕ) (d : Transmission) → i < length sent → j < length sent
+    → (get_or sent i d).class ≡ (get_or sent j d).class → (get_or sent i d).start ≤ (get_or sent j d).start
+    → (get_or sent i d).eligible ≤ (get_or sent j d).eligible
 eligible_no_later ps sent r long i j d hi hj class order =
     let y : Transmission = get_or sent i d in
     let x : Transmission = get_or sent j d in

@@ -37,7 +37,8 @@ abbrev without_flow : DeclaredNetwork
 without_flow = with_stream (declared_network flow_topology [] []) (stream_on (codes "a") (0 ∷ 2 ∷ []))
 
 flow_path : IsValidPath flow_topology (0 ∷ 2 ∷ [])
-flow_path = over_bridge flow_topology 0 2 (lit< tt) (lit< tt) refl (record { within = lit< tt; station = refl }) (record { within = lit< tt; station = refl }) refl refl refl
+flow_path = over_bridge flow_topology 0 2 (lit< tt) (lit< tt) refl (record { within = lit< tt; station = refl })
+    (record { within = lit< tt; station = refl }) refl refl refl
 
 abbrev the_flow : DeclaredFlow
 the_flow = record { name = codes "f"; path = 0 ∷ 2 ∷ []; max_octets = 1522 }
@@ -47,7 +48,8 @@ is_flow = record { size = record { least = omega arith; most = omega arith }; pa
 
 is_without_flow : IsNetwork without_flow
 is_without_flow =
-    pushed_stream (declared_network flow_topology [] []) (stream_on (codes "a") (0 ∷ 2 ∷ [])) (bare flow_topology.nodes flow_topology.links refl) (is_stream (codes "a") 0 2) flow_path refl refl (lit< tt)
+    pushed_stream (declared_network flow_topology [] []) (stream_on (codes "a") (0 ∷ 2 ∷ []))
+    (bare flow_topology.nodes flow_topology.links refl) (is_stream (codes "a") 0 2) flow_path refl refl (lit< tt)
 
 pub flow_network : IsNetwork with_flow
 flow_network = pushed_flow without_flow the_flow is_without_flow is_flow flow_path refl (lit< tt)
@@ -60,14 +62,18 @@ abbrev of_one : DeclaredNetwork
 of_one = with_stream (declared_network two_topology [] []) (stream_on (codes "a") (0 ∷ 2 ∷ []))
 
 first_path : IsValidPath two_topology (0 ∷ 2 ∷ [])
-first_path = over_bridge two_topology 0 2 (lit< tt) (lit< tt) refl (record { within = lit< tt; station = refl }) (record { within = lit< tt; station = refl }) refl refl refl
+first_path = over_bridge two_topology 0 2 (lit< tt) (lit< tt) refl (record { within = lit< tt; station = refl })
+    (record { within = lit< tt; station = refl }) refl refl refl
 
 second_path : IsValidPath two_topology (4 ∷ 2 ∷ [])
-second_path = over_bridge two_topology 4 2 (lit< tt) (lit< tt) refl (record { within = lit< tt; station = refl }) (record { within = lit< tt; station = refl }) refl refl refl
+second_path = over_bridge two_topology 4 2 (lit< tt) (lit< tt) refl (record { within = lit< tt; station = refl })
+    (record { within = lit< tt; station = refl }) refl refl refl
 
 is_of_one : IsNetwork of_one
 is_of_one =
-    pushed_stream (declared_network two_topology [] []) (stream_on (codes "a") (0 ∷ 2 ∷ [])) (bare two_topology.nodes two_topology.links refl) (is_stream (codes "a") 0 2) first_path refl refl (lit< tt)
+    pushed_stream (declared_network two_topology [] []) (stream_on (codes "a") (0 ∷ 2 ∷ []))
+    (bare two_topology.nodes two_topology.links refl) (is_stream (codes "a") 0 2) first_path refl refl (lit< tt)
 
 pub two_network : IsNetwork with_two
-two_network = pushed_stream of_one (stream_on (codes "z") (4 ∷ 2 ∷ [])) is_of_one (is_stream (codes "z") 4 2) second_path refl refl (lit< tt)
+two_network = pushed_stream of_one (stream_on (codes "z") (4 ∷ 2 ∷ [])) is_of_one (is_stream (codes "z") 4 2)
+    second_path refl refl (lit< tt)

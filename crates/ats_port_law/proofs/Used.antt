@@ -1,4 +1,5 @@
-use Rattle.std.proofs.Common.{◌≡◌, ℕ, ◌<◌, ◌≤◌, Bool, true, cond, List, [], ◌∷◌, length, length-append, get_or, map, All, subst, inl, inr, arith}
+use Rattle.std.proofs.Common.{◌≡◌, ℕ, ◌<◌, ◌≤◌, Bool, true, cond, List, [], ◌∷◌, length, length-append, get_or, map}
+use Rattle.std.proofs.Common.{All, subst, inl, inr, arith}
 use Rattle.std.specs.Prelude.{◌==◌}
 use Rattle.std.specs.List.{list_any}
 use Rattle.std.proofs.lemmas.Bool.{cases_Bool, or_cases, eqb-true, false≢true}
@@ -23,14 +24,17 @@ pub record IsPlace (ports port class : ℕ) : Type 0 where
   pub ranked : 1 ≤ class
   pub within : port < ports
 
-on_walk : (ports : List Port) (port a b : ℕ) (path : List ℕ) → IsWalk ports a b path → list_any (λ p. p == port) path ≡ true → port < length ports
+on_walk : (ports : List Port) (port a b : ℕ) (path : List ℕ) → IsWalk ports a b path
+    → list_any (λ p. p == port) path ≡ true → port < length ports
 on_walk ports port a b [] walk on = absurd (false≢true on)
-on_walk ports port a b (p ∷ path) walk on = elim (or_cases (p == port) (list_any (λ p. p == port) path) on) as (λ _. port < length ports) [
-  | inl same ↦ omega (arith, eqb-true p port same, walk.0.within)
-  | inr later ↦ on_walk ports port _ b path walk.1 later
-]
+on_walk ports port a b (p ∷ path) walk on =
+    elim (or_cases (p == port) (list_any (λ p. p == port) path) on) as (λ _. port < length ports) [
+      | inl same ↦ omega (arith, eqb-true p port same, walk.0.within)
+      | inr later ↦ on_walk ports port _ b path walk.1 later
+    ]
 
-used_by : (ports port class : ℕ) (streams : List DeclaredStream) → All (Allows ports port) streams → list_any (is_of class) (senders_at port (map stream_sender streams)) ≡ true → IsPlace ports port class
+used_by : (ports port class : ℕ) (streams : List DeclaredStream) → All (Allows ports port) streams
+    → list_any (is_of class) (senders_at port (map stream_sender streams)) ≡ true → IsPlace ports port class
 used_by ports port class [] all used = absurd (false≢true used)
 used_by ports port class (s ∷ ss) all used =
     let first : Allows ports port s = All-head (Allows ports port) s ss all in
@@ -38,25 +42,32 @@ used_by ports port class (s ∷ ss) all used =
     let later = used_by ports port class ss (All-tail (Allows ports port) s ss all) in
     let Used : Bool → Type 0 = λ (b : Bool). list_any (is_of class) (cond b (stream_sender s ∷ rest) rest) ≡ true in
     elim (cases_Bool (uses port (stream_sender s))) as (λ _. IsPlace ports port class) [
-      | inl e ↦ elim (or_cases (is_of class (stream_sender s)) (list_any (is_of class) rest) (subst Used e used)) as (λ _. IsPlace ports port class) [
-        | inl same ↦ record { ranked = omega (arith, eqb-true s.class class same, first.class); within = first.within e }
-        | inr other ↦ later other
-      ]
+      | inl e ↦ elim (or_cases (is_of class (stream_sender s)) (list_any (is_of class) rest)
+          (subst Used e used)) as (λ _. IsPlace ports port class) [
+            | inl same ↦
+                record { ranked = omega (arith, eqb-true s.class class same, first.class); within = first.within e }
+            | inr other ↦ later other
+          ]
       | inr e ↦ later (subst Used e used)
     ]
 
-allowed : (network : DeclaredNetwork) (port i : ℕ) → IsNetwork network → i < length network.streams → Allows (length network.topology.ports) port (get_or network.streams i no_stream)
+allowed : (network : DeclaredNetwork) (port i : ℕ) → IsNetwork network → i < length network.streams
+    → Allows (length network.topology.ports) port (get_or network.streams i no_stream)
 allowed network port i n h =
     let Valid : Sender → Type 0 = λ (s : Sender). IsValidPath network.topology s.path in
     let streams : List Sender = map stream_sender network.streams in
-    let exists : i < length (senders_of network) = omega (arith, h, length-append streams (map flow_sender network.flows), length-map network.streams stream_sender) in
+    let exists : i < length (senders_of network) = omega
+    (arith, h, length-append streams (map flow_sender network.flows), length-map network.streams stream_sender) in
     let valid = subst Valid (stream_at network i h) (n.paths i no_sender exists) in
     record {
       class = (n.streams i no_stream h).class.least;
-      within = λ used. on_walk network.topology.ports port valid.talker valid.listener (get_or network.streams i no_stream).path valid.walk used;
+      within = λ used. on_walk network.topology.ports port valid.talker valid.listener
+          (get_or network.streams i no_stream).path valid.walk used;
     }
 
-pub used_place : (network : DeclaredNetwork) (port class : ℕ) → IsNetwork network → is_used network port class ≡ true → IsPlace (length network.topology.ports) port class
+pub used_place : (network : DeclaredNetwork) (port class : ℕ) → IsNetwork network → is_used network port class ≡ true
+    → IsPlace (length network.topology.ports) port class
 used_place network port class n used =
     used_by (length network.topology.ports) port class network.streams
-    (All-from_get_or (Allows (length network.topology.ports) port) network.streams no_stream (λ i h. allowed network port i n h)) used
+    (All-from_get_or (Allows (length network.topology.ports) port) network.streams no_stream
+    (λ i h. allowed network port i n h)) used

@@ -1,7 +1,9 @@
-use Rattle.std.proofs.Common.{◌≡◌, ℕ, zero, suc, ◌+◌, ◌*◌, ◌<◌, ◌≤◌, Bool, true, cond, List, length, get_or, sum_by, All, inl, inr, arith}
+use Rattle.std.proofs.Common.{◌≡◌, ℕ, zero, suc, ◌+◌, ◌*◌, ◌<◌, ◌≤◌, Bool, true, cond, List, length, get_or, sum_by}
+use Rattle.std.proofs.Common.{All, inl, inr, arith}
 use Rattle.std.specs.Prelude.{◌&&◌, nat_le}
 use Rattle.std.proofs.Math.Nat.{mul-le-mul_left}
-use Rattle.std.proofs.lemmas.Bool.{cases_Bool, cases_lt, and_parts, and_from, and_right, and_left, leb-true, le-leb, lt-leb, cond-true, cond-false}
+use Rattle.std.proofs.lemmas.Bool.{cases_Bool, cases_lt, and_parts, and_from, and_right, and_left, leb-true, le-leb}
+use Rattle.std.proofs.lemmas.Bool.{lt-leb, cond-true, cond-false}
 use Rattle.ats_port_rule.specs.Transmission.{Transmission}
 use Rattle.ats_port_rule.specs.PortRule.{KeepsPortRule, StartsAfterGap}
 use Rattle.ats_port_law.proofs.Pairs.{TakesTime, EndsAt, gap_or_end}
@@ -42,24 +44,33 @@ pub record InWalk (class first last : ℕ) (y : Transmission) : Type 0 where
   pub after : first ≤ y.start
   pub before : y.start ≤ last
 
-pub in_walk-parts : (class first last : ℕ) (y : Transmission) → is_in_walk class first last y ≡ true → InWalk class first last y
+pub in_walk-parts : (class first last : ℕ) (y : Transmission) → is_in_walk class first last y ≡ true
+    → InWalk class first last y
 in_walk-parts class first last y e =
     let p = and_parts (nat_le class y.class) (nat_le first y.start && nat_le y.start last) e in
     let q = and_parts (nat_le first y.start) (nat_le y.start last) p.1 in
-    record { ranked = leb-true class y.class p.0; after = leb-true first y.start q.0; before = leb-true y.start last q.1 }
+    record {
+      ranked = leb-true class y.class p.0;
+      after = leb-true first y.start q.0;
+      before = leb-true y.start last q.1;
+    }
 
-pub in_walk : (class first last : ℕ) (y : Transmission) → class ≤ y.class → first ≤ y.start → y.start ≤ last → bits_in_walk class first last y ≡ y.bits
+pub in_walk : (class first last : ℕ) (y : Transmission) → class ≤ y.class → first ≤ y.start → y.start ≤ last
+    → bits_in_walk class first last y ≡ y.bits
 in_walk class first last y c f l =
     cond-true (is_in_walk class first last y) y.bits 0
-    (and_from (nat_le class y.class) (nat_le first y.start && nat_le y.start last) (le-leb class y.class c) (and_from (nat_le first y.start) (nat_le y.start last) (le-leb first y.start f) (le-leb y.start last l)))
+    (and_from (nat_le class y.class) (nat_le first y.start && nat_le y.start last) (le-leb class y.class c)
+    (and_from (nat_le first y.start) (nat_le y.start last) (le-leb first y.start f) (le-leb y.start last l)))
 
 not_in_walk : (class first last : ℕ) (y : Transmission) → y.start < first → bits_in_walk class first last y ≡ 0
 not_in_walk class first last y h =
     cond-false (is_in_walk class first last y) y.bits 0
-    (and_right (nat_le class y.class) (nat_le first y.start && nat_le y.start last) (and_left (nat_le first y.start) (nat_le y.start last) (lt-leb first y.start h)))
+    (and_right (nat_le class y.class) (nat_le first y.start && nat_le y.start last)
+    (and_left (nat_le first y.start) (nat_le y.start last) (lt-leb first y.start h)))
 
 -- a longer walk has no fewer bits of each
-longer_walk : (class first last earlier : ℕ) (y : Transmission) → earlier ≤ first → bits_in_walk class first last y ≤ bits_in_walk class earlier last y
+longer_walk : (class first last earlier : ℕ) (y : Transmission) → earlier ≤ first
+    → bits_in_walk class first last y ≤ bits_in_walk class earlier last y
 longer_walk class first last earlier y h = elim (cases_Bool (is_in_walk class first last y)) [
   | inl e ↦ (
       let p = in_walk-parts class first last y e in
@@ -70,16 +81,19 @@ longer_walk class first last earlier y h = elim (cases_Bool (is_in_walk class fi
 ]
 
 -- one transmission further back
-further : (class first last : ℕ) (sent : List Transmission) (i : ℕ) (d : Transmission) → i < length sent → class ≤ (get_or sent i d).class → (get_or sent i d).start < first → first ≤ last
+further : (class first last : ℕ) (sent : List Transmission) (i : ℕ) (d : Transmission) → i < length sent
+    → class ≤ (get_or sent i d).class → (get_or sent i d).start < first → first ≤ last
     → walk_bits class first last sent + (get_or sent i d).bits ≤ walk_bits class (get_or sent i d).start last sent
 further class first last sent i d h c before order =
     let z : Transmission = get_or sent i d in
     let more = sum_by-one_more (bits_in_walk class first last) (bits_in_walk class z.start last) sent i d h
-    (λ (y : Transmission). longer_walk class first last z.start y (omega (arith, before))) (not_in_walk class first last z before) in
+    (λ (y : Transmission). longer_walk class first last z.start y (omega (arith, before)))
+    (not_in_walk class first last z before) in
     omega (arith, more, in_walk class z.start last z c (omega arith) (omega (arith, before, order)))
 
 -- after a gap the walk ends
-ends_at_gap : (ps class lower : ℕ) (sent : List Transmission) (d x : Transmission) (limit : ℕ) → KeepsPortRule ps sent → (h : Head ps class sent d x limit) → StartsAfterGap sent (get_or sent h.place d) → Walked ps class lower sent x
+ends_at_gap : (ps class lower : ℕ) (sent : List Transmission) (d x : Transmission) (limit : ℕ) → KeepsPortRule ps sent
+    → (h : Head ps class sent d x limit) → StartsAfterGap sent (get_or sent h.place d) → Walked ps class lower sent x
 ends_at_gap ps class lower sent d x limit r h gap =
     let head : Transmission = get_or sent h.place d in
     record {
@@ -91,8 +105,10 @@ ends_at_gap ps class lower sent d x limit r h gap =
     }
 
 -- behind a lower frame too
-ends_at_lower : (ps class lower : ℕ) (sent : List Transmission) (d x : Transmission) (limit : ℕ) → KeepsPortRule ps sent → TakesTime ps sent → All (λ (y : Transmission). y.class < class → y.bits ≤ lower) sent
-    → (h : Head ps class sent d x limit) → (z : EndsAt sent d (get_or sent h.place d).start) → (get_or sent z.place d).class < class → Walked ps class lower sent x
+ends_at_lower : (ps class lower : ℕ) (sent : List Transmission) (d x : Transmission) (limit : ℕ) → KeepsPortRule ps sent
+    → TakesTime ps sent → All (λ (y : Transmission). y.class < class → y.bits ≤ lower) sent
+    → (h : Head ps class sent d x limit) → (z : EndsAt sent d (get_or sent h.place d).start)
+    → (get_or sent z.place d).class < class → Walked ps class lower sent x
 ends_at_lower ps class lower sent d x limit r long short h z below =
     let head : Transmission = get_or sent h.place d in
     let one : Transmission = get_or sent z.place d in
@@ -104,23 +120,27 @@ ends_at_lower ps class lower sent d x limit r long short h z below =
       first = head.start;
       reaches = h.before;
       fills = omega (arith, h.fills, z.end, takes, product);
-      late = λ k e hk c f. elim (cases_lt one.start (get_or sent k e).eligible) as (λ _. one.start ≤ (get_or sent k e).eligible) [
-        | inl after ↦ omega (arith, after)
-        | inr known ↦ absurd (
-            let ahead = r.chosen z.place d z.within k e hk (omega (arith, takes, some, z.end, f)) known in
-            omega (arith, ahead.class, c, below))
-      ];
+      late = λ k e hk c f.
+          elim (cases_lt one.start (get_or sent k e).eligible) as (λ _. one.start ≤ (get_or sent k e).eligible) [
+            | inl after ↦ omega (arith, after)
+            | inr known ↦ absurd (
+                let ahead = r.chosen z.place d z.within k e hk (omega (arith, takes, some, z.end, f)) known in
+                omega (arith, ahead.class, c, below))
+          ];
     }
 
 -- to a frame of the class or higher it goes on
-goes_on : (ps class : ℕ) (sent : List Transmission) (d x : Transmission) (limit : ℕ) → KeepsPortRule ps sent → TakesTime ps sent
-    → (h : Head ps class sent d x (suc limit)) → (z : EndsAt sent d (get_or sent h.place d).start) → class ≤ (get_or sent z.place d).class → Head ps class sent d x limit
+goes_on : (ps class : ℕ) (sent : List Transmission) (d x : Transmission) (limit : ℕ) → KeepsPortRule ps sent
+    → TakesTime ps sent
+    → (h : Head ps class sent d x (suc limit)) → (z : EndsAt sent d (get_or sent h.place d).start)
+    → class ≤ (get_or sent z.place d).class → Head ps class sent d x limit
 goes_on ps class sent d x limit r long h z above =
     let head : Transmission = get_or sent h.place d in
     let one : Transmission = get_or sent z.place d in
     let takes : one.end ≡ one.start + ps * one.bits = r.takes z.place d z.within in
     let some : 1 ≤ ps * one.bits = long z.place d z.within in
-    let more = mul-le-mul_left ps (further class head.start x.start sent z.place d z.within above (omega (arith, takes, some, z.end)) h.before) in
+    let more = mul-le-mul_left ps
+    (further class head.start x.start sent z.place d z.within above (omega (arith, takes, some, z.end)) h.before) in
     record {
       place = z.place;
       within = z.within;
@@ -131,7 +151,8 @@ goes_on ps class sent d x limit r long h z above =
     }
 
 -- the walk back from a head, which starts by a limit
-pub walk : (ps class lower : ℕ) (sent : List Transmission) (d x : Transmission) → KeepsPortRule ps sent → TakesTime ps sent → All (λ (y : Transmission). y.class < class → y.bits ≤ lower) sent
+pub walk : (ps class lower : ℕ) (sent : List Transmission) (d x : Transmission) → KeepsPortRule ps sent
+    → TakesTime ps sent → All (λ (y : Transmission). y.class < class → y.bits ≤ lower) sent
     → (limit : ℕ) → Head ps class sent d x limit → Walked ps class lower sent x
 walk ps class lower sent d x r long short zero h =
     elim (gap_or_end sent d (get_or sent h.place d).start) as (λ _. Walked ps class lower sent x) [

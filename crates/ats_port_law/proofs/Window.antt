@@ -13,8 +13,10 @@ abbrev pub eligible_bits : ℕ → ℕ → Transmission → ℕ
 eligible_bits from to y = bits_in from to (frame_of y)
 
 -- those of one sender's transmissions are within its rate and burst
-pub sender_window : (rate burst i : ℕ) (sent : List Transmission) (from to : ℕ) → from ≤ to → ConformsInOrder rate burst (frames_by i sent)
-    → PS_PER_SECOND * sum_by (λ (y : Transmission). cond (y.sender == i) (eligible_bits from to y) 0) sent ≤ rate * (to - from) + PS_PER_SECOND * burst
+pub sender_window : (rate burst i : ℕ) (sent : List Transmission) (from to : ℕ) → from ≤ to
+    → ConformsInOrder rate burst (frames_by i sent)
+    → PS_PER_SECOND * sum_by (λ (y : Transmission). cond (y.sender == i) (eligible_bits from to y) 0) sent
+    ≤ rate * (to - from) + PS_PER_SECOND * burst
 sender_window rate burst i sent from to h c =
     let window = (windows_from_places rate burst c.order c.conforms).windows.within from to h in
     let ordered = bits_within-permutation (frames_by i sent) c.order from to c.same in

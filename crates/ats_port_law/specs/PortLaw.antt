@@ -34,15 +34,19 @@ pub record ConformsInOrder (rate burst : ℕ) (frames : List Frame) : Type 0 whe
 -- transmissions that a port may be asked to make: each of a declared size, and those of each stream conform
 pub record IsOffered (network : DeclaredNetwork) (port : ℕ) (sent : List Transmission) : Type 0 where
   pub each : All (IsDeclared network port) sent
-  pub streams : (i : ℕ) → i < length network.streams → ConformsInOrder (sender_at network i).rate (sender_at network i).burst_bits (frames_by i sent)
+  pub streams : (i : ℕ) → i < length network.streams
+      → ConformsInOrder (sender_at network i).rate (sender_at network i).burst_bits (frames_by i sent)
 
 -- a frame of the class arrives behind the port within the bound of its eligibility
 abbrev pub IsWithinBound : DeclaredNetwork → Row → Transmission → Type 0
-IsWithinBound network row x = x.class ≡ row.class → x.end + (port_at network.topology.ports row.port).latency.0 ≤ x.eligible + row.bound
+IsWithinBound network row x = x.class ≡ row.class
+    → x.end + (port_at network.topology.ports row.port).latency.0 ≤ x.eligible + row.bound
 
--- where a row covers its port, and the port keeps the port rule with what it may be asked to send, each frame of the row's
--- class is within the row's bound, whatever lawful order the port takes
+-- where a row covers its port, and the port keeps the port rule with what it may be asked to send, each frame of the
+-- row's class is within the row's bound, whatever lawful order the port takes
 abbrev pub PortLaw : Type 0
-PortLaw = (network : DeclaredNetwork) (row : Row) (sent : List Transmission) → IsNetwork network → IsTrue (is_used network row.port row.class)
-    → Covers network row → KeepsPortRule (port_at network.topology.ports row.port).ps_per_bit sent → IsOffered network row.port sent
+PortLaw = (network : DeclaredNetwork) (row : Row) (sent : List Transmission) → IsNetwork network
+    → IsTrue (is_used network row.port row.class)
+    → Covers network row → KeepsPortRule (port_at network.topology.ports row.port).ps_per_bit sent
+    → IsOffered network row.port sent
     → All (IsWithinBound network row) sent

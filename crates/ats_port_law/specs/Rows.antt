@@ -40,12 +40,23 @@ stream_on name path = record {
 -- a stream and a flow from s1 over b1 to s2, and the rows of the first port and of the bridge's
 abbrev pub with_flow : DeclaredNetwork
 with_flow = declared_network
-    (topology_of (station (codes "s1") ∷ bridge (codes "b1") 1000000 ∷ station (codes "s2") ∷ []) (link (codes "s1") (codes "b1") ∷ link (codes "b1") (codes "s2") ∷ []))
+    (topology_of (station (codes "s1") ∷ bridge (codes "b1") 1000000 ∷ station (codes "s2") ∷ [])
+    (link (codes "s1") (codes "b1") ∷ link (codes "b1") (codes "s2") ∷ []))
     (stream_on (codes "a") (0 ∷ 2 ∷ []) ∷ [])
     (record { name = codes "f"; path = 0 ∷ 2 ∷ []; max_octets = 1522 } ∷ [])
 
 abbrev pub row_with_flow : Row
-row_with_flow = record { port = 0; class = 6; higher = 0; equal = 100000000000; bursts = 12336; lower = 12336; least = 672; wait = 24000000; bound = 26172000 }
+row_with_flow = record {
+  port = 0;
+  class = 6;
+  higher = 0;
+  equal = 100000000000;
+  bursts = 12336;
+  lower = 12336;
+  least = 672;
+  wait = 24000000;
+  bound = 26172000;
+}
 
 -- the flow's frame, released at 0, is sent to its end before the stream's, released at 1
 abbrev pub sent_behind_flow : List Transmission
@@ -55,7 +66,17 @@ sent_behind_flow =
     ∷ []
 
 abbrev pub next_row_with_flow : Row
-next_row_with_flow = record { port = 2; class = 6; higher = 0; equal = 100000000000; bursts = 12336; lower = 12336; least = 672; wait = 24000000; bound = 25172000 }
+next_row_with_flow = record {
+  port = 2;
+  class = 6;
+  higher = 0;
+  equal = 100000000000;
+  bursts = 12336;
+  lower = 12336;
+  least = 672;
+  wait = 24000000;
+  bound = 25172000;
+}
 
 -- the bridge sends both in the same order; the stream's frame comes when the flow's has been sent
 abbrev pub sent_on_behind_flow : List Transmission
@@ -67,20 +88,42 @@ sent_on_behind_flow =
 -- streams from s1 and from s3 over b1 to s2, and the rows of a station's port and of the port to s2
 abbrev pub with_two : DeclaredNetwork
 with_two = declared_network
-    (topology_of (station (codes "s1") ∷ bridge (codes "b1") 11664 ∷ station (codes "s2") ∷ station (codes "s3") ∷ []) (link (codes "s1") (codes "b1") ∷ link (codes "b1") (codes "s2") ∷ link (codes "s3") (codes "b1") ∷ []))
+    (topology_of (station (codes "s1") ∷ bridge (codes "b1") 11664 ∷ station (codes "s2") ∷ station (codes "s3") ∷ [])
+    (link (codes "s1") (codes "b1") ∷ link (codes "b1") (codes "s2") ∷ link (codes "s3") (codes "b1") ∷ []))
     (stream_on (codes "a") (0 ∷ 2 ∷ []) ∷ stream_on (codes "z") (4 ∷ 2 ∷ []) ∷ [])
     []
 
 abbrev pub first_row_with_two : ℕ → Row
 first_row_with_two port =
-    record { port = port; class = 6; higher = 0; equal = 100000000000; bursts = 12336; lower = 0; least = 672; wait = 11664000; bound = 13836000 }
+    record {
+      port = port;
+      class = 6;
+      higher = 0;
+      equal = 100000000000;
+      bursts = 12336;
+      lower = 0;
+      least = 672;
+      wait = 11664000;
+      bound = 13836000;
+    }
 
 -- each station sends its stream's frame at 0
 abbrev pub sent_at_once : ℕ → List Transmission
-sent_at_once sender = record { frame = sender; sender = sender; class = 6; bits = 12336; eligible = 0; start = 0; end = 12336000 } ∷ []
+sent_at_once sender =
+    record { frame = sender; sender = sender; class = 6; bits = 12336; eligible = 0; start = 0; end = 12336000 } ∷ []
 
 abbrev pub row_with_two : Row
-row_with_two = record { port = 2; class = 6; higher = 0; equal = 200000000000; bursts = 24672; lower = 0; least = 672; wait = 24000000; bound = 25172000 }
+row_with_two = record {
+  port = 2;
+  class = 6;
+  higher = 0;
+  equal = 200000000000;
+  bursts = 24672;
+  lower = 0;
+  least = 672;
+  wait = 24000000;
+  bound = 25172000;
+}
 
 -- both frames are eligible at 13836000, and the second is sent after the first
 abbrev pub sent_in_turn : List Transmission
@@ -89,8 +132,8 @@ sent_in_turn =
     ∷ record { frame = 1; sender = 1; class = 6; bits = 12336; eligible = 13836000; start = 26172000; end = 38508000 }
     ∷ []
 
--- of a network, some stream uses the row's port and class, the row covers them, the port keeps its rule with what it may be
--- asked to send, and each frame is within the bound
+-- of a network, some stream uses the row's port and class, the row covers them, the port keeps its rule with what it
+-- may be asked to send, and each frame is within the bound
 pub record IsWorked (network : DeclaredNetwork) (row : Row) (sent : List Transmission) : Type 0 where
   pub valid : IsNetwork network
   pub used : IsTrue (is_used network row.port row.class)

@@ -13,13 +13,15 @@ use Rattle.std.proofs.lemmas.Slice.Eq.{bytes_eq-Decides}
 use Rattle.ats_port_names.specs.Inside.{number_in}
 use Rattle.std.specs.Prelude.{Option}
 
-apart : (bs cs ks : List ℕ) → bytes_eq bs cs ≡ false → is_eq (slice_cmp nat_cmp bs ks) ≡ true → is_eq (slice_cmp nat_cmp cs ks) ≡ false
+apart : (bs cs ks : List ℕ) → bytes_eq bs cs ≡ false → is_eq (slice_cmp nat_cmp bs ks) ≡ true
+    → is_eq (slice_cmp nat_cmp cs ks) ≡ false
 apart bs cs ks n y =
     is_eq-slice_cmp cs ks
     ∙ nat_list_eq_equiv.symm cs ks ∙ sym (nat_list_eq_equiv.congr bs ks cs (sym (is_eq-slice_cmp bs ks) ∙ y)) ∙ n
 
 module _ {K : Type 0} (eq : K → K → Bool) (test : K → Bool) where
-  other_entries : {X : Type 0} (old new : List (K × X)) → KeepsOthers eq test old new → (other : K → Bool) → IsKeyTest eq other → AreApart test other → lookup other new ≡ lookup other old
+  other_entries : {X : Type 0} (old new : List (K × X)) → KeepsOthers eq test old new → (other : K → Bool)
+      → IsKeyTest eq other → AreApart test other → lookup other new ≡ lookup other old
   unfolding KeepsOthers
   other_entries old new h = h
 
@@ -31,6 +33,7 @@ number_after key old new number updates text =
     ⊎_elim
     (λ y. subst (λ (t : List ℕ). number_in new t ≡ number) ((bytes_eq-Decides key.items text).0 y) updates.1
     ∙ sym (cond-true (bytes_eq key.items text) number (number_in old text) y))
-    (λ n. other_entries _ _ _ _ updates.3 _ (λ x y. (eq_by_cmp_equiv nat_list_cmp_total).congr text x.items y.items) (λ k. apart key.items text k.items n)
+    (λ n. other_entries _ _ _ _ updates.3 _ (λ x y. (eq_by_cmp_equiv nat_list_cmp_total).congr text x.items y.items)
+    (λ k. apart key.items text k.items n)
     ∙ sym (cond-false (bytes_eq key.items text) number (number_in old text) n))
     (cases_Bool (bytes_eq key.items text))

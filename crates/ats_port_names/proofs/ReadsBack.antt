@@ -1,5 +1,6 @@
 -- The names of ports tell them apart.
-use Rattle.std.proofs.Common.{◌≡◌, ◌∙◌, ℕ, ◌+◌, ◌<◌, Bool, true, ◌&&◌, List, [], ◌∷◌, ◌++◌, get_or, length, Some, refl, sym, ap, append_assoc, arith}
+use Rattle.std.proofs.Common.{◌≡◌, ◌∙◌, ℕ, ◌+◌, ◌<◌, Bool, true, ◌&&◌, List, [], ◌∷◌, ◌++◌, get_or, length, Some, refl}
+use Rattle.std.proofs.Common.{sym, ap, append_assoc, arith}
 use Rattle.std.specs.Prelude.{◌==◌, IsTrue, nat_le}
 use Rattle.std.specs.Bool.{one_answer}
 use Rattle.std.specs.List.{All, list_all, position_from}
@@ -26,7 +27,8 @@ record AreSplit (a x b y : List ℕ) : Type 0 where
   front : a ≡ x
   back : b ≡ y
 
-split : (a x b y : List ℕ) → list_all is_name_byte a ≡ true → list_all is_name_byte x ≡ true → a ++ 62 ∷ b ≡ x ++ 62 ∷ y → AreSplit a x b y
+split : (a x b y : List ℕ) → list_all is_name_byte a ≡ true → list_all is_name_byte x ≡ true → a ++ 62 ∷ b ≡ x ++ 62 ∷ y
+    → AreSplit a x b y
 split [] [] b y h g e = record { front = refl; back = cc e }
 split [] (c ∷ x) b y h g e =
     let byte : is_name_byte c ≡ true = (and_parts (is_name_byte c) (list_all is_name_byte x) g).0 in
@@ -39,7 +41,8 @@ split (c ∷ a) [] b y h g e =
 split (c ∷ a) (d ∷ x) b y h g e =
     let same : c ≡ d = cc e in
     let tails : a ++ 62 ∷ b ≡ x ++ 62 ∷ y = cc e in
-    let rest = split a x b y (and_parts (is_name_byte c) (list_all is_name_byte a) h).1 (and_parts (is_name_byte d) (list_all is_name_byte x) g).1 tails in
+    let rest = split a x b y (and_parts (is_name_byte c) (list_all is_name_byte a) h).1
+    (and_parts (is_name_byte d) (list_all is_name_byte x) g).1 tails in
     record { front = rw (same, rest.front) refl; back = rest.back }
 
 -- a name has name bytes only
@@ -47,19 +50,25 @@ name_bytes : (text : List ℕ) → IsTrue (is_name text) → list_all is_name_by
 name_bytes text h = (and_parts (nat_le 1 (length text) && nat_le (length text) 32) (list_all is_name_byte text) h).1
 
 -- nodes with one name are one node
-one_node : (nodes : List Node) → AreApart (names_of nodes) → (m n : ℕ) → m < length nodes → n < length nodes → (node_at nodes m).name ≡ (node_at nodes n).name → m ≡ n
+one_node : (nodes : List Node) → AreApart (names_of nodes) → (m n : ℕ) → m < length nodes → n < length nodes
+    → (node_at nodes m).name ≡ (node_at nodes n).name → m ≡ n
 one_node nodes apart m n inside within same =
     let long : length (names_of nodes) ≡ length nodes = simp length-map in
     let at : (k : ℕ) → k < length nodes → place_of (node_at nodes k).name (names_of nodes) ≡ Some k =
-    λ k small. ap (λ name. place_of name (names_of nodes)) (sym (get_or-map (λ (node : Node). node.name) nodes k no_node [] small)) ∙ apart k (omega arith) in
+    λ k small. ap (λ name. place_of name (names_of nodes))
+    (sym (get_or-map (λ (node : Node). node.name) nodes k no_node [] small)) ∙ apart k (omega arith) in
     let both : Some m ≡ Some n = sym (at m inside) ∙ ap (λ name. place_of name (names_of nodes)) same ∙ at n within in
     cc both
 
 -- two searches with tests that agree
-position_from-same : (t u : Port → Bool) (k : ℕ) (ports : List Port) → All (λ (port : Port). t port ≡ u port) ports → position_from t k ports ≡ position_from u k ports
+position_from-same : (t u : Port → Bool) (k : ℕ) (ports : List Port) → All (λ (port : Port). t port ≡ u port) ports
+    → position_from t k ports ≡ position_from u k ports
 position_from-same t u k [] same = refl
 position_from-same t u k (port ∷ ports) same =
-    rw (All-head (λ (q : Port). t q ≡ u q) port ports same, position_from-same t u (k + 1) ports (All-tail (λ (q : Port). t q ≡ u q) port ports same)) refl
+    rw (
+      All-head (λ (q : Port). t q ≡ u q) port ports same,
+      position_from-same t u (k + 1) ports (All-tail (λ (q : Port). t q ≡ u q) port ports same),
+    ) refl
 
 module _ (nodes : List Node) (links : List Link) (sound : AreSound nodes links) where
   rules : IsTopology (topology_of nodes links)
@@ -73,16 +82,21 @@ module _ (nodes : List Node) (links : List Link) (sound : AreSound nodes links) 
       → bytes_eq (name_of (topology_of nodes links) p) (name_of (topology_of nodes links) q) ≡ goes p.from p.to q
   same_ends p q is_p is_q =
       let topology = topology_of nodes links in
-      one_answer (bytes_eq (name_of topology p) (name_of topology q)) (goes p.from p.to q) (bytes_eq-Decides (name_of topology p) (name_of topology q)) (
+      one_answer (bytes_eq (name_of topology p) (name_of topology q)) (goes p.from p.to q)
+      (bytes_eq-Decides (name_of topology p) (name_of topology q)) (
         λ h. let parts = and_parts (q.from == p.from) (q.to == p.to) h in
             rw (eqb-true q.from p.from parts.0, eqb-true q.to p.to parts.1) refl,
-        λ e. let texts : (node_at nodes p.from).name ++ 62 ∷ (node_at nodes p.to).name ≡ (node_at nodes q.from).name ++ 62 ∷ (node_at nodes q.to).name =
+        λ e. let texts : (node_at nodes p.from).name ++ 62 ∷ (node_at nodes p.to).name
+            ≡ (node_at nodes q.from).name ++ 62 ∷ (node_at nodes q.to).name =
             sym (append_assoc (node_at nodes p.from).name (62 ∷ []) (node_at nodes p.to).name) ∙ e
             ∙ append_assoc (node_at nodes q.from).name (62 ∷ []) (node_at nodes q.to).name in
-            let parts = split (node_at nodes p.from).name (node_at nodes q.from).name (node_at nodes p.to).name (node_at nodes q.to).name
+            let parts = split (node_at nodes p.from).name (node_at nodes q.from).name (node_at nodes p.to).name
+            (node_at nodes q.to).name
             (valid p.from is_p.between.from) (valid q.from is_q.between.from) texts in
-            let from : q.from ≡ p.from = one_node nodes rules.names q.from p.from is_q.between.from is_p.between.from (sym parts.front) in
-            let to : q.to ≡ p.to = one_node nodes rules.names q.to p.to is_q.between.to is_p.between.to (sym parts.back) in
+            let from : q.from ≡ p.from =
+            one_node nodes rules.names q.from p.from is_q.between.from is_p.between.from (sym parts.front) in
+            let to : q.to ≡ p.to =
+            one_node nodes rules.names q.to p.to is_q.between.to is_p.between.to (sym parts.back) in
             rw (eq-eqb q.from p.from from, eq-eqb q.to p.to to) refl,
       )
 
@@ -92,6 +106,7 @@ port_reads_back nodes links sound p within =
     let port : Port = port_at ports p in
     let topology : DeclaredTopology = topology_of nodes links in
     let each = (topology_rules nodes links sound.sound).each_port in
-    position_from-same (λ (q : Port). bytes_eq (name_of topology port) (name_of topology q)) (goes port.from port.to) 0 ports
+    position_from-same (λ (q : Port). bytes_eq (name_of topology port) (name_of topology q))
+    (goes port.from port.to) 0 ports
     (λ k d small. same_ends nodes links sound port (get_or ports k d) (each p no_port within) (each k d small))
     ∙ between_ends nodes links sound.sound p within

@@ -13,5 +13,6 @@ pub record AreSound (nodes : List Node) (links : List Link) : Type 0 where
 
 -- the port that is found by the name of a port is that port
 abbrev pub PortReadsBack : Type 0
-PortReadsBack = (nodes : List Node) (links : List Link) → AreSound nodes links → (p : ℕ) → p < length (ports_of nodes links)
+PortReadsBack = (nodes : List Node) (links : List Link) → AreSound nodes links → (p : ℕ)
+    → p < length (ports_of nodes links)
     → port_named (topology_of nodes links) (port_name (topology_of nodes links) p) ≡ Some p

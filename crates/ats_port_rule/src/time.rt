@@ -15,15 +15,3 @@ pub fn transmission_time(ps_per_bit: u32, octets: u32) -> u64
 {
     u64::from(ps_per_bit) * wire_bits(octets)
 }
-
-#[cfg(test)]
-mod tests {
-    use super::*;
-
-    #[test]
-    fn times_frames(rt: HostRuntime) {
-        assert_eq!(rt; transmission_time(1000, 64), 672_000);
-        assert_eq!(rt; transmission_time(1000, 1522), 12_336_000);
-        assert_eq!(rt; transmission_time(10, 2000), 161_600);
-    }
-}

@@ -1,4 +1,5 @@
-use Rattle.std.proofs.Common.{◌≡◌, ℕ, ◌+◌, ◌<◌, Bool, true, List, [], ◌∷◌, ◌++◌, length, map, get_or, drop, cond, refl, sym, ap, ◌∙◌, arith, add-one, drop-cons, append_assoc, lit<}
+use Rattle.std.proofs.Common.{◌≡◌, ℕ, ◌+◌, ◌<◌, Bool, true, List, [], ◌∷◌, ◌++◌, length, map, get_or, drop, cond, refl}
+use Rattle.std.proofs.Common.{sym, ap, ◌∙◌, arith, add-one, drop-cons, append_assoc, lit<}
 use Rattle.std.specs.Prelude.{All, ◌==◌}
 use Rattle.std.proofs.Math.Path.{fun_ext}
 use Rattle.std.proofs.Math.ListN.{get_or-map}
@@ -9,7 +10,8 @@ use Rattle.ats_group.specs.declared.member.Member.{Member}
 use Rattle.ats_group.specs.declared.verdict.Verdict.{Verdict}
 use Rattle.ats_group.specs.declared.verdict.Verdict.TheVariants.{Eligible, Late, Size}
 use Rattle.ats_group.specs.Group.{Offer, State, first, verdicts_of}
-use Rattle.ats_group.specs.Standing.{Standing, opened, declared_of, group_of, state_of, standing_after, no_member, AreMembers, IsMember, IsStanding}
+use Rattle.ats_group.specs.Standing.{Standing, opened, declared_of, group_of, state_of, standing_after, no_member}
+use Rattle.ats_group.specs.Standing.{AreMembers, IsMember, IsStanding}
 use Rattle.ats_group.specs.Laws.{verdict_at, standing_next, verdicts_in, offers_to, IsFold}
 use Rattle.ats_group.proofs.FoldLemmas.{each_group}
 use Rattle.ats_group.proofs.StepLemmas.{opened_first}
@@ -27,7 +29,8 @@ verdict_list standing (offer ∷ offers) = verdict_at standing offer ∷ verdict
 abbrev pub at_first : DeclaredShape → Standing
 at_first shape = opened (shape.residence_ns ∷ []) (map member_of shape.streams)
 
-members_stay : (standing : Standing) (member octets : ℕ) (verdict : Verdict) → (standing_after standing member octets verdict).members ≡ standing.members
+members_stay : (standing : Standing) (member octets : ℕ) (verdict : Verdict)
+    → (standing_after standing member octets verdict).members ≡ standing.members
 members_stay standing member octets (Eligible e) = refl
 members_stay standing member octets (Late e) = refl
 members_stay standing member octets Size = refl
@@ -37,60 +40,82 @@ abbrev IsLone : Standing → Type 0
 IsLone standing = (member : ℕ) → group_of standing member ≡ 0
 
 lone_next : (standing : Standing) (offer : Offer) → IsLone standing → IsLone (standing_next standing offer)
-lone_next standing offer lone = λ member. ap (λ (ms : List Member). (get_or ms member no_member).group) (members_stay standing offer.member offer.octets (verdict_at standing offer)) ∙ lone member
+lone_next standing offer lone = λ member. ap (λ (ms : List Member). (get_or ms member no_member).group)
+    (members_stay standing offer.member offer.octets (verdict_at standing offer)) ∙ lone member
 
 lone_test : (standing : Standing) (member : ℕ) → IsLone standing → (group_of standing member == 0) ≡ true
 lone_test standing member lone = ap (λ (g : ℕ). g == 0) (lone member)
 
-lone_verdicts : (standing : Standing) (offers : List Offer) → IsLone standing → verdicts_in standing 0 offers ≡ verdict_list standing offers
+lone_verdicts : (standing : Standing) (offers : List Offer) → IsLone standing
+    → verdicts_in standing 0 offers ≡ verdict_list standing offers
 lone_verdicts standing [] lone = refl
 lone_verdicts standing (offer ∷ offers) lone =
     let next : Standing = standing_next standing offer in
-    ap (λ (b : Bool). cond b (verdict_at standing offer ∷ verdicts_in next 0 offers) (verdicts_in next 0 offers)) (lone_test standing offer.member lone)
-    ∙ ap (λ (vs : List Verdict). verdict_at standing offer ∷ vs) (lone_verdicts (standing_next standing offer) offers (lone_next standing offer lone))
+    ap (λ (b : Bool). cond b (verdict_at standing offer ∷ verdicts_in next 0 offers) (verdicts_in next 0 offers))
+    (lone_test standing offer.member lone)
+    ∙ ap (λ (vs : List Verdict). verdict_at standing offer ∷ vs)
+    (lone_verdicts (standing_next standing offer) offers (lone_next standing offer lone))
 
 lone_offers : (standing : Standing) (offers : List Offer) → IsLone standing → offers_to standing 0 offers ≡ offers
 lone_offers standing [] lone = refl
 lone_offers standing (offer ∷ offers) lone =
-    ap (λ (b : Bool). cond b (offer ∷ offers_to standing 0 offers) (offers_to standing 0 offers)) (lone_test standing offer.member lone)
+    ap (λ (b : Bool). cond b (offer ∷ offers_to standing 0 offers) (offers_to standing 0 offers))
+    (lone_test standing offer.member lone)
     ∙ ap (λ (os : List Offer). offer ∷ os) (lone_offers standing offers lone)
 
 at_first_lone : (shape : DeclaredShape) → IsLone (at_first shape)
 at_first_lone shape = λ member. ap (λ (m : Member). m.group) (get_or-map member_of shape.streams member no_stream)
 
 at_first_declared : (shape : DeclaredShape) → declared_of (at_first shape) ≡ declared_in shape.streams
-at_first_declared shape = fun_ext (λ member. ap (λ (m : Member). m.declared) (get_or-map member_of shape.streams member no_stream))
+at_first_declared shape =
+    fun_ext (λ member. ap (λ (m : Member). m.declared) (get_or-map member_of shape.streams member no_stream))
 
 -- the streams are lawful members of one group
 pub are_members : (streams : List ShapeStream) → All IsRuled streams → AreMembers 1 (map member_of streams)
-are_members streams ruled = All-map (IsMember 1) member_of streams (λ k d lt. record { group = lit< tt; declared = ruled k d lt })
+are_members streams ruled =
+    All-map (IsMember 1) member_of streams (λ k d lt. record { group = lit< tt; declared = ruled k d lt })
 
 at_first_stands : (shape : DeclaredShape) → IsShape shape → IsStanding (at_first shape)
-at_first_stands shape h = record { times = refl; empties = length-map (map member_of shape.streams) _; members = are_members shape.streams h.ruled }
+at_first_stands shape h = record {
+  times = refl;
+  empties = length-map (map member_of shape.streams) _;
+  members = are_members shape.streams h.ruled;
+}
 
-offers_within : (shape : DeclaredShape) → IsShape shape → All (λ (o : Offer). o.member < length (map member_of shape.streams)) (map offer_of shape.frames)
-offers_within shape h = All-map (λ (o : Offer). o.member < length (map member_of shape.streams)) offer_of shape.frames (λ k d lt. let f = h.framed k d lt in omega (arith, f.stream, length-map shape.streams member_of))
+offers_within : (shape : DeclaredShape) → IsShape shape
+    → All (λ (o : Offer). o.member < length (map member_of shape.streams)) (map offer_of shape.frames)
+offers_within shape h = All-map (λ (o : Offer). o.member < length (map member_of shape.streams)) offer_of shape.frames
+    (λ k d lt. let f = h.framed k d lt in omega (arith, f.stream, length-map shape.streams member_of))
 
 -- the verdicts, frame by frame, are those of the group's fold
-pub all_verdicts : (shape : DeclaredShape) → IsShape shape → verdict_list (at_first shape) (map offer_of shape.frames) ≡ verdicts_on shape
+pub all_verdicts : (shape : DeclaredShape) → IsShape shape
+    → verdict_list (at_first shape) (map offer_of shape.frames) ≡ verdicts_on shape
 all_verdicts shape h =
     let offers : List Offer = map offer_of shape.frames in
-    let fold : IsFold (at_first shape) offers 0 = each_group (at_first shape) offers 0 (at_first_stands shape h) (offers_within shape h) in
+    let fold : IsFold (at_first shape) offers 0 =
+    each_group (at_first shape) offers 0 (at_first_stands shape h) (offers_within shape h) in
     sym (lone_verdicts (at_first shape) offers (at_first_lone shape))
     ∙ fold.verdicts
-    ∙ ap (λ (os : List Offer). verdicts_of (declared_of (at_first shape)) shape.residence_ns (state_of (at_first shape) 0) os) (lone_offers (at_first shape) offers (at_first_lone shape))
-    ∙ ap (λ (s : State). verdicts_of (declared_of (at_first shape)) shape.residence_ns s offers) (opened_first (shape.residence_ns ∷ []) (map member_of shape.streams) 0)
+    ∙ ap (λ (os : List Offer). verdicts_of (declared_of (at_first shape)) shape.residence_ns
+    (state_of (at_first shape) 0) os) (lone_offers (at_first shape) offers (at_first_lone shape))
+    ∙ ap (λ (s : State). verdicts_of (declared_of (at_first shape)) shape.residence_ns s offers)
+    (opened_first (shape.residence_ns ∷ []) (map member_of shape.streams) 0)
     ∙ ap (λ (d : ℕ → Declared). verdicts_of d shape.residence_ns (first d) offers) (at_first_declared shape)
 
 -- a verdict that is given leaves those on the frames behind it
-pub judged_next : (standing next : Standing) (frames : List ShapeFrame) (i : ℕ) (f : ShapeFrame) (before after : List Verdict) (verdict : Verdict) → i < length frames
-    → verdict ≡ verdict_at standing (offer_of (get_or frames i f)) → next ≡ standing_next standing (offer_of (get_or frames i f)) → after ≡ before ++ verdict ∷ []
-    → after ++ verdict_list next (map offer_of (drop (i + 1) frames)) ≡ before ++ verdict_list standing (map offer_of (drop i frames))
+pub judged_next : (standing next : Standing) (frames : List ShapeFrame) (i : ℕ) (f : ShapeFrame)
+    (before after : List Verdict) (verdict : Verdict) → i < length frames
+    → verdict ≡ verdict_at standing (offer_of (get_or frames i f))
+    → next ≡ standing_next standing (offer_of (get_or frames i f)) → after ≡ before ++ verdict ∷ []
+    → after ++ verdict_list next (map offer_of (drop (i + 1) frames))
+    ≡ before ++ verdict_list standing (map offer_of (drop i frames))
 judged_next standing next frames i f before after verdict within given stands added =
     let frame : ShapeFrame = get_or frames i f in
     let rest : List ShapeFrame = drop (i + 1) frames in
     ap (λ (vs : List Verdict). vs ++ verdict_list next (map offer_of rest)) added
     ∙ append_assoc before (verdict ∷ []) (verdict_list next (map offer_of rest))
     ∙ ap (λ (s : Standing). before ++ (verdict ∷ verdict_list s (map offer_of rest))) stands
-    ∙ ap (λ (v : Verdict). before ++ (v ∷ verdict_list (standing_next standing (offer_of frame)) (map offer_of rest))) given
-    ∙ ap (λ (fs : List ShapeFrame). before ++ verdict_list standing (map offer_of fs)) (ap (λ (k : ℕ). frame ∷ drop k frames) (add-one i) ∙ sym (drop-cons frames i f within))
+    ∙ ap
+    (λ (v : Verdict). before ++ (v ∷ verdict_list (standing_next standing (offer_of frame)) (map offer_of rest))) given
+    ∙ ap (λ (fs : List ShapeFrame). before ++ verdict_list standing (map offer_of fs))
+    (ap (λ (k : ℕ). frame ∷ drop k frames) (add-one i) ∙ sym (drop-cons frames i f within))

@@ -1,4 +1,6 @@
-use Rattle.std.specs.Prelude.{◌≡◌, ◌⊎◌, ◌↔◌, ℕ, ◌+◌, ◌-◌, ◌<◌, ◌≤◌, Bool, true, false, not, ◌&&◌, ◌==◌, List, ◌∷◌, ◌++◌, length, map, filter, slice_index, codes, Option, None, Some, is_some, is_ok, Ok, Err, unwrap_or, if◌then◌else◌}
+use Rattle.std.specs.Prelude.{◌≡◌, ◌⊎◌, ◌↔◌, ℕ, ◌+◌, ◌-◌, ◌<◌, ◌≤◌, Bool, true, false, not, ◌&&◌, ◌==◌, List, ◌∷◌, ◌++◌}
+use Rattle.std.specs.Prelude.{length, map, filter, slice_index, codes, Option, None, Some, is_some, is_ok, Ok, Err}
+use Rattle.std.specs.Prelude.{unwrap_or, if◌then◌else◌}
 use Rattle.std.specs.List.{list_all}
 use Rattle.std.specs.Str.{bytes_eq}
 use Rattle.ats_num.specs.Number.{number_of}
@@ -10,7 +12,8 @@ use Rattle.ats_shape.specs.Shape.{DeclaredShape}
 use Rattle.ats_shape.specs.Reading.{word, is_skipped, residence_in, stream_in, frame_in, names_of, shape_of}
 use Rattle.ats_shape.specs.declared.shape.ShapeFrame.{ShapeFrame}
 use Rattle.ats_shape.specs.declared.fault.ShapeFault.{ShapeFault}
-use Rattle.ats_shape.specs.declared.fault.ShapeFault.TheVariants.{BadLine, NameTwice, Stream, UnknownName, TimeBack, Limit}
+use Rattle.ats_shape.specs.declared.fault.ShapeFault.TheVariants.{BadLine, NameTwice, Stream, UnknownName, TimeBack}
+use Rattle.ats_shape.specs.declared.fault.ShapeFault.TheVariants.{Limit}
 
 -- the number of the line that a fault names
 abbrev pub line_number : ShapeFault → ℕ
@@ -119,7 +122,8 @@ pub record HasFault (before : List (List ℕ)) (line : List ℕ) (fault : ShapeF
 
 -- no line has a fault behind those before it
 abbrev pub AreFaultless : List (List ℕ) → Type 0
-AreFaultless lines = (before : List (List ℕ)) (line : List ℕ) (after : List (List ℕ)) (fault : ShapeFault) → before ++ line ∷ after ≡ lines → HasFault before line fault → ⊥
+AreFaultless lines = (before : List (List ℕ)) (line : List ℕ) (after : List (List ℕ)) (fault : ShapeFault)
+    → before ++ line ∷ after ≡ lines → HasFault before line fault → ⊥
 
 -- a line has this fault, and no line before it has any
 pub record IsFirstFault (lines : List (List ℕ)) (fault : ShapeFault) : Type 0 where
@@ -144,8 +148,10 @@ pub record IsDeclared (lines : List (List ℕ)) (shape : DeclaredShape) : Type 0
 
 -- a text gives a fault exactly where this is its first one
 abbrev pub EachFaultIsTheFirst : Type 0
-EachFaultIsTheFirst = (text : List ℕ) (fault : ShapeFault) → shape_of text ≡ Err fault ↔ (IsFirstFault (lines_of text) fault ⊎ IsWithoutResidence (lines_of text) fault)
+EachFaultIsTheFirst = (text : List ℕ) (fault : ShapeFault)
+    → shape_of text ≡ Err fault ↔ (IsFirstFault (lines_of text) fault ⊎ IsWithoutResidence (lines_of text) fault)
 
 -- a text that gives a shape has no fault
 abbrev pub EachShapeIsFaultless : Type 0
-EachShapeIsFaultless = (text : List ℕ) (shape : DeclaredShape) → shape_of text ≡ Ok shape → IsDeclared (lines_of text) shape
+EachShapeIsFaultless = (text : List ℕ) (shape : DeclaredShape) → shape_of text ≡ Ok shape
+    → IsDeclared (lines_of text) shape

@@ -1,7 +1,8 @@
 use Rattle.std.specs.Prelude.{ℕ, List, ◌++◌, codes, decimal}
 use Rattle.ats_streams.specs.Fault.{text_of}
 use Rattle.ats_shape.specs.declared.fault.ShapeFault.{ShapeFault}
-use Rattle.ats_shape.specs.declared.fault.ShapeFault.TheVariants.{BadLine, NameTwice, Stream, UnknownName, TimeBack, Limit}
+use Rattle.ats_shape.specs.declared.fault.ShapeFault.TheVariants.{BadLine, NameTwice, Stream, UnknownName, TimeBack}
+use Rattle.ats_shape.specs.declared.fault.ShapeFault.TheVariants.{Limit}
 
 -- the word for a fault, and its line
 abbrev pub fault_text : ShapeFault → List ℕ

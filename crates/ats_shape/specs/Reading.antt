@@ -1,4 +1,6 @@
-use Rattle.std.specs.Prelude.{ℕ, ◌+◌, ◌-◌, Bool, ◌&&◌, ◌||◌, ◌==◌, nat_le, nat_lt, List, [], ◌∷◌, ◌++◌, length, map, slice_index, slice_index_or, codes, Option, Some, None, Result, Ok, Err, if◌then◌else◌, unwrap_or, is_none}
+use Rattle.std.specs.Prelude.{ℕ, ◌+◌, ◌-◌, Bool, ◌&&◌, ◌||◌, ◌==◌, nat_le, nat_lt, List, [], ◌∷◌, ◌++◌, length, map}
+use Rattle.std.specs.Prelude.{slice_index, slice_index_or, codes, Option, Some, None, Result, Ok, Err, if◌then◌else◌}
+use Rattle.std.specs.Prelude.{unwrap_or, is_none}
 use Rattle.std.specs.List.{slice_get}
 use Rattle.std.specs.Str.{bytes_eq}
 use Rattle.ats_num.specs.Name.{name_of}
@@ -51,7 +53,8 @@ stream_in n words = do
   burst ← or_fault (BadLine n) (number_of (word words 3))
   least ← or_fault (BadLine n) (number_of (word words 4))
   most ← or_fault (BadLine n) (number_of (word words 5))
-  ok_where (length words == 6) (BadLine n) (record { name = name; rate_bps = rate; burst_bits = burst; min_octets = least; max_octets = most })
+  ok_where (length words == 6) (BadLine n)
+      (record { name = name; rate_bps = rate; burst_bits = burst; min_octets = least; max_octets = most })
 
 -- the words of a line `frame AT NAME OCTETS`, AT at most 10^17 and OCTETS 64 to 2000, give these
 abbrev pub frame_in : ℕ → List (List ℕ) → Result FrameWords ShapeFault
@@ -59,7 +62,8 @@ frame_in n words = do
   at ← or_fault (BadLine n) (number_of (word words 1))
   name ← or_fault (BadLine n) (name_of (word words 2))
   octets ← or_fault (BadLine n) (number_of (word words 3))
-  ok_where (length words == 4 && nat_le at 100000000000000000 && nat_le 64 octets && nat_le octets 2000) (BadLine n) (record { at = at; name = name; octets = octets })
+  ok_where (length words == 4 && nat_le at 100000000000000000 && nat_le 64 octets && nat_le octets 2000) (BadLine n)
+      (record { at = at; name = name; octets = octets })
 
 -- the names of streams
 abbrev pub names_of : List ShapeStream → List (List ℕ)
@@ -67,7 +71,11 @@ names_of streams = map (λ (s : ShapeStream). s.name) streams
 
 -- the stream that these words declare
 abbrev pub stream_of : StreamWords → ShapeStream
-stream_of w = record { name = w.name; declared = record { rate = w.rate_bps; burst_bits = w.burst_bits; min_octets = w.min_octets; max_octets = w.max_octets } }
+stream_of w = record {
+  name = w.name;
+  declared =
+      record { rate = w.rate_bps; burst_bits = w.burst_bits; min_octets = w.min_octets; max_octets = w.max_octets };
+}
 
 -- that stream, where no fault is found
 abbrev pub stream_or_fault : ℕ → ShapeStream → Option StreamFault → Result ShapeStream ShapeFault
@@ -84,9 +92,11 @@ frame_of w stream = record { at = record { 0 = w.at }; stream = stream; octets =
 
 -- the time of the last frame, 0 before the first
 abbrev pub last_time : List ShapeFrame → ℕ
-last_time frames = (slice_index_or frames (length frames - 1) (record { at = record { 0 = 0 }; stream = 0; octets = 0 })).at.0
+last_time frames =
+    (slice_index_or frames (length frames - 1) (record { at = record { 0 = 0 }; stream = 0; octets = 0 })).at.0
 
--- a stream line stands before all frame lines; it has a new name, keeps the rules of a stream, and is at most the 4096th
+-- a stream line stands before all frame lines; it has a new name, keeps the rules of a stream, and is at most the
+-- 4096th
 abbrev pub stream_line : DraftShape → ℕ → List (List ℕ) → Result Line ShapeFault
 stream_line draft n words = do
   in_place ← ok_where (length draft.frames == 0) (BadLine n) words

@@ -1,4 +1,5 @@
-use Rattle.std.specs.Prelude.{ℕ, ◌+◌, Bool, true, false, List, [], ◌∷◌, ◌++◌, length, count_by, codes, decimal, slice_index_or}
+use Rattle.std.specs.Prelude.{ℕ, ◌+◌, Bool, true, false, List, [], ◌∷◌, ◌++◌, length, count_by, codes, decimal}
+use Rattle.std.specs.Prelude.{slice_index_or}
 use Rattle.ats_group.specs.declared.verdict.Verdict.{Verdict}
 use Rattle.ats_group.specs.declared.verdict.Verdict.TheVariants.{Eligible, Late, Size}
 use Rattle.ats_shape.specs.Shape.{DeclaredShape}
@@ -15,7 +16,8 @@ verdict_text Size = codes "size"
 -- `frame N NAME OCTETS AT ` and the verdict
 unfoldable pub frame_text : ℕ → List ℕ → ShapeFrame → Verdict → List ℕ
 frame_text n name frame verdict =
-    codes "frame " ++ decimal n ++ codes " " ++ name ++ codes " " ++ decimal frame.octets ++ codes " " ++ decimal frame.at.0 ++ codes " " ++ verdict_text verdict ++ codes "\n"
+    codes "frame " ++ decimal n ++ codes " " ++ name ++ codes " " ++ decimal frame.octets ++ codes " "
+    ++ decimal frame.at.0 ++ codes " " ++ verdict_text verdict ++ codes "\n"
 
 -- the name of the stream with this number
 abbrev pub name_in : List ShapeStream → ℕ → List ℕ
@@ -47,7 +49,8 @@ is_size Size = true
 unfoldable pub totals_text : List Verdict → List ℕ
 totals_text verdicts =
     codes "total frames " ++ decimal (length verdicts) ++ codes " eligible " ++ decimal (count_by is_eligible verdicts)
-    ++ codes " late " ++ decimal (count_by is_late verdicts) ++ codes " size " ++ decimal (count_by is_size verdicts) ++ codes "\n"
+    ++ codes " late " ++ decimal (count_by is_late verdicts) ++ codes " size "
+    ++ decimal (count_by is_size verdicts) ++ codes "\n"
 
 -- a line for each frame, then the totals
 abbrev pub report_on : DeclaredShape → List Verdict → List ℕ

@@ -21,7 +21,8 @@ offer_of frame = record { member = frame.stream; arrival = frame.at.0; octets = 
 
 -- the verdicts on all frames: those of one group, whose members are the streams
 abbrev pub verdicts_on : DeclaredShape → List Verdict
-verdicts_on shape = verdicts_of (declared_in shape.streams) shape.residence_ns (first (declared_in shape.streams)) (map offer_of shape.frames)
+verdicts_on shape = verdicts_of (declared_in shape.streams) shape.residence_ns (first (declared_in shape.streams))
+    (map offer_of shape.frames)
 
 -- the stream as a member of the group
 abbrev pub member_of : ShapeStream → Member

@@ -2,7 +2,8 @@
 
 ghost use Rattle.std.specs.Prelude.{◌≡◌, IfOk, OnOk, OnErr};
 ghost use Rattle.ats_io.specs.Text.{words_of};
-ghost use Rattle.ats_shape.specs.Reading.{blank, is_skipped, line_in, declared_line, stream_line, frame_line, with_line, finished, last_time};
+ghost use Rattle.ats_shape.specs.Reading.{blank, is_skipped, line_in, declared_line, stream_line, frame_line};
+ghost use Rattle.ats_shape.specs.Reading.{with_line, finished, last_time};
 ghost use Rattle.ats_shape.specs.Draft.{Fits};
 
 use crate::fault::ShapeFault;
@@ -10,8 +11,7 @@ use crate::line::{Line, frame_in, residence_line, ruled, stream_in};
 use crate::shape::{Shape, ShapeFrame, ShapeStream};
 use crate::words::word;
 use ats_io::word_at;
-use ats_num::NameTable;
-use ats_num::Ps;
+use ats_num::{NameTable, Ps};
 use std::alloc::{AllocError, Global};
 use std::marker::Model;
 
@@ -36,9 +36,11 @@ impl Model for Draft {
 
     ghost Value = { DraftShape };
 
-    ghost view = { λ d. record { residence = d.residence_ns; streams = d.stream_list.items; frames = d.frame_list.items } };
+    ghost view = { λ d.
+        record { residence = d.residence_ns; streams = d.stream_list.items; frames = d.frame_list.items } };
 
-    ghost invariant = { λ d. IsDraft d.table (record { residence = d.residence_ns; streams = d.stream_list.items; frames = d.frame_list.items }) };
+    ghost invariant = { λ d. IsDraft d.table
+        (record { residence = d.residence_ns; streams = d.stream_list.items; frames = d.frame_list.items }) };
 }
 
 impl Draft {

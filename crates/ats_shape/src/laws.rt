@@ -2,8 +2,9 @@
 
 ghost use Rattle.ats_shape.specs.FaultLaw.{EachFaultIsTheFirst, EachShapeIsFaultless};
 
-/// A text is refused with a fault exactly where that fault stands in the line it names, judged by the lines before it, and
-/// no line before it has one; or where no line counts, with the number after the last line.
+/// A text is refused with a fault exactly where that fault stands in the line it names, judged by
+/// the lines before it, and no line before it has one; or where no line counts, with the number
+/// after the last line.
 pub fn each_fault_is_the_first()
     ensures { EachFaultIsTheFirst }
 {}

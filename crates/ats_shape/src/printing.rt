@@ -1,7 +1,8 @@
 //! What is printed for a shape.
 
 ghost use Rattle.std.specs.Prelude.{◌≡◌, ◌≤◌, ◌<◌, ◌++◌, length, count_by, codes, decimal, All, OnOk, IfOk};
-ghost use Rattle.ats_shape.specs.Text.{verdict_text, frame_text, frames_text, name_in, is_eligible, is_late, is_size, totals_text, report_on};
+ghost use Rattle.ats_shape.specs.Text.{verdict_text, frame_text, frames_text, name_in, is_eligible, is_late, is_size};
+ghost use Rattle.ats_shape.specs.Text.{totals_text, report_on};
 ghost use Rattle.ats_shape.specs.declared.shape.ShapeFrame.{ShapeFrame};
 
 use crate::shape::{Shape, ShapeFrame, ShapeStream};

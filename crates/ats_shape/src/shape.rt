@@ -26,8 +26,8 @@ pub struct ShapeFrame {
     pub octets: u32,
 }
 
-/// What a shape file declares: one group with a maximum residence time, its streams, and the frames that arrive there, in
-/// order. Contracts see the lists.
+/// What a shape file declares: one group with a maximum residence time, its streams, and the frames
+/// that arrive there, in order. Contracts see the lists.
 #[derive(Debug, Drop)]
 pub struct Shape {
     pub(crate) residence: u32,
@@ -40,9 +40,11 @@ impl Model for Shape {
 
     ghost Value = { DeclaredShape };
 
-    ghost view = { λ s. record { residence_ns = s.residence; streams = s.stream_list.items; frames = s.frame_list.items } };
+    ghost view = { λ s.
+        record { residence_ns = s.residence; streams = s.stream_list.items; frames = s.frame_list.items } };
 
-    ghost invariant = { λ s. IsShape (record { residence_ns = s.residence; streams = s.stream_list.items; frames = s.frame_list.items }) };
+    ghost invariant = { λ s.
+        IsShape (record { residence_ns = s.residence; streams = s.stream_list.items; frames = s.frame_list.items }) };
 }
 
 impl Shape {

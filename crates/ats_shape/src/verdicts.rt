@@ -8,8 +8,8 @@ use crate::shape::{Shape, ShapeStream};
 use ats_group::{Groups, Member, Verdict};
 use std::alloc::{AllocError, Global};
 
-/// The verdict on each frame of a shape, in order: the streams are the members of one group. `AllocError` where memory runs
-/// out.
+/// The verdict on each frame of a shape, in order: the streams are the members of one group.
+/// `AllocError` where memory runs out.
 pub fn judge(alloc: Global, shape: &Shape) -> Result<Vec<Verdict>, AllocError>
     ensures verdicts { IfOk result (λ verdicts. verdicts.items ≡ verdicts_on shape.now) }
     ensures each { IfOk result (λ verdicts. length verdicts.items ≡ length shape.now.frames) }

@@ -8,8 +8,9 @@ use Rattle.ats_streams.specs.declared.fault.StreamFault.TheVariants.{BadClass, L
 use Rattle.ats_streams.specs.declared.path.TheConstants.{MAX_PORTS}
 use Rattle.ats_streams.specs.declared.stream.TheConstants.{MAX_CLASS, MAX_DEADLINE_NS, MAX_VLAN}
 
--- what a stream declares: its name's bytes, the numbers of its ports, its class, its rate in bits per second, its burst in
--- bits, its least and greatest octets, its deadline in nanoseconds, and the address and VLAN identifier of its frames
+-- what a stream declares: its name's bytes, the numbers of its ports, its class, its rate in bits per second, its burst
+-- in bits, its least and greatest octets, its deadline in nanoseconds, and the address and VLAN identifier of its
+-- frames
 pub record DeclaredStream : Type 0 where
   pub name : List ℕ
   pub path : List ℕ

@@ -49,8 +49,9 @@ impl fmt::Display for StreamFault {
 
 impl Error for StreamFault {}
 
-/// The first rule on rate (bits per second), burst (bits) and sizes (octets) that these numbers break, or `None` exactly
-/// where they keep each. It is for files that give a stream no class, path or deadline.
+/// The first rule on rate (bits per second), burst (bits) and sizes (octets) that these numbers
+/// break, or `None` exactly where they keep each. It is for files that give a stream no class, path
+/// or deadline.
 pub fn declared_fault(
     rate_bps: u64,
     burst_bits: u64,

@@ -10,8 +10,8 @@ use crate::rules::is_frame_size;
 use ats_num::Name;
 use std::marker::Model;
 
-/// A declared flow: frames without a class of their own, which no scheduler holds back. It keeps the rules that `Flow::new`
-/// tests, and contracts see it as the record of what it declares.
+/// A declared flow: frames without a class of their own, which no scheduler holds back. It keeps
+/// the rules that `Flow::new` tests, and contracts see it as the record of what it declares.
 #[derive(Debug, Drop)]
 pub struct Flow {
     name: Name,
@@ -30,8 +30,8 @@ impl Model for Flow {
 }
 
 impl Flow {
-    /// The flow with this name, the ports of its path and its greatest octets, counted with the frame check sequence. It
-    /// holds exactly these, and takes no memory.
+    /// The flow with this name, the ports of its path and its greatest octets, counted with the
+    /// frame check sequence. It holds exactly these, and takes no memory.
     ///
     /// # Errors
     ///

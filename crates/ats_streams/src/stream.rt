@@ -5,7 +5,8 @@ ghost use Rattle.std.specs.Result.{result_err};
 ghost use Rattle.ats_num.specs.Rate.{IsRate};
 ghost use Rattle.ats_streams.specs.Rules.{KeepsRules};
 ghost use Rattle.ats_streams.specs.Path.{IsPath};
-ghost use Rattle.ats_streams.specs.Stream.{IsClass, IsDeadline, IsIdentity, MayIdentify, IsStream, declared_stream, limit_fault, stream_fault};
+ghost use Rattle.ats_streams.specs.Stream.{IsClass, IsDeadline, IsIdentity, MayIdentify, IsStream, declared_stream};
+ghost use Rattle.ats_streams.specs.Stream.{limit_fault, stream_fault};
 
 use crate::fault::{StreamFault, declared_fault};
 use crate::path::is_path;
@@ -28,7 +29,8 @@ pub fn is_identity(address: u64, vlan: u16) -> bool
     address < 1 << 48 && vlan >= 1 && vlan <= MAX_VLAN
 }
 
-/// A declared stream. It keeps the rules that `Stream::new` tests, and contracts see it as the record of what it declares.
+/// A declared stream. It keeps the rules that `Stream::new` tests, and contracts see it as the
+/// record of what it declares.
 #[derive(Debug, Drop)]
 pub struct Stream {
     name: Name,
@@ -55,18 +57,20 @@ impl Model for Stream {
 }
 
 impl Stream {
-    /// The stream with this name, the ports of its path, its class, its rate in bits per second, its burst in bits, its
-    /// least and greatest octets counted with the frame check sequence, its deadline in nanoseconds, and the destination
-    /// address and VLAN identifier of its frames, where they are declared. It holds exactly these, and takes no memory.
+    /// The stream with this name, the ports of its path, its class, its rate in bits per second,
+    /// its burst in bits, its least and greatest octets counted with the frame check sequence, its
+    /// deadline in nanoseconds, and the destination address and VLAN identifier of its frames,
+    /// where they are declared. It holds exactly these, and takes no memory.
     ///
     /// An address that is given has 48 bits, and its VLAN identifier is 1 to 4094; `is_identity` tests it.
     ///
     /// # Errors
     ///
-    /// The first of these, in this order: `BadClass` where the class is not 1 to 7; `BadRate` where the rate is not 1 to
-    /// 100,000,000,000; `BadSizes` where the sizes are not `64 <= min_octets <= max_octets <= 2000`; `BurstBelowFrame`
-    /// where the burst is below the wire bits of `max_octets`; `Limit` where the path has no port or more than 16, the
-    /// burst is over 1,000,000,000, or the deadline is not 1 to 1,000,000,000.
+    /// The first of these, in this order: `BadClass` where the class is not 1 to 7; `BadRate` where
+    /// the rate is not 1 to 100,000,000,000; `BadSizes` where the sizes are not `64 <= min_octets
+    /// <= max_octets <= 2000`; `BurstBelowFrame` where the burst is below the wire bits of
+    /// `max_octets`; `Limit` where the path has no port or more than 16, the burst is over
+    /// 1,000,000,000, or the deadline is not 1 to 1,000,000,000.
     pub fn new(
         name: Name,
         path: Vec<u32>,
@@ -170,7 +174,8 @@ impl Stream {
         self.deadline_ns
     }
 
-    /// The destination address, below `2^48`, and the VLAN identifier, 1 to 4094, of its frames, where they are declared.
+    /// The destination address, below `2^48`, and the VLAN identifier, 1 to 4094, of its frames,
+    /// where they are declared.
     pub fn identity(&self) -> Option<(u64, u16)>
         ensures value { result ≡ self.now.identity }
         ensures valid { MayIdentify self.now.identity }

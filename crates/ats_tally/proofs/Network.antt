@@ -1,4 +1,5 @@
-use Rattle.std.proofs.Common.{◌≡◌, ℕ, ◌+◌, ◌<◌, ◌≤◌, Bool, true, false, cond, List, [], ◌∷◌, ◌++◌, length, map, take, sym, ap, subst, ◌∙◌, arith, length-append}
+use Rattle.std.proofs.Common.{◌≡◌, ℕ, ◌+◌, ◌<◌, ◌≤◌, Bool, true, false, cond, List, [], ◌∷◌, ◌++◌, length, map, take}
+use Rattle.std.proofs.Common.{sym, ap, subst, ◌∙◌, arith, length-append}
 use Rattle.std.proofs.lemmas.List.{append-nil, length-map, length-take}
 use Rattle.std.proofs.lemmas.List.Elements.{All-filter, All-take, filter_more}
 use Rattle.std.proofs.lemmas.List.Sums.{length-filter, count_by-le-length}
@@ -17,42 +18,61 @@ pub few_senders : (network : DeclaredNetwork) → IsNetwork network → length (
 few_senders network is =
     let streams : List Sender = map stream_sender network.streams in
     let flows : List Sender = map flow_sender network.flows in
-    omega (arith, length-append streams flows, length-map network.streams stream_sender, length-map network.flows flow_sender, is.few_streams, is.few_flows)
+    omega (
+      arith,
+      length-append streams flows,
+      length-map network.streams stream_sender,
+      length-map network.flows flow_sender,
+      is.few_streams,
+      is.few_flows,
+    )
 
 pub few_at : (port : ℕ) (senders : List Sender) → length (senders_at port senders) ≤ length senders
 few_at port senders = omega (arith, length-filter (uses port) senders, count_by-le-length (uses port) senders)
 
 -- what the first senders of a network, of those that use a port, make of a class
-pub first_within : (network : DeclaredNetwork) (port class i : ℕ) (tally : Tally) → IsNetwork network → 1 ≤ class → IsTally class (senders_at port (take i (senders_of network))) tally → IsWithin MAX_SENDERS tally
+pub first_within : (network : DeclaredNetwork) (port class i : ℕ) (tally : Tally) → IsNetwork network → 1 ≤ class
+    → IsTally class (senders_at port (take i (senders_of network))) tally → IsWithin MAX_SENDERS tally
 first_within network port class i tally is shaped h =
     let first : List Sender = take i (senders_of network) in
     tally_within network.topology class (senders_at port first) tally shaped
-    (All-filter (uses port) (IsSender network.topology) first (All-take (IsSender network.topology) i (senders_of network) (each_is_sender network is)))
+    (All-filter (uses port) (IsSender network.topology) first
+    (All-take (IsSender network.topology) i (senders_of network) (each_is_sender network is)))
     (omega (arith, few_at port first, length-take i (senders_of network), few_senders network is)) h
 
 -- and what all of them make of it
-pub all_within : (network : DeclaredNetwork) (port class : ℕ) (tally : Tally) → IsNetwork network → 1 ≤ class → IsTally class (senders_at port (senders_of network)) tally → IsWithin MAX_SENDERS tally
+pub all_within : (network : DeclaredNetwork) (port class : ℕ) (tally : Tally) → IsNetwork network → 1 ≤ class
+    → IsTally class (senders_at port (senders_of network)) tally → IsWithin MAX_SENDERS tally
 all_within network port class tally is shaped h =
     tally_within network.topology class (senders_at port (senders_of network)) tally shaped
     (All-filter (uses port) (IsSender network.topology) (senders_of network) (each_is_sender network is))
     (omega (arith, few_at port (senders_of network), few_senders network is)) h
 
 -- a sender that uses the port is counted next, and one that does not is left out
-pub count_next : (network : DeclaredNetwork) (port class i : ℕ) (tally next : Tally) → i < length (senders_of network) → uses port (sender_at network i) ≡ true → next ≡ tally_with class (sender_at network i) tally
-    → IsTally class (senders_at port (take i (senders_of network))) tally → IsTally class (senders_at port (take (i + 1) (senders_of network))) next
+pub count_next : (network : DeclaredNetwork) (port class i : ℕ) (tally next : Tally) → i < length (senders_of network)
+    → uses port (sender_at network i) ≡ true → next ≡ tally_with class (sender_at network i) tally
+    → IsTally class (senders_at port (take i (senders_of network))) tally
+    → IsTally class (senders_at port (take (i + 1) (senders_of network))) next
 count_next network port class i tally next within used is h =
     let senders : List Sender = senders_of network in
     let more : senders_at port (take (i + 1) senders) ≡ senders_at port (take i senders) ++ sender_at network i ∷ [] =
-    filter_more (uses port) senders i no_sender within ∙ ap (λ (b : Bool). senders_at port (take i senders) ++ cond b (sender_at network i ∷ []) []) used in
+    filter_more (uses port) senders i no_sender within
+    ∙ ap (λ (b : Bool). senders_at port (take i senders) ++ cond b (sender_at network i ∷ []) []) used in
     let same : tally_with class (sender_at network i) tally ≡ next = sym is in
     subst (λ (t : Tally). IsTally class (senders_at port (take (i + 1) senders)) t) same
-    (subst (λ (ss : List Sender). IsTally class ss (tally_with class (sender_at network i) tally)) (sym more) (tally_more class (senders_at port (take i senders)) tally (sender_at network i) h))
+    (subst (λ (ss : List Sender). IsTally class ss (tally_with class (sender_at network i) tally)) (sym more)
+    (tally_more class (senders_at port (take i senders)) tally (sender_at network i) h))
 
-pub count_not : (network : DeclaredNetwork) (port class i : ℕ) (tally next : Tally) → i < length (senders_of network) → uses port (sender_at network i) ≡ false → next ≡ tally
-    → IsTally class (senders_at port (take i (senders_of network))) tally → IsTally class (senders_at port (take (i + 1) (senders_of network))) next
+pub count_not : (network : DeclaredNetwork) (port class i : ℕ) (tally next : Tally) → i < length (senders_of network)
+    → uses port (sender_at network i) ≡ false → next ≡ tally
+    → IsTally class (senders_at port (take i (senders_of network))) tally
+    → IsTally class (senders_at port (take (i + 1) (senders_of network))) next
 count_not network port class i tally next within unused is h =
     let senders : List Sender = senders_of network in
     let same_list : senders_at port (take (i + 1) senders) ≡ senders_at port (take i senders) =
-    filter_more (uses port) senders i no_sender within ∙ ap (λ (b : Bool). senders_at port (take i senders) ++ cond b (sender_at network i ∷ []) []) unused ∙ append-nil (senders_at port (take i senders)) in
+    filter_more (uses port) senders i no_sender within
+    ∙ ap (λ (b : Bool). senders_at port (take i senders) ++ cond b (sender_at network i ∷ []) []) unused
+    ∙ append-nil (senders_at port (take i senders)) in
     let same : tally ≡ next = sym is in
-    subst (λ (t : Tally). IsTally class (senders_at port (take (i + 1) senders)) t) same (subst (λ (ss : List Sender). IsTally class ss tally) (sym same_list) h)
+    subst (λ (t : Tally). IsTally class (senders_at port (take (i + 1) senders)) t) same
+    (subst (λ (ss : List Sender). IsTally class ss tally) (sym same_list) h)

@@ -1,8 +1,10 @@
-use Rattle.std.proofs.Common.{◌≡◌, ℕ, zero, suc, ◌+◌, ◌-◌, ◌<◌, ◌≤◌, Bool, true, false, cond, List, [], ◌∷◌, length, get_or, map, filter, sum_by, refl, ap, ◌∙◌, inl, inr, ◌⊎◌, eqb, arith}
+use Rattle.std.proofs.Common.{◌≡◌, ℕ, zero, suc, ◌+◌, ◌-◌, ◌<◌, ◌≤◌, Bool, true, false, cond, List, [], ◌∷◌, length}
+use Rattle.std.proofs.Common.{get_or, map, filter, sum_by, refl, ap, ◌∙◌, inl, inr, ◌⊎◌, eqb, arith}
 use Rattle.std.specs.Prelude.{◌&&◌, ◌||◌}
 use Rattle.std.specs.List.{All, AllPairs, list_any}
 use Rattle.std.proofs.lemmas.Bool.{cases_eq, eqb-true, eq-eqb, and_from, or_left, or_right}
-use Rattle.std.proofs.lemmas.List.Elements.{All-nil, All-append, All-map, All-filter, All-weaker, All-head, All-tail, filter_passes, filter-append}
+use Rattle.std.proofs.lemmas.List.Elements.{All-nil, All-append, All-map, All-filter, All-weaker, All-head, All-tail}
+use Rattle.std.proofs.lemmas.List.Elements.{filter_passes, filter-append}
 use Rattle.std.proofs.lemmas.List.Folds.{list_any-append, list_any_at}
 use Rattle.std.proofs.lemmas.List.Kept.{AllPairs-filter}
 use Rattle.std.proofs.lemmas.List.Sums.{sum_by-cons}
@@ -49,36 +51,49 @@ classes_ascend i j d before within = omega (arith, class_at i d (omega arith), c
 
 -- the places of a port
 at_port : (network : DeclaredNetwork) (port : ℕ) → All (λ (at : ℕ × ℕ). at.0 ≡ port) (places_at network port)
-at_port network port = All-map (λ (at : ℕ × ℕ). at.0 ≡ port) (place port) (filter (λ class. is_used network port class) classes) (λ k d h. refl)
+at_port network port = All-map (λ (at : ℕ × ℕ). at.0 ≡ port) (place port)
+    (filter (λ class. is_used network port class) classes) (λ k d h. refl)
 
 pub used_at : (network : DeclaredNetwork) (port : ℕ) → All (IsUsedAt network) (places_at network port)
 used_at network port =
-    All-map (IsUsedAt network) (place port) (filter (λ class. is_used network port class) classes) (filter_passes (λ class. is_used network port class) classes)
+    All-map (IsUsedAt network) (place port) (filter (λ class. is_used network port class) classes)
+    (filter_passes (λ class. is_used network port class) classes)
 
 ordered_at : (network : DeclaredNetwork) (port : ℕ) → AllPairs Precedes (places_at network port)
 ordered_at network port =
     AllPairs-map Precedes (place port) (filter (λ class. is_used network port class) classes)
-    (λ i j d before within. inr (refl, AllPairs-filter (λ a b. a < b) (λ class. is_used network port class) classes classes_ascend i j d before within))
+    (λ i j d before within. inr (
+      refl,
+      AllPairs-filter (λ a b. a < b) (λ class. is_used network port class)
+          classes classes_ascend i j d before within,
+    ))
 
 -- the places of the ports from a number on
-from_port : (network : DeclaredNetwork) (k : ℕ) (ports : List Port) → All (λ (at : ℕ × ℕ). k ≤ at.0) (places_from network k ports)
+from_port : (network : DeclaredNetwork) (k : ℕ) (ports : List Port)
+    → All (λ (at : ℕ × ℕ). k ≤ at.0) (places_from network k ports)
 from_port network k [] = All-nil (λ (at : ℕ × ℕ). k ≤ at.0)
 from_port network k (port ∷ ports) =
     All-append (λ (at : ℕ × ℕ). k ≤ at.0) (places_at network k) (places_from network (k + 1) ports)
-    (All-weaker (λ (at : ℕ × ℕ). at.0 ≡ k) (λ (at : ℕ × ℕ). k ≤ at.0) (λ at e. omega (arith, e)) (places_at network k) (at_port network k))
-    (All-weaker (λ (at : ℕ × ℕ). k + 1 ≤ at.0) (λ (at : ℕ × ℕ). k ≤ at.0) (λ at e. omega (arith, e)) (places_from network (k + 1) ports) (from_port network (k + 1) ports))
+    (All-weaker (λ (at : ℕ × ℕ). at.0 ≡ k) (λ (at : ℕ × ℕ). k ≤ at.0) (λ at e. omega (arith, e)) (places_at network k)
+    (at_port network k))
+    (All-weaker (λ (at : ℕ × ℕ). k + 1 ≤ at.0) (λ (at : ℕ × ℕ). k ≤ at.0) (λ at e. omega (arith, e))
+    (places_from network (k + 1) ports) (from_port network (k + 1) ports))
 
-used_from : (network : DeclaredNetwork) (k : ℕ) (ports : List Port) → All (IsUsedAt network) (places_from network k ports)
+used_from : (network : DeclaredNetwork) (k : ℕ) (ports : List Port)
+    → All (IsUsedAt network) (places_from network k ports)
 used_from network k [] = All-nil (IsUsedAt network)
 used_from network k (port ∷ ports) =
-    All-append (IsUsedAt network) (places_at network k) (places_from network (k + 1) ports) (used_at network k) (used_from network (k + 1) ports)
+    All-append (IsUsedAt network) (places_at network k) (places_from network (k + 1) ports) (used_at network k)
+    (used_from network (k + 1) ports)
 
 ordered_from : (network : DeclaredNetwork) (k : ℕ) (ports : List Port) → AllPairs Precedes (places_from network k ports)
 ordered_from network k [] = λ i j d before within. absurd (omega arith)
 ordered_from network k (port ∷ ports) =
-    AllPairs-append Precedes (places_at network k) (places_from network (k + 1) ports) (ordered_at network k) (ordered_from network (k + 1) ports)
+    AllPairs-append Precedes (places_at network k) (places_from network (k + 1) ports) (ordered_at network k)
+    (ordered_from network (k + 1) ports)
     (All-weaker (λ (at : ℕ × ℕ). at.0 ≡ k) (λ (at : ℕ × ℕ). All (Precedes at) (places_from network (k + 1) ports))
-    (λ at e. All-weaker (λ (b : ℕ × ℕ). k + 1 ≤ b.0) (Precedes at) (λ b h. inl (omega (arith, e, h))) (places_from network (k + 1) ports) (from_port network (k + 1) ports))
+    (λ at e. All-weaker (λ (b : ℕ × ℕ). k + 1 ≤ b.0) (Precedes at) (λ b h. inl (omega (arith, e, h)))
+    (places_from network (k + 1) ports) (from_port network (k + 1) ports))
     (places_at network k) (at_port network k))
 
 -- each place is used, and they ascend
@@ -92,25 +107,32 @@ places_ordered network = ordered_from network 0 network.topology.ports
 abbrev pub is_at : ℕ → ℕ → ℕ × ℕ → Bool
 is_at port class at = eqb at.0 port && eqb at.1 class
 
-has_class : (network : DeclaredNetwork) (port class : ℕ) → 1 ≤ class → class ≤ 7 → is_used network port class ≡ true → list_any (is_at port class) (places_at network port) ≡ true
+has_class : (network : DeclaredNetwork) (port class : ℕ) → 1 ≤ class → class ≤ 7 → is_used network port class ≡ true
+    → list_any (is_at port class) (places_at network port) ≡ true
 has_class network port class least most used =
     let there : get_or classes (class - 1) 0 ≡ class = class_at (class - 1) 0 (omega arith) ∙ omega arith in
     let passes : (is_used network port class && is_at port class (place port class)) ≡ true =
-    and_from (is_used network port class) (is_at port class (place port class)) used (and_from (eqb port port) (eqb class class) (eq-eqb port port refl) (eq-eqb class class refl)) in
+    and_from (is_used network port class) (is_at port class (place port class)) used
+    (and_from (eqb port port) (eqb class class) (eq-eqb port port refl) (eq-eqb class class refl)) in
     list_any-map (is_at port class) (place port) (filter (λ c. is_used network port c) classes)
     ∙ list_any-filter (λ c. is_at port class (place port c)) (λ c. is_used network port c) classes
     ∙ list_any_at (λ c. is_used network port c && is_at port class (place port c)) classes (class - 1) 0 (omega arith)
     (ap (λ (c : ℕ). is_used network port c && is_at port class (place port c)) there ∙ passes)
 
-has_from : (network : DeclaredNetwork) (k : ℕ) (ports : List Port) (port class : ℕ) → k ≤ port → port < k + length ports → 1 ≤ class → class ≤ 7 → is_used network port class ≡ true
+has_from : (network : DeclaredNetwork) (k : ℕ) (ports : List Port) (port class : ℕ) → k ≤ port → port < k + length ports
+    → 1 ≤ class → class ≤ 7 → is_used network port class ≡ true
     → list_any (is_at port class) (places_from network k ports) ≡ true
 has_from network k [] port class from below least most used = absurd (omega arith)
 has_from network k (one ∷ ports) port class from below least most used =
     list_any-append (is_at port class) (places_at network k) (places_from network (k + 1) ports)
-    ∙ (elim (cases_eq k port) as (λ _. (list_any (is_at port class) (places_at network k) || list_any (is_at port class) (places_from network (k + 1) ports)) ≡ true) [
-      | inl same ↦ or_left (list_any (is_at port class) (places_at network k)) (list_any (is_at port class) (places_from network (k + 1) ports))
-          (ap (λ (n : ℕ). list_any (is_at port class) (places_at network n)) same ∙ has_class network port class least most used)
-      | inr other ↦ or_right (list_any (is_at port class) (places_at network k)) (list_any (is_at port class) (places_from network (k + 1) ports))
+    ∙ (elim (cases_eq k port) as (λ _. (list_any (is_at port class) (places_at network k)
+    || list_any (is_at port class) (places_from network (k + 1) ports)) ≡ true) [
+      | inl same ↦ or_left (list_any (is_at port class) (places_at network k))
+          (list_any (is_at port class) (places_from network (k + 1) ports))
+          (ap (λ (n : ℕ). list_any (is_at port class) (places_at network n)) same
+          ∙ has_class network port class least most used)
+      | inr other ↦ or_right (list_any (is_at port class) (places_at network k))
+          (list_any (is_at port class) (places_from network (k + 1) ports))
           (has_from network (k + 1) ports port class (omega arith) (omega arith) least most used)
     ])
 
@@ -119,32 +141,41 @@ record IsUser (network : DeclaredNetwork) (port : ℕ) (s : Sender) : Type 0 whe
   is : IsSender network.topology s
   uses : uses port s ≡ true
 
-users : (network : DeclaredNetwork) (port : ℕ) (senders : List Sender) → All (IsSender network.topology) senders → All (IsUser network port) (senders_at port senders)
+users : (network : DeclaredNetwork) (port : ℕ) (senders : List Sender) → All (IsSender network.topology) senders
+    → All (IsUser network port) (senders_at port senders)
 users network port senders all k d h = record {
   is = All-filter (uses port) (IsSender network.topology) senders all k d h;
   uses = filter_passes (uses port) senders k d h;
 }
 
-port_used : (network : DeclaredNetwork) (port : ℕ) (s : Sender) → IsUser network port s → port < length network.topology.ports
+port_used : (network : DeclaredNetwork) (port : ℕ) (s : Sender) → IsUser network port s
+    → port < length network.topology.ports
 port_used network port s user =
     any_gives (λ p. eqb p port) (port < length network.topology.ports) s.path
     (λ k d h e. (let within = user.is.ports k d h in omega (arith, within, eqb-true (get_or s.path k d) port e)))
     user.uses
 
-any_sum : {X : Type 0} (test : X → Bool) (amount : X → ℕ) (xs : List X) → All (λ (x : X). test x ≡ true → 1 ≤ amount x) xs → list_any test xs ≡ true → 1 ≤ sum_by amount (filter test xs)
+any_sum : {X : Type 0} (test : X → Bool) (amount : X → ℕ) (xs : List X)
+    → All (λ (x : X). test x ≡ true → 1 ≤ amount x) xs → list_any test xs ≡ true → 1 ≤ sum_by amount (filter test xs)
 any_sum test amount [] all any = absurd (let no : false ≡ true = any in cc)
 any_sum {X} test amount (x ∷ xs) all any =
     by (test x) refl any (any_sum test amount xs (All-tail (λ (x : X). test x ≡ true → 1 ≤ amount x) x xs all))
   where
-    by : (b : Bool) → test x ≡ b → (b || list_any test xs) ≡ true → (list_any test xs ≡ true → 1 ≤ sum_by amount (filter test xs)) → 1 ≤ sum_by amount (cond b (x ∷ filter test xs) (filter test xs))
-    by true e any more = omega (arith, sum_by-cons amount x (filter test xs), All-head (λ (x : X). test x ≡ true → 1 ≤ amount x) x xs all e)
+    by : (b : Bool) → test x ≡ b → (b || list_any test xs) ≡ true
+        → (list_any test xs ≡ true → 1 ≤ sum_by amount (filter test xs))
+        → 1 ≤ sum_by amount (cond b (x ∷ filter test xs) (filter test xs))
+    by true e any more = omega
+        (arith, sum_by-cons amount x (filter test xs), All-head (λ (x : X). test x ≡ true → 1 ≤ amount x) x xs all e)
     by false e any more = more any
 
-streams_class : (streams : List DeclaredStream) → All IsStream streams → All (λ (s : Sender). 1 ≤ s.class) (map stream_sender streams)
-streams_class streams all = All-map (λ (s : Sender). 1 ≤ s.class) stream_sender streams (All-weaker IsStream (λ (s : DeclaredStream). 1 ≤ s.class) (λ s is. is.class.least) streams all)
+streams_class : (streams : List DeclaredStream) → All IsStream streams
+    → All (λ (s : Sender). 1 ≤ s.class) (map stream_sender streams)
+streams_class streams all = All-map (λ (s : Sender). 1 ≤ s.class) stream_sender streams
+    (All-weaker IsStream (λ (s : DeclaredStream). 1 ≤ s.class) (λ s is. is.class.least) streams all)
 
 -- some stream of the class uses the port, so some sender does
-pub used_by_sender : (network : DeclaredNetwork) (port class : ℕ) → is_used network port class ≡ true → list_any (is_of class) (senders_at port (senders_of network)) ≡ true
+pub used_by_sender : (network : DeclaredNetwork) (port class : ℕ) → is_used network port class ≡ true
+    → list_any (is_of class) (senders_at port (senders_of network)) ≡ true
 used_by_sender network port class used =
     let streams : List Sender = map stream_sender network.streams in
     let flows : List Sender = map flow_sender network.flows in
@@ -152,34 +183,41 @@ used_by_sender network port class used =
     ∙ list_any-append (is_of class) (senders_at port streams) (senders_at port flows)
     ∙ or_left (list_any (is_of class) (senders_at port streams)) (list_any (is_of class) (senders_at port flows)) used
 
-pub used_class : (network : DeclaredNetwork) (port class : ℕ) → IsNetwork network → is_used network port class ≡ true → 1 ≤ class
+pub used_class : (network : DeclaredNetwork) (port class : ℕ) → IsNetwork network
+    → is_used network port class ≡ true → 1 ≤ class
 used_class network port class is used =
     let streams : List Sender = map stream_sender network.streams in
     any_gives (is_of class) (1 ≤ class) (senders_at port streams)
     (λ k d h e. (
-    let least = All-filter (uses port) (λ (s : Sender). 1 ≤ s.class) streams (streams_class network.streams is.streams) k d h in
+    let least =
+    All-filter (uses port) (λ (s : Sender). 1 ≤ s.class) streams (streams_class network.streams is.streams) k d h in
     omega (arith, least, eqb-true (get_or (senders_at port streams) k d).class class e)))
     used
 
-pub is_place : (network : DeclaredNetwork) (port class : ℕ) → IsNetwork network → is_used network port class ≡ true → IsPlace network port class
+pub is_place : (network : DeclaredNetwork) (port class : ℕ) → IsNetwork network → is_used network port class ≡ true
+    → IsPlace network port class
 is_place network port class is used =
     let senders : List Sender = senders_at port (senders_of network) in
     let all : All (IsUser network port) senders = users network port (senders_of network) (each_is_sender network is) in
     let any : list_any (is_of class) senders ≡ true = used_by_sender network port class used in
     let least : 1 ≤ class = used_class network port class is used in
-    let inside : port < length network.topology.ports = any_gives (is_of class) (port < length network.topology.ports) senders (λ k d h e. port_used network port (get_or senders k d) (all k d h)) any in
+    let inside : port < length network.topology.ports = any_gives (is_of class) (port < length network.topology.ports)
+    senders (λ k d h e. port_used network port (get_or senders k d) (all k d h)) any in
     record {
       within = inside;
       least = least;
-      most = any_gives (is_of class) (class ≤ 7) senders (λ k d h e. (let s = all k d h in omega (arith, s.is.class, eqb-true (get_or senders k d).class class e))) any;
+      most = any_gives (is_of class) (class ≤ 7) senders (λ k d h e.
+          (let s = all k d h in omega (arith, s.is.class, eqb-true (get_or senders k d).class class e))) any;
       is_port = is.topology.each_port port no_port inside;
       rate =
           any_sum (is_of class) (λ (s : Sender). s.rate) senders
-          (λ k d h e. (let s = all k d h in (s.is.shaped (omega (arith, least, eqb-true (get_or senders k d).class class e))).rate.positive)) any;
+          (λ k d h e. (let s = all k d h in
+          (s.is.shaped (omega (arith, least, eqb-true (get_or senders k d).class class e))).rate.positive)) any;
     }
 
 -- the places are all that are used
-pub places_have : (network : DeclaredNetwork) (port class : ℕ) → IsNetwork network → is_used network port class ≡ true → list_any (is_at port class) (places_of network) ≡ true
+pub places_have : (network : DeclaredNetwork) (port class : ℕ) → IsNetwork network → is_used network port class ≡ true
+    → list_any (is_at port class) (places_of network) ≡ true
 places_have network port class is used =
     let at : IsPlace network port class = is_place network port class is used in
     has_from network 0 network.topology.ports port class (omega arith) (omega (arith, at.within)) at.least at.most used

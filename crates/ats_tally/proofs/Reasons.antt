@@ -1,5 +1,6 @@
 -- A search finds nothing exactly where the network bears what is searched, and names ports that are there.
-use Rattle.std.proofs.Common.{◌≡◌, ℕ, ◌*◌, ◌<◌, ◌≤◌, Bool, true, false, cond, List, length, Option, Some, None, refl, ap, arith}
+use Rattle.std.proofs.Common.{◌≡◌, ℕ, ◌*◌, ◌<◌, ◌≤◌, Bool, true, false, cond, List, length, Option, Some, None, refl}
+use Rattle.std.proofs.Common.{ap, arith}
 use Rattle.std.specs.Prelude.{nat_lt}
 use Rattle.std.specs.Option.{ForSome}
 use Rattle.std.proofs.lemmas.Bool.{ltb-false, le-ltb}
@@ -30,9 +31,11 @@ fits_by port class load h =
     ltb-false PS_PER_SECOND load (fails (nat_lt PS_PER_SECOND load) (Overloaded port class load) h)
 
 pub by_fit : (port class load : ℕ) → load ≤ PS_PER_SECOND → overload_by port class load ≡ None
-by_fit port class load h = by_fail (nat_lt PS_PER_SECOND load) (Overloaded port class load) (le-ltb PS_PER_SECOND load h)
+by_fit port class load h =
+    by_fail (nat_lt PS_PER_SECOND load) (Overloaded port class load) (le-ltb PS_PER_SECOND load h)
 
-pub overload_inside : (topology : DeclaredTopology) (port class load : ℕ) (found : Reason) → port < length topology.ports
+pub overload_inside : (topology : DeclaredTopology) (port class load : ℕ) (found : Reason)
+    → port < length topology.ports
     → overload_by port class load ≡ Some found → ReasonInside topology found
 overload_inside topology port class load found inside =
     where_failed (ReasonInside topology) (nat_lt PS_PER_SECOND load) (Overloaded port class load) found inside
@@ -58,7 +61,8 @@ pub overstay_inside : (topology : DeclaredTopology) (row : Row) (residence : Opt
     → row.port < length topology.ports → overstay_by row residence ≡ Some found → ReasonInside topology found
 overstay_inside topology row None found inside h = absurd (none_some found h)
 overstay_inside topology row (Some residence_ns) found inside h =
-    where_failed (ReasonInside topology) (nat_lt (PS_PER_NS * residence_ns) row.wait) (Residence row.port row.class row.wait)
+    where_failed (ReasonInside topology) (nat_lt (PS_PER_NS * residence_ns) row.wait)
+    (Residence row.port row.class row.wait)
     found inside h
 
 -- sums
@@ -77,4 +81,5 @@ by_time rows stream h =
 pub late_inside : (topology : DeclaredTopology) (stream : DeclaredStream) (sum : ℕ) (found : Reason)
     → late_by stream sum ≡ Some found → ReasonInside topology found
 late_inside topology stream sum found =
-    where_failed (ReasonInside topology) (nat_lt (PS_PER_NS * stream.deadline_ns) sum) (Deadline stream.name sum) found tt
+    where_failed (ReasonInside topology) (nat_lt (PS_PER_NS * stream.deadline_ns) sum)
+    (Deadline stream.name sum) found tt

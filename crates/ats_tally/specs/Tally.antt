@@ -1,8 +1,10 @@
-use Rattle.std.specs.Prelude.{◌≡◌, ℕ, ◌+◌, ◌*◌, ◌≤◌, ◌||◌, min, max, fold, List, [], ◌∷◌, map, filter, Option, Some, None, unwrap_or, if◌then◌else◌}
+use Rattle.std.specs.Prelude.{◌≡◌, ℕ, ◌+◌, ◌*◌, ◌≤◌, ◌||◌, min, max, fold, List, [], ◌∷◌, map, filter, Option, Some}
+use Rattle.std.specs.Prelude.{None, unwrap_or, if◌then◌else◌}
 use Rattle.ats_num.specs.declared.rate.TheConstants.{MAX_BPS, MAX_BURST_BITS}
 use Rattle.ats_num.specs.declared.wire.TheConstants.{MAX_WIRE_BITS}
 use Rattle.ats_network.specs.Sender.{Sender}
-use Rattle.ats_certificate.specs.PortSums.{PortSums, is_above, is_of, is_below, longest, shortest, sum_where, greatest_where}
+use Rattle.ats_certificate.specs.PortSums.{PortSums, is_above, is_of, is_below, longest, shortest, sum_where}
+use Rattle.ats_certificate.specs.PortSums.{greatest_where}
 use Rattle.ats_tally.specs.declared.tally.Tally.{Tally}
 
 -- no sender is counted

@@ -1,4 +1,5 @@
-use Rattle.std.proofs.Common.{◌≡◌, ℕ, zero, suc, ◌<◌, Bool, true, false, cond, List, [], ◌∷◌, length, Option, Some, None, refl, sym, ap, ◌∙◌, arith, inl, inr, ◌⊎◌}
+use Rattle.std.proofs.Common.{◌≡◌, ℕ, zero, suc, ◌<◌, Bool, true, false, cond, List, [], ◌∷◌, length, Option, Some}
+use Rattle.std.proofs.Common.{None, refl, sym, ap, ◌∙◌, arith, inl, inr, ◌⊎◌}
 use Rattle.std.specs.Prelude.{IsTrue}
 use Rattle.std.specs.Option.{option_or}
 use Rattle.std.specs.Ordering.{nat_cmp, is_le, ordering_then}
@@ -12,7 +13,8 @@ use Rattle.ats_topology.specs.Faults.{first_below}
 use Rattle.ats_topology.proofs.FirstBelow.{none_below}
 
 -- two lists of which each comes no later than the other are the same
-both_first : (xs ys : List ℕ) → length xs ≡ length ys → IsTrue (is_le (slice_cmp nat_cmp xs ys)) → IsTrue (is_le (slice_cmp nat_cmp ys xs)) → xs ≡ ys
+both_first : (xs ys : List ℕ) → length xs ≡ length ys → IsTrue (is_le (slice_cmp nat_cmp xs ys))
+    → IsTrue (is_le (slice_cmp nat_cmp ys xs)) → xs ≡ ys
 both_first [] [] long h g = refl
 both_first [] (y ∷ ys) long h g = absurd (omega arith)
 both_first (x ∷ xs) [] long h g = absurd (omega arith)
@@ -28,8 +30,11 @@ both_first (x ∷ xs) (y ∷ ys) long h g = by (cases_order x y) (both_first xs 
         let equal : nat_cmp m n ≡ Equal = grind (arith, nat_tests) in
         sym (ap (λ (p : Ordering). is_le (ordering_then p o)) equal) ∙ f
 
-    by : (x ≡ y) ⊎ ((x < y) ⊎ (y < x)) → (IsTrue (is_le (slice_cmp nat_cmp xs ys)) → IsTrue (is_le (slice_cmp nat_cmp ys xs)) → xs ≡ ys) → x ∷ xs ≡ y ∷ ys
-    by (inl same) more = ap (λ (n : ℕ). n ∷ xs) same ∙ ap (λ (t : List ℕ). y ∷ t) (more (later x y (slice_cmp nat_cmp xs ys) same h) (later y x (slice_cmp nat_cmp ys xs) (sym same) g))
+    by : (x ≡ y) ⊎ ((x < y) ⊎ (y < x))
+        → (IsTrue (is_le (slice_cmp nat_cmp xs ys)) → IsTrue (is_le (slice_cmp nat_cmp ys xs)) → xs ≡ ys)
+        → x ∷ xs ≡ y ∷ ys
+    by (inl same) more = ap (λ (n : ℕ). n ∷ xs) same ∙ ap (λ (t : List ℕ). y ∷ t)
+        (more (later x y (slice_cmp nat_cmp xs ys) same h) (later y x (slice_cmp nat_cmp ys xs) (sym same) g))
     by (inr (inl below)) more = absurd (not_greater y x (slice_cmp nat_cmp ys xs) below g)
     by (inr (inr above)) more = absurd (not_greater x y (slice_cmp nat_cmp xs ys) above h)
 
@@ -48,7 +53,8 @@ least_below : (test : ℕ → Bool) (n least : ℕ) → first_below test n ≡ S
 least_below test zero least h = absurd (no_some least h)
 least_below test (suc n) least h = by (first_below test n) refl h (least_below test n least)
   where
-    here : (b : Bool) → test n ≡ b → first_below test n ≡ None → cond b (Some n) None ≡ Some least → IsLeastBelow test (suc n) least
+    here : (b : Bool) → test n ≡ b → first_below test n ≡ None → cond b (Some n) None ≡ Some least
+        → IsLeastBelow test (suc n) least
     here true e none g =
         let same : n ≡ least = some_is n least g in
         record {
@@ -58,7 +64,8 @@ least_below test (suc n) least h = by (first_below test n) refl h (least_below t
         }
     here false e none g = absurd (no_some least g)
 
-    by : (o : Option ℕ) → first_below test n ≡ o → option_or o (cond (test n) (Some n) None) ≡ Some least → (first_below test n ≡ Some least → IsLeastBelow test n least) → IsLeastBelow test (suc n) least
+    by : (o : Option ℕ) → first_below test n ≡ o → option_or o (cond (test n) (Some n) None) ≡ Some least
+        → (first_below test n ≡ Some least → IsLeastBelow test n least) → IsLeastBelow test (suc n) least
     by None e g more = here (test n) refl e g
     by (Some k) e g more =
         let l : IsLeastBelow test n least = more (e ∙ g) in

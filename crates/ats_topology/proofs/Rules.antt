@@ -1,10 +1,13 @@
-use Rattle.std.proofs.Common.{◌≡◌, ℕ, zero, suc, ◌+◌, ◌*◌, ◌<◌, ◌≤◌, Bool, true, false, cond, not, ◌||◌, List, [], ◌∷◌, length, get_or, Option, Some, None, refl, sym, ap, ◌∙◌, arith, eqb, subst, ⊎_elim, IsSome, IsTrue}
+use Rattle.std.proofs.Common.{◌≡◌, ℕ, zero, suc, ◌+◌, ◌*◌, ◌<◌, ◌≤◌, Bool, true, false, cond, not, ◌||◌, List, [], ◌∷◌}
+use Rattle.std.proofs.Common.{length, get_or, Option, Some, None, refl, sym, ap, ◌∙◌, arith, eqb, subst, ⊎_elim, IsSome}
+use Rattle.std.proofs.Common.{IsTrue}
 use Rattle.std.specs.Prelude.{unwrap_or, ◌==◌, nat_lt}
 use Rattle.std.specs.List.{All, list_any, count_by, AllByRecursion}
 use Rattle.std.specs.Map.{lookup}
 use Rattle.std.specs.Option.{option_or}
 use Rattle.std.specs.Str.{bytes_eq}
-use Rattle.std.proofs.lemmas.Bool.{cases_lt, false≢true, true≢false, or_parts, eqb-true, ltb-false, not-false, and_cases}
+use Rattle.std.proofs.lemmas.Bool.{cases_lt, false≢true, true≢false, or_parts, eqb-true, ltb-false, not-false}
+use Rattle.std.proofs.lemmas.Bool.{and_cases}
 use Rattle.std.proofs.lemmas.List.{get_or_past, get_or_default}
 use Rattle.std.proofs.lemmas.List.Sums.{sum_by-cons}
 use Rattle.std.proofs.lemmas.List.Elements.{All-nil, All-cons, All-head, All-tail, All-weaker}
@@ -14,8 +17,10 @@ use Rattle.ats_topology.specs.Node.{names_of, is_station, processing_of, residen
 use Rattle.ats_topology.specs.Link.{ends_at, is_self_link}
 use Rattle.ats_topology.specs.Rates.{ps_per_bit_of, link_rates, IsPsPerBit}
 use Rattle.ats_topology.specs.Port.{port_at, leaves, leads_to, HasBack, ArePaired}
-use Rattle.ats_topology.specs.Faults.{topology_fault, node_twice, link_twice, self_link, unknown_node, station_links, bad_rate, is_over, is_node_over, is_link_over, is_badly_linked}
-use Rattle.ats_topology.specs.Topology.{no_node, node_at, node_number, link_at, port_of, ports_of, topology_of, IsNode, IsLink, IsPort, HasOnePort, IsTopology}
+use Rattle.ats_topology.specs.Faults.{topology_fault, node_twice, link_twice, self_link, unknown_node, station_links}
+use Rattle.ats_topology.specs.Faults.{bad_rate, is_over, is_node_over, is_link_over, is_badly_linked}
+use Rattle.ats_topology.specs.Topology.{no_node, node_at, node_number, link_at, port_of, ports_of, topology_of, IsNode}
+use Rattle.ats_topology.specs.Topology.{IsLink, IsPort, HasOnePort, IsTopology}
 use Rattle.ats_topology.specs.declared.fault.TopologyFault.{TopologyFault}
 use Rattle.ats_topology.specs.declared.fault.TopologyFault.TheVariants.{StationLinks, SelfLink, Limit}
 use Rattle.ats_topology.specs.declared.node.Node.{Node}
@@ -82,8 +87,10 @@ record IsWithinLimits (nodes : List Node) (links : List Link) : Type 0 where
 
 is_node : (node : Node) → is_node_over node ≡ false → IsNode node
 is_node node h =
-    let parts : (nat_lt MAX_PROCESSING_NS (processing_of node.kind) ≡ false) × (nat_lt MAX_RESIDENCE_NS (residence_of node.kind) ≡ false) =
-    or_parts (nat_lt MAX_PROCESSING_NS (processing_of node.kind)) (nat_lt MAX_RESIDENCE_NS (residence_of node.kind)) h in
+    let parts : (nat_lt MAX_PROCESSING_NS (processing_of node.kind) ≡ false)
+    × (nat_lt MAX_RESIDENCE_NS (residence_of node.kind) ≡ false) =
+    or_parts (nat_lt MAX_PROCESSING_NS (processing_of node.kind))
+    (nat_lt MAX_RESIDENCE_NS (residence_of node.kind)) h in
     record {
       processing = ltb-false MAX_PROCESSING_NS (processing_of node.kind) parts.0;
       residence = ltb-false MAX_RESIDENCE_NS (residence_of node.kind) parts.1;
@@ -99,8 +106,11 @@ limits nodes links h =
     record {
       few_nodes = ltb-false MAX_NODES (length nodes) parts.0;
       few_links = ltb-false MAX_LINKS (length links) parts.1;
-      each_node = All-weaker (λ (n : Node). is_node_over n ≡ false) IsNode is_node nodes (any_false is_node_over nodes parts.2);
-      propagation = All-weaker (λ (l : Link). is_link_over l ≡ false) (λ (l : Link). l.propagation_ns ≤ MAX_PROPAGATION_NS) (λ l g. ltb-false MAX_PROPAGATION_NS l.propagation_ns g) links (any_false is_link_over links parts.3);
+      each_node =
+          All-weaker (λ (n : Node). is_node_over n ≡ false) IsNode is_node nodes (any_false is_node_over nodes parts.2);
+      propagation =
+          All-weaker (λ (l : Link). is_link_over l ≡ false) (λ (l : Link). l.propagation_ns ≤ MAX_PROPAGATION_NS)
+          (λ l g. ltb-false MAX_PROPAGATION_NS l.propagation_ns g) links (any_false is_link_over links parts.3);
     }
   where
     four : (a b d e : Bool) → (a || b || d || e) ≡ false → (a ≡ false) × (b ≡ false) × (d ≡ false) × (e ≡ false)
@@ -113,7 +123,8 @@ limits nodes links h =
 record IsRated (link : Link) : Type 0 where
   rate : IsSome (ps_per_bit_of link.mbps)
 
-link_of : (nodes : List Node) (link : Link) → IsOpen (names_of nodes) link → IsSome (ps_per_bit_of link.mbps) → is_self_link link ≡ false → link.propagation_ns ≤ MAX_PROPAGATION_NS → IsLink nodes link
+link_of : (nodes : List Node) (link : Link) → IsOpen (names_of nodes) link → IsSome (ps_per_bit_of link.mbps)
+    → is_self_link link ≡ false → link.propagation_ns ≤ MAX_PROPAGATION_NS → IsLink nodes link
 link_of nodes link o rate self within = record {
   a = subst IsSome (sym o.a_at) refl;
   b = subst IsSome (sym o.b_at) refl;
@@ -123,7 +134,8 @@ link_of nodes link o rate self within = record {
 }
 
 -- a value of the table of rates
-value_of : (P : ℕ → Type 0) (t : ℕ → Bool) (rows : List (ℕ × ℕ)) (v : ℕ) → AllByRecursion (λ (row : ℕ × ℕ). P row.1) rows → lookup t rows ≡ Some v → P v
+value_of : (P : ℕ → Type 0) (t : ℕ → Bool) (rows : List (ℕ × ℕ)) (v : ℕ)
+    → AllByRecursion (λ (row : ℕ × ℕ). P row.1) rows → lookup t rows ≡ Some v → P v
 value_of P t [] v each h = absurd (no_number v h)
   where
     no_number : (n : ℕ) → None ≡ Some n → ⊥
@@ -148,7 +160,16 @@ tabled = (
         row 400 refl (omega arith) (omega arith),
         (
           row 200 refl (omega arith) (omega arith),
-          (row 100 refl (omega arith) (omega arith), (row 40 refl (omega arith) (omega arith), (row 25 refl (omega arith) (omega arith), (row 20 refl (omega arith) (omega arith), (row 10 refl (omega arith) (omega arith), tt))))),
+          (
+            row 100 refl (omega arith) (omega arith),
+            (
+              row 40 refl (omega arith) (omega arith),
+              (
+                row 25 refl (omega arith) (omega arith),
+                (row 20 refl (omega arith) (omega arith), (row 10 refl (omega arith) (omega arith), tt)),
+              ),
+            ),
+          ),
         ),
       ),
     ),
@@ -165,11 +186,16 @@ rate_of mbps h = by (ps_per_bit_of mbps) refl h
     by None e g = absurd (false≢true g)
     by (Some v) e g = value_of IsPsPerBit (λ rate. rate == mbps) link_rates v tabled e
 
-processing_small : (nodes : List Node) → All IsNode nodes → (n : ℕ) → processing_of (node_at nodes n).kind ≤ MAX_PROCESSING_NS
-processing_small nodes each n = ⊎_elim (λ h. (each n no_node h).processing) (λ h. let past : node_at nodes n ≡ no_node = get_or_past nodes n no_node h in omega (arith, ap (λ (node : Node). processing_of node.kind) past)) (cases_lt n (length nodes))
+processing_small : (nodes : List Node) → All IsNode nodes → (n : ℕ)
+    → processing_of (node_at nodes n).kind ≤ MAX_PROCESSING_NS
+processing_small nodes each n = ⊎_elim (λ h. (each n no_node h).processing)
+    (λ h. let past : node_at nodes n ≡ no_node = get_or_past nodes n no_node h in
+    omega (arith, ap (λ (node : Node). processing_of node.kind) past)) (cases_lt n (length nodes))
 
 -- the port from one end of a link to the other keeps what a port keeps
-port_is : (nodes : List Node) (link : Link) (x y : List ℕ) (m n : ℕ) → place_of x (names_of nodes) ≡ Some m → place_of y (names_of nodes) ≡ Some n → (m ≡ n → ⊥) → IsSome (ps_per_bit_of link.mbps) → link.propagation_ns ≤ MAX_PROPAGATION_NS → All IsNode nodes
+port_is : (nodes : List Node) (link : Link) (x y : List ℕ) (m n : ℕ) → place_of x (names_of nodes) ≡ Some m
+    → place_of y (names_of nodes) ≡ Some n → (m ≡ n → ⊥) → IsSome (ps_per_bit_of link.mbps)
+    → link.propagation_ns ≤ MAX_PROPAGATION_NS → All IsNode nodes
     → IsPort (length nodes) (port_of nodes link x y)
 port_is nodes link x y m n at_x at_y differ rate within each = record {
   between = record { from = node_number_within nodes x m at_x; to = node_number_within nodes y n at_y };
@@ -178,33 +204,45 @@ port_is nodes link x y m n at_x at_y differ rate within each = record {
   latency = omega (arith, within, processing_small nodes each (node_number nodes y));
 }
 
-ports_are : (nodes : List Node) → All IsNode nodes → (links : List Link) → All (IsOpen (names_of nodes)) links → All IsRated links → All (λ (link : Link). link.propagation_ns ≤ MAX_PROPAGATION_NS) links → All (IsPort (length nodes)) (ports_of nodes links)
+ports_are : (nodes : List Node) → All IsNode nodes → (links : List Link) → All (IsOpen (names_of nodes)) links
+    → All IsRated links → All (λ (link : Link). link.propagation_ns ≤ MAX_PROPAGATION_NS) links
+    → All (IsPort (length nodes)) (ports_of nodes links)
 ports_are nodes each [] opens rates times = All-nil (IsPort (length nodes))
 ports_are nodes each (link ∷ links) opens rates times =
     let o : IsOpen (names_of nodes) link = All-head (IsOpen (names_of nodes)) link links opens in
     let r : IsRated link = All-head IsRated link links rates in
-    let t : link.propagation_ns ≤ MAX_PROPAGATION_NS = All-head (λ (l : Link). l.propagation_ns ≤ MAX_PROPAGATION_NS) link links times in
-    All-cons (IsPort (length nodes)) (port_of nodes link link.a link.b) (port_of nodes link link.b link.a ∷ ports_of nodes links) (port_is nodes link link.a link.b o.a o.b o.a_at o.b_at o.differ r.rate t each)
-    (All-cons (IsPort (length nodes)) (port_of nodes link link.b link.a) (ports_of nodes links) (port_is nodes link link.b link.a o.b o.a o.b_at o.a_at (λ e. o.differ (sym e)) r.rate t each)
-    (ports_are nodes each links (All-tail (IsOpen (names_of nodes)) link links opens) (All-tail IsRated link links rates) (All-tail (λ (l : Link). l.propagation_ns ≤ MAX_PROPAGATION_NS) link links times)))
+    let t : link.propagation_ns ≤ MAX_PROPAGATION_NS =
+    All-head (λ (l : Link). l.propagation_ns ≤ MAX_PROPAGATION_NS) link links times in
+    All-cons (IsPort (length nodes)) (port_of nodes link link.a link.b) (port_of nodes link link.b link.a
+    ∷ ports_of nodes links) (port_is nodes link link.a link.b o.a o.b o.a_at o.b_at o.differ r.rate t each)
+    (All-cons (IsPort (length nodes)) (port_of nodes link link.b link.a) (ports_of nodes links)
+    (port_is nodes link link.b link.a o.b o.a o.b_at o.a_at (λ e. o.differ (sym e)) r.rate t each)
+    (ports_are nodes each links (All-tail (IsOpen (names_of nodes)) link links opens)
+    (All-tail IsRated link links rates)
+    (All-tail (λ (l : Link). l.propagation_ns ≤ MAX_PROPAGATION_NS) link links times)))
 
 -- two ports on is one link on
 port_later : (p q : Port) (ports : List Port) (n : ℕ) → port_at (p ∷ q ∷ ports) (n + 2) ≡ port_at ports n
 port_later p q ports n = let same : n + 2 ≡ suc (suc n) = omega arith in ap (port_at (p ∷ q ∷ ports)) same
 
-there_at : (nodes : List Node) (links : List Link) (i : ℕ) → i < length links → port_at (ports_of nodes links) (2 * i) ≡ port_of nodes (link_at links i) (link_at links i).a (link_at links i).b
+there_at : (nodes : List Node) (links : List Link) (i : ℕ) → i < length links
+    → port_at (ports_of nodes links) (2 * i) ≡ port_of nodes (link_at links i) (link_at links i).a (link_at links i).b
 there_at nodes [] i within = absurd (omega arith)
 there_at nodes (link ∷ links) zero within = refl
 there_at nodes (link ∷ links) (suc i) within =
     let on : 2 * suc i ≡ 2 * i + 2 = omega arith in
-    ap (port_at (ports_of nodes (link ∷ links))) on ∙ port_later _ _ (ports_of nodes links) (2 * i) ∙ there_at nodes links i (omega arith)
+    ap (port_at (ports_of nodes (link ∷ links))) on ∙ port_later _ _ (ports_of nodes links) (2 * i)
+    ∙ there_at nodes links i (omega arith)
 
-back_at : (nodes : List Node) (links : List Link) (i : ℕ) → i < length links → port_at (ports_of nodes links) (2 * i + 1) ≡ port_of nodes (link_at links i) (link_at links i).b (link_at links i).a
+back_at : (nodes : List Node) (links : List Link) (i : ℕ)
+    → i < length links → port_at (ports_of nodes links) (2 * i + 1)
+    ≡ port_of nodes (link_at links i) (link_at links i).b (link_at links i).a
 back_at nodes [] i within = absurd (omega arith)
 back_at nodes (link ∷ links) zero within = refl
 back_at nodes (link ∷ links) (suc i) within =
     let on : 2 * suc i + 1 ≡ (2 * i + 1) + 2 = omega arith in
-    ap (port_at (ports_of nodes (link ∷ links))) on ∙ port_later _ _ (ports_of nodes links) (2 * i + 1) ∙ back_at nodes links i (omega arith)
+    ap (port_at (ports_of nodes (link ∷ links))) on ∙ port_later _ _ (ports_of nodes links) (2 * i + 1)
+    ∙ back_at nodes links i (omega arith)
 
 -- each port has one that leads back, the other of its link
 pub all_paired : (nodes : List Node) (links : List Link) → ArePaired (ports_of nodes links)
@@ -225,7 +263,8 @@ one_of false true h = refl
 one_of false false h = refl
 
 -- a name is an end of a link by one of its two ends
-not_both : (names : List (List ℕ)) (link : Link) → IsOpen names link → (name : List ℕ) → bytes_eq link.a name ≡ true → bytes_eq link.b name ≡ true → ⊥
+not_both : (names : List (List ℕ)) (link : Link) → IsOpen names link → (name : List ℕ) → bytes_eq link.a name ≡ true
+    → bytes_eq link.b name ≡ true → ⊥
 not_both names link o name at_a at_b =
     let same : link.a ≡ link.b = (bytes_eq-Decides link.a name).0 at_a ∙ sym ((bytes_eq-Decides link.b name).0 at_b) in
     o.differ (number o.a o.b (sym o.a_at ∙ ap (λ (x : List ℕ). place_of x names) same ∙ o.b_at))
@@ -233,12 +272,17 @@ not_both names link o name at_a at_b =
     number : (a b : ℕ) → Some a ≡ Some b → a ≡ b
     number a b g = cc
 
-number_test : (nodes : List Node) → AreApart (names_of nodes) → (name : List ℕ) (m n : ℕ) → place_of name (names_of nodes) ≡ Some m → n < length (names_of nodes) → eqb (node_number nodes name) n ≡ bytes_eq name (get_or (names_of nodes) n [])
-number_test nodes separate name m n at within = ap (λ (k : ℕ). eqb k n) (node_number_is nodes name m at) ∙ number_is (names_of nodes) separate name m n at within
+number_test : (nodes : List Node) → AreApart (names_of nodes) → (name : List ℕ) (m n : ℕ)
+    → place_of name (names_of nodes) ≡ Some m → n < length (names_of nodes)
+    → eqb (node_number nodes name) n ≡ bytes_eq name (get_or (names_of nodes) n [])
+number_test nodes separate name m n at within = ap (λ (k : ℕ). eqb k n) (node_number_is nodes name m at)
+    ∙ number_is (names_of nodes) separate name m n at within
 
 -- as many ports leave a node, and lead to it, as links end at it
-count_ports : (nodes : List Node) → AreApart (names_of nodes) → (n : ℕ) → n < length (names_of nodes) → (links : List Link) → All (IsOpen (names_of nodes)) links
-    → (count_by (leaves n) (ports_of nodes links) ≡ count_by (ends_at (get_or (names_of nodes) n [])) links) × (count_by (leads_to n) (ports_of nodes links) ≡ count_by (ends_at (get_or (names_of nodes) n [])) links)
+count_ports : (nodes : List Node) → AreApart (names_of nodes) → (n : ℕ) → n < length (names_of nodes)
+    → (links : List Link) → All (IsOpen (names_of nodes)) links
+    → (count_by (leaves n) (ports_of nodes links) ≡ count_by (ends_at (get_or (names_of nodes) n [])) links)
+    × (count_by (leads_to n) (ports_of nodes links) ≡ count_by (ends_at (get_or (names_of nodes) n [])) links)
 count_ports nodes separate n within [] opens = (refl, refl)
 count_ports nodes separate n within (link ∷ links) opens =
     let names : List (List ℕ) = names_of nodes in
@@ -250,8 +294,10 @@ count_ports nodes separate n within (link ∷ links) opens =
     let a : leaves n there ≡ bytes_eq link.a name = number_test nodes separate link.a o.a n o.a_at within in
     let b : leaves n back ≡ bytes_eq link.b name = number_test nodes separate link.b o.b n o.b_at within in
     let one = one_of (bytes_eq link.a name) (bytes_eq link.b name) (not_both names link o name) in
-    let as_leaving : (one_if (leaves n there) ≡ one_if (bytes_eq link.a name)) × (one_if (leaves n back) ≡ one_if (bytes_eq link.b name)) = (ap one_if a, ap one_if b) in
-    let as_leading : (one_if (leads_to n there) ≡ one_if (bytes_eq link.b name)) × (one_if (leads_to n back) ≡ one_if (bytes_eq link.a name)) = (ap one_if b, ap one_if a) in (
+    let as_leaving : (one_if (leaves n there) ≡ one_if (bytes_eq link.a name))
+    × (one_if (leaves n back) ≡ one_if (bytes_eq link.b name)) = (ap one_if a, ap one_if b) in
+    let as_leading : (one_if (leads_to n there) ≡ one_if (bytes_eq link.b name))
+    × (one_if (leads_to n back) ≡ one_if (bytes_eq link.a name)) = (ap one_if b, ap one_if a) in (
       omega (
         arith,
         rest.0,
@@ -274,14 +320,16 @@ count_ports nodes separate n within (link ∷ links) opens =
       ),
     )
 
-one_link : (links : List Link) (node : Node) → is_badly_linked links node ≡ false → is_station node.kind ≡ true → count_by (ends_at node.name) links ≡ 1
+one_link : (links : List Link) (node : Node) → is_badly_linked links node ≡ false → is_station node.kind ≡ true
+    → count_by (ends_at node.name) links ≡ 1
 one_link links node fine station =
     ⊎_elim (λ h. absurd (true≢false (sym station ∙ h)))
     (λ h. eqb-true (count_by (ends_at node.name) links) 1 (not-false (count_by (ends_at node.name) links == 1) h))
     (and_cases (is_station node.kind) (not (count_by (ends_at node.name) links == 1)) fine)
 
 -- nodes and links without a fault make a topology
-pub topology_rules : (nodes : List Node) (links : List Link) → topology_fault nodes links ≡ None → IsTopology (topology_of nodes links)
+pub topology_rules : (nodes : List Node) (links : List Link) → topology_fault nodes links ≡ None
+    → IsTopology (topology_of nodes links)
 topology_rules nodes links sound = record {
   numbered = refl;
   names = separate;
@@ -289,7 +337,8 @@ topology_rules nodes links sound = record {
   few_links = small.few_links;
   two_each = length-ports_of nodes links;
   each_node = small.each_node;
-  each_link = λ k d h. link_of nodes (get_or links k d) (opens k d h) (rates k d h).rate (self k d h) (small.propagation k d h);
+  each_link =
+      λ k d h. link_of nodes (get_or links k d) (opens k d h) (rates k d h).rate (self k d h) (small.propagation k d h);
   each_port = ports_are nodes small.each_node links opens rates small.propagation;
   link_ports = λ i h. record { there = there_at nodes links i h; back = back_at nodes links i h };
   stations = station;
@@ -312,14 +361,20 @@ topology_rules nodes links sound = record {
     self = all_fail is_self_link 0 links (no_place SelfLink _ none.differ)
 
     rates : All IsRated links
-    rates k d h = record { rate = has_rate links none.rated k (get_or links k d) h (get_or_default links k d (get_or links k d) h) }
+    rates k d h = record {
+      rate = has_rate links none.rated k (get_or links k d) h (get_or_default links k d (get_or links k d) h);
+    }
 
-    station : (n : ℕ) → n < length nodes → IsTrue (is_station (node_at nodes n).kind) → HasOnePort (ports_of nodes links) n
+    station : (n : ℕ) → n < length nodes → IsTrue (is_station (node_at nodes n).kind)
+        → HasOnePort (ports_of nodes links) n
     station n within is =
         let node : Node = node_at nodes n in
         let named : n < length (names_of nodes) = omega (arith, length-names_of nodes) in
-        let fine : is_badly_linked links node ≡ false = all_fail (is_badly_linked links) 0 nodes (no_place StationLinks _ none.stations) n no_node within in
-        let name : get_or (names_of nodes) n [] ≡ node.name = name_at nodes n node within (get_or_default nodes n no_node node within) in
-        let one : count_by (ends_at (get_or (names_of nodes) n [])) links ≡ 1 = ap (λ (x : List ℕ). count_by (ends_at x) links) name ∙ one_link links node fine is in
+        let fine : is_badly_linked links node ≡ false =
+        all_fail (is_badly_linked links) 0 nodes (no_place StationLinks _ none.stations) n no_node within in
+        let name : get_or (names_of nodes) n [] ≡ node.name =
+        name_at nodes n node within (get_or_default nodes n no_node node within) in
+        let one : count_by (ends_at (get_or (names_of nodes) n [])) links ≡ 1 =
+        ap (λ (x : List ℕ). count_by (ends_at x) links) name ∙ one_link links node fine is in
         let counts = count_ports nodes separate n named links opens in
         record { leaves = counts.0 ∙ one; leads = counts.1 ∙ one }

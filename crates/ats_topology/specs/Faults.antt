@@ -1,4 +1,5 @@
-use Rattle.std.specs.Prelude.{ℕ, zero, suc, ◌+◌, Bool, ◌&&◌, ◌||◌, ◌==◌, nat_lt, not, if◌then◌else◌, List, [], length, take, slice_index_or, count_by, Option, Some, None, is_some, is_none}
+use Rattle.std.specs.Prelude.{ℕ, zero, suc, ◌+◌, Bool, ◌&&◌, ◌||◌, ◌==◌, nat_lt, not, if◌then◌else◌, List, [], length}
+use Rattle.std.specs.Prelude.{take, slice_index_or, count_by, Option, Some, None, is_some, is_none}
 use Rattle.std.specs.List.{list_any, position_from}
 use Rattle.std.specs.Option.{option_map, option_or}
 use Rattle.ats_num.specs.Places.{place_of}
@@ -11,7 +12,8 @@ use Rattle.ats_topology.specs.declared.link.Link.{Link}
 use Rattle.ats_topology.specs.declared.node.TheConstants.{MAX_NODES, MAX_PROCESSING_NS, MAX_RESIDENCE_NS}
 use Rattle.ats_topology.specs.declared.link.TheConstants.{MAX_LINKS, MAX_PROPAGATION_NS}
 use Rattle.ats_topology.specs.declared.fault.TopologyFault.{TopologyFault}
-use Rattle.ats_topology.specs.declared.fault.TopologyFault.TheVariants.{NodeTwice, LinkTwice, SelfLink, UnknownNode, StationLinks, BadRate, Limit}
+use Rattle.ats_topology.specs.declared.fault.TopologyFault.TheVariants.{NodeTwice, LinkTwice, SelfLink, UnknownNode}
+use Rattle.ats_topology.specs.declared.fault.TopologyFault.TheVariants.{StationLinks, BadRate, Limit}
 
 -- the least number below n that passes a test
 abbrev pub first_below : (ℕ → Bool) → ℕ → Option ℕ
@@ -28,7 +30,8 @@ no_link = record { a = []; b = []; mbps = 0; propagation_ns = 0 }
 
 -- an earlier link joins the same names as the one at this place
 abbrev pub is_link_again : List Link → ℕ → Bool
-is_link_again links i = list_any (joins (slice_index_or links i no_link).a (slice_index_or links i no_link).b) (take i links)
+is_link_again links i =
+    list_any (joins (slice_index_or links i no_link).a (slice_index_or links i no_link).b) (take i links)
 
 -- an end of the link is the name of no node
 abbrev pub has_unknown_end : List (List ℕ) → Link → Bool
@@ -56,7 +59,8 @@ is_link_over link = nat_lt MAX_PROPAGATION_NS link.propagation_ns
 
 -- a number of nodes or links is over its limit, or one of theirs is
 abbrev pub is_over : List Node → List Link → Bool
-is_over nodes links = nat_lt MAX_NODES (length nodes) || nat_lt MAX_LINKS (length links) || list_any is_node_over nodes || list_any is_link_over links
+is_over nodes links = nat_lt MAX_NODES (length nodes) || nat_lt MAX_LINKS (length links) || list_any is_node_over nodes
+    || list_any is_link_over links
 
 -- the fault of the entry at a place, where there is one; entries are counted from 1
 abbrev pub fault_at : (ℕ → TopologyFault) → Option ℕ → Option TopologyFault

@@ -5,7 +5,8 @@ use Rattle.ats_topology.specs.declared.port.Port.{Port}
 
 -- two least walks between the same nodes are the same
 abbrev pub LeastWalkIsOne : Type 0
-LeastWalkIsOne = (ports : List Port) (a b : ℕ) (walk other : List ℕ) → IsLeastWalk ports a b walk → IsLeastWalk ports a b other → walk ≡ other
+LeastWalkIsOne = (ports : List Port) (a b : ℕ) (walk other : List ℕ) → IsLeastWalk ports a b walk
+    → IsLeastWalk ports a b other → walk ≡ other
 
 -- the number is the least below n that passes the test
 pub record IsLeastBelow (test : ℕ → Bool) (n least : ℕ) : Type 0 where
@@ -16,4 +17,5 @@ pub record IsLeastBelow (test : ℕ → Bool) (n least : ℕ) : Type 0 where
 -- what a first number says, and what none says
 abbrev pub FirstIsLeast : Type 0
 FirstIsLeast = (test : ℕ → Bool) (n : ℕ)
-    → ((least : ℕ) → first_below test n ≡ Some least → IsLeastBelow test n least) × (first_below test n ≡ None → (k : ℕ) → k < n → test k ≡ false)
+    → ((least : ℕ) → first_below test n ≡ Some least → IsLeastBelow test n least)
+    × (first_below test n ≡ None → (k : ℕ) → k < n → test k ≡ false)

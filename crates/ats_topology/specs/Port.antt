@@ -1,4 +1,5 @@
-use Rattle.std.specs.Prelude.{◌≡◌, ℕ, ◌+◌, ◌<◌, length, Bool, ◌&&◌, ◌==◌, List, [], ◌∷◌, Option, if◌then◌else◌, slice_index_or}
+use Rattle.std.specs.Prelude.{◌≡◌, ℕ, ◌+◌, ◌<◌, length, Bool, ◌&&◌, ◌==◌, List, [], ◌∷◌, Option, if◌then◌else◌}
+use Rattle.std.specs.Prelude.{slice_index_or}
 use Rattle.std.specs.List.{position_from}
 use Rattle.ats_topology.specs.declared.port.Port.{Port}
 
@@ -29,7 +30,8 @@ port_at ports p = slice_index_or ports p no_port
 -- the numbers, in ascending order, of the ports that leave a node, where the list begins with port k
 abbrev pub leaving_from : ℕ → ℕ → List Port → List ℕ
 leaving_from node k [] = []
-leaving_from node k (port ∷ ports) = if leaves node port then k ∷ leaving_from node (k + 1) ports else leaving_from node (k + 1) ports
+leaving_from node k (port ∷ ports) = if leaves node port then k ∷ leaving_from node (k + 1) ports
+    else leaving_from node (k + 1) ports
 
 -- the numbers of the ports that leave a node, in ascending order
 abbrev pub leaving : ℕ → List Port → List ℕ

@@ -16,6 +16,7 @@ node_ports nodes ports = record { nodes = nodes; ports = ports }
 
 -- the map finds each port by its two nodes, and each node has the list of the ports that leave it
 pub record AreIndexed (ports : List Port) (places : BTreeMap (ℕ × ℕ) ℕ) (lists : List (Vec ℕ)) : Type 0 where
-  pub found : (a b : ℕ) → get (λ x y. ordering_then (nat_cmp x.0 y.0) (nat_cmp x.1 y.1)) places (a, b) ≡ port_between a b ports
+  pub found : (a b : ℕ)
+      → get (λ x y. ordering_then (nat_cmp x.0 y.0) (nat_cmp x.1 y.1)) places (a, b) ≡ port_between a b ports
   pub leaving : (node : ℕ) (d : Vec ℕ) → node < length lists → (slice_index_or lists node d).items ≡ leaving node ports
   pub few : length ports < 2 ^ 32

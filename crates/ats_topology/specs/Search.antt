@@ -1,4 +1,5 @@
-use Rattle.std.specs.Prelude.{◌≡◌, ℕ, ◌+◌, ◌≤◌, Bool, false, ◌==◌, ◌++◌, ◌⊎◌, List, length, slice_index_or, Option, Some, None, is_none, count_by, All, Contains}
+use Rattle.std.specs.Prelude.{◌≡◌, ℕ, ◌+◌, ◌≤◌, Bool, false, ◌==◌, ◌++◌, ◌⊎◌, List, length, slice_index_or, Option}
+use Rattle.std.specs.Prelude.{Some, None, is_none, count_by, All, Contains}
 use Rattle.ats_topology.specs.Port.{port_at}
 use Rattle.ats_topology.specs.Walks.{IsWalk}
 use Rattle.ats_topology.specs.declared.port.Port.{Port}
@@ -41,12 +42,14 @@ pub record IsAdded (ports : List Port) (list added : List ℕ) (node : ℕ) : Ty
   pub there : Contains added node
 
 -- each node to which a port of the list leads, and which had no distance, has this one and is added to the queue
-pub record Spreads (ports : List Port) (list : List ℕ) (far : ℕ) (old new : List (Option ℕ)) (queue longer : List ℕ) : Type 0 where
+pub record Spreads (ports : List Port) (list : List ℕ) (far : ℕ) (old new : List (Option ℕ))
+    (queue longer : List ℕ) : Type 0 where
   pub long : length new ≡ length old
   pub added : List ℕ
   pub queued : longer ≡ queue ++ added
   pub kept : (node e : ℕ) → distance old node ≡ Some e → distance new node ≡ Some e
   pub alike : All (λ node. distance new node ≡ Some far) added
-  pub others : (node e : ℕ) → distance new node ≡ Some e → (distance old node ≡ Some e) ⊎ ((e ≡ far) × IsAdded ports list added node)
+  pub others : (node e : ℕ) → distance new node ≡ Some e
+      → (distance old node ≡ Some e) ⊎ ((e ≡ far) × IsAdded ports list added node)
   pub done : (p : ℕ) → Contains list p → (e : ℕ) × (distance new (port_at ports p).to ≡ Some e)
   pub count : unreached new + length longer ≡ unreached old + length queue

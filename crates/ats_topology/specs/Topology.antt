@@ -1,4 +1,5 @@
-use Rattle.std.specs.Prelude.{◌≡◌, ℕ, ◌+◌, ◌*◌, ◌<◌, ◌≤◌, ◌≢◌, IsTrue, IsSome, List, [], ◌∷◌, length, slice_index_or, unwrap_or, count_by, All}
+use Rattle.std.specs.Prelude.{◌≡◌, ℕ, ◌+◌, ◌*◌, ◌<◌, ◌≤◌, ◌≢◌, IsTrue, IsSome, List, [], ◌∷◌, length, slice_index_or}
+use Rattle.std.specs.Prelude.{unwrap_or, count_by, All}
 use Rattle.std.specs.List.{flat_map}
 use Rattle.ats_num.specs.Places.{place_of}
 use Rattle.ats_topology.specs.Node.{names_of, is_station, processing_of, residence_of, AreApart}
@@ -61,7 +62,8 @@ pub record IsNode (node : Node) : Type 0 where
   pub processing : processing_of node.kind ≤ MAX_PROCESSING_NS
   pub residence : residence_of node.kind ≤ MAX_RESIDENCE_NS
 
--- what each link keeps: its ends are different names of nodes, a link may have its rate, and its time is within its limit
+-- what each link keeps: its ends are different names of nodes, a link may have its rate, and its time is within its
+-- limit
 pub record IsLink (nodes : List Node) (link : Link) : Type 0 where
   pub a : IsSome (place_of link.a (names_of nodes))
   pub b : IsSome (place_of link.b (names_of nodes))
@@ -78,8 +80,10 @@ pub record IsPort (nodes : ℕ) (port : Port) : Type 0 where
 
 -- link i has port 2 * i from its first end to its second, and port 2 * i + 1 back
 pub record HasPorts (topology : DeclaredTopology) (i : ℕ) : Type 0 where
-  pub there : port_at topology.ports (2 * i) ≡ port_of topology.nodes (link_at topology.links i) (link_at topology.links i).a (link_at topology.links i).b
-  pub back : port_at topology.ports (2 * i + 1) ≡ port_of topology.nodes (link_at topology.links i) (link_at topology.links i).b (link_at topology.links i).a
+  pub there : port_at topology.ports (2 * i)
+      ≡ port_of topology.nodes (link_at topology.links i) (link_at topology.links i).a (link_at topology.links i).b
+  pub back : port_at topology.ports (2 * i + 1)
+      ≡ port_of topology.nodes (link_at topology.links i) (link_at topology.links i).b (link_at topology.links i).a
 
 -- exactly one port leaves the node, and exactly one leads to it
 pub record HasOnePort (ports : List Port) (node : ℕ) : Type 0 where
@@ -97,5 +101,6 @@ pub record IsTopology (topology : DeclaredTopology) : Type 0 where
   pub each_link : All (IsLink topology.nodes) topology.links
   pub each_port : All (IsPort (length topology.nodes)) topology.ports
   pub link_ports : (i : ℕ) → i < length topology.links → HasPorts topology i
-  pub stations : (n : ℕ) → n < length topology.nodes → IsTrue (is_station (node_at topology.nodes n).kind) → HasOnePort topology.ports n
+  pub stations : (n : ℕ) → n < length topology.nodes → IsTrue (is_station (node_at topology.nodes n).kind)
+      → HasOnePort topology.ports n
   pub paired : ArePaired topology.ports

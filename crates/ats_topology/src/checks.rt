@@ -5,14 +5,15 @@ ghost use Rattle.std.specs.List.{position_from, list_any};
 ghost use Rattle.ats_num.specs.Failure.{IsDue};
 ghost use Rattle.ats_topology.specs.Node.{names_of};
 ghost use Rattle.ats_topology.specs.Link.{is_self_link};
-ghost use Rattle.ats_topology.specs.Faults.{node_twice, link_twice, self_link, unknown_node, bad_rate, limit, has_unknown_end, has_bad_rate, is_kind_over, is_node_over, is_link_over, is_over};
+ghost use Rattle.ats_topology.specs.Faults.{node_twice, link_twice, self_link, unknown_node, bad_rate, limit};
+ghost use Rattle.ats_topology.specs.Faults.{has_unknown_end, has_bad_rate, is_kind_over, is_node_over, is_link_over};
+ghost use Rattle.ats_topology.specs.Faults.{is_over};
 
 use crate::fault::TopologyFault;
 use crate::link::{Link, MAX_LINKS, MAX_PROPAGATION_NS};
 use crate::node::{Kind, MAX_NODES, MAX_PROCESSING_NS, MAX_RESIDENCE_NS, Node};
 use crate::rates::ps_per_bit;
-use ats_num::NameTable;
-use ats_num::Failure;
+use ats_num::{Failure, NameTable};
 use std::alloc::Global;
 use std::collections::BTreeSet;
 

@@ -4,8 +4,8 @@ use ats_num::Fault;
 use std::error::Error;
 use std::fmt;
 
-/// The first fault of a list of nodes and a list of links: the one that stands first here, and of several of one kind the
-/// one of the earliest entry. Nodes and links are counted from 1.
+/// The first fault of a list of nodes and a list of links: the one that stands first here, and of
+/// several of one kind the one of the earliest entry. Nodes and links are counted from 1.
 #[derive(Clone, Copy, Debug, PartialEq, Eq)]
 pub enum TopologyFault {
     /// The node's name stands at a node before it.
@@ -20,8 +20,8 @@ pub enum TopologyFault {
     StationLinks(u32),
     /// The rate of the link is none that a link may have.
     BadRate(u32),
-    /// There are over 1024 nodes or 2048 links, or a propagation or processing is over 1,000,000 ns, or a residence over
-    /// 1,000,000,000 ns.
+    /// There are over 1024 nodes or 2048 links, or a propagation or processing is over 1,000,000
+    /// ns, or a residence over 1,000,000,000 ns.
     Limit,
 }
 

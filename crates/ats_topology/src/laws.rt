@@ -7,8 +7,8 @@ pub fn least_walk_is_one()
     ensures { LeastWalkIsOne }
 {}
 
-/// A law: the first number below another that passes a test passes it, and no number below it does; where there is none, no
-/// number passes.
+/// A law: the first number below another that passes a test passes it, and no number below it does;
+/// where there is none, no number passes.
 pub fn first_is_least()
     ensures { FirstIsLeast }
 {}

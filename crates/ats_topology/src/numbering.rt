@@ -13,9 +13,8 @@ use crate::node::Node;
 use crate::port::Port;
 use crate::port_table::PortTable;
 use crate::rates::ps_per_bit;
-use ats_num::NameTable;
 use ats_num::time::PS_PER_NS;
-use ats_num::{Name, Ps};
+use ats_num::{Name, NameTable, Ps};
 use std::alloc::{AllocError, Global};
 
 /// The ports of links between nodes, two to a link in their order.

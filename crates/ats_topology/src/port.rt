@@ -9,7 +9,8 @@ pub struct Port {
     pub to: u32,
     /// The picoseconds that one bit takes, 10 to 100,000.
     pub ps_per_bit: u32,
-    /// The picoseconds from the end of a transmission to the frame's arrival, 0 to 2,000,000,000: the propagation of the
-    /// link, and the processing of the bridge that the port leads to (a station adds none).
+    /// The picoseconds from the end of a transmission to the frame's arrival, 0 to 2,000,000,000:
+    /// the propagation of the link, and the processing of the bridge that the port leads to (a
+    /// station adds none).
     pub latency: Ps,
 }

@@ -10,8 +10,8 @@ use std::alloc::{AllocError, Global};
 use std::collections::BTreeMap;
 use std::marker::Model;
 
-/// Ports between so many nodes, numbered from 0 in the order in which they came. Contracts see the number of nodes and the
-/// list of ports.
+/// Ports between so many nodes, numbered from 0 in the order in which they came. Contracts see the
+/// number of nodes and the list of ports.
 #[derive(Drop)]
 pub(crate) struct PortTable {
     ports: Vec<Port>,

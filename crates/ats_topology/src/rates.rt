@@ -3,8 +3,9 @@
 ghost use Rattle.std.specs.Prelude.{◌≡◌, IfSome};
 ghost use Rattle.ats_topology.specs.Rates.{ps_per_bit_of, IsPsPerBit};
 
-/// The picoseconds that one bit takes on a link of so many megabits per second. `None` exactly where the rate is none of
-/// 10, 100, 1000, 2500, 5000, 10000, 25000, 40000, 50000 and 100000 (IEEE Std 802.3).
+/// The picoseconds that one bit takes on a link of so many megabits per second. `None` exactly
+/// where the rate is none of 10, 100, 1000, 2500, 5000, 10000, 25000, 40000, 50000 and 100000 (IEEE
+/// Std 802.3).
 pub fn ps_per_bit(mbps: u32) -> Option<u32>
     ensures value { result ≡ ps_per_bit_of mbps }
     ensures tabled { IfSome result IsPsPerBit }

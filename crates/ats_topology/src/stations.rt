@@ -10,8 +10,7 @@ ghost use Rattle.ats_topology.specs.Faults.{node_twice, self_link, unknown_node,
 use crate::fault::TopologyFault;
 use crate::link::Link;
 use crate::node::Node;
-use ats_num::NameTable;
-use ats_num::Failure;
+use ats_num::{Failure, NameTable};
 use std::alloc::{AllocError, Global};
 
 /// The first station without exactly one link.

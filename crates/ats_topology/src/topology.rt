@@ -18,8 +18,7 @@ use crate::port::Port;
 use crate::port_table::PortTable;
 use crate::stations::check_stations;
 use crate::walks::least_walk;
-use ats_num::NameTable;
-use ats_num::{Failure, Name};
+use ats_num::{Failure, Name, NameTable};
 use std::alloc::{AllocError, Global};
 use std::marker::Model;
 
@@ -126,9 +125,10 @@ impl Topology {
         self.table.between(a, b)
     }
 
-    /// The ports of a walk from node `a` to node `b`, which are node numbers: of all such walks one of fewest ports, and of
-    /// those the one whose list of port numbers is first in lexicographic order. `None` where no walk leads there, and
-    /// nowhere else; no ports where `a` is `b`. The search is breadth first, and looks at each port once.
+    /// The ports of a walk from node `a` to node `b`, which are node numbers: of all such walks one
+    /// of fewest ports, and of those the one whose list of port numbers is first in lexicographic
+    /// order. `None` where no walk leads there, and nowhere else; no ports where `a` is `b`. The
+    /// search is breadth first, and looks at each port once.
     ///
     /// # Errors
     ///

@@ -1,6 +1,7 @@
 //! Least walks between nodes.
 
-ghost use Rattle.std.specs.Prelude.{◌≡◌, ◌+◌, ◌<◌, ◌^◌, ℕ, All, IfOk, OnOk, length, Some, None, IsSome, IfSome, IfNone, is_some};
+ghost use Rattle.std.specs.Prelude.{◌≡◌, ◌+◌, ◌<◌, ◌^◌, ℕ, All, IfOk, OnOk, length, Some, None, IsSome, IfSome, IfNone};
+ghost use Rattle.std.specs.Prelude.{is_some};
 ghost use Rattle.std.specs.List.{find};
 ghost use Rattle.ats_topology.specs.Port.{leaving, port_at, IsBetween, ArePaired};
 ghost use Rattle.ats_topology.specs.Walks.{IsLeastWalk, NoWalk, ArePorts};
@@ -115,7 +116,8 @@ fn first_port(table: &PortTable, distances: &[Option<u32>], node: u32, far: u32)
     requires node { node < table.now.nodes }
     requires long { length distances.now ≡ table.now.nodes }
     requires inside { All (IsBetween table.now.nodes) table.now.ports }
-    ensures { result ≡ find (λ p. is_at far (distance distances.now (port_at table.now.ports p).to)) (leaving node table.now.ports) }
+    ensures { result
+        ≡ find (λ p. is_at far (distance distances.now (port_at table.now.ports p).to)) (leaving node table.now.ports) }
 {
     let ports = table.ports();
     for port in table.leaving(node) {

@@ -6,8 +6,8 @@ ghost use Rattle.ats_num.specs.Wire.{IsFrameSize};
 
 use crate::sent::Sent;
 use ats_num::Ps;
-use ats_queue::Queued;
 use ats_port_rule::transmission_time;
+use ats_queue::Queued;
 
 /// A frame that a port was offered: its number, the number of its sender, its class from 0 to 7, the time from which it
 /// is eligible, in picoseconds, and its octets, counted with the frame check sequence.

@@ -11,7 +11,8 @@ use Rattle.ats_tally.specs.declared.reason.Reason.TheVariants as reason
 use Rattle.ats_checker.specs.declared.refusal.Field.{Field}
 use Rattle.ats_checker.specs.declared.refusal.Field.TheVariants as field
 use Rattle.ats_checker.specs.declared.refusal.Refusal.{Refusal}
-use Rattle.ats_checker.specs.declared.refusal.Refusal.TheVariants.{RowMissing, RowStray, FieldWrong, WaitTooSmall, Network}
+use Rattle.ats_checker.specs.declared.refusal.Refusal.TheVariants.{RowMissing, RowStray, FieldWrong, WaitTooSmall}
+use Rattle.ats_checker.specs.declared.refusal.Refusal.TheVariants.{Network}
 
 -- `hop NAME PORT BOUND` for a port of a stream's path
 unfoldable pub hop_line : DeclaredTopology → List Row → DeclaredStream → ℕ → List ℕ

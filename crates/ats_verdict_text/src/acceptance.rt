@@ -11,8 +11,9 @@ use ats_tally::{Bounds, Delays};
 use ats_topology::Topology;
 use std::alloc::{AllocError, Global};
 
-/// What is printed of a certificate that holds for a network: for each stream a line for each port of its path with the
-/// bound there, and a line with the sum; then the number of streams. It takes time linear in the sum of the paths' lengths.
+/// What is printed of a certificate that holds for a network: for each stream a line for each port
+/// of its path with the bound there, and a line with the sum; then the number of streams. It takes
+/// time linear in the sum of the paths' lengths.
 ///
 /// # Errors
 ///

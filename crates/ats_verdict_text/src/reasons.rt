@@ -9,8 +9,8 @@ use ats_tally::Reason;
 use ats_topology::Topology;
 use std::alloc::AllocError;
 
-/// Appends why no certificate holds for a network: a word for what fails, the port and the class, or the stream, and the
-/// number that is too great. After `AllocError` nothing is said of `out`.
+/// Appends why no certificate holds for a network: a word for what fails, the port and the class,
+/// or the stream, and the number that is too great. After `AllocError` nothing is said of `out`.
 pub fn write_reason(
     out: &mut Vec<u8>,
     topology: &Topology,

@@ -10,9 +10,9 @@ use ats_checker::{Field, Refusal};
 use ats_topology::Topology;
 use std::alloc::AllocError;
 
-/// Appends why a certificate does not hold: a word for the clause that fails, the port and the class, or the stream, and,
-/// where there is one, the right value, the load, the least wait, the wait or the sum. After `AllocError` nothing is
-/// said of `out`.
+/// Appends why a certificate does not hold: a word for the clause that fails, the port and the
+/// class, or the stream, and, where there is one, the right value, the load, the least wait, the
+/// wait or the sum. After `AllocError` nothing is said of `out`.
 pub fn write_refusal(
     out: &mut Vec<u8>,
     topology: &Topology,

@@ -15,7 +15,8 @@ first_overstay-requires c =
 
 pub returns-clause-holds : goal.returns-clause-holds
 returns-clause-holds c =
-    let least : c.rows.result.now ≡ least_certificate c.args.network.now = c.rows.ensures.value ∙ c.in_ok-certificate.ensures.ok in
+    let least : c.rows.result.now ≡ least_certificate c.args.network.now =
+    c.rows.ensures.value ∙ c.in_ok-certificate.ensures.ok in
     let stays : first_some (overstay c.args.network.now) (least_certificate c.args.network.now) ≡ None =
     sym (ap (first_some (overstay c.args.network.now)) least) ∙ sym c.first_overstay.ensures ∙ c.in_default.is in
     let times : first_some (late (least_certificate c.args.network.now)) c.args.network.now.streams ≡ None =

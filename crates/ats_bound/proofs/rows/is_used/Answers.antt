@@ -9,6 +9,8 @@ use Rattle.ats_bound.proofs.rows.is_used.Goals as goal
 pub returns : goal.returns
 returns c =
     c.is_used_by.ensures
-    ∙ ap (list_any (λ s. uses c.args.port (stream_sender s) && is_of c.args.class (stream_sender s))) c.streams.ensures.value
-    ∙ sym (list_any-map (λ (s : Sender). uses c.args.port s && is_of c.args.class s) stream_sender c.args.network.now.streams)
+    ∙ ap (list_any (λ s. uses c.args.port (stream_sender s) && is_of c.args.class (stream_sender s)))
+    c.streams.ensures.value
+    ∙ sym
+    (list_any-map (λ (s : Sender). uses c.args.port s && is_of c.args.class s) stream_sender c.args.network.now.streams)
     ∙ sym (list_any-filter (is_of c.args.class) (uses c.args.port) (map stream_sender c.args.network.now.streams))

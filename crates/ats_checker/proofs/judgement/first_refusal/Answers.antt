@@ -20,7 +20,8 @@ first_short-requires-clause-used c =
 
 pub first_short-requires-clause-right : goal.first_short-requires-clause-right
 first_short-requires-clause-right c =
-    none_first (wrong_in c.args.tallies.now) c.rows-rows.result.now (sym c.first_wrong.ensures ∙ c.in_default-first_wrong.is)
+    none_first (wrong_in c.args.tallies.now) c.rows-rows.result.now
+    (sym c.first_wrong.ensures ∙ c.in_default-first_wrong.is)
 
 pub first_short-requires-clause-fits : goal.first_short-requires-clause-fits
 first_short-requires-clause-fits c =

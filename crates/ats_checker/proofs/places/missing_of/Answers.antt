@@ -6,7 +6,8 @@ use Rattle.ats_checker.proofs.places.missing_of.Goals as goal
 pub returns-in-Some : goal.returns-in-Some
 returns-in-Some c =
     sym (at_classes c.args.tallies.now c.args.bounds.now.rows c.args.port ∙ c.loop-class.invariant
-    ∙ class_found (missing_at c.args.tallies.now c.args.bounds.now.rows c.args.port) c.loop-class.class c.in-Some.refusal
+    ∙ class_found (missing_at c.args.tallies.now c.args.bounds.now.rows c.args.port)
+    c.loop-class.class c.in-Some.refusal
     (omega arith) (omega arith) (sym c.missing_at.ensures ∙ c.in-Some.is))
 
 pub loop-class-preserved : goal.loop-class-preserved

@@ -6,4 +6,5 @@ use Rattle.ats_checker.proofs.places.missing_of.Given as goal
 
 -- what is found first is of the classes still to come
 abbrev pub invariant-loop-class : goal.invariant-loop-class
-invariant-loop-class l = first_some (missing_at l.tallies l.bounds.rows l.port) classes ≡ first_some (missing_at l.tallies l.bounds.rows l.port) (drop (l.class - 1) classes)
+invariant-loop-class l = first_some (missing_at l.tallies l.bounds.rows l.port) classes
+    ≡ first_some (missing_at l.tallies l.bounds.rows l.port) (drop (l.class - 1) classes)

@@ -16,30 +16,37 @@ returns-in-Some-clause-complete g c =
     let before : List ℕ → ℕ = g.F.Files.faults c.args.files.now in
     let after : List ℕ → ℕ = g.F.Files.faults c.carry_out.new.files in
     let write : Type 0 = Rose (g.O.Sink.faults c.args.out.now) (g.O.Sink.faults c.carry_out.new.out) in
-    let Ends : Command → Type 0 = λ command. IsTold told command → IsCalm command before after → ¬ write → (c.carry_out.result ≡ NoMemory) ⊎ StatusIsDue told command c.carry_out.result in
+    let Ends : Command → Type 0 = λ command. IsTold told command → IsCalm command before after → ¬ write
+    → (c.carry_out.result ≡ NoMemory) ⊎ StatusIsDue told command c.carry_out.result in
     let command : Command = view c.in-Some.command in
     subst Ends c.in-Some.ensures
-    (λ is_told calm quiet. ends_as_due told command c.carry_out.result (g.O.Sink.held c.args.out.now) (g.O.Sink.held c.carry_out.new.out)
-    (ReadRose told command before after) write c.carry_out.ensures.printed c.carry_out.ensures.read_failed c.carry_out.ensures.write_failed is_told (calm_unread told command before after calm) quiet)
+    (λ is_told calm quiet.
+    ends_as_due told command c.carry_out.result (g.O.Sink.held c.args.out.now) (g.O.Sink.held c.carry_out.new.out)
+    (ReadRose told command before after) write c.carry_out.ensures.printed c.carry_out.ensures.read_failed
+    c.carry_out.ensures.write_failed is_told (calm_unread told command before after calm) quiet)
 
 pub returns-in-None-clause-cut_short : goal.returns-in-None-clause-cut_short
 returns-in-None-clause-cut_short g c = λ h.
     let told : List ℕ → Option (List ℕ) = g.F.Files.told c.args.files.now in
     let old : Option (List ℕ) = g.O.Sink.held c.args.out.now in
     let new : Option (List ℕ) = g.O.Sink.held c.print.new.out in
-    subst (λ (command : Command). PrintedPrefix told command old new) c.in-None.ensures (front_of_words told old new (c.print.ensures.cut_short h))
+    subst (λ (command : Command). PrintedPrefix told command old new) c.in-None.ensures
+    (front_of_words told old new (c.print.ensures.cut_short h))
 
 pub returns-in-None-clause-complete : goal.returns-in-None-clause-complete
 returns-in-None-clause-complete g c =
     let told : List ℕ → Option (List ℕ) = g.F.Files.told c.args.files.now in
     let before : List ℕ → ℕ = g.F.Files.faults c.args.files.now in
     let write : Type 0 = Rose (g.O.Sink.faults c.args.out.now) (g.O.Sink.faults c.print.new.out) in
-    let Ends : Command → Type 0 = λ command. IsTold told command → IsCalm command before before → ¬ write → (c.print.result ≡ NoMemory) ⊎ StatusIsDue told command c.print.result in
+    let Ends : Command → Type 0 = λ command. IsTold told command → IsCalm command before before → ¬ write
+    → (c.print.result ≡ NoMemory) ⊎ StatusIsDue told command c.print.result in
     subst Ends c.in-None.ensures
-    (λ is_told calm quiet. words_end_as_due told c.print.result write is_told c.print.ensures.ends c.print.ensures.failed quiet)
+    (λ is_told calm quiet.
+    words_end_as_due told c.print.result write is_told c.print.ensures.ends c.print.ensures.failed quiet)
 
 pub returns-in-Some-clause-sound : goal.returns-in-Some-clause-sound
-returns-in-Some-clause-sound g c = λ done. subst (IsSoundCheck (g.F.Files.told c.args.files.now)) c.in-Some.ensures (c.carry_out.ensures.sound done)
+returns-in-Some-clause-sound g c =
+    λ done. subst (IsSoundCheck (g.F.Files.told c.args.files.now)) c.in-Some.ensures (c.carry_out.ensures.sound done)
 
 pub returns-in-None-clause-sound : goal.returns-in-None-clause-sound
 returns-in-None-clause-sound g c = λ done. subst (IsSoundCheck (g.F.Files.told c.args.files.now)) c.in-None.ensures tt

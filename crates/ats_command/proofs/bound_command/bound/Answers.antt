@@ -13,7 +13,8 @@ returns-in_err-network-clause-due g c = λ is_told.
     let told : List ℕ → Option (List ℕ) = g.F.Files.told c.args.files.now in
     let net : List ℕ = c.args.net.now in
     step_settles c.from_residual.result c.in_err-network.field-0.0 (network_in net (told_bytes told net)) bound_judged
-    (err_is c.from_residual.result c.in_err-network.field-0.0 c.from_residual.ensures.1) (c.in_err-network.ensures.due (told_bytes told net) (told_is told net (is_told 0 [] (lit< tt))))
+    (err_is c.from_residual.result c.in_err-network.field-0.0 c.from_residual.ensures.1)
+    (c.in_err-network.ensures.due (told_bytes told net) (told_is told net (is_told 0 [] (lit< tt))))
 
 pub returns-clause-due : goal.returns-clause-due
 unfolding bound_answer
@@ -21,5 +22,7 @@ returns-clause-due g c = λ is_told.
     let told : List ℕ → Option (List ℕ) = g.F.Files.told c.args.files.now in
     let net : List ℕ = c.args.net.now in
     result_settles c.certificate_of.result (network_in net (told_bytes told net) >>= bound_judged)
-    (goes_on (λ (text : Vec ℕ). text.items) c.certificate_of.result (network_in net (told_bytes told net)) c.in_ok-network.network bound_judged
-    (c.in_ok-network.ensures.due (told_bytes told net) (told_is told net (is_told 0 [] (lit< tt)))) c.certificate_of.ensures.due)
+    (goes_on (λ (text : Vec ℕ). text.items) c.certificate_of.result (network_in net (told_bytes told net))
+    c.in_ok-network.network bound_judged
+    (c.in_ok-network.ensures.due (told_bytes told net) (told_is told net (is_told 0 [] (lit< tt))))
+    c.certificate_of.ensures.due)

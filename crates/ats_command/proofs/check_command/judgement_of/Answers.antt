@@ -11,14 +11,18 @@ use Rattle.ats_command.proofs.check_command.judgement_of.Goals as goal
 
 pub returns-in_ok-accepted-in-Ok-clause-due : goal.returns-in_ok-accepted-in-Ok-clause-due
 returns-in_ok-accepted-in-Ok-clause-due c =
-    check_text c.args.network.now c.args.certificate.now c.in_ok-accepted-in-Ok.field-0.items c.topology-topology.ensures.rules
+    check_text c.args.network.now c.args.certificate.now c.in_ok-accepted-in-Ok.field-0.items
+    c.topology-topology.ensures.rules
     c.in-Ok.ensures.holds
     (c.in_ok-accepted-in-Ok.ensures ∙ ap (λ (d : NetworkRows). accepted_text d.network d.rows) c.in-Ok.ensures.ok)
 
 pub returns-in_ok-accepted-in-Ok-clause-sound : goal.returns-in_ok-accepted-in-Ok-clause-sound
-returns-in_ok-accepted-in-Ok-clause-sound c = certificate_is_sound c.args.network.now c.args.certificate.now c.topology-topology.ensures.rules c.in-Ok.ensures.holds
+returns-in_ok-accepted-in-Ok-clause-sound c = certificate_is_sound c.args.network.now c.args.certificate.now
+    c.topology-topology.ensures.rules c.in-Ok.ensures.holds
 
 pub returns-in_ok-refused-in-Err-Fault-clause-due : goal.returns-in_ok-refused-in-Err-Fault-clause-due
 returns-in_ok-refused-in-Err-Fault-clause-due c =
-    check_refused c.args.network.now c.args.certificate.now c.topology-topology.result.now c.in-Err-Fault.refusal c.in_ok-refused-in-Err-Fault.field-0.items c.topology-topology.ensures.value
-    (subst (λ (failure : Failure Refusal). IsDue failure (refusal_of c.args.network.now c.args.certificate.now)) c.in-Err-Fault.field-0-is c.in-Err-Fault.ensures.refused) c.in_ok-refused-in-Err-Fault.ensures
+    check_refused c.args.network.now c.args.certificate.now c.topology-topology.result.now c.in-Err-Fault.refusal
+    c.in_ok-refused-in-Err-Fault.field-0.items c.topology-topology.ensures.value
+    (subst (λ (failure : Failure Refusal). IsDue failure (refusal_of c.args.network.now c.args.certificate.now))
+    c.in-Err-Fault.field-0-is c.in-Err-Fault.ensures.refused) c.in_ok-refused-in-Err-Fault.ensures

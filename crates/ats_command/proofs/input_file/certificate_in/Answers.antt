@@ -13,16 +13,24 @@ use Rattle.ats_command.proofs.input_file.certificate_in.Goals as goal
 pub returns-in_err-bytes-clause-due : goal.returns-in_err-bytes-clause-due
 unfolding rows_in
 returns-in_err-bytes-clause-due g c = λ bytes told.
-    subst (λ (r : Result (List Row) Stop). Gives (λ (rows : List Row). rows) r (rows_in c.args.topology.now c.args.file.now bytes)) (sym (err_is c.from_residual.result c.in_err-bytes.field-0.0 c.from_residual.ensures.1))
-    (stops_all c.in_err-bytes.field-0.0 (bytes_in c.args.file.now bytes) (λ text. declared_in c.args.file.now fault_text (rows_of c.args.topology.now text)) (c.in_err-bytes.ensures.due bytes told))
+    subst (λ (r : Result (List Row) Stop).
+    Gives (λ (rows : List Row). rows) r (rows_in c.args.topology.now c.args.file.now bytes))
+    (sym (err_is c.from_residual.result c.in_err-bytes.field-0.0 c.from_residual.ensures.1))
+    (stops_all c.in_err-bytes.field-0.0 (bytes_in c.args.file.now bytes)
+    (λ text. declared_in c.args.file.now fault_text (rows_of c.args.topology.now text))
+    (c.in_err-bytes.ensures.due bytes told))
 
 pub returns-clause-due : goal.returns-clause-due
 unfolding rows_in
 returns-clause-due g c = λ bytes told.
-    declares (λ (rows : List Row). rows) c.declared.result c.args.file.now bytes c.in_ok-bytes.bytes.items c.deref.result.now fault_text (rows_of c.args.topology.now)
-    (c.in_ok-bytes.ensures.due bytes told) c.deref.ensures.value (c.declared.ensures.due fault_text (rows_of c.args.topology.now c.deref.result.now) (λ fault. refl) c.read_certificate.ensures)
+    declares (λ (rows : List Row). rows) c.declared.result c.args.file.now bytes c.in_ok-bytes.bytes.items
+    c.deref.result.now fault_text (rows_of c.args.topology.now)
+    (c.in_ok-bytes.ensures.due bytes told) c.deref.ensures.value (c.declared.ensures.due fault_text
+    (rows_of c.args.topology.now c.deref.result.now) (λ fault. refl) c.read_certificate.ensures)
 
 pub returns-clause-inside : goal.returns-clause-inside
 returns-clause-inside g c =
-    declared_keeps (RowsInside c.args.topology.now) c.declared.result c.args.file.now fault_text (rows_of c.args.topology.now c.deref.result.now)
-    (c.declared.ensures.due fault_text (rows_of c.args.topology.now c.deref.result.now) (λ fault. refl) c.read_certificate.ensures) (rows_inside c.args.topology.now c.deref.result.now)
+    declared_keeps (RowsInside c.args.topology.now) c.declared.result c.args.file.now fault_text
+    (rows_of c.args.topology.now c.deref.result.now)
+    (c.declared.ensures.due fault_text (rows_of c.args.topology.now c.deref.result.now) (λ fault. refl)
+    c.read_certificate.ensures) (rows_inside c.args.topology.now c.deref.result.now)

@@ -11,8 +11,10 @@ unfolding shape_answer
 returns-in_err-shape-clause-due g c = λ is_told.
     let told : List ℕ → Option (List ℕ) = g.F.Files.told c.args.files.now in
     let file : List ℕ = c.args.file.now in
-    step_settles c.from_residual.result c.in_err-shape.field-0.0 (shape_in file (told_bytes told file)) (λ shape. Ok (text_of shape))
-    (err_is c.from_residual.result c.in_err-shape.field-0.0 c.from_residual.ensures.1) (c.in_err-shape.ensures.due (told_bytes told file) (told_is told file (is_told 0 [] (lit< tt))))
+    step_settles c.from_residual.result c.in_err-shape.field-0.0 (shape_in file (told_bytes told file))
+    (λ shape. Ok (text_of shape))
+    (err_is c.from_residual.result c.in_err-shape.field-0.0 c.from_residual.ensures.1)
+    (c.in_err-shape.ensures.due (told_bytes told file) (told_is told file (is_told 0 [] (lit< tt))))
 
 pub returns-clause-due : goal.returns-clause-due
 unfolding shape_answer
@@ -20,4 +22,5 @@ returns-clause-due g c = λ is_told.
     let told : List ℕ → Option (List ℕ) = g.F.Files.told c.args.files.now in
     let file : List ℕ = c.args.file.now in
     text_settles c.in_ok-text_of.field-0.items (shape_in file (told_bytes told file) >>= λ shape. Ok (text_of shape))
-    (ap (λ d. d >>= λ shape. Ok (text_of shape)) (c.in_ok-shape.ensures.due (told_bytes told file) (told_is told file (is_told 0 [] (lit< tt)))) ∙ ap Ok (sym c.in_ok-text_of.ensures))
+    (ap (λ d. d >>= λ shape. Ok (text_of shape)) (c.in_ok-shape.ensures.due (told_bytes told file)
+    (told_is told file (is_told 0 [] (lit< tt)))) ∙ ap Ok (sym c.in_ok-text_of.ensures))

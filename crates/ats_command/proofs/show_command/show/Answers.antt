@@ -11,8 +11,10 @@ unfolding show_answer
 returns-in_err-network-clause-due g c = λ is_told.
     let told : List ℕ → Option (List ℕ) = g.F.Files.told c.args.files.now in
     let net : List ℕ = c.args.net.now in
-    step_settles c.from_residual.result c.in_err-network.field-0.0 (network_in net (told_bytes told net)) (λ network. Ok (show_text network))
-    (err_is c.from_residual.result c.in_err-network.field-0.0 c.from_residual.ensures.1) (c.in_err-network.ensures.due (told_bytes told net) (told_is told net (is_told 0 [] (lit< tt))))
+    step_settles c.from_residual.result c.in_err-network.field-0.0 (network_in net (told_bytes told net))
+    (λ network. Ok (show_text network))
+    (err_is c.from_residual.result c.in_err-network.field-0.0 c.from_residual.ensures.1)
+    (c.in_err-network.ensures.due (told_bytes told net) (told_is told net (is_told 0 [] (lit< tt))))
 
 pub returns-clause-due : goal.returns-clause-due
 unfolding show_answer
@@ -20,4 +22,5 @@ returns-clause-due g c = λ is_told.
     let told : List ℕ → Option (List ℕ) = g.F.Files.told c.args.files.now in
     let net : List ℕ = c.args.net.now in
     text_settles c.in_ok-show.field-0.items (network_in net (told_bytes told net) >>= λ network. Ok (show_text network))
-    (ap (λ d. d >>= λ network. Ok (show_text network)) (c.in_ok-network.ensures.due (told_bytes told net) (told_is told net (is_told 0 [] (lit< tt)))) ∙ ap Ok (sym c.in_ok-show.ensures))
+    (ap (λ d. d >>= λ network. Ok (show_text network)) (c.in_ok-network.ensures.due (told_bytes told net)
+    (told_is told net (is_told 0 [] (lit< tt)))) ∙ ap Ok (sym c.in_ok-show.ensures))

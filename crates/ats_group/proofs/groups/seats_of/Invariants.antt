@@ -6,4 +6,5 @@ use Rattle.ats_group.proofs.groups.seats_of.Given as goal
 -- the seats of the members so far
 abbrev pub invariant-loop-member : goal.invariant-loop-member
 invariant-loop-member l =
-    (members_of l.seats.items ≡ take l.member-index l.members) × (empties_of l.seats.items ≡ first_empties (take l.member-index l.members)) × All IsSeat l.seats.items
+    (members_of l.seats.items ≡ take l.member-index l.members)
+    × (empties_of l.seats.items ≡ first_empties (take l.member-index l.members)) × All IsSeat l.seats.items

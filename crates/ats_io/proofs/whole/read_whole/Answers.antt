@@ -19,22 +19,27 @@ pub returns-then-count-eq0-clause-whole : goal.returns-then-count-eq0-clause-who
 returns-then-count-eq0-clause-whole g c = λ bytes told.
     let place : c.len-in-loop-whole-2.result ≡ length c.loop-whole.whole.items = omega arith in
     let now = ap (λ f. f c.args.name.now) c.loop-whole.invariant.continues.holds ∙ told in
-    front_all bytes c.loop-whole.whole.items c.read.new.buf c.len-in-loop-whole-2.result c.in_ok-count.count (c.loop-whole.invariant.front bytes told) place c.if-count-eq0.true (c.in_ok-count.ensures.piece bytes now)
+    front_all bytes c.loop-whole.whole.items c.read.new.buf c.len-in-loop-whole-2.result c.in_ok-count.count
+    (c.loop-whole.invariant.front bytes told) place c.if-count-eq0.true (c.in_ok-count.ensures.piece bytes now)
 
 pub returns-then-count-eq0-clause-continues : goal.returns-then-count-eq0-clause-continues
 returns-then-count-eq0-clause-continues g c = Continues-trans c.loop-whole.invariant.continues c.read.ensures.continues
 
 pub returns-in_err-extend_from_slice-clause-continues :
     goal.returns-in_err-extend_from_slice-clause-continues
-returns-in_err-extend_from_slice-clause-continues g c = Continues-trans c.loop-whole.invariant.continues c.read.ensures.continues
+returns-in_err-extend_from_slice-clause-continues g c =
+    Continues-trans c.loop-whole.invariant.continues c.read.ensures.continues
 
 -- the bytes read are a front that is longer than the limit
 pub returns-then-len-limit-clause-too_long : goal.returns-then-len-limit-clause-too_long
 returns-then-len-limit-clause-too_long g c = λ it bytes told.
     let place : c.len-in-loop-whole-2.result ≡ length c.loop-whole.whole.items = omega arith in
     let now = ap (λ f. f c.args.name.now) c.loop-whole.invariant.continues.holds ∙ told in
-    let joined : c.extend_from_slice.new.self.items ≡ c.loop-whole.whole.items ++ take c.in_ok-count.count c.read.new.buf = c.in_ok-extend_from_slice.ensures.items in
-    let front = front_more bytes c.loop-whole.whole.items c.extend_from_slice.new.self.items c.read.new.buf c.len-in-loop-whole-2.result c.in_ok-count.count (c.loop-whole.invariant.front bytes told) place (c.in_ok-count.ensures.piece bytes now) joined in
+    let joined : c.extend_from_slice.new.self.items ≡ c.loop-whole.whole.items
+    ++ take c.in_ok-count.count c.read.new.buf = c.in_ok-extend_from_slice.ensures.items in
+    let front = front_more bytes c.loop-whole.whole.items c.extend_from_slice.new.self.items c.read.new.buf
+    c.len-in-loop-whole-2.result c.in_ok-count.count (c.loop-whole.invariant.front bytes told) place
+    (c.in_ok-count.ensures.piece bytes now) joined in
     let shorter = front_length bytes c.extend_from_slice.new.self.items front in
     omega arith
 
@@ -48,12 +53,15 @@ returns-then-len-limit-clause-continues g c = Continues-trans c.loop-whole.invar
 pub loop-whole-preserved : goal.loop-whole-preserved
 loop-whole-preserved g c =
     let place : c.len-in-loop-whole-2.result ≡ length c.loop-whole.whole.items = omega arith in
-    let joined : c.extend_from_slice.new.self.items ≡ c.loop-whole.whole.items ++ take c.in_ok-count.count c.read.new.buf = c.in_ok-extend_from_slice.ensures.items in
+    let joined : c.extend_from_slice.new.self.items ≡ c.loop-whole.whole.items
+    ++ take c.in_ok-count.count c.read.new.buf = c.in_ok-extend_from_slice.ensures.items in
     record {
       room = c.loop-whole.invariant.room;
       within = omega arith;
       front = λ bytes told.
           let now = ap (λ f. f c.args.name.now) c.loop-whole.invariant.continues.holds ∙ told in
-          front_more bytes c.loop-whole.whole.items c.extend_from_slice.new.self.items c.read.new.buf c.len-in-loop-whole-2.result c.in_ok-count.count (c.loop-whole.invariant.front bytes told) place (c.in_ok-count.ensures.piece bytes now) joined;
+          front_more bytes c.loop-whole.whole.items c.extend_from_slice.new.self.items c.read.new.buf
+          c.len-in-loop-whole-2.result c.in_ok-count.count (c.loop-whole.invariant.front bytes told) place
+          (c.in_ok-count.ensures.piece bytes now) joined;
       continues = Continues-trans c.loop-whole.invariant.continues c.read.ensures.continues;
     }

@@ -23,8 +23,10 @@ loop-done-preserved g c =
     let count = c.in_ok-done.field-0 in
     record {
       within = omega (arith, c.in_ok-done.ensures.within);
-      taken = (rw take_rest at c.in_ok-done.ensures.taken) ∙ ap (λ h. appended h (take count (drop done text))) c.loop-done.invariant.taken
-          ∙ appended_twice held (take done text) (take count (drop done text)) ∙ ap (λ xs. appended held xs) (sym (take_two done count text c.loop-done.invariant.within));
+      taken = (rw take_rest at c.in_ok-done.ensures.taken)
+          ∙ ap (λ h. appended h (take count (drop done text))) c.loop-done.invariant.taken
+          ∙ appended_twice held (take done text) (take count (drop done text))
+          ∙ ap (λ xs. appended held xs) (sym (take_two done count text c.loop-done.invariant.within));
       untouched = λ none. absurd (omega (arith, c.in_ok-done.ensures.some));
       counts = omega (arith, c.in_ok-done.ensures.counts, c.loop-done.invariant.counts);
     }

@@ -6,5 +6,6 @@ use Rattle.ats_network_file.proofs.flows.add_flows.Given as goal
 abbrev pub invariant-loop-place : goal.invariant-loop-place
 invariant-loop-place l = record {
   count : length l.network.flows ≡ l.place;
-  added : all_added flow_added l.network (l.place + 1) (drop l.place l.entries) ≡ all_added flow_added l.fn.network 1 l.entries;
+  added : all_added flow_added l.network (l.place + 1) (drop l.place l.entries)
+      ≡ all_added flow_added l.fn.network 1 l.entries;
 }

@@ -7,19 +7,23 @@ use Rattle.ats_network_file.proofs.ValidPaths.{valid_passed, valid_passes, valid
 use Rattle.ats_network_file.proofs.routes.is_valid.Goals as goal
 
 -- no path that has as many ports as there are nodes is valid
-long_is_none : (topology : DeclaredTopology) (path : List ℕ) (nodes : List Node) → IsTopology topology → nodes ≡ topology.nodes → length nodes ≤ length path → IsValidPath topology path → ⊥
-long_is_none topology path nodes is same long valid = absurd (omega (arith, valid_short topology path is valid, ap length same))
+long_is_none : (topology : DeclaredTopology) (path : List ℕ) (nodes : List Node) → IsTopology topology
+    → nodes ≡ topology.nodes → length nodes ≤ length path → IsValidPath topology path → ⊥
+long_is_none topology path nodes is same long valid =
+    absurd (omega (arith, valid_short topology path is valid, ap length same))
 
 pub returns-then-path-nodes-clause-valid : goal.returns-then-path-nodes-clause-valid
 returns-then-path-nodes-clause-valid c = (
   λ h. cc,
-  λ valid. absurd (long_is_none c.args.topology.now c.args.path.now c.nodes.result.now c.nodes.ensures.rules c.nodes.ensures.value c.if-path-nodes.true valid),
+  λ valid. absurd (long_is_none c.args.topology.now c.args.path.now c.nodes.result.now c.nodes.ensures.rules
+      c.nodes.ensures.value c.if-path-nodes.true valid),
 )
 
 pub returns-then-path-nodes-clause-test : goal.returns-then-path-nodes-clause-test
 returns-then-path-nodes-clause-test c =
     same_test false (is_valid c.args.topology.now c.args.path.now) (λ h. cc)
-    (λ h. absurd (long_is_none c.args.topology.now c.args.path.now c.nodes.result.now c.nodes.ensures.rules c.nodes.ensures.value c.if-path-nodes.true (valid_passed c.args.topology.now c.args.path.now h)))
+    (λ h. absurd (long_is_none c.args.topology.now c.args.path.now c.nodes.result.now c.nodes.ensures.rules
+    c.nodes.ensures.value c.if-path-nodes.true (valid_passed c.args.topology.now c.args.path.now h)))
 
 pub returns-clause-test : goal.returns-clause-test
 returns-clause-test c =

@@ -7,5 +7,6 @@ abbrev pub invariant-loop-place : goal.invariant-loop-place
 invariant-loop-place l = record {
   count : length l.network.streams ≡ l.place;
   flows : l.network.flows ≡ l.fn.network.flows;
-  added : all_added stream_added l.network (l.place + 1) (drop l.place l.entries) ≡ all_added stream_added l.fn.network 1 l.entries;
+  added : all_added stream_added l.network (l.place + 1) (drop l.place l.entries)
+      ≡ all_added stream_added l.fn.network 1 l.entries;
 }

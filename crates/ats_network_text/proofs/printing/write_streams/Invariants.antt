@@ -5,4 +5,5 @@ use Rattle.ats_network_text.proofs.printing.write_streams.Given as goal
 
 -- the text has the lines of the streams so far
 abbrev pub invariant-loop-stream : goal.invariant-loop-stream
-invariant-loop-stream l = l.out.items ≡ l.initial.out.items ++ flat_map (stream_line l.topology) (take l.stream-index l.streams)
+invariant-loop-stream l =
+    l.out.items ≡ l.initial.out.items ++ flat_map (stream_line l.topology) (take l.stream-index l.streams)

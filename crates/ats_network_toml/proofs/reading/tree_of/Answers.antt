@@ -11,4 +11,5 @@ returns-in-Err c = ap (or_fault NotToml) (no_utf8_no_tree c.args.bytes.now c.in-
 pub returns-in-Ok-table_from_str : goal.returns-in-Ok-table_from_str
 returns-in-Ok-table_from_str c =
     let text = c.in-Ok.ensures.cases in
-    ap (or_fault NotToml) (utf8_tree c.args.bytes.now text.1 ∙ ap parse_document (sym text.0) ∙ c.in-Ok-table_from_str.ensures.ok)
+    ap (or_fault NotToml)
+    (utf8_tree c.args.bytes.now text.1 ∙ ap parse_document (sym text.0) ∙ c.in-Ok-table_from_str.ensures.ok)

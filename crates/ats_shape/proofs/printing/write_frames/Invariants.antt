@@ -5,4 +5,5 @@ use Rattle.ats_shape.proofs.printing.write_frames.Given as goal
 -- the text so far and that of the frames left are the text of all
 abbrev pub invariant-loop-n : goal.invariant-loop-n
 invariant-loop-n l =
-    l.out.items ++ frames_text l.streams l.n (drop l.n l.frames) (drop l.n l.verdicts) ≡ l.initial.out.items ++ frames_text l.streams 0 l.frames l.verdicts
+    l.out.items ++ frames_text l.streams l.n (drop l.n l.frames) (drop l.n l.verdicts)
+    ≡ l.initial.out.items ++ frames_text l.streams 0 l.frames l.verdicts

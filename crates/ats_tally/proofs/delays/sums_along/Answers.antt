@@ -6,9 +6,15 @@ use Rattle.ats_tally.proofs.delays.sums_along.Goals as goal
 
 pub along-requires : goal.along-requires
 along-requires c =
-    let long : length c.streams-streams.result.now ≡ length c.args.network.now.streams = ap (λ (streams : List DeclaredStream). length streams) c.streams-streams.ensures.value in
-    let item : c.stream-item.result ≡ slice_index_or c.args.network.now.streams c.loop-stream.stream-index c.stream-item.result =
-    c.stream-item.is ∙ ap (λ (streams : List DeclaredStream). slice_index_or streams c.loop-stream.stream-index c.stream-item.result) c.streams-streams.ensures.value in
+    let long : length c.streams-streams.result.now ≡ length c.args.network.now.streams =
+    ap (λ (streams : List DeclaredStream). length streams) c.streams-streams.ensures.value in
+    let item : c.stream-item.result
+    ≡ slice_index_or c.args.network.now.streams c.loop-stream.stream-index c.stream-item.result =
+    c.stream-item.is ∙ ap (λ (streams : List DeclaredStream).
+    slice_index_or streams c.loop-stream.stream-index c.stream-item.result) c.streams-streams.ensures.value in
     subst (λ (s : DeclaredStream). All (λ p. p < c.args.bounds.now.ports) s.path) (sym item)
-    (subst (λ (n : ℕ). All (λ p. p < n) (slice_index_or c.args.network.now.streams c.loop-stream.stream-index c.stream-item.result).path) (sym c.requires)
-    (paths_inside c.args.network.now c.streams-streams.ensures.rules c.loop-stream.stream-index c.stream-item.result (omega (arith, long))))
+    (subst (λ (n : ℕ). All (λ p. p < n)
+    (slice_index_or c.args.network.now.streams c.loop-stream.stream-index c.stream-item.result).path)
+    (sym c.requires)
+    (paths_inside c.args.network.now c.streams-streams.ensures.rules c.loop-stream.stream-index c.stream-item.result
+    (omega (arith, long))))

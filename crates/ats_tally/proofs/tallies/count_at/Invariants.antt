@@ -5,4 +5,5 @@ use Rattle.ats_tally.proofs.tallies.count_at.Given as goal
 
 -- the classes so far have the sender
 abbrev pub invariant-loop-class : goal.invariant-loop-class
-invariant-loop-class l = AddsSender (sender_at l.network l.sender) (8 * l.port) l.class l.initial.table.items l.table.items
+invariant-loop-class l =
+    AddsSender (sender_at l.network l.sender) (8 * l.port) l.class l.initial.table.items l.table.items

@@ -6,4 +6,5 @@ use Rattle.ats_tally.proofs.tallies.count_sender.Given as goal
 
 -- the sender is counted at the ports so far
 abbrev pub invariant-loop-port : goal.invariant-loop-port
-invariant-loop-port l = AreCounting (length l.network.topology.ports) (take l.sender (senders_of l.network)) (sender_at l.network l.sender) (take l.port-index (sender_at l.network l.sender).path) l.table.items
+invariant-loop-port l = AreCounting (length l.network.topology.ports) (take l.sender (senders_of l.network))
+    (sender_at l.network l.sender) (take l.port-index (sender_at l.network l.sender).path) l.table.items

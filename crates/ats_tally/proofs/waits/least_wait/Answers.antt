@@ -9,7 +9,9 @@ returns-clause-most c =
     let bits : ℕ = c.from.result in
     let work : ℕ = c.from-second.result * (c.args.ps * bits) in
     let some : 1 ≤ c.from-second.result - c.args.higher = omega arith in
-    let below : c.ceil_div.result ≤ work = c.ceil_div.ensures.least work (let more = mul-le-mul_left work some in omega arith) in
+    let below : c.ceil_div.result ≤ work =
+    c.ceil_div.ensures.least work (let more = mul-le-mul_left work some in omega arith) in
     let sent : c.args.ps * bits ≤ 100000 * bits = mul-le-mul_right bits c.requires.ps in
-    let second : work ≡ PS_PER_SECOND * (c.args.ps * bits) = ap (λ (n : ℕ). n * (c.args.ps * bits)) c.from-second.ensures in
+    let second : work ≡ PS_PER_SECOND * (c.args.ps * bits) =
+    ap (λ (n : ℕ). n * (c.args.ps * bits)) c.from-second.ensures in
     omega arith

@@ -7,7 +7,8 @@ use Rattle.ats_topology.proofs.walks.descend.Given as goal
 -- with a least walk from here, the walk so far is a least walk
 abbrev pub invariant-loop-at : goal.invariant-loop-at
 invariant-loop-at l = record {
-  least : (rest : List ℕ) → IsLeastWalk l.table.ports l.at l.to rest → IsLeastWalk l.table.ports l.from l.to (l.walk.items ++ rest);
+  least : (rest : List ℕ) → IsLeastWalk l.table.ports l.at l.to rest
+      → IsLeastWalk l.table.ports l.from l.to (l.walk.items ++ rest);
   reached : IsSome (distance l.distances l.at);
 }
 

@@ -9,7 +9,8 @@ use Rattle.ats_topology.proofs.walks.first_port.Goals as goal
 
 pub bounds-ports-port : goal.bounds-ports-port
 bounds-ports-port c =
-    let port = leaving_at c.args.node c.args.table.now.ports c.leaving-port-items.result.now c.loop-port.port-index c.leaving-port-items.ensures c.loop-port-test.true in
+    let port = leaving_at c.args.node c.args.table.now.ports c.leaving-port-items.result.now c.loop-port.port-index
+    c.leaving-port-items.ensures c.loop-port-test.true in
     omega (arith, port.within, ap (λ (ps : List Port). length ps) c.ports-ports.ensures)
 
 pub returns-then-eq : goal.returns-then-eq
@@ -18,10 +19,14 @@ returns-then-eq c =
     let items = c.leaving-port-items.result.now in
     let test : ℕ → Bool = λ p. is_at c.args.far (distance c.args.distances.now (port_at ports p).to) in
     let p = get_or items c.loop-port.port-index 0 in
-    let passes = ap (λ (ps : List Port). is_at c.args.far (distance c.args.distances.now (port_at ps p).to)) (sym c.ports-ports.ensures)
-    ∙ is_at_eq c.args.far (distance c.args.distances.now (port_at c.ports-ports.result.now p).to) ∙ sym c.eq.ensures ∙ c.if-eq.true in
-    let none = ap (λ (xs : List ℕ). find test (take c.loop-port.port-index xs)) c.leaving-port-items.ensures ∙ c.loop-port.invariant in
-    sym (ap (find test) (sym c.leaving-port-items.ensures) ∙ find-here test items c.loop-port.port-index 0 none c.loop-port-test.true passes)
+    let passes = ap (λ (ps : List Port). is_at c.args.far (distance c.args.distances.now (port_at ps p).to))
+    (sym c.ports-ports.ensures)
+    ∙ is_at_eq c.args.far (distance c.args.distances.now (port_at c.ports-ports.result.now p).to) ∙ sym c.eq.ensures
+    ∙ c.if-eq.true in
+    let none = ap (λ (xs : List ℕ). find test (take c.loop-port.port-index xs)) c.leaving-port-items.ensures
+    ∙ c.loop-port.invariant in
+    sym (ap (find test) (sym c.leaving-port-items.ensures)
+    ∙ find-here test items c.loop-port.port-index 0 none c.loop-port-test.true passes)
 
 pub loop-port-preserved : goal.loop-port-preserved
 loop-port-preserved c =
@@ -29,7 +34,11 @@ loop-port-preserved c =
     let items = c.leaving-port-items.result.now in
     let test : ℕ → Bool = λ p. is_at c.args.far (distance c.args.distances.now (port_at ports p).to) in
     let p = get_or items c.loop-port.port-index 0 in
-    let fails = ap (λ (ps : List Port). is_at c.args.far (distance c.args.distances.now (port_at ps p).to)) (sym c.ports-ports.ensures)
-    ∙ is_at_eq c.args.far (distance c.args.distances.now (port_at c.ports-ports.result.now p).to) ∙ sym c.eq.ensures ∙ c.if-eq.false in
-    let none = ap (λ (xs : List ℕ). find test (take c.loop-port.port-index xs)) c.leaving-port-items.ensures ∙ c.loop-port.invariant in
-    ap (λ (xs : List ℕ). find test (take (c.loop-port.port-index + 1) xs)) (sym c.leaving-port-items.ensures) ∙ find-over test items c.loop-port.port-index 0 none c.loop-port-test.true fails
+    let fails = ap (λ (ps : List Port). is_at c.args.far (distance c.args.distances.now (port_at ps p).to))
+    (sym c.ports-ports.ensures)
+    ∙ is_at_eq c.args.far (distance c.args.distances.now (port_at c.ports-ports.result.now p).to) ∙ sym c.eq.ensures
+    ∙ c.if-eq.false in
+    let none = ap (λ (xs : List ℕ). find test (take c.loop-port.port-index xs)) c.leaving-port-items.ensures
+    ∙ c.loop-port.invariant in
+    ap (λ (xs : List ℕ). find test (take (c.loop-port.port-index + 1) xs)) (sym c.leaving-port-items.ensures)
+    ∙ find-over test items c.loop-port.port-index 0 none c.loop-port-test.true fails

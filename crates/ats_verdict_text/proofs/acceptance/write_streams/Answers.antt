@@ -13,8 +13,10 @@ write_stream-requires-clause-inside c =
     ap (λ (streams : List DeclaredStream). length streams) c.streams-streams.ensures.value in
     let item : c.index-streams-i.result ≡ slice_index_or network.streams c.loop-i.i c.index-streams-i.result =
     c.index-streams-i.is
-    ∙ ap (λ (streams : List DeclaredStream). slice_index_or streams c.loop-i.i c.index-streams-i.result) c.streams-streams.ensures.value in
+    ∙ ap (λ (streams : List DeclaredStream). slice_index_or streams c.loop-i.i c.index-streams-i.result)
+    c.streams-streams.ensures.value in
     subst (λ (s : DeclaredStream). All (λ p. p < length c.topology.result.now.ports) s.path) (sym item)
-    (subst (λ (t : DeclaredTopology). All (λ p. p < length t.ports) (slice_index_or network.streams c.loop-i.i c.index-streams-i.result).path)
+    (subst (λ (t : DeclaredTopology).
+    All (λ p. p < length t.ports) (slice_index_or network.streams c.loop-i.i c.index-streams-i.result).path)
     (sym c.topology.ensures.value)
     (paths_inside network c.streams-streams.ensures.rules c.loop-i.i c.index-streams-i.result (omega (arith, long))))

@@ -7,4 +7,5 @@ use Rattle.ats_verdict_text.proofs.acceptance.write_streams.Given as goal
 abbrev pub invariant-loop-i : goal.invariant-loop-i
 invariant-loop-i l =
     l.out.items
-    ≡ l.initial.out.items ++ flat_map (stream_lines l.delays.network.topology l.delays.rows) (take l.i l.delays.network.streams)
+    ≡ l.initial.out.items
+    ++ flat_map (stream_lines l.delays.network.topology l.delays.rows) (take l.i l.delays.network.streams)

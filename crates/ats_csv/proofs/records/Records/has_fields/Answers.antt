@@ -4,4 +4,5 @@ use Rattle.ats_csv.proofs.records.Records.has_fields.Goals as goal
 
 pub returns-clause-test : goal.returns-clause-test
 returns-clause-test c =
-    same_fields_from c.is_row.result c.args.self.now.fields (map (λ (f : Bor (List ℕ)). f.now) c.args.fields.now) (search rules)
+    same_fields_from c.is_row.result c.args.self.now.fields (map (λ (f : Bor (List ℕ)). f.now) c.args.fields.now)
+    (search rules)

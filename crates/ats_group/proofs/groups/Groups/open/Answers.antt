@@ -4,4 +4,6 @@ use Rattle.ats_group.proofs.groups.Groups.open.Goals as goal
 
 pub invariant_of-result : goal.invariant_of-result
 invariant_of-result c =
-    kept-opened c.args.residences_ns.now _ c.args.members.now _ _ c.in_ok-from_slice.ensures.items (c.in_ok-vec.ensures.items_if_clones_equal (search rules)) c.in_ok-seats.ensures.members c.in_ok-seats.ensures.seats c.requires.residences c.requires.members
+    kept-opened c.args.residences_ns.now _ c.args.members.now _ _ c.in_ok-from_slice.ensures.items
+    (c.in_ok-vec.ensures.items_if_clones_equal (search rules))
+    c.in_ok-seats.ensures.members c.in_ok-seats.ensures.seats c.requires.residences c.requires.members

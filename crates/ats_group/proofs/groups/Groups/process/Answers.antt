@@ -5,4 +5,5 @@ use Rattle.ats_group.proofs.groups.Groups.process.Goals as goal
 
 pub returns-clause-standing : goal.returns-clause-standing
 returns-clause-standing c =
-    standing-next _ _ _ c.args.self.now _ c.args.member c.args.arrival.0 c.args.octets c.self.invariant c.self.view_is (grind (arith, common_steps))
+    standing-next _ _ _ c.args.self.now _ c.args.member c.args.arrival.0 c.args.octets c.self.invariant c.self.view_is
+    (grind (arith, common_steps))

@@ -11,7 +11,8 @@ use Rattle.ats_network.proofs.network.Network.push_stream.Goals as goal
 
 pub push-requires-clause-absent : goal.push-requires-clause-absent
 push-requires-clause-absent c =
-    let inside : DeclaredNetwork = declared_network c.self.inside.shape c.self.inside.stream_table c.self.inside.flow_table in
+    let inside : DeclaredNetwork =
+    declared_network c.self.inside.shape c.self.inside.stream_table c.self.inside.flow_table in
     none_first c.args.stream.name inside
     (not_found c.sender_named.result c.args.stream.name inside
     (c.sender_named.ensures.number ∙ ap (λ name. place_of name (names_of (senders_of c.args.self.now))) c.name.ensures
@@ -20,9 +21,11 @@ push-requires-clause-absent c =
 
 pub invariant_of-self-2 : goal.invariant_of-self-2
 invariant_of-self-2 c =
-    let inside : DeclaredNetwork = declared_network c.self.inside.shape c.self.inside.stream_table c.self.inside.flow_table in
+    let inside : DeclaredNetwork =
+    declared_network c.self.inside.shape c.self.inside.stream_table c.self.inside.flow_table in
     let keeps : IsStream c.args.stream = subst IsStream c.stream.view_is c.stream.invariant in
-    let valid : IsValidPath inside.topology c.args.stream.path = subst (λ (n : DeclaredNetwork). IsValidPath n.topology c.args.stream.path) (sym c.self.view_is) c.requires in
+    let valid : IsValidPath inside.topology c.args.stream.path =
+    subst (λ (n : DeclaredNetwork). IsValidPath n.topology c.args.stream.path) (sym c.self.view_is) c.requires in
     let absent : place_of c.args.stream.name (names_of (senders_of inside)) ≡ None =
     not_found c.sender_named.result c.args.stream.name inside
     (c.sender_named.ensures.number ∙ ap (λ name. place_of name (names_of (senders_of c.args.self.now))) c.name.ensures
@@ -30,8 +33,10 @@ invariant_of-self-2 c =
     (sym c.is_some.ensures ∙ c.if-is_some.false) in
     let free : is_identity_taken inside.streams c.args.stream.identity ≡ false =
     ap (λ (n : DeclaredNetwork). is_identity_taken n.streams c.args.stream.identity) c.self.view_is
-    ∙ sym (c.is_identity_taken.ensures ∙ ap (is_identity_taken c.args.self.now.streams) c.identity.ensures.value) ∙ c.if-is_identity_taken.false in
-    let long : length c.streams.result.now ≡ length inside.streams = ap length c.streams.ensures.value ∙ sym (ap (λ (n : DeclaredNetwork). length n.streams) c.self.view_is) in
+    ∙ sym (c.is_identity_taken.ensures ∙ ap (is_identity_taken c.args.self.now.streams) c.identity.ensures.value)
+    ∙ c.if-is_identity_taken.false in
+    let long : length c.streams.result.now ≡ length inside.streams =
+    ap length c.streams.ensures.value ∙ sym (ap (λ (n : DeclaredNetwork). length n.streams) c.self.view_is) in
     let room : length inside.streams < MAX_STREAMS = omega (arith, c.if-streams-ge-MAX_STREAMS.false) in
     rw c.in_ok-push.ensures.ok
     (pushed_stream inside c.args.stream c.self.invariant keeps valid absent free room)

@@ -14,4 +14,5 @@ returns-then-port-ports c =
     sym (not_used c.args.self.now c.args.port c.args.class (subst IsNetwork same c.self.invariant.rules) outside)
 
 pub returns : goal.returns
-returns c = c.is_some.ensures ∙ used_is c.args.self.now c.args.port c.args.class c.tally.result c.requires.class_least c.tally.ensures
+returns c = c.is_some.ensures
+    ∙ used_is c.args.self.now c.args.port c.args.class c.tally.result c.requires.class_least c.tally.ensures
