@@ -5,5 +5,6 @@ pub mod Laws
 pub mod Regulator
 pub mod Renaming
 pub mod Rows
+pub mod RenamingRow
 pub mod Shaping
 pub mod Windows

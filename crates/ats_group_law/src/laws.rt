@@ -5,6 +5,7 @@ ghost use Rattle.ats_group_law.specs.Laws.{OutputConforms, OutputConformsByWindo
 ghost use Rattle.ats_group_law.specs.GroupsLaws.{GroupsOutputConforms, GroupsOutputAscends, GroupsEligibilityIsLeast};
 ghost use Rattle.ats_group_law.specs.Regulator.{AtsIsRegulator};
 ghost use Rattle.ats_group_law.specs.Renaming.{VerdictsAreKept};
+ghost use Rattle.ats_group_law.specs.RenamingRow.{NumbersAreOwn};
 ghost use Rattle.ats_group_law.specs.Shaping.{ShapingIsFree};
 ghost use Rattle.ats_group_law.specs.Rows.{BucketEmptied, OrderCounts, RoundedUp};
 
@@ -101,4 +102,9 @@ pub fn ats_is_regulator()
 /// own, under which the same is declared, the verdicts stay.
 pub fn verdicts_are_kept()
     ensures { VerdictsAreKept }
+{}
+
+/// Two members under other numbers, and under one.
+pub fn numbers_are_own()
+    ensures { NumbersAreOwn }
 {}

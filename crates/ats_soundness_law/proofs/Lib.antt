@@ -5,6 +5,7 @@ pub mod Bits
 pub mod Bridge
 pub mod EachRule
 pub mod Example
+pub mod JudgeExample
 pub mod Known
 pub mod Lifts
 pub mod Offered

@@ -4,3 +4,4 @@ pub mod Laws
 pub mod Example
 pub mod RuleExamples
 pub mod RunExamples
+pub mod JudgeExample

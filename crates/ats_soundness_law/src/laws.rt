@@ -5,6 +5,7 @@ ghost use Rattle.ats_soundness_law.specs.RuleExamples.{EachRuleCounts};
 ghost use Rattle.ats_soundness_law.specs.RunExamples.{BabblerIsContained, BridgedAreSound, ExactExamples};
 ghost use Rattle.ats_soundness_law.specs.RunExamples.{OrderDoesNotCount};
 ghost use Rattle.ats_soundness_law.specs.Rules.{HoldsIsEachRule};
+ghost use Rattle.ats_soundness_law.specs.JudgeExample.{RegulatorCounts};
 ghost use Rattle.ats_soundness_law.specs.Laws.{StationIsOffered, BridgeIsOffered, ShapingForFree, PathLaw, Containment};
 ghost use Rattle.ats_soundness_law.specs.Laws.{SoundByRules, CertificateIsSound};
 
@@ -91,4 +92,10 @@ pub fn runs_are_sound()
 pub fn more_examples()
     ensures exact { ExactExamples }
     ensures turned { OrderDoesNotCount }
+{}
+
+/// That groups regulate counts: by a judge that lets nothing through there is a legal run in which
+/// a frame is discarded whose talker keeps its buckets.
+pub fn regulator_counts()
+    ensures { RegulatorCounts }
 {}

@@ -54,25 +54,25 @@ abbrev pub hop_at : ℕ → Option Transmission → List Hop
 hop_at port None = []
 hop_at port (Some sent) = record { port = port; sent = sent } ∷ []
 
--- the crossing of a frame with so many octets that came at this time, if it was sent there: the next record, or behind
--- the last port the ending, tells when it arrived
+-- the crossing of a frame with so many octets, which came at this time, was sent so, and arrived behind the port at
+-- that
+abbrev pub crossing_of : ℕ → ℕ → ℕ → Transmission → ℕ → Crossing
+crossing_of octets came port sent arrival =
+    record { port = port; octets = octets; came = came; sent = sent; arrival = arrival }
+
+-- the next record, or behind the last port the ending, tells when it arrived
 abbrev pub crossing_at : ℕ → ℕ → ℕ → Option Transmission → List HopRecord → Ending → List Crossing
 crossing_at octets came port None hops ending = []
-crossing_at octets came port (Some sent) (next ∷ hops) ending =
-    record { port = port; octets = octets; came = came; sent = sent; arrival = next.arrival.0 } ∷ []
-crossing_at octets came port (Some sent) [] (Sink at) =
-    record { port = port; octets = octets; came = came; sent = sent; arrival = at.0 } ∷ []
+crossing_at octets came port (Some sent) (next ∷ hops) ending = crossing_of octets came port sent next.arrival.0 ∷ []
+crossing_at octets came port (Some sent) [] (Sink at) = crossing_of octets came port sent at.0 ∷ []
 crossing_at octets came port (Some sent) [] Discard = []
 
--- and with the verdict that the next record tells, where there is one
+-- and the next record, where there is one, its verdict there
 abbrev pub handed_at : ℕ → ℕ → ℕ → Option Transmission → List HopRecord → List Handed
 handed_at octets came port None hops = []
 handed_at octets came port (Some sent) [] = []
 handed_at octets came port (Some sent) (next ∷ hops) =
-    record {
-      crossing = record { port = port; octets = octets; came = came; sent = sent; arrival = next.arrival.0 };
-      verdict = next.verdict;
-    } ∷ []
+    record { crossing = crossing_of octets came port sent next.arrival.0; verdict = next.verdict } ∷ []
 
 -- the transmissions of a frame along what is left of its path
 abbrev pub hops_along : ℕ → Release → Sender → List ℕ → List HopRecord → List Hop
