@@ -92,8 +92,10 @@ pub fn worked_rows()
     ensures order_counts { OrderCounts }
 {}
 
-/// The schedulers and groups of Asynchronous Traffic Shaping are a regulator, whatever their members declare: they let
-/// frames through at declared sizes only, what they let through of a member conforms, and shaping is free.
+/// The schedulers and groups of Asynchronous Traffic Shaping regulate by token buckets, whatever
+/// their members declare: they let frames through at declared sizes only, what they let through of
+/// a member conforms, and shaping is free. And token buckets are a rule: frames conform also where
+/// some are left out or equal times change places.
 pub fn ats_is_regulator()
     ensures { AtsIsRegulator }
 {}

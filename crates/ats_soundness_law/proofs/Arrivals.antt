@@ -13,6 +13,8 @@ use Rattle.ats_port_rule.specs.PortRule.{KeepsPortRule, AreApart}
 use Rattle.ats_port_law.specs.PortLaw.{IsOffered}
 use Rattle.ats_port_law.proofs.Pairs.{TakesTime, eligible_no_later}
 use Rattle.ats_port_law.proofs.Totals.{All-from_filter}
+use Rattle.ats_bucket.specs.Conforming.{Frame}
+use Rattle.ats_group.specs.declared.member.Declared.{Declared}
 use Rattle.ats_trace.specs.Journey.{Travel}
 use Rattle.ats_trace.specs.Projections.{Hop, Crossing, Handed, hops_from, crossings_from, handed_from, sent_by}
 use Rattle.ats_trace.specs.Projections.{crossings_by, handed_by}
@@ -62,7 +64,8 @@ pub record HasArrived (network : DeclaredNetwork) (run : List Travel) (port clas
   pub sent : Contains (sent_by network run port) h.crossing.sent
   pub crossed : Contains (crossings_by network run port) h.crossing
 
-pub arrived : {judge : Judge} (network : DeclaredNetwork) (run : List Travel) (port class : ℕ) → Case judge network run
+pub arrived : {judge : Judge} {rule : Declared → List Frame → Type 0} (network : DeclaredNetwork) (run : List Travel)
+    (port class : ℕ) → Case judge rule network run
     → All (HasArrived network run port class) (handed_by network run port class)
 arrived network run port class c k d h =
     let handed : List Handed = handed_from network 0 run in
@@ -83,7 +86,8 @@ arrived network run port class c k d h =
     }
 
 -- each transmission that is offered takes time
-pub takes_time : {judge : Judge} (network : DeclaredNetwork) (run : List Travel) (port : ℕ) → Case judge network run
+pub takes_time : {judge : Judge} {rule : Declared → List Frame → Type 0} (network : DeclaredNetwork) (run : List Travel)
+    (port : ℕ) → Case judge rule network run
     → port < length network.topology.ports → IsOffered network port (sent_by network run port)
     → TakesTime (port_at network.topology.ports port).ps_per_bit (sent_by network run port)
 takes_time network run port c within offered k d h =

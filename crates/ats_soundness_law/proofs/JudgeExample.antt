@@ -5,11 +5,12 @@ use Rattle.ats_network.specs.Network.{DeclaredNetwork}
 use Rattle.ats_network.specs.Senders.{sender_at}
 use Rattle.ats_group.specs.declared.verdict.Verdict.{Verdict}
 use Rattle.ats_group.specs.declared.verdict.Verdict.TheVariants.{Size}
+use Rattle.ats_group_law.specs.Regulator.{bucket_rule}
 use Rattle.ats_trace.specs.Journey.{Travel}
 use Rattle.ats_trace.specs.Projections.{Handed, handed_by}
 use Rattle.ats_trace.specs.Eligibility.{IsJudged, residence_behind}
 use Rattle.ats_trace.specs.Run.{IsLegalBy, releases_of}
-use Rattle.ats_trace.specs.Talker.{talker_of, bucket_rule, KeepsBuckets}
+use Rattle.ats_trace.specs.Talker.{talker_of, KeepsBuckets}
 use Rattle.ats_trace.specs.Examples.{line}
 use Rattle.ats_trace.specs.Parts.{in_order, octets, way, released, links, waits, takes, apart, chosen, prompt, flows}
 use Rattle.ats_trace.proofs.LegalTest.{ascending_by}

@@ -12,17 +12,28 @@ use Rattle.ats_group.specs.Group.{is_declared_size}
 use Rattle.ats_trace.specs.Journey.{Travel, IsJourney}
 use Rattle.ats_trace.specs.Projections.{Hop, Handed, journey_hops, journey_handed, hops_from, handed_from}
 use Rattle.ats_trace.specs.Eligibility.{declared_by}
-use Rattle.ats_trace.specs.Run.{IsLegalBy}
-use Rattle.ats_group_law.specs.Regulator.{Judge, IsRegulator}
+use Rattle.ats_trace.specs.Run.{IsLegalBy, IsLegal}
+use Rattle.ats_group_law.specs.Regulator.{Judge, ats_judge, IsRule, bucket_rule, IsRegulator}
+use Rattle.ats_group_law.proofs.Regulator.{ats_is_regulator}
+use Rattle.ats_bucket.specs.Conforming.{Frame}
+use Rattle.ats_group.specs.declared.member.Declared.{Declared}
 use Rattle.ats_soundness_law.proofs.Along.{AtPorts, all_hops, all_handed}
 use Rattle.ats_soundness_law.proofs.Lifts.{run_hops, run_handed}
 use Rattle.ats_soundness_law.proofs.Paths.{sender_is, uses_own, neighbours_with}
 
--- a network and a legal run of it, whose groups regulate what its senders declare
-pub record Case (judge : Judge) (network : DeclaredNetwork) (run : List Travel) : Type 0 where
-  pub regulator : IsRegulator judge (declared_by network)
+-- a network and a legal run of it, whose groups regulate by a rule
+pub record Case (judge : Judge) (rule : Declared → List Frame → Type 0) (network : DeclaredNetwork)
+    (run : List Travel) : Type 0 where
+  pub rules : IsRule rule
+  pub regulator : IsRegulator judge rule
   pub net : IsNetwork network
   pub legal : IsLegalBy judge network run
+
+-- as those of Asynchronous Traffic Shaping do
+pub ats_case : (network : DeclaredNetwork) (run : List Travel) → IsNetwork network → IsLegal network run
+    → Case ats_judge bucket_rule network run
+ats_case network run net legal =
+    record { rules = ats_is_regulator.rule; regulator = ats_is_regulator.regulator; net = net; legal = legal }
 
 -- what is known of each transmission of a run
 pub record IsKnown (network : DeclaredNetwork) (g : Hop) : Type 0 where
@@ -39,7 +50,8 @@ journey_known network net n j is =
     all_hops (IsKnown network) n j.release s s.path j.hops
     (λ k d h e times. record { exists = is.sender; within = keeps.ports k d h; used = uses_own s k d h; ranked = refl })
 
-pub known : {judge : Judge} (network : DeclaredNetwork) (run : List Travel) → Case judge network run
+pub known : {judge : Judge} {rule : Declared → List Frame → Type 0} (network : DeclaredNetwork) (run : List Travel)
+    → Case judge rule network run
     → All (IsKnown network) (hops_from network 0 run)
 known network run c =
     run_hops (IsJourney network) (IsKnown network) network 0 run (journey_known network c.net) c.legal.journeys
@@ -65,7 +77,8 @@ journey_told network net n j is =
     s.path keeps.ports keeps.bridges)
     is.way
 
-pub told : {judge : Judge} (network : DeclaredNetwork) (run : List Travel) → Case judge network run
+pub told : {judge : Judge} {rule : Declared → List Frame → Type 0} (network : DeclaredNetwork) (run : List Travel)
+    → Case judge rule network run
     → All (IsTold network) (handed_from network 0 run)
 told network run c =
     run_handed (IsJourney network) (IsTold network) network 0 run (journey_told network c.net) c.legal.journeys

@@ -6,7 +6,6 @@ use Rattle.ats_certificate.specs.Certificate.{bound_at}
 use Rattle.ats_certificate.specs.declared.row.Row.{Row}
 use Rattle.ats_group_law.specs.Regulator.{ats_judge}
 use Rattle.ats_group_law.proofs.Regulator.{ats_is_regulator}
-use Rattle.ats_trace.specs.Eligibility.{declared_by}
 use Rattle.ats_trace.specs.Journey.{Travel, IsOfStream}
 use Rattle.ats_trace.specs.Run.{IsLegal, releases_of}
 use Rattle.ats_trace.specs.Stored.{travel_at}
@@ -53,7 +52,7 @@ breaks : (rule : Rule) (network : DeclaredNetwork) (given : List Row) → IsNetw
     → BreaksAlone rule network given
 breaks rule network given is others rest unsound = record {
   is_network = is;
-  broken = λ kept. unsound (sound_by_rules ats_judge network given (ats_is_regulator (declared_by network)) is
+  broken = λ kept. unsound (sound_by_rules ats_judge network given ats_is_regulator.regulator is
       (each rule network given others kept));
   others = others;
   rest = rest;

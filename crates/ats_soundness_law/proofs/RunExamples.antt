@@ -19,7 +19,6 @@ use Rattle.ats_trace.specs.Journey.{Travel, IsOfStream}
 use Rattle.ats_trace.specs.Run.{IsLegal, releases_of}
 use Rattle.ats_trace.specs.Stored.{travel_at}
 use Rattle.ats_trace.specs.Talker.{talker_of, KeepsBuckets}
-use Rattle.ats_trace.specs.Eligibility.{declared_by}
 use Rattle.ats_trace.specs.Examples.{stream, line, fork, fork_nodes, fork_links, one_frame}
 use Rattle.ats_trace.specs.Changes.{sunk_late}
 use Rattle.ats_trace.specs.BridgeExamples.{two_nodes, two_links, three_nodes, three_links, over_two, over_three}
@@ -281,6 +280,6 @@ not_before ordered =
 pub order_does_not_count : OrderDoesNotCount
 order_does_not_count = record {
   not_held = λ holds. not_before holds.rows_of.ordered;
-  sound = sound_by_rules ats_judge line turned_rows (ats_is_regulator (declared_by line)) is_network
+  sound = sound_by_rules ats_judge line turned_rows ats_is_regulator.regulator is_network
       (all_kept line turned_rows refl);
 }

@@ -11,14 +11,17 @@ use Rattle.ats_certificate.specs.PortSums.{is_used}
 use Rattle.ats_certificate.specs.Certificate.{is_row_of, row_of, bound_at, RowHolds}
 use Rattle.ats_certificate.specs.declared.row.Row.{Row}
 use Rattle.ats_port_rule.specs.Transmission.{Transmission}
-use Rattle.ats_port_law.specs.PortLaw.{IsOffered, IsWithinBound}
+use Rattle.ats_port_law.specs.PortLaw.{IsWithinBound}
 use Rattle.ats_port_law.proofs.Law.{law}
+use Rattle.ats_bucket.specs.Conforming.{Frame}
+use Rattle.ats_group.specs.declared.member.Declared.{Declared}
 use Rattle.ats_trace.specs.Journey.{Travel}
 use Rattle.ats_trace.specs.Projections.{Crossing, Handed, sent_by, crossings_by, handed_by}
 use Rattle.ats_trace.specs.Links.{KeepsLinkRule}
 use Rattle.ats_group_law.specs.Regulator.{Judge}
 use Rattle.ats_soundness_law.specs.Laws.{IsHandedOn}
 use Rattle.ats_soundness_law.specs.Sound.{IsEligibleBy}
+use Rattle.ats_soundness_law.proofs.Offered.{IsFed}
 use Rattle.ats_soundness_law.proofs.Known.{Case}
 use Rattle.ats_soundness_law.proofs.Arrivals.{crossed_there}
 use Rattle.ats_soundness_law.proofs.Shaping as shaping
@@ -72,30 +75,32 @@ record ByRow (network : DeclaredNetwork) (run : List Travel) (row : Row) (port c
   free : IsBridgeAt network.topology (port_at network.topology.ports port).to
       → All (IsHandedOn row) (handed_by network run port class)
 
-by_row : {judge : Judge} (network : DeclaredNetwork) (run : List Travel) (row : Row) → Case judge network run
+by_row : {judge : Judge} {rule : Declared → List Frame → Type 0} (network : DeclaredNetwork) (run : List Travel)
+    (row : Row) → Case judge rule network run
     → row.port < length network.topology.ports → is_used network row.port row.class ≡ true → RowHolds network row
-    → IsOffered network row.port (sent_by network run row.port) → ByRow network run row row.port row.class
-by_row network run row c within used holds offered =
+    → IsFed rule network run row.port → ByRow network run row row.port row.class
+by_row network run row c within used holds fed =
     let sent : List Transmission = sent_by network run row.port in
     let crossings : List Crossing = crossings_by network run row.port in
     let link : KeepsLinkRule (port_at network.topology.ports row.port) crossings = c.legal.links row.port within in
     let each : All (IsWithinBound network row) sent =
-    law network row sent c.net used holds.covers (c.legal.ports row.port within) offered in
+    law network row sent c.net used holds.covers (c.legal.ports row.port within) fed.offered in
     record {
       arrives = λ k d h class. (
           let one : Crossing = get_or crossings k d in
           let bound = All-contains (IsWithinBound network row) sent one.sent each
           (crossed_there network run row.port k d h) class in
           omega (arith, (link.within k d h).latest, bound));
-      free = λ bridge. shaping.shaping_for_free_by network run row c used bridge holds offered;
+      free = λ bridge. shaping.shaping_for_free_by network run row c used bridge holds fed;
     }
 
 -- so each port that is offered what it may be asked to send serves the classes that are used there
-pub serves : {judge : Judge} (network : DeclaredNetwork) (run : List Travel) (rows : List Row) → Case judge network run
+pub serves : {judge : Judge} {rule : Declared → List Frame → Type 0} (network : DeclaredNetwork) (run : List Travel)
+    (rows : List Row) → Case judge rule network run
     → RowsHold network rows → (class port : ℕ) → port < length network.topology.ports
-    → is_used network port class ≡ true → IsOffered network port (sent_by network run port)
+    → is_used network port class ≡ true → IsFed rule network run port
     → Serves network run rows class port
-serves network run rows c holds class port within used offered =
+serves {judge} {rule} network run rows c holds class port within used fed =
     let f : Found (is_row_of port class) (RowHolds network) rows =
     found (is_row_of port class) (RowHolds network) rows holds.each (holds.complete port class used) in
     let row : Row = f.one in
@@ -104,10 +109,10 @@ serves network run rows c holds class port within used offered =
     let class_is : row.class ≡ class = eqb-true row.class class parts.1 in
     let bound_is : bound_at rows port class ≡ row.bound =
     ap (λ (o : Option Row). unwrap_or (option_map (λ (row : Row). row.bound) o) 0) f.is in
-    let Offered : ℕ → Type 0 = λ (p : ℕ). (p < length network.topology.ports) × (is_used network p row.class ≡ true)
-    × IsOffered network p (sent_by network run p) in
-    let there : Offered row.port = subst Offered (sym port_is)
-    (within, subst (λ (n : ℕ). is_used network port n ≡ true) (sym class_is) used, offered) in
+    let Fed : ℕ → Type 0 = λ (p : ℕ). (p < length network.topology.ports) × (is_used network p row.class ≡ true)
+    × IsFed rule network run p in
+    let there : Fed row.port = subst Fed (sym port_is)
+    (within, subst (λ (n : ℕ). is_used network port n ≡ true) (sym class_is) used, fed) in
     let own : ByRow network run row row.port row.class = by_row network run row c there.0 there.1 f.holds there.2 in
     let by : ByRow network run row port class = subst (λ (p : ℕ). ByRow network run row p class) port_is
     (subst (λ (n : ℕ). ByRow network run row row.port n) class_is own) in

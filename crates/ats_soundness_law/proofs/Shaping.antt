@@ -26,17 +26,17 @@ use Rattle.ats_certificate.specs.declared.row.Row.{Row}
 use Rattle.ats_group.specs.Group.{Offer, IsRuled, is_declared_size}
 use Rattle.ats_group.specs.declared.verdict.Verdict.{Verdict}
 use Rattle.ats_group.specs.declared.verdict.Verdict.TheVariants.{Eligible}
-use Rattle.ats_group_law.specs.Shaping.{Passage, frames_before, IsDelayed, IsEligibleAgain}
-use Rattle.ats_group_law.specs.Windows.{KeepsWindows}
-use Rattle.ats_group_law.specs.Regulator.{Judge}
-use Rattle.ats_group_law.proofs.Regulator.{ats_is_regulator}
+use Rattle.ats_group_law.specs.Shaping.{Passage, frames_before, IsEligibleAgain}
+use Rattle.ats_group_law.specs.Regulator.{Judge, IsDelayedBy}
 use Rattle.ats_group_law.proofs.ShapingUse.{All-from_all_zip}
 use Rattle.ats_port_rule.specs.Transmission.{Transmission}
 use Rattle.ats_port_rule.specs.PortRule.{KeepsPortRule}
-use Rattle.ats_port_law.specs.PortLaw.{IsDeclared, IsOffered, IsWithinBound}
+use Rattle.ats_port_law.specs.PortLaw.{IsDeclared, IsWithinBound}
 use Rattle.ats_port_law.proofs.Law.{law}
 use Rattle.ats_port_law.proofs.Totals.{least_reaches}
 use Rattle.ats_port_law.proofs.Used.{IsPlace, used_place}
+use Rattle.ats_bucket.specs.Conforming.{Frame}
+use Rattle.ats_group.specs.declared.member.Declared.{Declared}
 use Rattle.ats_trace.specs.Journey.{Travel}
 use Rattle.ats_trace.specs.Projections.{Crossing, Handed, sent_by, crossings_by, handed_by}
 use Rattle.ats_trace.specs.Links.{earliest_of, ArrivesInTime, KeepsLinkRule}
@@ -44,19 +44,22 @@ use Rattle.ats_trace.specs.Eligibility.{declared_by, IsJudged, residence_behind}
 use Rattle.ats_soundness_law.specs.Laws.{ShapingForFree, IsHandedOn}
 use Rattle.ats_soundness_law.specs.Sound.{IsEligibleBy}
 use Rattle.ats_soundness_law.proofs.Arrivals.{HasArrived, arrived, takes_time, leave_in_order}
-use Rattle.ats_soundness_law.proofs.Known.{Case, size_of_bits}
-use Rattle.ats_soundness_law.proofs.Passages.{passage_of, offers_are, passages_conform}
+use Rattle.ats_soundness_law.proofs.Known.{Case, ats_case, size_of_bits}
+use Rattle.ats_soundness_law.proofs.Passages.{passage_of, offers_are, passages_keep}
+use Rattle.ats_soundness_law.proofs.Offered.{IsFed, by_buckets}
+use Rattle.ats_port_law.proofs.Senders.{is_stream}
 use Rattle.ats_soundness_law.proofs.Streams.{sender_ruled}
 
 -- a row that holds, of a port that leads to a bridge and is offered what it may be asked to send
-record AtRow (judge : Judge) (network : DeclaredNetwork) (run : List Travel) (row : Row) : Type 0 where
-  known : Case judge network run
+record AtRow (judge : Judge) (rule : Declared → List Frame → Type 0) (network : DeclaredNetwork) (run : List Travel)
+    (row : Row) : Type 0 where
+  known : Case judge rule network run
   used : is_used network row.port row.class ≡ true
   within : row.port < length network.topology.ports
   bridge : IsBridgeAt network.topology (port_at network.topology.ports row.port).to
   shaped : 1 ≤ row.class
   holds : RowHolds network row
-  offered : IsOffered network row.port (sent_by network run row.port)
+  fed : IsFed rule network run row.port
 
 -- the wait is at most the residence of the bridge
 stays : (kind : Kind) (wait : ℕ) → is_station kind ≡ false → ForSome (residence_at kind) (λ ns. wait ≤ PS_PER_NS * ns)
@@ -73,7 +76,8 @@ record OnTime (network : DeclaredNetwork) (row : Row) (h : Handed) : Type 0 wher
 
 -- the frame arrives no sooner than its transmission and the earliest latency allow, which are no less than the bound
 -- without the wait
-on_time : {judge : Judge} (network : DeclaredNetwork) (run : List Travel) (row : Row) → AtRow judge network run row
+on_time : {judge : Judge} {rule : Declared → List Frame → Type 0} (network : DeclaredNetwork) (run : List Travel)
+    (row : Row) → AtRow judge rule network run row
     → (h : Handed) → HasArrived network run row.port row.class h → OnTime network row h
 on_time network run row a h came =
     let port : Port = port_at network.topology.ports row.port in
@@ -85,9 +89,9 @@ on_time network run row a h came =
     let in_time : ArrivesInTime port h.crossing =
     All-contains (ArrivesInTime port) (crossings_by network run row.port) h.crossing link.within came.crossed in
     let declared : IsDeclared network row.port x =
-    All-contains (IsDeclared network row.port) sent x a.offered.each came.sent in
+    All-contains (IsDeclared network row.port) sent x a.fed.offered.each came.sent in
     let within : IsWithinBound network row x = All-contains (IsWithinBound network row) sent x
-    (law network row sent a.known.net a.used a.holds.covers rule a.offered) came.sent in
+    (law network row sent a.known.net a.used a.holds.covers rule a.fed.offered) came.sent in
     let waits = All-contains (λ (y : Transmission). y.eligible ≤ y.start) sent x rule.waits came.sent in
     let takes = All-contains (λ (y : Transmission). y.end ≡ y.start + ps * y.bits) sent x rule.takes came.sent in
     let class : (sender_at network x.sender).class ≡ row.class = sym declared.class ∙ came.class_is in
@@ -133,7 +137,8 @@ ends_first port crossings link x y cx cy before = elim (cases_lt y.sent.end x.se
 ]
 
 -- the frames come in the order in which they were eligible at the port
-in_order : {judge : Judge} (network : DeclaredNetwork) (run : List Travel) (row : Row) → AtRow judge network run row
+in_order : {judge : Judge} {rule : Declared → List Frame → Type 0} (network : DeclaredNetwork) (run : List Travel)
+    (row : Row) → AtRow judge rule network run row
     → (arrivals : List Handed) → All (HasArrived network run row.port row.class) arrivals
     → IsNonDecreasing (map (λ (h : Handed). h.crossing.arrival) arrivals)
     → IsNonDecreasingBy (λ (p : Passage). p.since) (map passage_of arrivals)
@@ -152,36 +157,41 @@ in_order network run row a arrivals came ascends i j d le within =
     (omega (arith, times, time_x, time_y)) in
     let ordered = leave_in_order (port_at network.topology.ports row.port).ps_per_bit (sent_by network run row.port)
     (a.known.legal.ports row.port a.within)
-    (takes_time network run row.port a.known a.within a.offered) x.crossing.sent y.crossing.sent cx.sent cy.sent
+    (takes_time network run row.port a.known a.within a.fed.offered) x.crossing.sent y.crossing.sent cx.sent cy.sent
     (cx.class_is ∙ sym cy.class_is) ends in
     let since_x = ap (λ (p : Passage). p.since) (get_or-map passage_of arrivals i no_handed d (omega arith)) in
     let since_y = ap (λ (p : Passage). p.since) (get_or-map passage_of arrivals j no_handed d there) in
     omega (arith, ordered, since_x, since_y)
 
 -- so a group delays none of them
-delayed : {judge : Judge} (network : DeclaredNetwork) (run : List Travel) (row : Row) → AtRow judge network run row
+delayed : {judge : Judge} {rule : Declared → List Frame → Type 0} (network : DeclaredNetwork) (run : List Travel)
+    (row : Row) → AtRow judge rule network run row
     → (j : IsJudged judge network (residence_behind network row.port) (handed_by network run row.port row.class))
-    → IsDelayed (declared_by network) (residence_behind network row.port) row.bound (map passage_of j.arrivals)
-delayed network run row a j =
+    → IsDelayedBy rule (declared_by network) (residence_behind network row.port) row.bound (map passage_of j.arrivals)
+delayed {judge} {rule} network run row a j =
     let handed : List Handed = handed_by network run row.port row.class in
+    let passages : List Passage = map passage_of j.arrivals in
     let Came : Handed → Type 0 = HasArrived network run row.port row.class in
     let came : All Came j.arrivals =
     All-permutation Came handed j.arrivals j.same (arrived network run row.port row.class a.known) in
     let timely : All (OnTime network row) j.arrivals =
     All-weaker Came (OnTime network row) (on_time network run row a) j.arrivals came in
+    let order : IsNonDecreasingBy (λ (p : Passage). p.since) passages =
+    in_order network run row a j.arrivals came j.in_order in
     record {
       ruled = All-map (λ (p : Passage). IsRuled (declared_by network p.offer.member)) passage_of j.arrivals
           (λ k d h. sender_ruled network a.known.net (get_or j.arrivals k d).crossing.sent.sender
           (came k d h).told.exists (timely k d h).shaped);
       sized = All-map (λ (p : Passage). is_declared_size (declared_by network p.offer.member) p.offer.octets ≡ true)
+          passage_of j.arrivals (λ k d h. (timely k d h).size);
+      in_order = order;
+      kept =
+          All-map (λ (p : Passage). rule (declared_by network p.offer.member) (frames_before p.offer.member passages))
           passage_of j.arrivals
-          (λ k d h. (timely k d h).size);
-      in_order = in_order network run row a j.arrivals came j.in_order;
-      conformed = All-map (λ (p : Passage). KeepsWindows (declared_by network p.offer.member).rate
-          (declared_by network p.offer.member).burst_bits (frames_before p.offer.member (map passage_of j.arrivals)))
-          passage_of j.arrivals
-          (λ k d h. passages_conform network run row.port row.class a.known a.offered j.arrivals j.same
-          (get_or j.arrivals k d).crossing.sent.sender (came k d h).told.exists (timely k d h).shaped);
+          (λ k d h. (
+          let i : ℕ = (get_or j.arrivals k d).crossing.sent.sender in
+          passages_keep network run row.port row.class a.known j.arrivals j.same order i
+          (a.fed.kept i (is_stream network i (came k d h).told.exists (timely k d h).shaped))));
       arrives = All-map (λ (p : Passage). p.offer.arrival ≤ p.since + row.bound) passage_of j.arrivals
           (λ k d h. (timely k d h).arrives);
       may_stay = All-map
@@ -194,30 +204,32 @@ handed_again row h again =
     subst (λ (v : Verdict). IsEligibleBy (h.crossing.sent.eligible + row.bound) (λ e. Unit {0}) v)
     (sym again.1) (again.2, tt)
 
-pub shaping_for_free_by : {judge : Judge} (network : DeclaredNetwork) (run : List Travel) (row : Row)
-    → Case judge network run
+pub shaping_for_free_by : {judge : Judge} {rule : Declared → List Frame → Type 0} (network : DeclaredNetwork)
+    (run : List Travel) (row : Row)
+    → Case judge rule network run
     → is_used network row.port row.class ≡ true
     → IsBridgeAt network.topology (port_at network.topology.ports row.port).to
-    → RowHolds network row → IsOffered network row.port (sent_by network run row.port)
+    → RowHolds network row → IsFed rule network run row.port
     → All (IsHandedOn row) (handed_by network run row.port row.class)
-shaping_for_free_by {judge} network run row known used bridge holds offered =
+shaping_for_free_by {judge} {rule} network run row known used bridge holds fed =
     let place : IsPlace (length network.topology.ports) row.port row.class =
     used_place network row.port row.class known.net used in
-    let a : AtRow judge network run row = record {
+    let a : AtRow judge rule network run row = record {
       known = known;
       used = used;
       within = place.within;
       bridge = bridge;
       shaped = place.ranked;
       holds = holds;
-      offered = offered;
+      fed = fed;
     } in
     let handed : List Handed = handed_by network run row.port row.class in
     let residence_ns : ℕ = residence_behind network row.port in
     let j : IsJudged judge network residence_ns handed =
     known.legal.groups row.port row.class place.within place.ranked in
     let Again : Passage → Verdict → Type 0 = IsEligibleAgain row.bound in
-    let free = known.regulator.free residence_ns row.bound (map passage_of j.arrivals) (delayed network run row a j) in
+    let free = known.regulator.free (declared_by network) residence_ns row.bound (map passage_of j.arrivals)
+    (delayed network run row a j) in
     let ByOffers : List Offer → Type 0 =
     λ (os : List Offer). AllZip Again (map passage_of j.arrivals) (judge (declared_by network) residence_ns os) in
     let judged : AllZip Again (map passage_of j.arrivals) (map (λ (h : Handed). h.verdict) j.arrivals) =
@@ -228,6 +240,5 @@ shaping_for_free_by {judge} network run row known used bridge holds offered =
 
 pub shaping_for_free : ShapingForFree
 shaping_for_free network run row net legal used bridge holds offered =
-    shaping_for_free_by network run row
-    (record { regulator = ats_is_regulator (declared_by network); net = net; legal = legal })
-    used bridge holds offered
+    shaping_for_free_by network run row (ats_case network run net legal) used bridge holds
+    (by_buckets network run row.port offered)

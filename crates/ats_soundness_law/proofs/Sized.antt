@@ -8,6 +8,8 @@ use Rattle.ats_group.specs.Group.{Offer, is_declared_size}
 use Rattle.ats_group.specs.declared.verdict.Verdict.{Verdict}
 use Rattle.ats_group.specs.declared.verdict.Verdict.TheVariants.{Eligible}
 use Rattle.ats_port_law.proofs.Totals.{All-from_filter}
+use Rattle.ats_bucket.specs.Conforming.{Frame}
+use Rattle.ats_group.specs.declared.member.Declared.{Declared}
 use Rattle.ats_trace.specs.Journey.{Travel}
 use Rattle.ats_trace.specs.Projections.{Handed, handed_by, handed_from}
 use Rattle.ats_trace.specs.Eligibility.{declared_by, offer_of, IsJudged, IsPassed, residence_behind}
@@ -23,14 +25,16 @@ IsSized network h =
     OnEligible h.verdict (λ e. is_declared_size (declared_by network h.crossing.sent.sender) h.crossing.octets ≡ true)
 
 -- so of the verdicts of a group that regulates
-group_sized : {judge : Judge} (network : DeclaredNetwork) (residence_ns : ℕ) → IsRegulator judge (declared_by network)
+group_sized : {judge : Judge} {rule : Declared → List Frame → Type 0} (network : DeclaredNetwork) (residence_ns : ℕ)
+    → IsRegulator judge rule
     → (arrivals : List Handed)
     → map (λ (h : Handed). h.verdict) arrivals ≡ judge (declared_by network) residence_ns (map offer_of arrivals)
     → All (IsSized network) arrivals
 group_sized network residence_ns regulator arrivals same =
     let Sized : Offer → Verdict → Type 0 = IsEligibleSized (declared_by network) in
     All-from_all_zip Sized offer_of (λ (h : Handed). h.verdict) arrivals
-    (subst (AllZip Sized (map offer_of arrivals)) (sym same) (regulator.sized residence_ns (map offer_of arrivals)))
+    (subst (AllZip Sized (map offer_of arrivals)) (sym same)
+    (regulator.sized (declared_by network) residence_ns (map offer_of arrivals)))
 
 -- and of those on flows
 flow_sized : (network : DeclaredNetwork) (h : Handed) → IsPassed network h → IsSized network h
@@ -40,7 +44,8 @@ flow_sized network h passed =
     subst Sized (sym passed) (by_size (is_declared_size (declared_by network h.crossing.sent.sender) h.crossing.octets)
     (Eligible (record { 0 = h.crossing.arrival })))
 
-place_sized : {judge : Judge} (network : DeclaredNetwork) (run : List Travel) → Case judge network run
+place_sized : {judge : Judge} {rule : Declared → List Frame → Type 0} (network : DeclaredNetwork) (run : List Travel)
+    → Case judge rule network run
     → (port class : ℕ) → port < length network.topology.ports → All (IsSized network) (handed_by network run port class)
 place_sized {judge} network run c port class within =
     elim (cases_lt 0 class) as (λ _. All (IsSized network) (handed_by network run port class)) [
@@ -58,7 +63,8 @@ place_sized {judge} network run c port class within =
     ]
 
 -- so of all that is handed on in a legal run
-pub sized : {judge : Judge} (network : DeclaredNetwork) (run : List Travel) → Case judge network run
+pub sized : {judge : Judge} {rule : Declared → List Frame → Type 0} (network : DeclaredNetwork) (run : List Travel)
+    → Case judge rule network run
     → All (IsSized network) (handed_from network 0 run)
 sized network run c k d h =
     let one : Handed = get_or (handed_from network 0 run) k d in

@@ -6,39 +6,41 @@ use Rattle.std.proofs.lemmas.List.Elements.{All-nil, All-cons, All-tail, All-con
 use Rattle.ats_network.specs.Sender.{Sender}
 use Rattle.ats_network.specs.Path.{IsValidPath}
 use Rattle.ats_network.specs.Bridges.{MeetAtBridge}
-use Rattle.ats_network.specs.Network.{DeclaredNetwork}
+use Rattle.ats_network.specs.Network.{DeclaredNetwork, IsNetwork}
 use Rattle.ats_network.specs.Senders.{sender_at, IsSender, AllNeighbours}
 use Rattle.ats_network.proofs.Appended.{all_right}
 use Rattle.ats_certificate.specs.PortSums.{uses}
 use Rattle.ats_certificate.specs.declared.row.Row.{Row}
 use Rattle.ats_group.specs.declared.verdict.Verdict.{Verdict}
 use Rattle.ats_port_rule.specs.Transmission.{Transmission}
-use Rattle.ats_port_law.specs.PortLaw.{IsOffered}
 use Rattle.ats_port_law.proofs.Totals.{All-from_filter}
+use Rattle.ats_bucket.specs.Conforming.{Frame}
+use Rattle.ats_group.specs.declared.member.Declared.{Declared}
 use Rattle.ats_trace.specs.Journey.{Travel, IsJourney, IsOfStream, IsReleased, IsWay, class_at}
 use Rattle.ats_trace.specs.Projections.{Hop, Crossing, Handed, crossings_along, handed_along, crossing_at, handed_at}
-use Rattle.ats_trace.specs.Projections.{transmission_of, crossings_from, handed_from, sent_by, crossings_by, handed_by}
+use Rattle.ats_trace.specs.Projections.{transmission_of, crossings_from, handed_from, crossings_by, handed_by}
 use Rattle.ats_trace.specs.Run.{IsLegalBy, releases_of}
-use Rattle.ats_group_law.specs.Regulator.{Judge, ats_judge}
+use Rattle.ats_group_law.specs.Regulator.{Judge, ats_judge, IsRule, IsRegulator}
 use Rattle.ats_group_law.proofs.Regulator.{ats_is_regulator}
-use Rattle.ats_trace.specs.Eligibility.{declared_by}
-use Rattle.ats_trace.specs.Talker.{start_of, talker_of, KeepsBuckets}
+use Rattle.ats_trace.specs.Talker.{start_of, talker_of, KeepsBucketsBy}
 use Rattle.ats_trace.specs.declared.journey.Release.{Release}
 use Rattle.ats_trace.specs.declared.journey.HopRecord.{HopRecord}
 use Rattle.ats_trace.specs.declared.journey.Ending.{Ending}
 use Rattle.ats_soundness_law.specs.Laws.{PathLaw, Containment, SoundByRules, CertificateIsSound}
 use Rattle.ats_soundness_law.specs.Rules.{Rule, rows_are_there, Keeps}
-use Rattle.ats_soundness_law.specs.Sound.{IsEligibleBy, IsPrompt, IsServed, IsPromptOnce, IsContained, bounds_of}
+use Rattle.ats_soundness_law.specs.Sound.{IsSoundBy, IsEligibleBy, IsPrompt, IsServed, IsPromptOnce, IsContained}
+use Rattle.ats_soundness_law.specs.Sound.{bounds_of}
 use Rattle.ats_soundness_law.specs.Sound.{later_ports, later_hops}
 use Rattle.ats_soundness_law.proofs.Along.{hop_of, all_hops, all_were_sent, all_have_crossed}
 use Rattle.ats_soundness_law.proofs.Behind.{way_on}
-use Rattle.ats_soundness_law.proofs.Bridge.{bridge_offered_by}
+use Rattle.ats_soundness_law.proofs.Bridge.{bridge_fed}
 use Rattle.ats_soundness_law.proofs.EachRule.{rule_of_holding, each_row_holds}
+use Rattle.ats_soundness_law.proofs.Offered.{IsFed}
 use Rattle.ats_soundness_law.proofs.Known.{Case, IsTold, told}
 use Rattle.ats_soundness_law.proofs.Lifts.{Numbered, numbered}
 use Rattle.ats_soundness_law.proofs.Paths.{sender_is, first_station, later_bridges, uses_own}
 use Rattle.ats_soundness_law.proofs.Serving.{RowsHold, Serves, serves}
-use Rattle.ats_soundness_law.proofs.Station.{station_offered_by}
+use Rattle.ats_soundness_law.proofs.Station.{station_fed}
 use Rattle.ats_soundness_law.proofs.Streams.{stream_used}
 use Rattle.ats_soundness_law.proofs.Way.{ArrivesWithin, EligibleWithin, ComesBy, prompt, prompt_once, within_sum}
 
@@ -59,7 +61,8 @@ all_there network run k d h =
     All-from_filter test (Contains (filter test crossings)) crossings (All-contains_itself (filter test crossings))
     k d h (eq-eqb one.port one.port refl)
 
-all_given : {judge : Judge} (network : DeclaredNetwork) (run : List Travel) → Case judge network run
+all_given : {judge : Judge} {rule : Declared → List Frame → Type 0} (network : DeclaredNetwork) (run : List Travel)
+    → Case judge rule network run
     → All (IsGiven network run) (handed_from network 0 run)
 all_given network run c k d h =
     let handed : List Handed = handed_from network 0 run in
@@ -121,35 +124,39 @@ eligible_within network run rows n r s path hops ending all given k d h =
 
 -- the ports of a path are offered what they may be asked to send: the first where the talker keeps its buckets, the
 -- others in any case
-later_offered : {judge : Judge} (network : DeclaredNetwork) (run : List Travel) → Case judge network run
+later_offered : {judge : Judge} {rule : Declared → List Frame → Type 0} (network : DeclaredNetwork) (run : List Travel)
+    → Case judge rule network run
     → (p : ℕ) (path : List ℕ) → AllNeighbours (MeetAtBridge network.topology) (p ∷ path)
-    → All (λ q. IsOffered network q (sent_by network run q)) path
+    → All (λ q. IsFed rule network run q) path
 later_offered network run c p path meet k d h =
-    bridge_offered_by network run (get_or path k d) c (later_bridges network.topology p path meet k d h)
+    bridge_fed network run (get_or path k d) c (later_bridges network.topology p path meet k d h)
 
-all_offered : {judge : Judge} (network : DeclaredNetwork) (run : List Travel) → Case judge network run → (path : List ℕ)
+all_offered : {judge : Judge} {rule : Declared → List Frame → Type 0} (network : DeclaredNetwork) (run : List Travel)
+    → Case judge rule network run → (path : List ℕ)
     → IsValidPath network.topology path → AllNeighbours (MeetAtBridge network.topology) path
-    → KeepsBuckets network (releases_of run) (start_of network.topology.ports path)
-    → All (λ q. IsOffered network q (sent_by network run q)) path
-all_offered network run c [] valid meet keeps = All-nil (λ q. IsOffered network q (sent_by network run q))
-all_offered network run c (p ∷ path) valid meet keeps =
-    All-cons (λ q. IsOffered network q (sent_by network run q)) p path
-    (station_offered_by network run p c (first_station network.topology p path valid) keeps)
+    → KeepsBucketsBy rule network (releases_of run) (start_of network.topology.ports path)
+    → All (λ q. IsFed rule network run q) path
+all_offered {judge} {rule} network run c [] valid meet keeps = All-nil (λ q. IsFed rule network run q)
+all_offered {judge} {rule} network run c (p ∷ path) valid meet keeps =
+    All-cons (λ q. IsFed rule network run q) p path
+    (station_fed network run p c (first_station network.topology p path valid) keeps)
     (later_offered network run c p path meet)
 
 -- a journey of a stream in a legal run, by rows that hold
-record OfStream (judge : Judge) (network : DeclaredNetwork) (run : List Travel) (rows : List Row)
+record OfStream (judge : Judge) (rule : Declared → List Frame → Type 0) (network : DeclaredNetwork) (run : List Travel)
+    (rows : List Row)
     (j : Travel) : Type 0 where
-  case : Case judge network run
+  case : Case judge rule network run
   holds : RowsHold network rows
   is : IsJourney network j
   keeps : IsSender network.topology (sender_at network j.release.sender)
   stream : j.release.sender < length network.streams
   numbered : Numbered (IsThere network run) (IsGiven network run) network j
 
-of_stream : {judge : Judge} (network : DeclaredNetwork) (run : List Travel) (rows : List Row) (j : Travel)
-    → Case judge network run → RowsHold network rows → Contains run j → IsOfStream network j
-    → OfStream judge network run rows j
+of_stream : {judge : Judge} {rule : Declared → List Frame → Type 0} (network : DeclaredNetwork) (run : List Travel)
+    (rows : List Row) (j : Travel)
+    → Case judge rule network run → RowsHold network rows → Contains run j → IsOfStream network j
+    → OfStream judge rule network run rows j
 of_stream network run rows j c holds there stream =
     let is : IsJourney network j = All-contains (IsJourney network) run j c.legal.journeys there in
     record {
@@ -163,10 +170,11 @@ of_stream network run rows j c holds there stream =
     }
 
 -- the ports of its path serve it where they are offered what they may be asked to send
-all_serve : {judge : Judge} (network : DeclaredNetwork) (run : List Travel) (rows : List Row) (j : Travel)
-    → OfStream judge network run rows j → (path : List ℕ)
+all_serve : {judge : Judge} {rule : Declared → List Frame → Type 0} (network : DeclaredNetwork) (run : List Travel)
+    (rows : List Row) (j : Travel)
+    → OfStream judge rule network run rows j → (path : List ℕ)
     → All (λ q. uses q (sender_at network j.release.sender) ≡ true) path
-    → All (λ q. q < length network.topology.ports) path → All (λ q. IsOffered network q (sent_by network run q)) path
+    → All (λ q. q < length network.topology.ports) path → All (λ q. IsFed rule network run q) path
     → All (Serves network run rows (sender_at network j.release.sender).class) path
 all_serve network run rows j o path used within offered k d h =
     let i : ℕ = j.release.sender in
@@ -182,12 +190,13 @@ comes_first r (p ∷ path) [] ending some released = tt
 comes_first r (p ∷ path) (hop ∷ hops) ending some released =
     subst (λ (v : Verdict). IsEligibleBy r.at.0 (λ e. Unit {0}) v) (sym released.1) (omega arith, tt)
 
-served : {judge : Judge} (network : DeclaredNetwork) (rows : List Row) (run : List Travel) → Case judge network run
+served : {judge : Judge} {rule : Declared → List Frame → Type 0} (network : DeclaredNetwork) (rows : List Row)
+    (run : List Travel) → Case judge rule network run
     → RowsHold network rows → (j : Travel) → Contains run j → IsOfStream network j
-    → KeepsBuckets network (releases_of run) (talker_of network j.release.sender)
+    → KeepsBucketsBy rule network (releases_of run) (talker_of network j.release.sender)
     → IsServed rows (sender_at network j.release.sender) j
-served {judge} network rows run c holds j there stream keeps =
-    let o : OfStream judge network run rows j = of_stream network run rows j c holds there stream in
+served {judge} {rule} network rows run c holds j there stream keeps =
+    let o : OfStream judge rule network run rows j = of_stream network run rows j c holds there stream in
     let r : Release = j.release in
     let s : Sender = sender_at network r.sender in
     let n : ℕ = o.numbered.number in
@@ -205,8 +214,9 @@ none_once bound [] ending = tt
 none_once bound (p ∷ path) ending = tt
 
 -- behind the first port of its path
-contained_behind : {judge : Judge} (network : DeclaredNetwork) (run : List Travel) (rows : List Row) (j : Travel)
-    → OfStream judge network run rows j → (n : ℕ) (path : List ℕ) (hops : List HopRecord) (ending : Ending)
+contained_behind : {judge : Judge} {rule : Declared → List Frame → Type 0} (network : DeclaredNetwork)
+    (run : List Travel) (rows : List Row) (j : Travel)
+    → OfStream judge rule network run rows j → (n : ℕ) (path : List ℕ) (hops : List HopRecord) (ending : Ending)
     → IsWay path hops ending → AllNeighbours (MeetAtBridge network.topology) path
     → All (λ q. uses q (sender_at network j.release.sender) ≡ true) path
     → All (λ q. q < length network.topology.ports) path
@@ -233,34 +243,42 @@ contained_behind network run rows j o n (p ∷ path) (hop ∷ hops) ending way m
     (λ none. subst Once (sym none) (none_once (bounds_of rows s) path ending))
     way
 
-contained : {judge : Judge} (network : DeclaredNetwork) (rows : List Row) (run : List Travel) → Case judge network run
+contained : {judge : Judge} {rule : Declared → List Frame → Type 0} (network : DeclaredNetwork) (rows : List Row)
+    (run : List Travel) → Case judge rule network run
     → RowsHold network rows → (j : Travel) → Contains run j → IsOfStream network j
     → IsContained rows (sender_at network j.release.sender) j
-contained {judge} network rows run c holds j there stream =
-    let o : OfStream judge network run rows j = of_stream network run rows j c holds there stream in
+contained {judge} {rule} network rows run c holds j there stream =
+    let o : OfStream judge rule network run rows j = of_stream network run rows j c holds there stream in
     let s : Sender = sender_at network j.release.sender in
     contained_behind network run rows j o o.numbered.number s.path j.hops j.ending o.is.way o.keeps.bridges (uses_own s)
     o.keeps.ports o.numbered.crossings o.numbered.handed
 
--- bounds that keep the rules are sound for each regulator
+-- what the rules say of the rows
 rows_hold : (network : DeclaredNetwork) (rows : List Row) → ((rule : Rule) → Keeps rule network rows)
     → RowsHold network rows
-rows_hold network rows keeps = record { complete = keeps rows_are_there; each = each_row_holds network rows keeps }
+rows_hold network rows keeps =
+    record { complete = keeps rows_are_there; each = each_row_holds network rows keeps }
 
-pub sound_by_rules : SoundByRules
-sound_by_rules judge network rows regulator net keeps =
+-- bounds that keep the rules are sound for each judge that regulates by a rule
+pub sound_by_rule : {judge : Judge} {rule : Declared → List Frame → Type 0} (network : DeclaredNetwork)
+    (rows : List Row) → IsRule rule → IsRegulator judge rule → IsNetwork network
+    → ((rule : Rule) → Keeps rule network rows) → IsSoundBy judge rule network rows
+sound_by_rule {judge} {rule} network rows rules regulator net keeps =
     let holds : RowsHold network rows = rows_hold network rows keeps in
-    let case : (run : List Travel) → IsLegalBy judge network run → Case judge network run =
-    λ run legal. record { regulator = regulator; net = net; legal = legal } in
+    let case : (run : List Travel) → IsLegalBy judge network run → Case judge rule network run =
+    λ run legal. record { rules = rules; regulator = regulator; net = net; legal = legal } in
     record {
       served = λ run legal j there stream kept. served network rows run (case run legal) holds j there stream kept;
       contained = λ run legal j there stream. contained network rows run (case run legal) holds j there stream;
     }
 
+pub sound_by_rules : SoundByRules
+sound_by_rules judge network rows regulator net keeps =
+    sound_by_rule network rows ats_is_regulator.rule regulator net keeps
+
 pub certificate_is_sound : CertificateIsSound
 certificate_is_sound network rows net holds =
-    sound_by_rules ats_judge network rows (ats_is_regulator (declared_by network)) net
-    (rule_of_holding network rows holds)
+    sound_by_rules ats_judge network rows ats_is_regulator.regulator net (rule_of_holding network rows holds)
 
 pub path_law : PathLaw
 path_law network rows net holds = (certificate_is_sound network rows net holds).served

@@ -2,11 +2,10 @@ use Rattle.std.specs.Prelude.{[], ◌∷◌, map, None}
 use Rattle.ats_network.specs.Senders.{sender_at}
 use Rattle.ats_group.specs.Group.{Offer}
 use Rattle.ats_group.specs.declared.verdict.Verdict.TheVariants.{Size}
-use Rattle.ats_group_law.specs.Regulator.{Judge, IsRegulator}
+use Rattle.ats_group_law.specs.Regulator.{Judge, IsRegulator, bucket_rule}
 use Rattle.ats_trace.specs.Journey.{Travel}
-use Rattle.ats_trace.specs.Eligibility.{declared_by}
 use Rattle.ats_trace.specs.Run.{IsLegalBy, releases_of}
-use Rattle.ats_trace.specs.Talker.{talker_of, bucket_rule, KeepsBuckets}
+use Rattle.ats_trace.specs.Talker.{talker_of, KeepsBuckets}
 use Rattle.ats_trace.specs.Examples.{line, hop}
 use Rattle.ats_trace.specs.declared.journey.Ending.TheVariants.{Discard}
 use Rattle.ats_soundness_law.specs.Sound.{IsServed, IsSoundBy}
@@ -33,4 +32,4 @@ pub record RegulatorCounts : Type 0 where
   pub keeps : KeepsBuckets line (releases_of (discarded ∷ [])) (talker_of line 0)
   pub not_served : ¬ IsServed line_rows (sender_at line 0) discarded
   pub unsound : ¬ IsSoundBy discards bucket_rule line line_rows
-  pub no_regulator : ¬ IsRegulator discards (declared_by line)
+  pub no_regulator : ¬ IsRegulator discards bucket_rule

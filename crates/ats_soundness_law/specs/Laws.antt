@@ -8,12 +8,11 @@ use Rattle.ats_certificate.specs.PortSums.{is_used}
 use Rattle.ats_certificate.specs.Certificate.{RowHolds, Holds}
 use Rattle.ats_certificate.specs.declared.row.Row.{Row}
 use Rattle.ats_port_law.specs.PortLaw.{IsOffered}
-use Rattle.ats_group_law.specs.Regulator.{Judge, IsRegulator}
+use Rattle.ats_group_law.specs.Regulator.{Judge, IsRegulator, bucket_rule}
 use Rattle.ats_trace.specs.Journey.{Travel, IsOfStream}
 use Rattle.ats_trace.specs.Projections.{Handed, sent_by, handed_by}
-use Rattle.ats_trace.specs.Eligibility.{declared_by}
 use Rattle.ats_trace.specs.Run.{IsLegal, releases_of}
-use Rattle.ats_trace.specs.Talker.{talker_of, bucket_rule, KeepsBuckets}
+use Rattle.ats_trace.specs.Talker.{talker_of, KeepsBuckets}
 use Rattle.ats_soundness_law.specs.Rules.{Rule, Keeps}
 use Rattle.ats_soundness_law.specs.Sound.{IsEligibleBy, IsServed, IsContained, IsSoundBy, IsSound}
 
@@ -60,9 +59,9 @@ Containment = (network : DeclaredNetwork) (rows : List Row) → IsNetwork networ
     → IsOfStream network journey
     → IsContained rows (sender_at network journey.release.sender) journey
 
--- where groups regulate what the senders declare, bounds that keep each of the ten rules are sound
+-- where groups regulate by token buckets, bounds that keep each of the ten rules are sound
 abbrev pub SoundByRules : Type 0
-SoundByRules = (judge : Judge) (network : DeclaredNetwork) (rows : List Row) → IsRegulator judge (declared_by network)
+SoundByRules = (judge : Judge) (network : DeclaredNetwork) (rows : List Row) → IsRegulator judge bucket_rule
     → IsNetwork network
     → ((rule : Rule) → Keeps rule network rows) → IsSoundBy judge bucket_rule network rows
 

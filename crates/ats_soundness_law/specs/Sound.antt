@@ -8,10 +8,10 @@ use Rattle.ats_bucket.specs.Conforming.{Frame}
 use Rattle.ats_group.specs.declared.member.Declared.{Declared}
 use Rattle.ats_group.specs.declared.verdict.Verdict.{Verdict}
 use Rattle.ats_group.specs.declared.verdict.Verdict.TheVariants.{Eligible, Late, Size}
-use Rattle.ats_group_law.specs.Regulator.{OnEligible, Judge, ats_judge}
+use Rattle.ats_group_law.specs.Regulator.{OnEligible, Judge, ats_judge, bucket_rule}
 use Rattle.ats_trace.specs.Journey.{Travel, IsOfStream, class_at}
 use Rattle.ats_trace.specs.Run.{IsLegalBy, releases_of}
-use Rattle.ats_trace.specs.Talker.{talker_of, bucket_rule, KeepsBucketsBy}
+use Rattle.ats_trace.specs.Talker.{talker_of, KeepsBucketsBy}
 use Rattle.ats_trace.specs.declared.journey.HopRecord.{HopRecord}
 use Rattle.ats_trace.specs.declared.journey.Ending.{Ending}
 use Rattle.ats_trace.specs.declared.journey.Ending.TheVariants.{Sink, Discard}

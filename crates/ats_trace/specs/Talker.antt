@@ -3,7 +3,8 @@ use Rattle.ats_num.specs.Wire.{bits_of}
 use Rattle.ats_topology.specs.Port.{port_at}
 use Rattle.ats_topology.specs.declared.port.Port.{Port}
 use Rattle.ats_network.specs.Network.{DeclaredNetwork, senders_of}
-use Rattle.ats_bucket.specs.Conforming.{Frame, Conforms}
+use Rattle.ats_bucket.specs.Conforming.{Frame}
+use Rattle.ats_group_law.specs.Regulator.{bucket_rule}
 use Rattle.ats_group.specs.Group.{is_declared_size}
 use Rattle.ats_group.specs.declared.member.Declared.{Declared}
 use Rattle.ats_network.specs.Senders.{sender_at}
@@ -39,10 +40,6 @@ pub record KeepsBucketsBy (rule : Declared → List Frame → Type 0) (network :
       → rule (declared_by network i) (frames_of i releases)
   pub sizes : All (λ (r : Release). r.sender < length (senders_of network) → talker_of network r.sender ≡ station
       → IsDeclaredSize network r) releases
-
--- the rule of a token bucket: what is released conforms to the declared rate and burst
-abbrev pub bucket_rule : Declared → List Frame → Type 0
-bucket_rule declared frames = Conforms declared.rate declared.burst_bits frames
 
 -- a station keeps its buckets
 abbrev pub KeepsBuckets : DeclaredNetwork → List Release → ℕ → Type 0
