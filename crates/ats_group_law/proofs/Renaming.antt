@@ -1,18 +1,13 @@
-use Rattle.std.proofs.Common.{◌≡◌, ℕ, Bool, List, [], ◌∷◌, map, All, refl, sym, ap, subst, inl, inr, eq-eqb, ne_eqb}
+use Rattle.std.proofs.Common.{◌≡◌, ℕ, Bool, List, [], ◌∷◌, All, refl, sym, ap, subst, inl, inr, eq-eqb, ne_eqb}
 use Rattle.std.specs.Prelude.{◌==◌, IsTrue, if◌then◌else◌}
 use Rattle.std.proofs.lemmas.Bool.{cases_eq}
 use Rattle.std.proofs.lemmas.List.Elements.{All-head, All-tail}
 use Rattle.ats_group.specs.declared.member.Declared.{Declared}
 use Rattle.ats_group.specs.declared.verdict.Verdict.{Verdict}
 use Rattle.ats_group.specs.declared.verdict.Verdict.TheVariants.{Eligible, Late, Size}
-use Rattle.ats_group.specs.Group.{Offer, State, first, judged, after, next, verdicts_of, empty_once}
+use Rattle.ats_group.specs.Group.{Offer, State, first, judged, after, next, verdicts_of, state_after, empty_once}
 use Rattle.ats_bucket.specs.Scheduler.{first_empty}
-use Rattle.ats_group_law.specs.Renaming.{IsRenaming, renamed_offer, VerdictsAreKept}
-
--- two groups keep the same of the members under both numbers
-record KeepsSame (is_member : ℕ → Bool) (rename : ℕ → ℕ) (state other : State) : Type 0 where
-  time : other.time ≡ state.time
-  empty : (member : ℕ) → IsTrue (is_member member) → other.empty (rename member) ≡ state.empty member
+use Rattle.ats_group_law.specs.Renaming.{IsRenaming, renamed_offer, renamed_offers, KeepsSame, VerdictsAreKept}
 
 -- so they judge the same
 same_verdict : (is_member : ℕ → Bool) (rename : ℕ → ℕ) (declared renamed : ℕ → Declared)
@@ -63,35 +58,63 @@ kept_after is_member rename declared renamed is state other kept offer there (El
 kept_after is_member rename declared renamed is state other kept offer there (Late e) = kept
 kept_after is_member rename declared renamed is state other kept offer there Size = kept
 
+-- after one more frame they keep the same
+kept_next : (is_member : ℕ → Bool) (rename : ℕ → ℕ) (declared renamed : ℕ → Declared)
+    → IsRenaming is_member rename declared renamed → (residence_ns : ℕ) (state other : State)
+    → KeepsSame is_member rename state other → (offer : Offer) → IsTrue (is_member offer.member)
+    → KeepsSame is_member rename (next declared residence_ns state offer)
+    (next renamed residence_ns other (renamed_offer rename offer))
+kept_next is_member rename declared renamed is residence_ns state other kept offer there =
+    let Kept : Verdict → Type 0 = λ (v : Verdict). KeepsSame is_member rename (next declared residence_ns state offer)
+    (after renamed other (renamed_offer rename offer) v) in
+    subst Kept (sym (same_verdict is_member rename declared renamed is residence_ns state other kept offer there))
+    (kept_after is_member rename declared renamed is state other kept offer there
+    (judged declared residence_ns state offer))
+
 verdicts_from : (is_member : ℕ → Bool) (rename : ℕ → ℕ) (declared renamed : ℕ → Declared)
-    → IsRenaming is_member rename declared renamed
-    → (residence_ns : ℕ) (state other : State) → KeepsSame is_member rename state other
-    → (offers : List Offer) → All (λ (o : Offer). IsTrue (is_member o.member)) offers
-    → verdicts_of renamed residence_ns other (map (renamed_offer rename) offers)
+    → IsRenaming is_member rename declared renamed → (residence_ns : ℕ) (state other : State)
+    → KeepsSame is_member rename state other → (offers : List Offer)
+    → All (λ (o : Offer). IsTrue (is_member o.member)) offers
+    → verdicts_of renamed residence_ns other (renamed_offers rename offers)
     ≡ verdicts_of declared residence_ns state offers
 verdicts_from is_member rename declared renamed is residence_ns state other kept [] all = refl
 verdicts_from is_member rename declared renamed is residence_ns state other kept (offer ∷ offers) all =
-    let there : IsTrue (is_member offer.member) =
-    All-head (λ (o : Offer). IsTrue (is_member o.member)) offer offers all in
+    let Members : Offer → Type 0 = λ (o : Offer). IsTrue (is_member o.member) in
+    let there : IsTrue (is_member offer.member) = All-head Members offer offers all in
     let same : judged renamed residence_ns other (renamed_offer rename offer)
     ≡ judged declared residence_ns state offer =
     same_verdict is_member rename declared renamed is residence_ns state other kept offer there in
-    let Kept : Verdict → Type 0 =
-    λ (v : Verdict). KeepsSame is_member rename (next declared residence_ns state offer)
-    (after renamed other (renamed_offer rename offer) v) in
-    let later : KeepsSame is_member rename (next declared residence_ns state offer)
-    (next renamed residence_ns other (renamed_offer rename offer)) =
-    subst Kept (sym same) (kept_after is_member rename declared renamed is state other kept offer there
-    (judged declared residence_ns state offer)) in
     let rest = verdicts_from is_member rename declared renamed is residence_ns (next declared residence_ns state offer)
-    (next renamed residence_ns other (renamed_offer rename offer)) later offers
-    (All-tail (λ (o : Offer). IsTrue (is_member o.member)) offer offers all) in
+    (next renamed residence_ns other (renamed_offer rename offer))
+    (kept_next is_member rename declared renamed is residence_ns state other kept offer there) offers
+    (All-tail Members offer offers all) in
     cc
+
+states_from : (is_member : ℕ → Bool) (rename : ℕ → ℕ) (declared renamed : ℕ → Declared)
+    → IsRenaming is_member rename declared renamed → (residence_ns : ℕ) (state other : State)
+    → KeepsSame is_member rename state other → (offers : List Offer)
+    → All (λ (o : Offer). IsTrue (is_member o.member)) offers
+    → KeepsSame is_member rename (state_after declared residence_ns state offers)
+    (state_after renamed residence_ns other (renamed_offers rename offers))
+states_from is_member rename declared renamed is residence_ns state other kept [] all = kept
+states_from is_member rename declared renamed is residence_ns state other kept (offer ∷ offers) all =
+    let Members : Offer → Type 0 = λ (o : Offer). IsTrue (is_member o.member) in
+    states_from is_member rename declared renamed is residence_ns (next declared residence_ns state offer)
+    (next renamed residence_ns other (renamed_offer rename offer))
+    (kept_next is_member rename declared renamed is residence_ns state other kept offer
+    (All-head Members offer offers all))
+    offers (All-tail Members offer offers all)
 
 pub verdicts_kept : VerdictsAreKept
 verdicts_kept is_member rename declared renamed is residence_ns offers all =
-    verdicts_from is_member rename declared renamed is residence_ns (first declared) (first renamed)
-    (record {
+    let start : KeepsSame is_member rename (first declared) (first renamed) =
+    record {
       time = refl;
       empty = λ member here. ap (λ (d : Declared). first_empty d.burst_bits) (is.same member here);
-    }) offers all
+    } in
+    record {
+      verdicts = verdicts_from is_member rename declared renamed is residence_ns (first declared) (first renamed)
+          start offers all;
+      state = states_from is_member rename declared renamed is residence_ns (first declared) (first renamed)
+          start offers all;
+    }

@@ -100,8 +100,8 @@ pub fn ats_is_regulator()
     ensures { AtsIsRegulator }
 {}
 
-/// A group's verdicts do not depend on its members' numbers: where each gets another one of its
-/// own, under which the same is declared, the verdicts stay.
+/// Nothing of a group depends on its members' numbers: where each gets another one of its own, under which the same is
+/// declared, the verdicts stay, the group eligibility time, and each member's bucket under its number.
 pub fn verdicts_are_kept()
     ensures { VerdictsAreKept }
 {}

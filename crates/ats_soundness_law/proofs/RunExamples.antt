@@ -21,7 +21,8 @@ use Rattle.ats_trace.specs.Stored.{travel_at}
 use Rattle.ats_trace.specs.Talker.{talker_of, KeepsBuckets}
 use Rattle.ats_trace.specs.Examples.{stream, line, fork, fork_nodes, fork_links, one_frame}
 use Rattle.ats_trace.specs.Changes.{sunk_late}
-use Rattle.ats_trace.specs.BridgeExamples.{two_nodes, two_links, three_nodes, three_links, over_two, over_three}
+use Rattle.ats_trace.specs.BridgeExamples.{eligible_later, two_nodes, two_links, three_nodes, three_links, over_two}
+use Rattle.ats_trace.specs.BridgeExamples.{over_three}
 use Rattle.ats_trace.specs.BridgeExamples.{one_over_two, one_over_three, two_over_two, two_over_three}
 use Rattle.ats_trace.specs.Babbler.{babbler}
 use Rattle.ats_trace.proofs.Tests.{lt_of, all_by, pairs_by}
@@ -179,6 +180,11 @@ two_not_contained contained =
     let over : 163868001 ≤ 151032000 + 12836000 = contained.1 in
     absurd (omega arith)
 
+not_so_late : ¬ IsContained two_rows (sender_at over_two 0) (travel_at eligible_later 1)
+not_so_late contained =
+    let over : 151032001 ≤ 137196000 + 13836000 = contained.0 in
+    absurd (omega arith)
+
 three_not_contained : ¬ IsContained three_rows (sender_at over_three 0) (travel_at (two_over_three 177704001) 1)
 three_not_contained contained =
     let over : 177704001 ≤ 164868000 + 12836000 = contained.1.1 in
@@ -222,6 +228,12 @@ bridged_sound = record {
     contained = contained_in over_three three_rows (two_over_three 177704000) (travel_at (two_over_three 177704000) 1)
         three_certified bridged_legal.two_over_three (1, lit< tt, refl) (lit< tt);
   };
+  eligible_later = record {
+    not_contained = not_so_late;
+    not_legal = λ legal. not_so_late
+        (contained_in over_two two_rows eligible_later (travel_at eligible_later 1) two_certified legal
+        (1, lit< tt, refl) (lit< tt));
+  };
   later_over_two = record {
     not_contained = two_not_contained;
     not_legal = λ legal. two_not_contained (contained_in over_two two_rows (two_over_two 163868001)
@@ -264,8 +276,9 @@ babbler_contained = record {
 
 pub exact_examples : ExactExamples
 exact_examples = record {
-  exact = (links_are_exact line one_frame is_network).0 examples_legal.one_frame;
-  not_exact = λ exact. changed_are_not.links ((links_are_exact line sunk_late is_network).1 exact);
+  exact = (links_are_exact line one_frame is_network (λ port within. refl)).0 examples_legal.one_frame;
+  not_exact =
+      λ exact. changed_are_not.links ((links_are_exact line sunk_late is_network (λ port within. refl)).1 exact);
 }
 
 not_before : ¬ AllPairs IsBefore turned_rows

@@ -39,7 +39,7 @@ use Rattle.ats_bucket.specs.Conforming.{Frame}
 use Rattle.ats_group.specs.declared.member.Declared.{Declared}
 use Rattle.ats_trace.specs.Journey.{Travel}
 use Rattle.ats_trace.specs.Projections.{Crossing, Handed, sent_by, crossings_by, handed_by}
-use Rattle.ats_trace.specs.Links.{earliest_of, ArrivesInTime, KeepsLinkRule}
+use Rattle.ats_trace.specs.Links.{earliest_of, ArrivesWithin, KeepsLinkRule}
 use Rattle.ats_trace.specs.Eligibility.{declared_by, IsJudged, residence_behind}
 use Rattle.ats_soundness_law.specs.Laws.{ShapingForFree, IsHandedOn}
 use Rattle.ats_soundness_law.specs.Sound.{IsEligibleBy}
@@ -86,8 +86,9 @@ on_time network run row a h came =
     let x : Transmission = h.crossing.sent in
     let rule : KeepsPortRule ps sent = a.known.legal.ports row.port a.within in
     let link : KeepsLinkRule port (crossings_by network run row.port) = a.known.legal.links row.port a.within in
-    let in_time : ArrivesInTime port h.crossing =
-    All-contains (ArrivesInTime port) (crossings_by network run row.port) h.crossing link.within came.crossed in
+    let in_time : ArrivesWithin (earliest_of port) port.latency.0 h.crossing =
+    All-contains (ArrivesWithin (earliest_of port) port.latency.0) (crossings_by network run row.port)
+    h.crossing link.within came.crossed in
     let declared : IsDeclared network row.port x =
     All-contains (IsDeclared network row.port) sent x a.fed.offered.each came.sent in
     let within : IsWithinBound network row x = All-contains (IsWithinBound network row) sent x

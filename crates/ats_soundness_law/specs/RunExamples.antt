@@ -10,7 +10,8 @@ use Rattle.ats_trace.specs.Stored.{travel_at}
 use Rattle.ats_trace.specs.Talker.{talker_of, KeepsBuckets}
 use Rattle.ats_trace.specs.Examples.{line, fork, one_frame}
 use Rattle.ats_trace.specs.Changes.{sunk_late}
-use Rattle.ats_trace.specs.BridgeExamples.{over_two, over_three, one_over_two, one_over_three, two_over_two}
+use Rattle.ats_trace.specs.BridgeExamples.{eligible_later, over_two, over_three, one_over_two, one_over_three}
+use Rattle.ats_trace.specs.BridgeExamples.{two_over_two}
 use Rattle.ats_trace.specs.BridgeExamples.{two_over_three}
 use Rattle.ats_trace.specs.Babbler.{babbler}
 use Rattle.ats_trace.specs.declared.journey.Ending.TheVariants.{Sink}
@@ -75,6 +76,7 @@ pub record BridgedAreSound : Type 0 where
       (travel_at (two_over_two 163868000) 1)
   pub second_over_three : IsContainedAlone over_three three_rows (two_over_three 177704000)
       (travel_at (two_over_three 177704000) 1)
+  pub eligible_later : IsContainedNever over_two two_rows eligible_later (travel_at eligible_later 1)
   pub later_over_two : IsContainedNever over_two two_rows (two_over_two 163868001)
       (travel_at (two_over_two 163868001) 1)
   pub later_over_three : IsContainedNever over_three three_rows (two_over_three 177704001)

@@ -16,9 +16,10 @@ use Rattle.ats_group.specs.declared.verdict.Verdict.TheVariants.{Eligible, Late,
 use Rattle.ats_trace.specs.Journey.{Travel, GoesOn, IsWay, IsReleased, IsJourney, class_at}
 use Rattle.ats_trace.specs.Projections.{Crossing, transmission_by, transmission_of, crossing_at, crossings_along}
 use Rattle.ats_trace.specs.Projections.{journey_crossings, crossings_from, crossings_by}
-use Rattle.ats_trace.specs.Links.{ArrivesInTime, KeepsLinkRule}
+use Rattle.ats_trace.specs.Links.{earliest_of, ArrivesWithin, KeepsLinkRule}
 use Rattle.ats_trace.specs.Run.{IsLegal}
-use Rattle.ats_trace.specs.ExactLinks.{arrival_after, GoesOnAt, IsWayAt, IsEligibleAtRelease, IsJourneyAt, IsLegalAt}
+use Rattle.ats_trace.specs.ExactLinks.{AreExact, arrival_after, GoesOnAt, IsWayAt, IsEligibleAtRelease, IsJourneyAt}
+use Rattle.ats_trace.specs.ExactLinks.{IsLegalAt}
 use Rattle.ats_trace.specs.ExactLinks.{LinksAreExact}
 use Rattle.ats_trace.specs.declared.journey.Release.{Release}
 use Rattle.ats_trace.specs.declared.journey.HopRecord.{HopRecord}
@@ -115,22 +116,23 @@ exact_journeys network net n (j ∷ run) all exact =
     (exact_journeys network net (n + 1) run (All-tail (IsJourney network) j run all)
     (all_right Exact (journey_crossings network n j) (crossings_from network (n + 1) run) exact))
 
-all_exact : (network : DeclaredNetwork) (run : List Travel) → IsLegal network run
+all_exact : (network : DeclaredNetwork) (run : List Travel) → AreExact network.topology.ports → IsLegal network run
     → All (IsExact network.topology.ports) (crossings_from network 0 run)
-all_exact network run legal k d h within =
+all_exact network run exact legal k d h within =
     let crossings : List Crossing = crossings_from network 0 run in
     let one : Crossing = get_or crossings k d in
     let port : Port = port_at network.topology.ports one.port in
-    let in_time : ArrivesInTime port one =
-    All-from_filter (λ (c : Crossing). c.port == one.port) (ArrivesInTime port) crossings
+    let in_time : ArrivesWithin (earliest_of port) port.latency.0 one =
+    All-from_filter (λ (c : Crossing). c.port == one.port) (ArrivesWithin (earliest_of port) port.latency.0) crossings
     (legal.links one.port within).within k d h (eq-eqb one.port one.port refl) in
-    omega (arith, in_time.earliest, in_time.latest)
+    omega (arith, in_time.earliest, in_time.latest, exact one.port within)
 
-at_from_legal : (network : DeclaredNetwork) (run : List Travel) → IsNetwork network → IsLegal network run
+at_from_legal : (network : DeclaredNetwork) (run : List Travel) → IsNetwork network → AreExact network.topology.ports
+    → IsLegal network run
     → IsLegalAt network run
-at_from_legal network run net legal = record {
+at_from_legal network run net exact legal = record {
   in_order = legal.in_order;
-  journeys = exact_journeys network net 0 run legal.journeys (all_exact network run legal);
+  journeys = exact_journeys network net 0 run legal.journeys (all_exact network run exact legal);
   ports = legal.ports;
   groups = legal.groups;
   flows = legal.flows;
@@ -241,11 +243,11 @@ form_journey network j is =
     }
 
 -- exact arrivals are in time, and in the order of the ends
-exact_links : (network : DeclaredNetwork) (run : List Travel)
+exact_links : (network : DeclaredNetwork) (run : List Travel) → AreExact network.topology.ports
     → All (IsExact network.topology.ports) (crossings_from network 0 run)
     → (port : ℕ) → port < length network.topology.ports
     → KeepsLinkRule (port_at network.topology.ports port) (crossings_by network run port)
-exact_links network run all port within =
+exact_links network run one all port within =
     let ports : List Port = network.topology.ports in
     let crossings : List Crossing = crossings_from network 0 run in
     let Exact : Crossing → Type 0 = λ (c : Crossing). c.arrival ≡ arrival_after (port_at ports port) c.sent.end in
@@ -258,19 +260,21 @@ exact_links network run all port within =
     subst (λ (p : ℕ). At p one) same
     (All-filter (λ (c : Crossing). c.port == port) (IsExact ports) crossings all k d h) within) in
     record {
-      within = λ k d h. (let e = exact k d h in record { earliest = omega (arith, e); latest = omega (arith, e) });
+      within = λ k d h.
+          (let e = exact k d h in record { earliest = omega (arith, e, one port within); latest = omega (arith, e) });
       order = λ k d h l b i before. (let e = exact k d h in let f = exact l b i in omega (arith, e, f, before));
     }
 
-legal_from_at : (network : DeclaredNetwork) (run : List Travel) → IsLegalAt network run → IsLegal network run
-legal_from_at network run legal = record {
+legal_from_at : (network : DeclaredNetwork) (run : List Travel) → AreExact network.topology.ports
+    → IsLegalAt network run → IsLegal network run
+legal_from_at network run one legal = record {
   in_order = legal.in_order;
   journeys = λ k d h. form_journey network (get_or run k d) (legal.journeys k d h);
   ports = legal.ports;
-  links = exact_links network run (crossed network 0 run legal.journeys);
+  links = exact_links network run one (crossed network 0 run legal.journeys);
   groups = legal.groups;
   flows = legal.flows;
 }
 
 pub links_are_exact : LinksAreExact
-links_are_exact network run net = (at_from_legal network run net, legal_from_at network run)
+links_are_exact network run net exact = (at_from_legal network run net exact, legal_from_at network run exact)

@@ -15,7 +15,7 @@ use Rattle.ats_group.specs.declared.verdict.Verdict.{Verdict}
 use Rattle.ats_group.specs.declared.verdict.Verdict.TheVariants.{Eligible, Late, Size}
 use Rattle.ats_group_law.specs.Regulator.{ats_judge}
 use Rattle.ats_trace.specs.Journey.{Travel}
-use Rattle.ats_trace.specs.Links.{earliest_of, ArrivesInTime, KeepsLinkRule}
+use Rattle.ats_trace.specs.Links.{earliest_of, ArrivesWithin, KeepsTimes, KeepsLinkRule}
 use Rattle.ats_trace.specs.Parts.{EachPort}
 use Rattle.ats_trace.specs.Projections.{Crossing, Handed, crossings_by, sent_by, handed_by, handed_from}
 use Rattle.ats_trace.specs.Eligibility.{declared_by, offer_of, residence_behind, IsJudged, IsPassed}
@@ -60,17 +60,16 @@ pub ports_by : (network : DeclaredNetwork) (run : List Travel)
     → KeepsPortRule (port_at network.topology.ports port).ps_per_bit (sent_by network run port)
 ports_by = each_port_by KeepsPortRule keeps_port_rule port_rule_by
 
--- each link keeps the link rule
-abbrev pub in_time : Port → Crossing → Bool
-in_time port x = nat_le (x.sent.end + earliest_of port) x.arrival && nat_le x.arrival (x.sent.end + port.latency.0)
+-- crossings keep their times
+abbrev pub in_time : ℕ → ℕ → Crossing → Bool
+in_time least most x = nat_le (x.sent.end + least) x.arrival && nat_le x.arrival (x.sent.end + most)
 
-in_time_by : (port : Port) (x : Crossing) → in_time port x ≡ true → ArrivesInTime port x
-in_time_by port x h =
-    let parts = and_parts (nat_le (x.sent.end + earliest_of port) x.arrival)
-    (nat_le x.arrival (x.sent.end + port.latency.0)) h in
+in_time_by : (least most : ℕ) (x : Crossing) → in_time least most x ≡ true → ArrivesWithin least most x
+in_time_by least most x h =
+    let parts = and_parts (nat_le (x.sent.end + least) x.arrival) (nat_le x.arrival (x.sent.end + most)) h in
     record {
-      earliest = le_of (x.sent.end + earliest_of port) x.arrival parts.0;
-      latest = le_of x.arrival (x.sent.end + port.latency.0) parts.1;
+      earliest = le_of (x.sent.end + least) x.arrival parts.0;
+      latest = le_of x.arrival (x.sent.end + most) parts.1;
     }
 
 abbrev pub follows : Crossing → Crossing → Bool
@@ -81,23 +80,27 @@ follows_by x y h before =
     lt_of x.arrival y.arrival
     (implied (nat_lt x.sent.end y.sent.end) (nat_lt x.arrival y.arrival) h (of_lt x.sent.end y.sent.end before))
 
-abbrev pub keeps_link_rule : Port → List Crossing → Bool
-keeps_link_rule port crossings =
-    list_all (in_time port) crossings && list_all (λ (x : Crossing). list_all (follows x) crossings) crossings
+abbrev pub keeps_times : ℕ → ℕ → List Crossing → Bool
+keeps_times least most crossings =
+    list_all (in_time least most) crossings && list_all (λ (x : Crossing). list_all (follows x) crossings) crossings
 
-link_rule_by : (port : Port) (crossings : List Crossing) → keeps_link_rule port crossings ≡ true
-    → KeepsLinkRule port crossings
-link_rule_by port crossings h =
+pub times_by : (least most : ℕ) (crossings : List Crossing) → keeps_times least most crossings ≡ true
+    → KeepsTimes least most crossings
+times_by least most crossings h =
     let each : Crossing → Bool = λ (x : Crossing). list_all (follows x) crossings in
-    let parts = and_parts (list_all (in_time port) crossings) (list_all each crossings) h in
+    let parts = and_parts (list_all (in_time least most) crossings) (list_all each crossings) h in
     record {
-      within = all_by (ArrivesInTime port) (in_time port) (in_time_by port) crossings parts.0;
+      within = all_by (ArrivesWithin least most) (in_time least most) (in_time_by least most) crossings parts.0;
       order = all_by
           (λ (x : Crossing). All (λ (y : Crossing). x.sent.end < y.sent.end → x.arrival < y.arrival) crossings) each
           (λ x passed. all_by (λ (y : Crossing). x.sent.end < y.sent.end → x.arrival < y.arrival) (follows x)
           (follows_by x) crossings passed)
           crossings parts.1;
     }
+
+-- each link keeps the link rule
+abbrev pub keeps_link_rule : Port → List Crossing → Bool
+keeps_link_rule port crossings = keeps_times (earliest_of port) port.latency.0 crossings
 
 abbrev pub links_pass : DeclaredNetwork → List Travel → Bool
 links_pass network run =
@@ -108,7 +111,8 @@ pub links_by : (network : DeclaredNetwork) (run : List Travel) → links_pass ne
     → port < length network.topology.ports
     → KeepsLinkRule (port_at network.topology.ports port) (crossings_by network run port)
 links_by network run passed port within =
-    link_rule_by (port_at network.topology.ports port) (crossings_by network run port)
+    times_by (earliest_of (port_at network.topology.ports port)) (port_at network.topology.ports port).latency.0
+    (crossings_by network run port)
     (below_by (λ p. keeps_link_rule (port_at network.topology.ports p) (crossings_by network run p))
     (length network.topology.ports) passed port within)
 

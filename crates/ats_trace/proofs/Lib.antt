@@ -5,6 +5,7 @@ pub mod ExactLinks
 pub mod Filtered
 pub mod LegalProofs
 pub mod LegalTest
+pub mod LinkExamples
 pub mod MoreChangeProofs
 pub mod PartProofs
 pub mod PartTest

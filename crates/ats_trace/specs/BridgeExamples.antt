@@ -78,3 +78,13 @@ pub record BridgedAreLegal : Type 0 where
   pub one_over_three : IsLegal over_three (one_over_three ∷ [])
   pub two_over_two : IsLegal over_two (two_over_two 163868000)
   pub two_over_three : IsLegal over_three (two_over_three 177704000)
+
+-- the second frame over two bridges where the second of them makes it eligible 1 ps later, and all else is the same
+abbrev pub eligible_later : List Travel
+eligible_later =
+    one_over_two
+    ∷ sunk 0 0 1522
+    (hop 0 0 12336000 24672000 ∷ hop 26172000 137196000 137196000 149532000
+    ∷ hop 151032000 151032001 151032000 163368000 ∷ [])
+    163868000
+    ∷ []

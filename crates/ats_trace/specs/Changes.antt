@@ -89,8 +89,9 @@ flow_eligible_early =
     ∷ []
 
 -- none of them is legal. Each field has the name of a field of a legal run, a journey or the port rule that the run
--- breaks, some of them beside others: that the sender exists follows from the way and the release, so a run without its
--- sender breaks those too. And neither order of the two frames that become eligible together is that of the other key
+-- breaks, some of them beside others, and `came` that of what a release says besides: that the sender exists follows
+-- from the way and the release, so a run without its sender breaks those too. And neither order of the two frames that
+-- become eligible together is that of the other key
 pub record ChangedExamplesAreNot : Type 0 where
   pub in_order : ¬ IsLegal line_and_flow released_later
   pub sender : ¬ IsLegal line of_no_sender

@@ -12,6 +12,7 @@ use Rattle.ats_group_law.specs.Regulator.{ats_judge}
 use Rattle.ats_port_rule.specs.PortRule.{KeepsPortRule}
 use Rattle.ats_trace.specs.Journey.{Travel}
 use Rattle.ats_trace.specs.Projections.{sent_by, handed_by}
+use Rattle.ats_trace.specs.Links.{earliest_of}
 use Rattle.ats_trace.specs.Eligibility.{IsJudged, IsPassed, residence_behind}
 use Rattle.ats_trace.specs.Run.{IsLegal, releases_of}
 use Rattle.ats_trace.specs.declared.journey.Release.{Release}
@@ -68,7 +69,11 @@ pub record IsLegalAt (network : DeclaredNetwork) (run : List Travel) : Type 0 wh
       → IsJudged ats_judge network (residence_behind network port) (handed_by network run port class)
   pub flows : (port : ℕ) → port < length network.topology.ports → All (IsPassed network) (handed_by network run port 0)
 
--- those are the legal runs
+-- each port has one latency
+abbrev pub AreExact : List Port → Type 0
+AreExact ports = (port : ℕ) → port < length ports → earliest_of (port_at ports port) ≡ (port_at ports port).latency.0
+
+-- where they do, those are the legal runs
 abbrev pub LinksAreExact : Type 0
-LinksAreExact = (network : DeclaredNetwork) (run : List Travel) → IsNetwork network
+LinksAreExact = (network : DeclaredNetwork) (run : List Travel) → IsNetwork network → AreExact network.topology.ports
     → IsLegal network run ↔ IsLegalAt network run

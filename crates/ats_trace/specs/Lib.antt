@@ -13,5 +13,6 @@ pub mod Parts
 pub mod Regulated
 pub mod MoreChanges
 pub mod TalkerExamples
+pub mod LinkExamples
 pub mod BridgeExamples
 pub mod Babbler

@@ -15,8 +15,9 @@ abbrev pub releases_of : List Travel → List Release
 releases_of run = map (λ (j : Travel). j.release) run
 
 -- a run of a network in which nothing happens that its rules forbid: the frames are numbered in the order of their
--- releases, each makes a journey, each port keeps the port rule and the link rule, and behind each port a group judges
--- the streams' frames of each class, and the flows' frames are judged by their size alone
+-- releases, each makes a journey, each port keeps the port rule, each link, with the node behind it, keeps the link
+-- rule, and behind each port a group judges the streams' frames of each class, and the flows' frames are judged by
+-- their size alone
 pub record IsLegalBy (judge : Judge) (network : DeclaredNetwork) (run : List Travel) : Type 0 where
   pub in_order : IsNonDecreasing (map (λ (r : Release). r.at.0) (releases_of run))
   pub journeys : All (IsJourney network) run

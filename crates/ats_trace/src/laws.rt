@@ -5,6 +5,7 @@ ghost use Rattle.ats_trace.specs.BridgeExamples.{BridgedAreLegal};
 ghost use Rattle.ats_trace.specs.Changes.{ChangedExamplesAreNot};
 ghost use Rattle.ats_trace.specs.ExactLinks.{LinksAreExact};
 ghost use Rattle.ats_trace.specs.LegalExamples.{ExamplesAreLegal};
+ghost use Rattle.ats_trace.specs.LinkExamples.{LinkExamples};
 ghost use Rattle.ats_trace.specs.MoreChanges.{EachBreaksAlone};
 ghost use Rattle.ats_trace.specs.Parts.{EachPartCounts, LegalIsEachPart};
 ghost use Rattle.ats_trace.specs.Regulated.{RegulatedAreLegal};
@@ -56,4 +57,10 @@ pub fn links_are_exact()
 /// sooner it breaks it, as does one with a frame that is too long.
 pub fn talkers_of_examples()
     ensures { TalkersOfExamples }
+{}
+
+/// A link that takes no fixed time: a frame may arrive as soon as the one sent before it has, in
+/// its own time, and neither with it nor before.
+pub fn link_examples()
+    ensures { LinkExamples }
 {}
