@@ -1,7 +1,7 @@
 use Rattle.std.proofs.Common.{◌≡◌, ℕ, ◌+◌, Bool, true, false, cond, List, [], ◌∷◌, ◌++◌, map, sum_by, refl, sym, ap}
 use Rattle.std.proofs.Common.{◌∙◌}
 use Rattle.std.specs.Prelude.{◌==◌, filter, flat_map, zip}
-use Rattle.std.proofs.lemmas.List.Sums.{sum_by-cons}
+use Rattle.std.proofs.lemmas.List.Sums.{sum_by-cons, sum_by-append}
 use Rattle.ats_bucket.specs.Conforming.{Frame}
 use Rattle.ats_group.specs.declared.verdict.Verdict.{Verdict}
 use Rattle.ats_group.specs.Group.{Offer}
@@ -44,3 +44,17 @@ bits_within-accepted_of {X} offer_of verdict_of member (x ∷ xs) from to =
     ∙ ap (λ (n : ℕ). bits_within (own_through member (offer_of x) (verdict_of x)) from to + n)
     (bits_within-accepted_of offer_of verdict_of member xs from to)
     ∙ sym (sum_by-cons (λ (x : X). bits_within (own_through member (offer_of x) (verdict_of x)) from to) x xs)
+
+-- the same of any weight of frames
+pub sum_by-accepted_of : {X : Type 0} (offer_of : X → Offer) (verdict_of : X → Verdict) (member : ℕ)
+    (xs : List X) (weight : Frame → ℕ) → sum_by weight (accepted_of member (map offer_of xs) (map verdict_of xs))
+    ≡ sum_by (λ (x : X). sum_by weight (own_through member (offer_of x) (verdict_of x))) xs
+sum_by-accepted_of offer_of verdict_of member [] weight = refl
+sum_by-accepted_of {X} offer_of verdict_of member (x ∷ xs) weight =
+    let rest : List Frame = accepted_of member (map offer_of xs) (map verdict_of xs) in
+    ap (λ (fs : List Frame). sum_by weight fs)
+    (accepted_of-cons member (offer_of x) (map offer_of xs) (verdict_of x) (map verdict_of xs))
+    ∙ sum_by-append weight (own_through member (offer_of x) (verdict_of x)) rest
+    ∙ ap (λ (n : ℕ). sum_by weight (own_through member (offer_of x) (verdict_of x)) + n)
+    (sum_by-accepted_of offer_of verdict_of member xs weight)
+    ∙ sym (sum_by-cons (λ (x : X). sum_by weight (own_through member (offer_of x) (verdict_of x))) x xs)

@@ -7,6 +7,9 @@ pub mod Order
 pub mod Output
 pub mod OutputLaws
 pub mod Push
+pub mod Regulator
+pub mod Renaming
+pub mod RenamingRow
 pub mod RowProofs
 pub mod ShapingFree
 pub mod ShapingStep

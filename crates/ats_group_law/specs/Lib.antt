@@ -2,6 +2,9 @@ pub mod Accepted
 pub mod Full
 pub mod GroupsLaws
 pub mod Laws
+pub mod Regulator
+pub mod Renaming
 pub mod Rows
+pub mod RenamingRow
 pub mod Shaping
 pub mod Windows

@@ -3,6 +3,9 @@
 ghost use Rattle.ats_group_law.specs.Laws.{ConformingByWindows, EligibilityIsLeast, LateTimeIsLeast, GroupTimeIsLast};
 ghost use Rattle.ats_group_law.specs.Laws.{OutputConforms, OutputConformsByWindows, OutputAscends, FoldIsFullFold};
 ghost use Rattle.ats_group_law.specs.GroupsLaws.{GroupsOutputConforms, GroupsOutputAscends, GroupsEligibilityIsLeast};
+ghost use Rattle.ats_group_law.specs.Regulator.{AtsIsRegulator};
+ghost use Rattle.ats_group_law.specs.Renaming.{VerdictsAreKept};
+ghost use Rattle.ats_group_law.specs.RenamingRow.{NumbersAreOwn};
 ghost use Rattle.ats_group_law.specs.Shaping.{ShapingIsFree};
 ghost use Rattle.ats_group_law.specs.Rows.{BucketEmptied, OrderCounts, RoundedUp};
 
@@ -87,4 +90,23 @@ pub fn worked_rows()
     ensures bucket_emptied { BucketEmptied }
     ensures rounded_up { RoundedUp }
     ensures order_counts { OrderCounts }
+{}
+
+/// The schedulers and groups of Asynchronous Traffic Shaping regulate by token buckets, whatever
+/// their members declare: they let frames through at declared sizes only, what they let through of
+/// a member conforms, and shaping is free. And token buckets are a rule: frames conform also where
+/// some are left out or equal times change places.
+pub fn ats_is_regulator()
+    ensures { AtsIsRegulator }
+{}
+
+/// Nothing of a group depends on its members' numbers: where each gets another one of its own, under which the same is
+/// declared, the verdicts stay, the group eligibility time, and each member's bucket under its number.
+pub fn verdicts_are_kept()
+    ensures { VerdictsAreKept }
+{}
+
+/// Two members under other numbers, and under one.
+pub fn numbers_are_own()
+    ensures { NumbersAreOwn }
 {}

@@ -4,7 +4,7 @@ use Rattle.std.specs.Prelude.{◌==◌, ◌&&◌, ◌⊎◌, Contains}
 use Rattle.std.proofs.Math.Nat.{mul-le-mul_right}
 use Rattle.std.proofs.lemmas.Bool.{and_parts, eqb-true, cases_order}
 use Rattle.std.proofs.lemmas.List.{get_or-map, length-map, get_or_default}
-use Rattle.std.proofs.lemmas.List.Elements.{All-filter, filter_passes, All-contains_itself}
+use Rattle.std.proofs.lemmas.List.Elements.{All-filter, filter_passes, All-contains, All-contains_itself}
 use Rattle.ats_topology.specs.Port.{port_at}
 use Rattle.ats_network.specs.Network.{DeclaredNetwork}
 use Rattle.ats_network.specs.Senders.{sender_at}
@@ -13,11 +13,15 @@ use Rattle.ats_port_rule.specs.PortRule.{KeepsPortRule, AreApart}
 use Rattle.ats_port_law.specs.PortLaw.{IsOffered}
 use Rattle.ats_port_law.proofs.Pairs.{TakesTime, eligible_no_later}
 use Rattle.ats_port_law.proofs.Totals.{All-from_filter}
+use Rattle.ats_bucket.specs.Conforming.{Frame}
+use Rattle.ats_group.specs.declared.member.Declared.{Declared}
 use Rattle.ats_trace.specs.Journey.{Travel}
-use Rattle.ats_trace.specs.Projections.{Hop, Handed, hops_from, handed_from, sent_by, handed_by}
-use Rattle.ats_soundness_law.proofs.Along.{all_were_sent}
+use Rattle.ats_trace.specs.Projections.{Hop, Crossing, Handed, hops_from, crossings_from, handed_from, sent_by}
+use Rattle.ats_trace.specs.Projections.{crossings_by, handed_by}
+use Rattle.ats_group_law.specs.Regulator.{Judge}
+use Rattle.ats_soundness_law.proofs.Along.{hop_of, all_were_sent, all_have_crossed}
 use Rattle.ats_soundness_law.proofs.Known.{Case, IsTold, told}
-use Rattle.ats_soundness_law.proofs.Lifts.{run_were_sent}
+use Rattle.ats_soundness_law.proofs.Lifts.{run_were_sent, run_have_crossed}
 
 -- each transmission of a run is among those of its port
 pub sent_there : (network : DeclaredNetwork) (run : List Travel) (port : ℕ)
@@ -29,33 +33,61 @@ sent_there network run port =
     (λ k d h. subst (Contains sent) (get_or-map (λ (g : Hop). g.sent) chosen k d d.sent h)
     (All-contains_itself sent k d.sent (omega (arith, h, length-map chosen (λ (g : Hop). g.sent)))))
 
+-- so is that of each crossing
+pub crossed_there : (network : DeclaredNetwork) (run : List Travel) (port : ℕ)
+    → All (λ (c : Crossing). Contains (sent_by network run port) c.sent) (crossings_by network run port)
+crossed_there network run port k d h =
+    let test = λ (c : Crossing). c.port == port in
+    let crossings : List Crossing = crossings_from network 0 run in
+    let Sent : Hop → Type 0 = λ (g : Hop). g.port == port ≡ true → Contains (sent_by network run port) g.sent in
+    let were_sent = run_were_sent Sent network 0 run
+    (λ n j. all_were_sent Sent n j.release (sender_at network j.release.sender)
+    (sender_at network j.release.sender).path j.hops j.ending) (sent_there network run port) in
+    All-filter test (λ (c : Crossing). Sent (hop_of c)) crossings were_sent k d h (filter_passes test crossings k d h)
+
+-- and what is handed on is among the crossings of its port
+pub handed_there : (network : DeclaredNetwork) (run : List Travel) (port : ℕ) → All (λ (h : Handed).
+    h.crossing.port == port ≡ true → Contains (crossings_by network run port) h.crossing) (handed_from network 0 run)
+handed_there network run port =
+    let crossings : List Crossing = crossings_by network run port in
+    let There : Crossing → Type 0 = λ (c : Crossing). c.port == port ≡ true → Contains crossings c in
+    run_have_crossed There network 0 run
+    (λ n j. all_have_crossed There n j.release (sender_at network j.release.sender)
+    (sender_at network j.release.sender).path j.hops j.ending)
+    (All-from_filter (λ (c : Crossing). c.port == port) (Contains crossings) (crossings_from network 0 run)
+    (All-contains_itself crossings))
+
 -- what is known of a frame of a class that a port handed on
 pub record HasArrived (network : DeclaredNetwork) (run : List Travel) (port class : ℕ) (h : Handed) : Type 0 where
   pub told : IsTold network h
-  pub port_is : h.hop.port ≡ port
-  pub class_is : h.hop.sent.class ≡ class
-  pub sent : Contains (sent_by network run port) h.hop.sent
+  pub class_is : h.crossing.sent.class ≡ class
+  pub sent : Contains (sent_by network run port) h.crossing.sent
+  pub crossed : Contains (crossings_by network run port) h.crossing
 
-pub arrived : (network : DeclaredNetwork) (run : List Travel) (port class : ℕ) → Case network run
+pub arrived : {judge : Judge} {rule : Declared → List Frame → Type 0} (network : DeclaredNetwork) (run : List Travel)
+    (port class : ℕ) → Case judge rule network run
     → All (HasArrived network run port class) (handed_by network run port class)
 arrived network run port class c k d h =
     let handed : List Handed = handed_from network 0 run in
-    let test = λ (h : Handed). h.hop.port == port && h.hop.sent.class == class in
+    let test = λ (h : Handed). h.crossing.port == port && h.crossing.sent.class == class in
     let one : Handed = get_or (handed_by network run port class) k d in
-    let Sent : Hop → Type 0 = λ (g : Hop). g.port == port ≡ true → Contains (sent_by network run port) g.sent in
-    let parts = and_parts (one.hop.port == port) (one.hop.sent.class == class) (filter_passes test handed k d h) in
-    let were_sent =
-    run_were_sent Sent network 0 run (λ n j. all_were_sent Sent n j.release (sender_at network j.release.sender)
-    (sender_at network j.release.sender).path j.hops) (sent_there network run port) in
+    let There : Handed → Type 0 = λ (h : Handed). h.crossing.port == port ≡ true
+    → Contains (crossings_by network run port) h.crossing in
+    let parts =
+    and_parts (one.crossing.port == port) (one.crossing.sent.class == class) (filter_passes test handed k d h) in
+    let crossed : Contains (crossings_by network run port) one.crossing =
+    All-filter test There handed (handed_there network run port) k d h parts.0 in
     record {
       told = All-filter test (IsTold network) handed (told network run c) k d h;
-      port_is = eqb-true one.hop.port port parts.0;
-      class_is = eqb-true one.hop.sent.class class parts.1;
-      sent = All-filter test (λ (h : Handed). Sent h.hop) handed were_sent k d h parts.0;
+      class_is = eqb-true one.crossing.sent.class class parts.1;
+      sent = All-contains (λ (c : Crossing). Contains (sent_by network run port) c.sent) (crossings_by network run port)
+          one.crossing (crossed_there network run port) crossed;
+      crossed = crossed;
     }
 
 -- each transmission that is offered takes time
-pub takes_time : (network : DeclaredNetwork) (run : List Travel) (port : ℕ) → Case network run
+pub takes_time : {judge : Judge} {rule : Declared → List Frame → Type 0} (network : DeclaredNetwork) (run : List Travel)
+    (port : ℕ) → Case judge rule network run
     → port < length network.topology.ports → IsOffered network port (sent_by network run port)
     → TakesTime (port_at network.topology.ports port).ps_per_bit (sent_by network run port)
 takes_time network run port c within offered k d h =

@@ -4,13 +4,9 @@ use Rattle.std.specs.Prelude.{◌==◌, ◌&&◌}
 use Rattle.std.proofs.lemmas.List.Sums.{sum_by-cons}
 use Rattle.ats_bucket.specs.Conforming.{Frame}
 use Rattle.ats_port_rule.specs.Transmission.{Transmission}
-use Rattle.ats_group_law.specs.Windows.{bits_within}
 use Rattle.ats_group_law.proofs.AcceptedParts.{own_through}
-use Rattle.ats_group_law.proofs.WindowBits.{bits_in}
-use Rattle.ats_group_law.proofs.WindowParts.{bits_within-map}
 use Rattle.ats_port_law.specs.PortLaw.{frame_of, frames_by}
 use Rattle.ats_port_law.proofs.Sums.{sum_by-filter}
-use Rattle.ats_port_law.proofs.Window.{eligible_bits}
 use Rattle.ats_network.specs.Network.{DeclaredNetwork}
 use Rattle.ats_trace.specs.Journey.{Travel}
 use Rattle.ats_trace.specs.Projections.{Hop, Handed, hops_from, handed_from, sent_by, handed_by}
@@ -27,63 +23,64 @@ sum_by-map {X} f g (x ∷ xs) =
     sum_by-cons g (f x) (map f xs) ∙ ap (λ (n : ℕ). g (f x) + n) (sum_by-map f g xs)
     ∙ sym (sum_by-cons (λ (x : X). g (f x)) x xs)
 
--- the bits of a transmission where it is of this sender and at this port, and became eligible in a window of time
-abbrev pub hop_bits : ℕ → ℕ → ℕ → ℕ → Hop → ℕ
-hop_bits i port from to g = cond (g.port == port) (cond (g.sent.sender == i) (eligible_bits from to g.sent) 0) 0
+-- the weight of a transmission where it is of this sender and at this port
+abbrev pub hop_weight : ℕ → ℕ → (Frame → ℕ) → Hop → ℕ
+hop_weight i port weight g = cond (g.port == port) (cond (g.sent.sender == i) (weight (frame_of g.sent)) 0) 0
 
 -- a sender's frames at a port, as a sum over all transmissions of a run
-pub frames_bits : (network : DeclaredNetwork) (run : List Travel) (i port from to : ℕ) → bits_within
-    (frames_by i (sent_by network run port)) from to ≡ sum_by (hop_bits i port from to) (hops_from network 0 run)
-frames_bits network run i port from to =
+pub frames_weight : (network : DeclaredNetwork) (run : List Travel) (i port : ℕ) (weight : Frame → ℕ)
+    → sum_by weight (frames_by i (sent_by network run port))
+    ≡ sum_by (hop_weight i port weight) (hops_from network 0 run)
+frames_weight network run i port weight =
     let hops : List Hop = hops_from network 0 run in
-    let of_sender : Transmission → ℕ = λ (y : Transmission). cond (y.sender == i) (eligible_bits from to y) 0 in
-    bits_within-map frame_of (filter (λ (x : Transmission). x.sender == i) (sent_by network run port)) from to
-    ∙ sum_by-filter (eligible_bits from to) (λ (x : Transmission). x.sender == i) (sent_by network run port)
+    let of_sender : Transmission → ℕ = λ (y : Transmission). cond (y.sender == i) (weight (frame_of y)) 0 in
+    sum_by-map frame_of weight (filter (λ (x : Transmission). x.sender == i) (sent_by network run port))
+    ∙ sum_by-filter (λ (x : Transmission). weight (frame_of x)) (λ (x : Transmission). x.sender == i)
+    (sent_by network run port)
     ∙ sum_by-map (λ (h : Hop). h.sent) of_sender (filter (λ (h : Hop). h.port == port) hops)
     ∙ sum_by-filter (λ (h : Hop). of_sender h.sent) (λ (h : Hop). h.port == port) hops
 
--- the bits in a window of what a group lets through of a sender
-abbrev pub through_bits : ℕ → ℕ → ℕ → Handed → ℕ
-through_bits i from to h = bits_within (own_through i (offer_of h) h.verdict) from to
+-- the weight of what a group lets through of a sender
+abbrev pub through_weight : ℕ → (Frame → ℕ) → Handed → ℕ
+through_weight i weight h = sum_by weight (own_through i (offer_of h) h.verdict)
 
 -- where it comes from this port and is of this class
-abbrev pub handed_bits : ℕ → ℕ → ℕ → ℕ → ℕ → Handed → ℕ
-handed_bits i port class from to h = cond (h.hop.port == port && h.hop.sent.class == class) (through_bits i from to h) 0
+abbrev pub handed_weight : ℕ → ℕ → ℕ → (Frame → ℕ) → Handed → ℕ
+handed_weight i port class weight h =
+    cond (h.crossing.port == port && h.crossing.sent.class == class) (through_weight i weight h) 0
 
-pub group_bits : (network : DeclaredNetwork) (run : List Travel) (i port class from to : ℕ)
-    → sum_by (through_bits i from to) (handed_by network run port class)
-    ≡ sum_by (handed_bits i port class from to) (handed_from network 0 run)
-group_bits network run i port class from to =
-    sum_by-filter (through_bits i from to) (λ (h : Handed). h.hop.port == port && h.hop.sent.class == class)
-    (handed_from network 0 run)
+pub group_weight : (network : DeclaredNetwork) (run : List Travel) (i port class : ℕ) (weight : Frame → ℕ)
+    → sum_by (through_weight i weight) (handed_by network run port class)
+    ≡ sum_by (handed_weight i port class weight) (handed_from network 0 run)
+group_weight network run i port class weight =
+    sum_by-filter (through_weight i weight)
+    (λ (h : Handed). h.crossing.port == port && h.crossing.sent.class == class) (handed_from network 0 run)
 
--- the bits of a release where it is of this sender and in the window
-abbrev pub release_bits : ℕ → ℕ → ℕ → Travel → ℕ
-release_bits i from to j = cond (j.release.sender == i) (bits_in from to (talker.frame_of j.release)) 0
+-- the weight of a release where it is of this sender
+abbrev pub release_weight : ℕ → (Frame → ℕ) → Travel → ℕ
+release_weight i weight j = cond (j.release.sender == i) (weight (talker.frame_of j.release)) 0
 
 -- a sender's releases, as a sum over the journeys
-pub releases_bits : (run : List Travel) (i from to : ℕ)
-    → bits_within (talker.frames_of i (releases_of run)) from to ≡ sum_by (release_bits i from to) run
-releases_bits run i from to =
-    let of_sender : Release → ℕ = λ (r : Release). cond (r.sender == i) (bits_in from to (talker.frame_of r)) 0 in
-    bits_within-map talker.frame_of (filter (λ (r : Release). r.sender == i) (releases_of run)) from to
-    ∙ sum_by-filter (λ (r : Release). bits_in from to (talker.frame_of r)) (λ (r : Release). r.sender == i)
-    (releases_of run)
+pub releases_weight : (run : List Travel) (i : ℕ) (weight : Frame → ℕ)
+    → sum_by weight (talker.frames_of i (releases_of run)) ≡ sum_by (release_weight i weight) run
+releases_weight run i weight =
+    let of_sender : Release → ℕ = λ (r : Release). cond (r.sender == i) (weight (talker.frame_of r)) 0 in
+    sum_by-map talker.frame_of weight (filter (λ (r : Release). r.sender == i) (releases_of run))
+    ∙ sum_by-filter (λ (r : Release). weight (talker.frame_of r)) (λ (r : Release). r.sender == i) (releases_of run)
     ∙ sum_by-map (λ (j : Travel). j.release) of_sender run
 
--- bits that are counted where two tests pass are counted where two others pass, if those pass then
-pub counted_on : (there own before ranked : Bool) (frame : Frame) (from to : ℕ)
+-- a weight that is counted where two tests pass is counted where two others pass, if those pass then
+pub counted_on : (there own before ranked : Bool) (frame : Frame) (weight : Frame → ℕ)
     → (there ≡ true → own ≡ true → (before ≡ true) × (ranked ≡ true))
-    → cond there (cond own (bits_in from to frame) 0) 0
-    ≤ cond (before && ranked) (bits_within (cond own (frame ∷ []) []) from to) 0
-counted_on true true true true frame from to h =
-    omega (arith, bits_within-map (λ (f : Frame). f) (frame ∷ []) from to, sum_by-cons (bits_in from to) frame [])
-counted_on true true true false frame from to h = absurd (cc ((h refl refl).1))
-counted_on true true false ranked frame from to h = absurd (cc ((h refl refl).0))
-counted_on true false before ranked frame from to h = omega arith
-counted_on false own before ranked frame from to h = omega arith
+    → cond there (cond own (weight frame) 0) 0
+    ≤ cond (before && ranked) (sum_by weight (cond own (frame ∷ []) [])) 0
+counted_on true true true true frame weight h = omega (arith, sum_by-cons weight frame [])
+counted_on true true true false frame weight h = absurd (cc ((h refl refl).1))
+counted_on true true false ranked frame weight h = absurd (cc ((h refl refl).0))
+counted_on true false before ranked frame weight h = omega arith
+counted_on false own before ranked frame weight h = omega arith
 
--- bits that are counted where a test passes are none where it fails, and no more than without it
+-- what is counted where a test passes is nothing where it fails, and no more than without it
 pub counted-none : (there : Bool) (n : ℕ) → (there ≡ true → ⊥) → cond there n 0 ≤ 0
 counted-none true n h = absurd (h refl)
 counted-none false n h = omega arith

@@ -7,7 +7,6 @@ use Rattle.std.proofs.lemmas.List.Sums.{sum_by-append}
 use Rattle.std.proofs.lemmas.List.Sorted.{sum_by-IsPermutation}
 use Rattle.ats_num.specs.Wire.{bits_of}
 use Rattle.ats_topology.specs.Port.{port_at}
-use Rattle.ats_topology.specs.declared.port.Port.{Port}
 use Rattle.ats_network.specs.Sender.{Sender}
 use Rattle.ats_network.specs.Path.{IsStationAt, IsValidPath}
 use Rattle.ats_network.specs.Bridges.{IsBridgeAt, MeetAtBridge}
@@ -16,30 +15,27 @@ use Rattle.ats_network.specs.Senders.{sender_at, IsSender, AllNeighbours}
 use Rattle.ats_bucket.specs.Conforming.{Frame}
 use Rattle.ats_certificate.specs.PortSums.{uses}
 use Rattle.ats_group.specs.Group.{Offer, IsRuled, is_declared_size}
+use Rattle.ats_group.specs.declared.member.Declared.{Declared}
 use Rattle.ats_group.specs.declared.verdict.Verdict.{Verdict}
 use Rattle.ats_group_law.specs.Accepted.{accepted_of}
-use Rattle.ats_group_law.specs.Windows.{KeepsWindows, bits_within}
-use Rattle.ats_group_law.specs.Laws.{passed_of}
-use Rattle.ats_group_law.proofs.AcceptedParts.{bits_within-accepted_of}
-use Rattle.ats_group_law.proofs.OutputLaws.{output_by_windows}
-use Rattle.ats_group_law.proofs.WindowParts.{KeepsWindows-fewer}
-use Rattle.ats_port_law.specs.PortLaw.{frames_by}
+use Rattle.ats_group_law.specs.Regulator.{OnEligible, Judge, passed_by}
+use Rattle.ats_group_law.proofs.AcceptedParts.{sum_by-accepted_of}
 use Rattle.ats_trace.specs.Journey.{Travel, IsJourney, IsReleased, IsWay, class_at}
-use Rattle.ats_trace.specs.Projections.{Hop, Handed, hops_along, handed_along, journey_hops, journey_handed, sent_by}
+use Rattle.ats_trace.specs.Projections.{Hop, Handed, hops_along, handed_along, journey_hops, journey_handed}
 use Rattle.ats_trace.specs.Projections.{handed_by, hop_at, transmission_of}
 use Rattle.ats_trace.specs.Eligibility.{declared_by, offer_of, IsJudged, residence_behind}
 use Rattle.ats_trace.specs.declared.journey.Release.{Release}
 use Rattle.ats_trace.specs.declared.journey.HopRecord.{HopRecord}
 use Rattle.ats_trace.specs.declared.journey.Ending.{Ending}
 use Rattle.ats_soundness_law.specs.Laws.{BridgeIsOffered}
-use Rattle.ats_soundness_law.specs.Sound.{OnEligible}
 use Rattle.ats_soundness_law.proofs.Along.{AtPort, AtPorts, one_hop, all_hops, all_handed}
 use Rattle.ats_soundness_law.proofs.Behind.{later_sent}
-use Rattle.ats_soundness_law.proofs.Bits.{hop_bits, frames_bits, through_bits, handed_bits, group_bits, counted_on}
+use Rattle.ats_soundness_law.proofs.Bits.{hop_weight, frames_weight, through_weight, handed_weight, group_weight}
+use Rattle.ats_soundness_law.proofs.Bits.{counted_on}
 use Rattle.ats_soundness_law.proofs.Bits.{counted-none}
-use Rattle.ats_soundness_law.proofs.Known.{Case, bits_of_size}
+use Rattle.ats_soundness_law.proofs.Known.{Case, ats_case, bits_of_size}
 use Rattle.ats_soundness_law.proofs.Lifts.{run_hops_by, run_hops-le}
-use Rattle.ats_soundness_law.proofs.Offered.{DeclaredAt, offered}
+use Rattle.ats_soundness_law.proofs.Offered.{DeclaredAt, Kept, IsFed, fed}
 use Rattle.ats_soundness_law.proofs.Paths.{sender_is, not_both, first_station, neighbours_with, uses_own, port_before}
 use Rattle.ats_soundness_law.proofs.Paths.{port_before-is, port_before-within}
 use Rattle.ats_soundness_law.proofs.Sized.{IsSized, sized}
@@ -47,12 +43,14 @@ use Rattle.ats_soundness_law.proofs.Streams.{stream_exists, stream_class, sender
 use Rattle.ats_soundness_law.proofs.Weights.{IsPassedOn, first-le, later-le}
 
 -- a port that leaves a bridge, in a legal run
-record AtBridge (network : DeclaredNetwork) (run : List Travel) (port : ℕ) : Type 0 where
-  known : Case network run
+record AtBridge (judge : Judge) (rule : Declared → List Frame → Type 0) (network : DeclaredNetwork) (run : List Travel)
+    (port : ℕ) : Type 0 where
+  known : Case judge rule network run
   bridge : IsBridgeAt network.topology (port_at network.topology.ports port).from
 
 -- it is not the first port of a path
-not_first : (network : DeclaredNetwork) (run : List Travel) (port : ℕ) → AtBridge network run port
+not_first : {judge : Judge} {rule : Declared → List Frame → Type 0} (network : DeclaredNetwork) (run : List Travel)
+    (port : ℕ) → AtBridge judge rule network run port
     → (p : ℕ) (path : List ℕ) → IsValidPath network.topology (p ∷ path) → p ≡ port → (P : Type 0) → P
 not_first network run port a p path valid same P =
     not_both network.topology (port_at network.topology.ports port).from
@@ -75,22 +73,22 @@ sized_along network port n r exists path used k d h e times size same =
     }
 
 -- at a port that leaves a bridge a frame was let through before, so it has a declared size
-declared_behind : (network : DeclaredNetwork) (run : List Travel) (port : ℕ) → AtBridge network run port
-    → (n : ℕ) (r : Release) → r.sender < length (senders_of network)
-    → (path : List ℕ) (hops : List HopRecord) (ending : Ending) (due : ℕ) → IsValidPath network.topology path
+declared_behind : {judge : Judge} {rule : Declared → List Frame → Type 0} (network : DeclaredNetwork)
+    (run : List Travel) (port : ℕ)
+    → AtBridge judge rule network run port → (n : ℕ) (r : Release) → r.sender < length (senders_of network)
+    → (path : List ℕ) (hops : List HopRecord) (ending : Ending) → IsValidPath network.topology path
     → All (λ (p : ℕ). uses p (sender_at network r.sender) ≡ true) path
-    → IsWay network.topology.ports due path hops ending
+    → IsWay path hops ending
     → All (λ (h : Handed). OnEligible h.verdict (λ e. is_declared_size (declared_by network r.sender) r.octets ≡ true))
     (handed_along n r (sender_at network r.sender) path hops)
     → All (DeclaredAt network port) (hops_along n r (sender_at network r.sender) path hops)
-declared_behind network run port a n r exists [] hops ending due valid used way handed =
+declared_behind network run port a n r exists [] hops ending valid used way handed = All-nil (DeclaredAt network port)
+declared_behind network run port a n r exists (p ∷ path) [] ending valid used way handed =
     All-nil (DeclaredAt network port)
-declared_behind network run port a n r exists (p ∷ path) [] ending due valid used way handed =
-    All-nil (DeclaredAt network port)
-declared_behind network run port a n r exists (p ∷ path) (hop ∷ hops) ending due valid used way handed =
+declared_behind network run port a n r exists (p ∷ path) (hop ∷ hops) ending valid used way handed =
     let s : Sender = sender_at network r.sender in
     let Sized : Type 0 = is_declared_size (declared_by network r.sender) r.octets ≡ true in
-    let sizes = later_sent Sized network.topology.ports n r s p path hop hops ending due way handed in
+    let sizes = later_sent Sized n r s p path hop hops ending way handed in
     let each = all_hops (λ g. Sized → DeclaredAt network port g) n r s path hops
     (sized_along network port n r exists path (All-tail (λ (q : ℕ). uses q s ≡ true) p path used)) in
     All-append (DeclaredAt network port) (hop_at p (transmission_of n r (class_at s p) hop))
@@ -109,42 +107,45 @@ same_release network net n j is all k d h =
     let r : Release = j.release in
     let s : Sender = sender_at network r.sender in
     let keeps : IsSender network.topology s = sender_is network net r.sender is.sender in
-    let ports : List Port = network.topology.ports in
-    let OfRelease : Handed → Type 0 = λ (h : Handed). (h.hop.sent.sender ≡ r.sender) × (h.octets ≡ r.octets) in
-    let told = all_handed OfRelease ports n r s s.path j.hops j.ending
-    (neighbours_with (λ p. p < length ports) (MeetAtBridge network.topology) (AtPorts OfRelease ports n r s.class)
-    (λ a b within meet e times verdict. (refl, refl)) s.path keeps.ports keeps.bridges)
-    r.at.0 is.way in
+    let OfRelease : Handed → Type 0 = λ (h : Handed). (h.crossing.sent.sender ≡ r.sender)
+    × (h.crossing.octets ≡ r.octets) in
+    let told = all_handed OfRelease n r s s.path j.hops j.ending
+    (neighbours_with (λ p. p < length network.topology.ports) (MeetAtBridge network.topology)
+    (AtPorts OfRelease n r s.class)
+    (λ a b within meet came e times arrival verdict. (refl, refl)) s.path keeps.ports keeps.bridges)
+    is.way in
     let one : Handed = get_or (journey_handed network n j) k d in
     let BySender : ℕ → Type 0 =
-    λ (i : ℕ). OnEligible one.verdict (λ e. is_declared_size (declared_by network i) one.octets ≡ true) in
+    λ (i : ℕ). OnEligible one.verdict (λ e. is_declared_size (declared_by network i) one.crossing.octets ≡ true) in
     let ByOctets : ℕ → Type 0 =
     λ (o : ℕ). OnEligible one.verdict (λ e. is_declared_size (declared_by network r.sender) o ≡ true) in
     subst ByOctets (told k d h).1 (subst BySender (told k d h).0 (all k d h))
 
-journey_declared : (network : DeclaredNetwork) (run : List Travel) (port : ℕ) → AtBridge network run port
-    → (n : ℕ) (j : Travel) → IsJourney network j → All (IsSized network) (journey_handed network n j)
-    → All (DeclaredAt network port) (journey_hops network n j)
+journey_declared : {judge : Judge} {rule : Declared → List Frame → Type 0} (network : DeclaredNetwork)
+    (run : List Travel) (port : ℕ)
+    → AtBridge judge rule network run port → (n : ℕ) (j : Travel) → IsJourney network j
+    → All (IsSized network) (journey_handed network n j) → All (DeclaredAt network port) (journey_hops network n j)
 journey_declared network run port a n j is all =
     let s : Sender = sender_at network j.release.sender in
-    declared_behind network run port a n j.release is.sender s.path j.hops j.ending j.release.at.0
+    declared_behind network run port a n j.release is.sender s.path j.hops j.ending
     (sender_is network a.known.net j.release.sender is.sender).valid (uses_own s) is.way
     (same_release network a.known.net n j is all)
 
--- a frame's bits at the port are those that the group before let through
-bits_behind : (network : DeclaredNetwork) (run : List Travel) (i port from to : ℕ) (g : Handed → ℕ)
-    → AtBridge network run port → (n : ℕ) (r : Release) (s : Sender)
-    → (path : List ℕ) (hops : List HopRecord) (ending : Ending) (due : ℕ) → IsValidPath network.topology path
-    → IsWay network.topology.ports due path hops ending → IsReleased r hops
-    → AllNeighbours (IsPassedOn (hop_bits i port from to) g network.topology.ports n r s.class) path
-    → sum_by (hop_bits i port from to) (hops_along n r s path hops) ≤ sum_by g (handed_along n r s path hops)
-bits_behind network run i port from to g a n r s [] hops ending due valid way released passed = omega arith
-bits_behind network run i port from to g a n r s (p ∷ path) [] ending due valid way released passed = omega arith
-bits_behind network run i port from to g a n r s (p ∷ path) (hop ∷ hops) ending due valid way released passed =
-    let f : Hop → ℕ = hop_bits i port from to in
-    let here = first-le f 0 n r s.class p hop.verdict hop.sent released (λ times.
+-- a frame's weight at the port is that which the group before let through
+weight_behind : {judge : Judge} {rule : Declared → List Frame → Type 0} (network : DeclaredNetwork) (run : List Travel)
+    (i port : ℕ) (weight : Frame → ℕ) (g : Handed → ℕ)
+    → AtBridge judge rule network run port → (n : ℕ) (r : Release) (s : Sender)
+    → (path : List ℕ) (hops : List HopRecord) (ending : Ending) → IsValidPath network.topology path
+    → IsWay path hops ending → IsReleased r hops
+    → AllNeighbours (IsPassedOn (hop_weight i port weight) g n r s.class) path
+    → sum_by (hop_weight i port weight) (hops_along n r s path hops) ≤ sum_by g (handed_along n r s path hops)
+weight_behind network run i port weight g a n r s [] hops ending valid way released passed = omega arith
+weight_behind network run i port weight g a n r s (p ∷ path) [] ending valid way released passed = omega arith
+weight_behind network run i port weight g a n r s (p ∷ path) (hop ∷ hops) ending valid way released passed =
+    let f : Hop → ℕ = hop_weight i port weight in
+    let here = first-le f 0 n r s.class p hop.verdict hop.sent released.1 (λ times.
     counted-none (p == port) _ (λ same. not_first network run port a p path valid (eqb-true p port same) ⊥)) in
-    let later = later-le f g network.topology.ports n r s p path hop hops ending passed due way in
+    let later = later-le f g n r s p path hop hops ending passed way in
     let all = sum_by-append f (hop_at p (transmission_of n r (class_at s p) hop)) (hops_along n r s path hops) in
     omega (arith, here, later, all)
 
@@ -152,22 +153,23 @@ bits_behind network run i port from to g a n r s (p ∷ path) (hop ∷ hops) end
 abbrev group_port : DeclaredNetwork → ℕ → ℕ → ℕ
 group_port network port i = port_before port (sender_at network i).path
 
-journey_bits : (network : DeclaredNetwork) (run : List Travel) (i port from to : ℕ) → AtBridge network run port
-    → (n : ℕ) (j : Travel) → IsJourney network j
-    → sum_by (hop_bits i port from to) (journey_hops network n j) ≤ sum_by
-    (handed_bits i (group_port network port i) (sender_at network i).class from to) (journey_handed network n j)
-journey_bits network run i port from to a n j is =
+journey_weight : {judge : Judge} {rule : Declared → List Frame → Type 0} (network : DeclaredNetwork) (run : List Travel)
+    (i port : ℕ) (weight : Frame → ℕ)
+    → AtBridge judge rule network run port → (n : ℕ) (j : Travel) → IsJourney network j
+    → sum_by (hop_weight i port weight) (journey_hops network n j) ≤ sum_by
+    (handed_weight i (group_port network port i) (sender_at network i).class weight) (journey_handed network n j)
+journey_weight network run i port weight a n j is =
     let r : Release = j.release in
     let s : Sender = sender_at network r.sender in
     let keeps : IsSender network.topology s = sender_is network a.known.net r.sender is.sender in
-    let f : Hop → ℕ = hop_bits i port from to in
-    let g : Handed → ℕ = handed_bits i (group_port network port i) (sender_at network i).class from to in
-    bits_behind network run i port from to g a n r s s.path j.hops j.ending r.at.0 keeps.valid is.way is.released
+    let f : Hop → ℕ = hop_weight i port weight in
+    let g : Handed → ℕ = handed_weight i (group_port network port i) (sender_at network i).class weight in
+    weight_behind network run i port weight g a n r s s.path j.hops j.ending keeps.valid is.way is.released
     (neighbours_with (λ p. p < length network.topology.ports) (λ p q. q ≡ port → p ≡ port_before port s.path)
-    (IsPassedOn f g network.topology.ports n r s.class)
-    (λ p q within only e since times earlier.
+    (IsPassedOn f g n r s.class)
+    (λ p q within only e since times earlier came arrival.
     counted_on (q == port) (r.sender == i) (p == group_port network port i) (s.class == (sender_at network i).class)
-    (record { at = e.0; bits = bits_of r.octets }) from to
+    (record { at = e.0; bits = bits_of r.octets }) weight
     (λ there own. (
     let same = eqb-true r.sender i own in (
       eq-eqb p (group_port network port i)
@@ -176,11 +178,11 @@ journey_bits network run i port from to a n j is =
     ))))
     s.path keeps.ports (port_before-is port s.path keeps.apart))
 
--- no window of a stream's frames at the port holds more than one of what its group let through
-stream_windows : (network : DeclaredNetwork) (run : List Travel) (port : ℕ) → AtBridge network run port → (i : ℕ)
-    → i < length network.streams
-    → KeepsWindows (sender_at network i).rate (sender_at network i).burst_bits (frames_by i (sent_by network run port))
-stream_windows network run port a i h =
+-- a stream's frames at the port are no more than what its group let through
+stream_kept : {judge : Judge} {rule : Declared → List Frame → Type 0} (network : DeclaredNetwork) (run : List Travel)
+    (port : ℕ) → AtBridge judge rule network run port → (i : ℕ) → i < length network.streams
+    → Kept rule network run port i
+stream_kept {judge} {rule} network run port a i h =
     let s : Sender = sender_at network i in
     let keeps : IsSender network.topology s = sender_is network a.known.net i (stream_exists network i h) in
     let shaped : 1 ≤ s.class = stream_class network a.known.net i h in
@@ -189,33 +191,34 @@ stream_windows network run port a i h =
     let q : ℕ = port_before port s.path in
     let within : q < length network.topology.ports =
     port_before-within (λ p. p < length network.topology.ports) port s.path keeps.path.least keeps.ports in
-    let j : IsJudged network (residence_behind network q) (handed_by network run q s.class) =
+    let j : IsJudged judge network (residence_behind network q) (handed_by network run q s.class) =
     a.known.legal.groups q s.class within shaped in
     let offers : List Offer = map offer_of j.arrivals in
-    let passed : List Frame = passed_of (declared_by network) (residence_behind network q) offers i in
-    KeepsWindows-fewer s.rate s.burst_bits passed (frames_by i (sent_by network run port))
-    (λ from to. (
-    let le = run_hops-le (IsJourney network) (hop_bits i port from to) (handed_bits i q s.class from to) network 0 run
-    (journey_bits network run i port from to a) a.known.legal.journeys in
-    let moved = sum_by-IsPermutation (through_bits i from to) (handed_by network run q s.class) j.arrivals j.same in
-    let accepted = bits_within-accepted_of offer_of (λ (h : Handed). h.verdict) i j.arrivals from to in
-    let judged = ap (λ (vs : List Verdict). bits_within (accepted_of i offers vs) from to) j.verdicts in
-    omega (
-      arith,
-      le,
-      moved,
-      accepted,
-      judged,
-      frames_bits network run i port from to,
-      group_bits network run i q s.class from to,
-    )))
-    (output_by_windows (declared_by network) (residence_behind network q) offers i ruled).windows
+    record {
+      others = passed_by judge (declared_by network) (residence_behind network q) offers i;
+      keeps = a.known.regulator.keeps (declared_by network) (residence_behind network q) offers i ruled;
+      no_more = λ weight. (
+          let le = run_hops-le (IsJourney network) (hop_weight i port weight) (handed_weight i q s.class weight)
+          network 0 run (journey_weight network run i port weight a) a.known.legal.journeys in
+          let moved =
+          sum_by-IsPermutation (through_weight i weight) (handed_by network run q s.class) j.arrivals j.same in
+          let accepted = sum_by-accepted_of offer_of (λ (h : Handed). h.verdict) i j.arrivals weight in
+          let judged = ap (λ (vs : List Verdict). sum_by weight (accepted_of i offers vs)) j.verdicts in
+          let sent = frames_weight network run i port weight in
+          let group = group_weight network run i q s.class weight in
+          omega (arith, le, moved, accepted, judged, sent, group));
+    }
+
+pub bridge_fed : {judge : Judge} {rule : Declared → List Frame → Type 0} (network : DeclaredNetwork)
+    (run : List Travel) (port : ℕ) → Case judge rule network run
+    → IsBridgeAt network.topology (port_at network.topology.ports port).from → IsFed rule network run port
+bridge_fed {judge} {rule} network run port known bridge =
+    let a : AtBridge judge rule network run port = record { known = known; bridge = bridge } in
+    fed network run port known
+    (run_hops_by (IsJourney network) (IsSized network) (DeclaredAt network port) network 0 run
+    (journey_declared network run port a) known.legal.journeys (sized network run known))
+    (stream_kept network run port a)
 
 pub bridge_offered : BridgeIsOffered
 bridge_offered network run port net legal within bridge =
-    let known : Case network run = record { net = net; legal = legal } in
-    let a : AtBridge network run port = record { known = known; bridge = bridge } in
-    offered network run port
-    (run_hops_by (IsJourney network) (IsSized network) (DeclaredAt network port) network 0 run
-    (journey_declared network run port a) legal.journeys (sized network run known))
-    (stream_windows network run port a)
+    (bridge_fed network run port (ats_case network run net legal) bridge).offered

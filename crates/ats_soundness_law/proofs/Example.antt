@@ -149,7 +149,7 @@ laws_are_met = record {
   holds = holds;
   legal = examples_legal.one_frame;
   among = (0, lit< tt, refl);
-  shaped = lit< tt;
+  of_stream = lit< tt;
   keeps = talkers_of_examples.one_frame;
   station = record { within = lit< tt; station = refl };
   to_bridge = record { within = lit< tt; bridge = refl };

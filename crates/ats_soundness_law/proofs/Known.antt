@@ -9,18 +9,31 @@ use Rattle.ats_network.specs.Network.{DeclaredNetwork, IsNetwork, senders_of}
 use Rattle.ats_network.specs.Senders.{sender_at, IsSender}
 use Rattle.ats_certificate.specs.PortSums.{uses, shortest, longest}
 use Rattle.ats_group.specs.Group.{is_declared_size}
-use Rattle.ats_trace.specs.Journey.{Travel, IsJourney, arrival_after}
+use Rattle.ats_trace.specs.Journey.{Travel, IsJourney}
 use Rattle.ats_trace.specs.Projections.{Hop, Handed, journey_hops, journey_handed, hops_from, handed_from}
 use Rattle.ats_trace.specs.Eligibility.{declared_by}
-use Rattle.ats_trace.specs.Run.{IsLegal}
+use Rattle.ats_trace.specs.Run.{IsLegalBy, IsLegal}
+use Rattle.ats_group_law.specs.Regulator.{Judge, ats_judge, IsRule, bucket_rule, IsRegulator}
+use Rattle.ats_group_law.proofs.Regulator.{ats_is_regulator}
+use Rattle.ats_bucket.specs.Conforming.{Frame}
+use Rattle.ats_group.specs.declared.member.Declared.{Declared}
 use Rattle.ats_soundness_law.proofs.Along.{AtPorts, all_hops, all_handed}
 use Rattle.ats_soundness_law.proofs.Lifts.{run_hops, run_handed}
 use Rattle.ats_soundness_law.proofs.Paths.{sender_is, uses_own, neighbours_with}
 
--- a network and a legal run of it
-pub record Case (network : DeclaredNetwork) (run : List Travel) : Type 0 where
+-- a network and a legal run of it, whose groups regulate by a rule
+pub record Case (judge : Judge) (rule : Declared → List Frame → Type 0) (network : DeclaredNetwork)
+    (run : List Travel) : Type 0 where
+  pub rules : IsRule rule
+  pub regulator : IsRegulator judge rule
   pub net : IsNetwork network
-  pub legal : IsLegal network run
+  pub legal : IsLegalBy judge network run
+
+-- as those of Asynchronous Traffic Shaping do
+pub ats_case : (network : DeclaredNetwork) (run : List Travel) → IsNetwork network → IsLegal network run
+    → Case ats_judge bucket_rule network run
+ats_case network run net legal =
+    record { rules = ats_is_regulator.rule; regulator = ats_is_regulator.regulator; net = net; legal = legal }
 
 -- what is known of each transmission of a run
 pub record IsKnown (network : DeclaredNetwork) (g : Hop) : Type 0 where
@@ -37,40 +50,35 @@ journey_known network net n j is =
     all_hops (IsKnown network) n j.release s s.path j.hops
     (λ k d h e times. record { exists = is.sender; within = keeps.ports k d h; used = uses_own s k d h; ranked = refl })
 
-pub known : (network : DeclaredNetwork) (run : List Travel) → Case network run
+pub known : {judge : Judge} {rule : Declared → List Frame → Type 0} (network : DeclaredNetwork) (run : List Travel)
+    → Case judge rule network run
     → All (IsKnown network) (hops_from network 0 run)
 known network run c =
     run_hops (IsJourney network) (IsKnown network) network 0 run (journey_known network c.net) c.legal.journeys
 
 -- what is known of each frame that is handed on
 pub record IsTold (network : DeclaredNetwork) (h : Handed) : Type 0 where
-  pub exists : h.hop.sent.sender < length (senders_of network)
-  pub within : h.hop.port < length network.topology.ports
-  pub ranked : h.hop.sent.class ≡ (sender_at network h.hop.sent.sender).class
-  pub bits : h.hop.sent.bits ≡ bits_of h.octets
-  pub arrives : h.arrival ≡ arrival_after (port_at network.topology.ports h.hop.port) h.hop.sent.end
-  pub bridge : IsBridgeAt network.topology (port_at network.topology.ports h.hop.port).to
+  pub exists : h.crossing.sent.sender < length (senders_of network)
+  pub within : h.crossing.port < length network.topology.ports
+  pub ranked : h.crossing.sent.class ≡ (sender_at network h.crossing.sent.sender).class
+  pub bits : h.crossing.sent.bits ≡ bits_of h.crossing.octets
+  pub bridge : IsBridgeAt network.topology (port_at network.topology.ports h.crossing.port).to
 
 journey_told : (network : DeclaredNetwork) → IsNetwork network → (n : ℕ) (j : Travel) → IsJourney network j
     → All (IsTold network) (journey_handed network n j)
 journey_told network net n j is =
     let s : Sender = sender_at network j.release.sender in
     let keeps : IsSender network.topology s = sender_is network net j.release.sender is.sender in
-    all_handed (IsTold network) network.topology.ports n j.release s s.path j.hops j.ending
+    all_handed (IsTold network) n j.release s s.path j.hops j.ending
     (neighbours_with (λ p. p < length network.topology.ports) (MeetAtBridge network.topology)
-    (AtPorts (IsTold network) network.topology.ports n j.release s.class)
-    (λ a b within meet e times verdict. record {
-      exists = is.sender;
-      within = within;
-      ranked = refl;
-      bits = refl;
-      arrives = refl;
-      bridge = meet.bridge;
-    })
+    (AtPorts (IsTold network) n j.release s.class)
+    (λ a b within meet came e times arrival verdict.
+    record { exists = is.sender; within = within; ranked = refl; bits = refl; bridge = meet.bridge })
     s.path keeps.ports keeps.bridges)
-    j.release.at.0 is.way
+    is.way
 
-pub told : (network : DeclaredNetwork) (run : List Travel) → Case network run
+pub told : {judge : Judge} {rule : Declared → List Frame → Type 0} (network : DeclaredNetwork) (run : List Travel)
+    → Case judge rule network run
     → All (IsTold network) (handed_from network 0 run)
 told network run c =
     run_handed (IsJourney network) (IsTold network) network 0 run (journey_told network c.net) c.legal.journeys

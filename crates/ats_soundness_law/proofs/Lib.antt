@@ -3,7 +3,9 @@ pub mod Arrivals
 pub mod Behind
 pub mod Bits
 pub mod Bridge
+pub mod EachRule
 pub mod Example
+pub mod JudgeExample
 pub mod Known
 pub mod Lifts
 pub mod Offered
@@ -13,6 +15,7 @@ pub mod RuleNetworks
 pub mod RuleProofs
 pub mod RuleRuns
 pub mod RuleTest
+pub mod RunExamples
 pub mod Serving
 pub mod Shaping
 pub mod Sized

@@ -1,17 +1,23 @@
-use Rattle.std.proofs.Common.{◌≡◌, ℕ, ◌*◌, ◌<◌, ◌≤◌, List, filter, length, get_or, All, ap, arith}
+use Rattle.std.proofs.Common.{◌≡◌, ℕ, ◌<◌, ◌≤◌, List, filter, length, get_or, All, subst, arith}
 use Rattle.std.specs.Prelude.{◌==◌}
 use Rattle.std.proofs.lemmas.Bool.{eqb-true}
 use Rattle.std.proofs.lemmas.List.Elements.{All-map, All-filter, filter_passes}
-use Rattle.ats_num.specs.declared.time.TheConstants.{PS_PER_SECOND}
+use Rattle.std.proofs.lemmas.List.Sorted.{All-permutation, sum_by-IsPermutation}
 use Rattle.ats_bucket.specs.Conforming.{Frame}
-use Rattle.ats_group_law.specs.Windows.{bits_within, KeepsWindows}
+use Rattle.ats_group.specs.declared.member.Declared.{Declared}
+use Rattle.ats_group_law.specs.Regulator.{Judge, AreNoMore, bucket_rule}
+use Rattle.ats_group_law.proofs.Order.{from_frames}
 use Rattle.ats_network.specs.Network.{DeclaredNetwork}
 use Rattle.ats_network.specs.Senders.{sender_at}
+use Rattle.ats_certificate.specs.PortSums.{longest}
 use Rattle.ats_port_rule.specs.Transmission.{Transmission}
-use Rattle.ats_port_law.specs.PortLaw.{IsDeclared, IsOffered, frames_by}
+use Rattle.ats_port_law.specs.PortLaw.{IsDeclared, IsOffered, frame_of, frames_by}
 use Rattle.ats_trace.specs.Journey.{Travel}
 use Rattle.ats_trace.specs.Projections.{Hop, hops_from, sent_by}
-use Rattle.ats_soundness_law.proofs.Sorting.{conforms_in_order}
+use Rattle.ats_trace.specs.Eligibility.{declared_by}
+use Rattle.ats_soundness_law.proofs.Known.{Case}
+use Rattle.ats_soundness_law.proofs.Sorting.{InOrder, in_order}
+use Rattle.ats_soundness_law.proofs.Streams.{stream_exists, stream_class, sender_ruled}
 
 -- a transmission is a declared one, where it is of this port
 abbrev pub DeclaredAt : DeclaredNetwork → ℕ → Hop → Type 0
@@ -28,23 +34,72 @@ at_port P network run port all =
     All-map P (λ (g : Hop). g.sent) (filter test hops)
     (λ k d h. chosen k d h (eqb-true (get_or (filter test hops) k d).port port (passes k d h)))
 
--- a port is offered what it may be asked to send, where no window holds too many bits of a stream
-pub offered : (network : DeclaredNetwork) (run : List Travel) (port : ℕ)
-    → All (DeclaredAt network port) (hops_from network 0 run)
-    → ((i : ℕ) → i < length network.streams → KeepsWindows (sender_at network i).rate (sender_at network i).burst_bits
-    (frames_by i (sent_by network run port)))
-    → IsOffered network port (sent_by network run port)
-offered network run port each windows = record {
-  each = at_port (IsDeclared network port) network run port each;
-  streams = λ i h. conforms_in_order (sender_at network i).rate (sender_at network i).burst_bits
-      (frames_by i (sent_by network run port)) (windows i h);
-}
+-- what a port was asked to send of a stream is no more than frames that keep the stream's rule
+pub record Kept (rule : Declared → List Frame → Type 0) (network : DeclaredNetwork) (run : List Travel)
+    (port i : ℕ) : Type 0 where
+  pub others : List Frame
+  pub keeps : rule (declared_by network i) others
+  pub no_more : AreNoMore (frames_by i (sent_by network run port)) others
 
--- frames without bits keep all windows
-pub no_bits : (rate burst : ℕ) (frames : List Frame) → ((from to : ℕ) → bits_within frames from to ≤ 0)
-    → KeepsWindows rate burst frames
-no_bits rate burst frames none = record {
-  within = λ from to h. (
-      let zero_bits : bits_within frames from to ≡ 0 = omega (arith, none from to) in
-      omega (arith, ap (λ (n : ℕ). PS_PER_SECOND * n) zero_bits));
+-- so of each stream; and the port is offered what it may be asked to send
+pub record IsFed (rule : Declared → List Frame → Type 0) (network : DeclaredNetwork) (run : List Travel)
+    (port : ℕ) : Type 0 where
+  pub offered : IsOffered network port (sent_by network run port)
+  pub kept : (i : ℕ) → i < length network.streams → Kept rule network run port i
+
+-- a sender's frames are no longer than it declares
+own_sizes : (network : DeclaredNetwork) (run : List Travel) (port i : ℕ)
+    → All (IsDeclared network port) (sent_by network run port)
+    → All (λ (f : Frame). f.bits ≤ longest (sender_at network i)) (frames_by i (sent_by network run port))
+own_sizes network run port i each =
+    let sent : List Transmission = sent_by network run port in
+    let test = λ (x : Transmission). x.sender == i in
+    All-map (λ (f : Frame). f.bits ≤ longest (sender_at network i)) frame_of (filter test sent)
+    (λ k d h. (
+    let x : Transmission = get_or (filter test sent) k d in
+    let same : x.sender ≡ i = eqb-true x.sender i (filter_passes test sent k d h) in
+    let most = (All-filter test (IsDeclared network port) sent each k d h).most in
+    subst (λ (n : ℕ). x.bits ≤ longest (sender_at network n)) same most))
+
+pub fed : {judge : Judge} {rule : Declared → List Frame → Type 0} (network : DeclaredNetwork) (run : List Travel)
+    (port : ℕ) → Case judge rule network run → All (DeclaredAt network port) (hops_from network 0 run)
+    → ((i : ℕ) → i < length network.streams → Kept rule network run port i) → IsFed rule network run port
+fed {judge} {rule} network run port c declared kept =
+    let each : All (IsDeclared network port) (sent_by network run port) =
+    at_port (IsDeclared network port) network run port declared in
+    record {
+      kept = kept;
+      offered = record {
+        each = each;
+        streams = λ i h. (
+            let d : Declared = declared_by network i in
+            let frames : List Frame = frames_by i (sent_by network run port) in
+            let k : Kept rule network run port i = kept i h in
+            let o : InOrder frames = in_order frames in
+            let keeps = c.rules.fewer d o.order k.others k.keeps (from_frames o.order o.ascends)
+            (λ weight. omega (arith, sum_by-IsPermutation weight frames o.order o.same, k.no_more weight)) in
+            let shaped = stream_class network c.net i h in
+            record {
+              order = o.order;
+              same = o.same;
+              conforms = c.rules.conforms d o.order (sender_ruled network c.net i (stream_exists network i h) shaped)
+                  (All-permutation (λ (f : Frame). f.bits ≤ longest (sender_at network i)) frames o.order o.same
+                  (own_sizes network run port i each)) keeps;
+            });
+      };
+    }
+
+-- where each stream's frames conform, its rule is that of its bucket
+pub by_buckets : (network : DeclaredNetwork) (run : List Travel) (port : ℕ)
+    → IsOffered network port (sent_by network run port) → IsFed bucket_rule network run port
+by_buckets network run port offered = record {
+  offered = offered;
+  kept = λ i h. (
+      let frames : List Frame = frames_by i (sent_by network run port) in
+      let c = offered.streams i h in
+      record {
+        others = c.order;
+        keeps = c.conforms;
+        no_more = λ weight. omega (arith, sum_by-IsPermutation weight frames c.order c.same);
+      });
 }

@@ -2,9 +2,11 @@ use Rattle.std.proofs.Common.{◌≡◌, ◌≢◌, ℕ, ◌+◌, ◌<◌, ◌�
 use Rattle.std.specs.Prelude.{Contains}
 use Rattle.ats_network.specs.Network.{DeclaredNetwork, IsNetwork}
 use Rattle.ats_network.specs.Senders.{sender_at}
-use Rattle.ats_certificate.specs.Certificate.{bound_at, Holds}
+use Rattle.ats_certificate.specs.Certificate.{bound_at}
 use Rattle.ats_certificate.specs.declared.row.Row.{Row}
-use Rattle.ats_trace.specs.Journey.{Travel}
+use Rattle.ats_group_law.specs.Regulator.{ats_judge}
+use Rattle.ats_group_law.proofs.Regulator.{ats_is_regulator}
+use Rattle.ats_trace.specs.Journey.{Travel, IsOfStream}
 use Rattle.ats_trace.specs.Run.{IsLegal, releases_of}
 use Rattle.ats_trace.specs.Stored.{travel_at}
 use Rattle.ats_trace.specs.Talker.{talker_of, KeepsBuckets}
@@ -13,7 +15,7 @@ use Rattle.ats_trace.proofs.LegalProofs.{examples_legal}
 use Rattle.ats_soundness_law.specs.Sound.{IsServed, IsSound}
 use Rattle.ats_soundness_law.specs.Rules.{Rule, rows_are_there, higher_is_right, equal_is_right, bursts_are_right}
 use Rattle.ats_soundness_law.specs.Rules.{lower_is_right, least_is_right, bound_follows, load_fits, wait_is_enough}
-use Rattle.ats_soundness_law.specs.Rules.{frames_may_stay, Keeps, RestHolds, HoldsIsEachRule}
+use Rattle.ats_soundness_law.specs.Rules.{frames_may_stay, Keeps, RestHolds}
 use Rattle.ats_soundness_law.specs.RuleExamples.{pair, below, fast, fast_rows, network_for, rows_for, BreaksAlone}
 use Rattle.ats_soundness_law.specs.RuleExamples.{EachRuleCounts}
 use Rattle.ats_soundness_law.proofs.Example.{is_network}
@@ -22,62 +24,17 @@ use Rattle.ats_soundness_law.proofs.RuleRuns.{of_two, of_three, of_classes, of_f
 use Rattle.ats_soundness_law.proofs.RuleRuns.{three_kept, classes_legal, classes_kept, fast_legal, fast_kept}
 use Rattle.ats_soundness_law.proofs.RuleRuns.{flow_legal, flow_kept, one_kept}
 use Rattle.ats_soundness_law.proofs.RuleTest.{same_rule, others_pass, others_by, rest_passes, rest_by}
-use Rattle.ats_soundness_law.proofs.Soundness as soundness
-
--- the rules of a certificate that holds
-
-rule_of_holding : (network : DeclaredNetwork) (given : List Row) → Holds network given → (rule : Rule)
-    → Keeps rule network given
-rule_of_holding network given h rows_are_there = h.rows_of.complete
-rule_of_holding network given h higher_is_right = λ k d within. (h.each k d within).covers.sums.higher
-rule_of_holding network given h equal_is_right = λ k d within. (h.each k d within).covers.sums.equal
-rule_of_holding network given h bursts_are_right = λ k d within. (h.each k d within).covers.sums.bursts
-rule_of_holding network given h lower_is_right = λ k d within. (h.each k d within).covers.sums.lower
-rule_of_holding network given h least_is_right = λ k d within. (h.each k d within).covers.sums.least
-rule_of_holding network given h bound_follows = λ k d within. (h.each k d within).covers.bound
-rule_of_holding network given h load_fits = λ k d within. (h.each k d within).covers.load
-rule_of_holding network given h wait_is_enough = λ k d within. (h.each k d within).covers.wait
-rule_of_holding network given h frames_may_stay = λ k d within. (h.each k d within).residence
-
-holds_of_rules : (network : DeclaredNetwork) (given : List Row) → ((rule : Rule) → Keeps rule network given)
-    → RestHolds network given → Holds network given
-holds_of_rules network given keeps rest =
-    record {
-      rows_of = record { complete = keeps rows_are_there; used = rest.used; ordered = rest.ordered };
-      each = λ k d within. record {
-        covers = record {
-          sums = record {
-            higher = keeps higher_is_right k d within;
-            equal = keeps equal_is_right k d within;
-            bursts = keeps bursts_are_right k d within;
-            lower = keeps lower_is_right k d within;
-            least = keeps least_is_right k d within;
-          };
-          bound = keeps bound_follows k d within;
-          load = keeps load_fits k d within;
-          wait = keeps wait_is_enough k d within;
-        };
-        residence = keeps frames_may_stay k d within;
-      };
-      deadlines = rest.in_time;
-    }
-
-pub holds_is_each_rule : HoldsIsEachRule
-holds_is_each_rule network given = record {
-  kept = rule_of_holding network given;
-  rest = λ h. record { used = h.rows_of.used; ordered = h.rows_of.ordered; in_time = h.deadlines };
-  enough = holds_of_rules network given;
-}
+use Rattle.ats_soundness_law.proofs.Soundness.{sound_by_rules}
 
 -- where a frame of a legal run, whose talker keeps its buckets, is not served, the rows are not sound
 unsound_by : (network : DeclaredNetwork) (given : List Row) (run : List Travel) (frame : ℕ) → IsLegal network run
     → Contains run (travel_at run frame)
-    → 0 < (sender_at network (travel_at run frame).release.sender).class
+    → IsOfStream network (travel_at run frame)
     → KeepsBuckets network (releases_of run) (talker_of network (travel_at run frame).release.sender)
     → ¬ IsServed given (sender_at network (travel_at run frame).release.sender) (travel_at run frame)
     → ¬ IsSound network given
-unsound_by network given run frame legal among shaped keeps unserved sound =
-    unserved (sound.served run legal (travel_at run frame) among shaped keeps)
+unsound_by network given run frame legal among stream keeps unserved sound =
+    unserved (sound.served run legal (travel_at run frame) among stream keeps)
 
 -- one rule and all others are all
 each : (rule : Rule) (network : DeclaredNetwork) (given : List Row)
@@ -95,8 +52,8 @@ breaks : (rule : Rule) (network : DeclaredNetwork) (given : List Row) → IsNetw
     → BreaksAlone rule network given
 breaks rule network given is others rest unsound = record {
   is_network = is;
-  broken = λ kept. unsound (soundness.certificate_is_sound network given is
-      (holds_of_rules network given (each rule network given others kept) rest));
+  broken = λ kept. unsound (sound_by_rules ats_judge network given ats_is_regulator.regulator is
+      (each rule network given others kept));
   others = others;
   rest = rest;
   unsound = unsound;

@@ -220,6 +220,18 @@ same_rule other rule =
       | inr differ ↦ inr (λ same. differ (ap number_of same))
     ]
 
+-- the rows keep each rule
+abbrev pub all_pass : DeclaredNetwork → List Row → Bool
+all_pass network given = list_all (λ rule. passes rule network given) all_rules
+
+pub all_kept : (network : DeclaredNetwork) (given : List Row) → all_pass network given ≡ true → (rule : Rule)
+    → Keeps rule network given
+all_kept network given h rule =
+    let test : Rule → Bool = λ rule. passes rule network given in
+    let found : test (get_or all_rules (number_of rule) rows_are_there) ≡ true =
+    AllPass-from_list_all test all_rules h (number_of rule) rows_are_there (there rule) in
+    kept_by rule network given (subst (λ (q : Rule). test q ≡ true) (own rule) found)
+
 -- the rows keep each rule but this one
 abbrev pub others_pass : Rule → DeclaredNetwork → List Row → Bool
 others_pass rule network given =

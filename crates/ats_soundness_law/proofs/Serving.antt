@@ -1,23 +1,29 @@
-use Rattle.std.proofs.Common.{◌≡◌, ℕ, ◌+◌, ◌<◌, ◌≤◌, Bool, true, cond, List, [], ◌∷◌, length, All, sym, ap, ◌∙◌, subst}
-use Rattle.std.proofs.Common.{inl, inr, Option, Some, arith}
-use Rattle.std.specs.Prelude.{find, is_some, unwrap_or, ◌==◌}
+use Rattle.std.proofs.Common.{◌≡◌, ℕ, ◌+◌, ◌<◌, ◌≤◌, Bool, true, cond, List, [], ◌∷◌, length, get_or, All, sym, ap, ◌∙◌}
+use Rattle.std.proofs.Common.{subst, inl, inr, Option, Some, arith}
+use Rattle.std.specs.Prelude.{find, is_some, IsSome, unwrap_or, ◌==◌}
 use Rattle.std.specs.Option.{option_map}
 use Rattle.std.proofs.lemmas.Bool.{cases_Bool, and_parts, eqb-true, false≢true}
-use Rattle.std.proofs.lemmas.List.Elements.{All-head, All-tail, All-weaker}
+use Rattle.std.proofs.lemmas.List.Elements.{All-head, All-tail, All-contains, All-weaker}
 use Rattle.ats_topology.specs.Port.{port_at}
 use Rattle.ats_network.specs.Bridges.{IsBridgeAt}
 use Rattle.ats_network.specs.Network.{DeclaredNetwork}
 use Rattle.ats_certificate.specs.PortSums.{is_used}
-use Rattle.ats_certificate.specs.Certificate.{is_row_of, bound_at, RowHolds, Holds}
+use Rattle.ats_certificate.specs.Certificate.{is_row_of, row_of, bound_at, RowHolds}
 use Rattle.ats_certificate.specs.declared.row.Row.{Row}
 use Rattle.ats_port_rule.specs.Transmission.{Transmission}
-use Rattle.ats_port_law.specs.PortLaw.{IsOffered, IsWithinBound}
+use Rattle.ats_port_law.specs.PortLaw.{IsWithinBound}
 use Rattle.ats_port_law.proofs.Law.{law}
-use Rattle.ats_trace.specs.Journey.{Travel, arrival_after}
-use Rattle.ats_trace.specs.Projections.{Handed, sent_by, handed_by}
+use Rattle.ats_bucket.specs.Conforming.{Frame}
+use Rattle.ats_group.specs.declared.member.Declared.{Declared}
+use Rattle.ats_trace.specs.Journey.{Travel}
+use Rattle.ats_trace.specs.Projections.{Crossing, Handed, sent_by, crossings_by, handed_by}
+use Rattle.ats_trace.specs.Links.{KeepsLinkRule}
+use Rattle.ats_group_law.specs.Regulator.{Judge}
 use Rattle.ats_soundness_law.specs.Laws.{IsHandedOn}
 use Rattle.ats_soundness_law.specs.Sound.{IsEligibleBy}
+use Rattle.ats_soundness_law.proofs.Offered.{IsFed}
 use Rattle.ats_soundness_law.proofs.Known.{Case}
+use Rattle.ats_soundness_law.proofs.Arrivals.{crossed_there}
 use Rattle.ats_soundness_law.proofs.Shaping as shaping
 
 -- the first element that passes a test
@@ -49,56 +55,72 @@ found {X} test P (x ∷ xs) all some =
           })
     ]
 
+-- what bounds rest on: each port and class that some stream uses has its row, and each row holds
+pub record RowsHold (network : DeclaredNetwork) (rows : List Row) : Type 0 where
+  pub complete : (port class : ℕ) → is_used network port class ≡ true → IsSome (row_of rows port class)
+  pub each : All (RowHolds network) rows
+
 -- a port serves a class: each frame arrives behind it within the certificate's bound, and is eligible there within it
 pub record Serves (network : DeclaredNetwork) (run : List Travel) (rows : List Row) (class port : ℕ) : Type 0 where
-  pub arrives : All (λ (x : Transmission). x.class ≡ class → arrival_after (port_at network.topology.ports port) x.end
-      ≤ x.eligible + bound_at rows port class) (sent_by network run port)
+  pub arrives : All (λ (c : Crossing). c.sent.class ≡ class → c.arrival ≤ c.sent.eligible + bound_at rows port class)
+      (crossings_by network run port)
   pub free : IsBridgeAt network.topology (port_at network.topology.ports port).to
-      → All (λ (h : Handed). IsEligibleBy (h.hop.sent.eligible + bound_at rows port class) (λ e. Unit {0}) h.verdict)
-      (handed_by network run port class)
+      → All (λ (h : Handed). IsEligibleBy (h.crossing.sent.eligible + bound_at rows port class) (λ e. Unit {0})
+      h.verdict) (handed_by network run port class)
 
 -- where a row holds, the port of the row serves its class
 record ByRow (network : DeclaredNetwork) (run : List Travel) (row : Row) (port class : ℕ) : Type 0 where
-  arrives : All (IsWithinBound network row) (sent_by network run port)
+  arrives : All (λ (c : Crossing). c.sent.class ≡ row.class → c.arrival ≤ c.sent.eligible + row.bound)
+      (crossings_by network run port)
   free : IsBridgeAt network.topology (port_at network.topology.ports port).to
       → All (IsHandedOn row) (handed_by network run port class)
 
-by_row : (network : DeclaredNetwork) (run : List Travel) (row : Row) → Case network run
+by_row : {judge : Judge} {rule : Declared → List Frame → Type 0} (network : DeclaredNetwork) (run : List Travel)
+    (row : Row) → Case judge rule network run
     → row.port < length network.topology.ports → is_used network row.port row.class ≡ true → RowHolds network row
-    → IsOffered network row.port (sent_by network run row.port) → ByRow network run row row.port row.class
-by_row network run row c within used holds offered = record {
-  arrives =
-      law network row (sent_by network run row.port) c.net used holds.covers (c.legal.ports row.port within) offered;
-  free = λ bridge. shaping.shaping_for_free network run row c.net c.legal used bridge holds offered;
-}
+    → IsFed rule network run row.port → ByRow network run row row.port row.class
+by_row network run row c within used holds fed =
+    let sent : List Transmission = sent_by network run row.port in
+    let crossings : List Crossing = crossings_by network run row.port in
+    let link : KeepsLinkRule (port_at network.topology.ports row.port) crossings = c.legal.links row.port within in
+    let each : All (IsWithinBound network row) sent =
+    law network row sent c.net used holds.covers (c.legal.ports row.port within) fed.offered in
+    record {
+      arrives = λ k d h class. (
+          let one : Crossing = get_or crossings k d in
+          let bound = All-contains (IsWithinBound network row) sent one.sent each
+          (crossed_there network run row.port k d h) class in
+          omega (arith, (link.within k d h).latest, bound));
+      free = λ bridge. shaping.shaping_for_free_by network run row c used bridge holds fed;
+    }
 
 -- so each port that is offered what it may be asked to send serves the classes that are used there
-pub serves : (network : DeclaredNetwork) (run : List Travel) (rows : List Row) → Case network run → Holds network rows
-    → (class port : ℕ) → port < length network.topology.ports
-    → is_used network port class ≡ true → IsOffered network port (sent_by network run port)
+pub serves : {judge : Judge} {rule : Declared → List Frame → Type 0} (network : DeclaredNetwork) (run : List Travel)
+    (rows : List Row) → Case judge rule network run
+    → RowsHold network rows → (class port : ℕ) → port < length network.topology.ports
+    → is_used network port class ≡ true → IsFed rule network run port
     → Serves network run rows class port
-serves network run rows c holds class port within used offered =
+serves {judge} {rule} network run rows c holds class port within used fed =
     let f : Found (is_row_of port class) (RowHolds network) rows =
-    found (is_row_of port class) (RowHolds network) rows holds.each (holds.rows_of.complete port class used) in
+    found (is_row_of port class) (RowHolds network) rows holds.each (holds.complete port class used) in
     let row : Row = f.one in
     let parts = and_parts (row.port == port) (row.class == class) f.passes in
     let port_is : row.port ≡ port = eqb-true row.port port parts.0 in
     let class_is : row.class ≡ class = eqb-true row.class class parts.1 in
     let bound_is : bound_at rows port class ≡ row.bound =
     ap (λ (o : Option Row). unwrap_or (option_map (λ (row : Row). row.bound) o) 0) f.is in
-    let Offered : ℕ → Type 0 = λ (p : ℕ). (p < length network.topology.ports) × (is_used network p row.class ≡ true)
-    × IsOffered network p (sent_by network run p) in
-    let there : Offered row.port = subst Offered (sym port_is)
-    (within, subst (λ (n : ℕ). is_used network port n ≡ true) (sym class_is) used, offered) in
+    let Fed : ℕ → Type 0 = λ (p : ℕ). (p < length network.topology.ports) × (is_used network p row.class ≡ true)
+    × IsFed rule network run p in
+    let there : Fed row.port = subst Fed (sym port_is)
+    (within, subst (λ (n : ℕ). is_used network port n ≡ true) (sym class_is) used, fed) in
     let own : ByRow network run row row.port row.class = by_row network run row c there.0 there.1 f.holds there.2 in
     let by : ByRow network run row port class = subst (λ (p : ℕ). ByRow network run row p class) port_is
     (subst (λ (n : ℕ). ByRow network run row row.port n) class_is own) in
-    let latency = ap (λ (p : ℕ). (port_at network.topology.ports p).latency.0) port_is in
     record {
-      arrives = λ k d h same. (let le = by.arrives k d h (same ∙ sym class_is) in omega (arith, le, bound_is, latency));
+      arrives = λ k d h same. (let le = by.arrives k d h (same ∙ sym class_is) in omega (arith, le, bound_is));
       free = λ bridge. All-weaker (IsHandedOn row)
-          (λ (h : Handed). IsEligibleBy (h.hop.sent.eligible + bound_at rows port class) (λ e. Unit {0}) h.verdict)
-          (λ h on. subst (λ (n : ℕ). IsEligibleBy (h.hop.sent.eligible + n) (λ e. Unit {0}) h.verdict)
+          (λ (h : Handed). IsEligibleBy (h.crossing.sent.eligible + bound_at rows port class) (λ e. Unit {0}) h.verdict)
+          (λ h on. subst (λ (n : ℕ). IsEligibleBy (h.crossing.sent.eligible + n) (λ e. Unit {0}) h.verdict)
           (sym bound_is) on)
           (handed_by network run port class) (by.free bridge);
     }

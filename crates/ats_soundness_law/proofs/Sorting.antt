@@ -1,4 +1,4 @@
-use Rattle.std.proofs.Common.{ℕ, zero, suc, ◌≤◌, List, [], ◌∷◌, All, refl, inl, inr, arith}
+use Rattle.std.proofs.Common.{zero, suc, ◌≤◌, List, [], ◌∷◌, All, refl, inl, inr, arith}
 use Rattle.std.specs.Prelude.{IsPermutation}
 use Rattle.std.specs.List.Sorted.{IsNonDecreasingBy}
 use Rattle.std.proofs.lemmas.Bool.{cases_lt}
@@ -6,17 +6,12 @@ use Rattle.std.proofs.lemmas.List.Elements.{All-nil, All-cons, All-weaker}
 use Rattle.std.proofs.lemmas.List.Sorted.{IsPermutation-refl, IsPermutation-cons, IsPermutation-trans, All-permutation}
 use Rattle.std.proofs.lemmas.List.Sorted.{IsPermutation-swap}
 use Rattle.ats_bucket.specs.Conforming.{Frame}
-use Rattle.ats_group_law.specs.Windows.{KeepsWindows}
-use Rattle.ats_group_law.proofs.Order.{from_frames}
-use Rattle.ats_group_law.proofs.WindowParts.{KeepsWindows-permutation}
-use Rattle.ats_group_law.proofs.WindowPlaces.{places_from_windows}
-use Rattle.ats_port_law.specs.PortLaw.{ConformsInOrder}
 
 -- frames in the order of their times
-record InOrder (frames : List Frame) : Type 0 where
-  order : List Frame
-  same : IsPermutation frames order
-  ascends : IsNonDecreasingBy (λ (f : Frame). f.at) order
+pub record InOrder (frames : List Frame) : Type 0 where
+  pub order : List Frame
+  pub same : IsPermutation frames order
+  pub ascends : IsNonDecreasingBy (λ (f : Frame). f.at) order
 
 -- one frame before others that are no earlier
 ascends-cons : (f : Frame) (fs : List Frame) → All (λ (g : Frame). f.at ≤ g.at) fs
@@ -66,7 +61,7 @@ with_one f (g ∷ fs) o = elim (cases_lt g.at f.at) as (λ _. InOrder (f ∷ g �
       })
 ]
 
-in_order : (fs : List Frame) → InOrder fs
+pub in_order : (fs : List Frame) → InOrder fs
 in_order [] = record { order = []; same = IsPermutation-refl []; ascends = λ i j d h k. absurd (omega arith) }
 in_order (f ∷ fs) =
     let rest : InOrder fs = in_order fs in
@@ -76,18 +71,4 @@ in_order (f ∷ fs) =
       same = IsPermutation-trans (f ∷ fs) (f ∷ rest.order) all.order
           (IsPermutation-cons f fs rest.order rest.same) all.same;
       ascends = all.ascends;
-    }
-
--- frames of which no window holds too many bits conform when they are put in order
-pub conforms_in_order : (rate burst : ℕ) (frames : List Frame) → KeepsWindows rate burst frames
-    → ConformsInOrder rate burst frames
-conforms_in_order rate burst frames k =
-    let o : InOrder frames = in_order frames in
-    record {
-      order = o.order;
-      same = o.same;
-      conforms = places_from_windows rate burst o.order (record {
-        in_order = from_frames o.order o.ascends;
-        windows = KeepsWindows-permutation rate burst frames o.order o.same k;
-      });
     }

@@ -14,31 +14,34 @@ use Rattle.ats_network.specs.Network.{DeclaredNetwork, senders_of}
 use Rattle.ats_network.specs.Senders.{sender_at, IsSender, AllNeighbours}
 use Rattle.ats_certificate.specs.PortSums.{uses}
 use Rattle.ats_group.specs.Group.{is_declared_size}
-use Rattle.ats_group_law.specs.Windows.{KeepsWindows, bits_within}
-use Rattle.ats_group_law.proofs.WindowParts.{KeepsWindows-fewer}
-use Rattle.ats_group_law.proofs.WindowPlaces.{windows_from_places}
 use Rattle.ats_port_law.specs.PortLaw.{IsDeclared, frames_by}
 use Rattle.ats_port_law.proofs.Sums.{sum_by-none}
+use Rattle.ats_bucket.specs.Conforming.{Frame}
+use Rattle.ats_group.specs.declared.member.Declared.{Declared}
 use Rattle.ats_trace.specs.Journey.{Travel, IsJourney, IsReleased, class_at}
 use Rattle.ats_trace.specs.Projections.{Hop, hops_along, journey_hops, sent_by, hop_at, transmission_of}
 use Rattle.ats_trace.specs.Eligibility.{declared_by}
 use Rattle.ats_trace.specs.Run.{releases_of}
-use Rattle.ats_trace.specs.Talker.{talker_of, start_of, KeepsBuckets, frames_of}
+use Rattle.ats_trace.specs.Talker.{talker_of, start_of, KeepsBucketsBy, frames_of}
 use Rattle.ats_trace.specs.declared.journey.Release.{Release}
 use Rattle.ats_trace.specs.declared.journey.HopRecord.{HopRecord}
+use Rattle.ats_group_law.specs.Regulator.{Judge}
 use Rattle.ats_soundness_law.specs.Laws.{StationIsOffered}
 use Rattle.ats_soundness_law.proofs.Along.{AtPort, hop_by, all_hops}
-use Rattle.ats_soundness_law.proofs.Bits.{hop_bits, frames_bits, release_bits, releases_bits, counted-none, counted-le}
+use Rattle.ats_soundness_law.proofs.Bits.{hop_weight, frames_weight, release_weight, releases_weight, counted-none}
+use Rattle.ats_soundness_law.proofs.Bits.{counted-le}
 use Rattle.ats_soundness_law.proofs.Bits.{counted-neither}
-use Rattle.ats_soundness_law.proofs.Known.{Case, bits_of_size}
+use Rattle.ats_soundness_law.proofs.Known.{Case, ats_case, bits_of_size}
 use Rattle.ats_soundness_law.proofs.Lifts.{run_hops, run_travels-le}
-use Rattle.ats_soundness_law.proofs.Offered.{DeclaredAt, offered, no_bits}
+use Rattle.ats_soundness_law.proofs.Offered.{DeclaredAt, Kept, IsFed, fed}
+use Rattle.ats_soundness_law.proofs.Streams.{stream_exists, stream_class, sender_ruled}
 use Rattle.ats_soundness_law.proofs.Paths.{sender_is, not_both, later_bridges, uses_own}
 use Rattle.ats_soundness_law.proofs.Weights.{first-le}
 
 -- a port that leaves a station, in a legal run
-record AtStation (network : DeclaredNetwork) (run : List Travel) (port : ℕ) : Type 0 where
-  known : Case network run
+record AtStation (judge : Judge) (rule : Declared → List Frame → Type 0) (network : DeclaredNetwork) (run : List Travel)
+    (port : ℕ) : Type 0 where
+  known : Case judge rule network run
   station : IsStationAt network.topology (port_at network.topology.ports port).from
 
 -- a journey, of which the release has a declared size where its talker is this station
@@ -47,8 +50,9 @@ record Paced (network : DeclaredNetwork) (station : ℕ) (j : Travel) : Type 0 w
   size : talker_of network j.release.sender ≡ station
       → is_declared_size (declared_by network j.release.sender) j.release.octets ≡ true
 
-paced : (network : DeclaredNetwork) (run : List Travel) (station : ℕ) → Case network run
-    → KeepsBuckets network (releases_of run) station → All (Paced network station) run
+paced : {judge : Judge} {rule : Declared → List Frame → Type 0} (network : DeclaredNetwork) (run : List Travel)
+    (station : ℕ) → Case judge rule network run
+    → KeepsBucketsBy rule network (releases_of run) station → All (Paced network station) run
 paced network run station c keeps k d h =
     let j : Travel = get_or run k d in
     let is : IsJourney network j = c.legal.journeys k d h in
@@ -59,8 +63,9 @@ paced network run station c keeps k d h =
     record { is = is; size = size is.sender }
 
 -- at each port of a path: what is sent there is declared, where it is this port
-declared_along : (network : DeclaredNetwork) (run : List Travel) (port : ℕ) → AtStation network run port
-    → (n : ℕ) (r : Release) → r.sender < length (senders_of network)
+declared_along : {judge : Judge} {rule : Declared → List Frame → Type 0} (network : DeclaredNetwork)
+    (run : List Travel) (port : ℕ)
+    → AtStation judge rule network run port → (n : ℕ) (r : Release) → r.sender < length (senders_of network)
     → (path : List ℕ) → AllNeighbours (MeetAtBridge network.topology) path
     → All (λ (p : ℕ). uses p (sender_at network r.sender) ≡ true) path
     → (start_of network.topology.ports path ≡ (port_at network.topology.ports port).from
@@ -87,8 +92,10 @@ declared_along network run port a n r exists (p ∷ path) meet used size =
     (later_bridges network.topology p path meet k d h))
     (IsDeclared network port (hop_by n r s.class (get_or path k d) e times).sent))
 
-journey_declared : (network : DeclaredNetwork) (run : List Travel) (port : ℕ) → AtStation network run port
-    → (n : ℕ) (j : Travel) → Paced network (port_at network.topology.ports port).from j
+journey_declared : {judge : Judge} {rule : Declared → List Frame → Type 0} (network : DeclaredNetwork)
+    (run : List Travel) (port : ℕ)
+    → AtStation judge rule network run port → (n : ℕ) (j : Travel)
+    → Paced network (port_at network.topology.ports port).from j
     → All (DeclaredAt network port) (journey_hops network n j)
 journey_declared network run port a n j paced =
     let s : Sender = sender_at network j.release.sender in
@@ -96,18 +103,19 @@ journey_declared network run port a n j paced =
     all_hops (DeclaredAt network port) n j.release s s.path j.hops
     (declared_along network run port a n j.release paced.is.sender s.path keeps.bridges (uses_own s) paced.size)
 
--- a frame's bits at the port are those of its release, at the first port of its path
-bits_along : (network : DeclaredNetwork) (run : List Travel) (i port from to most : ℕ) → AtStation network run port
-    → (n : ℕ) (r : Release) (s : Sender) (path : List ℕ) (hops : List HopRecord)
+-- a frame's weight at the port is that of its release, at the first port of its path
+weight_along : {judge : Judge} {rule : Declared → List Frame → Type 0} (network : DeclaredNetwork) (run : List Travel)
+    (i port : ℕ) (weight : Frame → ℕ) (most : ℕ)
+    → AtStation judge rule network run port → (n : ℕ) (r : Release) (s : Sender) (path : List ℕ) (hops : List HopRecord)
     → AllNeighbours (MeetAtBridge network.topology) path → IsReleased r hops
     → ((p : ℕ) (times : Ps × Ps) → start_of network.topology.ports path ≡ (port_at network.topology.ports p).from
-    → hop_bits i port from to (hop_by n r s.class p r.at times) ≤ most)
-    → sum_by (hop_bits i port from to) (hops_along n r s path hops) ≤ most
-bits_along network run i port from to most a n r s [] hops meet released first = omega arith
-bits_along network run i port from to most a n r s (p ∷ path) [] meet released first = omega arith
-bits_along network run i port from to most a n r s (p ∷ path) (hop ∷ hops) meet released first =
-    let f : Hop → ℕ = hop_bits i port from to in
-    let here = first-le f most n r s.class p hop.verdict hop.sent released (λ times. first p times refl) in
+    → hop_weight i port weight (hop_by n r s.class p r.at times) ≤ most)
+    → sum_by (hop_weight i port weight) (hops_along n r s path hops) ≤ most
+weight_along network run i port weight most a n r s [] hops meet released first = omega arith
+weight_along network run i port weight most a n r s (p ∷ path) [] meet released first = omega arith
+weight_along network run i port weight most a n r s (p ∷ path) (hop ∷ hops) meet released first =
+    let f : Hop → ℕ = hop_weight i port weight in
+    let here = first-le f most n r s.class p hop.verdict hop.sent released.1 (λ times. first p times refl) in
     let none = sum_by-none f (hops_along n r s path hops)
     (all_hops (λ (g : Hop). f g ≤ 0) n r s path hops
     (λ k d h e times. counted-none (get_or path k d == port) _ (λ same.
@@ -118,25 +126,28 @@ bits_along network run i port from to most a n r s (p ∷ path) (hop ∷ hops) m
     let all = sum_by-append f (hop_at p (transmission_of n r (class_at s p) hop)) (hops_along n r s path hops) in
     omega (arith, here, none, all)
 
--- no window of a stream's frames at the port holds more than one of its releases, where it begins at the station
-own_bits : (network : DeclaredNetwork) (run : List Travel) (i port from to : ℕ) → AtStation network run port
-    → bits_within (frames_by i (sent_by network run port)) from to ≤ bits_within (frames_of i (releases_of run)) from to
-own_bits network run i port from to a =
-    let each = run_travels-le (IsJourney network) (hop_bits i port from to) (release_bits i from to) network 0 run
-    (λ n j is. bits_along network run i port from to (release_bits i from to j) a n j.release
+-- a stream's frames at the port are no more than its releases, where it begins at the station
+own_weight : {judge : Judge} {rule : Declared → List Frame → Type 0} (network : DeclaredNetwork) (run : List Travel)
+    (i port : ℕ) (weight : Frame → ℕ)
+    → AtStation judge rule network run port
+    → sum_by weight (frames_by i (sent_by network run port)) ≤ sum_by weight (frames_of i (releases_of run))
+own_weight network run i port weight a =
+    let each = run_travels-le (IsJourney network) (hop_weight i port weight) (release_weight i weight) network 0 run
+    (λ n j is. weight_along network run i port weight (release_weight i weight j) a n j.release
     (sender_at network j.release.sender) (sender_at network j.release.sender).path j.hops
     (sender_is network a.known.net j.release.sender is.sender).bridges is.released
-    (λ p times start. counted-le (p == port) (release_bits i from to j)))
+    (λ p times start. counted-le (p == port) (release_weight i weight j)))
     a.known.legal.journeys in
-    omega (arith, each, frames_bits network run i port from to, releases_bits run i from to)
+    omega (arith, each, frames_weight network run i port weight, releases_weight run i weight)
 
 -- a stream that begins elsewhere has no frames there
-other_bits : (network : DeclaredNetwork) (run : List Travel) (i port from to : ℕ) → AtStation network run port
-    → (talker_of network i ≡ (port_at network.topology.ports port).from → ⊥)
-    → bits_within (frames_by i (sent_by network run port)) from to ≤ 0
-other_bits network run i port from to a other =
-    let each = run_travels-le (IsJourney network) (hop_bits i port from to) (λ (j : Travel). 0) network 0 run
-    (λ n j is. bits_along network run i port from to 0 a n j.release (sender_at network j.release.sender)
+other_weight : {judge : Judge} {rule : Declared → List Frame → Type 0} (network : DeclaredNetwork) (run : List Travel)
+    (i port : ℕ) (weight : Frame → ℕ)
+    → AtStation judge rule network run port → (talker_of network i ≡ (port_at network.topology.ports port).from → ⊥)
+    → sum_by weight (frames_by i (sent_by network run port)) ≤ 0
+other_weight network run i port weight a other =
+    let each = run_travels-le (IsJourney network) (hop_weight i port weight) (λ (j : Travel). 0) network 0 run
+    (λ n j is. weight_along network run i port weight 0 a n j.release (sender_at network j.release.sender)
     (sender_at network j.release.sender).path j.hops
     (sender_is network a.known.net j.release.sender is.sender).bridges is.released
     (λ p times start. counted-neither (p == port) (j.release.sender == i) _ (λ there own.
@@ -144,24 +155,33 @@ other_bits network run i port from to a other =
     ∙ ap (λ (q : ℕ). (port_at network.topology.ports q).from) (eqb-true p port there)))))
     a.known.legal.journeys in
     let none = sum_by-none (λ (j : Travel). 0) run (λ k d h. omega arith) in
-    omega (arith, each, none, frames_bits network run i port from to)
+    omega (arith, each, none, frames_weight network run i port weight)
+
+pub station_fed : {judge : Judge} {rule : Declared → List Frame → Type 0} (network : DeclaredNetwork)
+    (run : List Travel) (port : ℕ) → Case judge rule network run
+    → IsStationAt network.topology (port_at network.topology.ports port).from
+    → KeepsBucketsBy rule network (releases_of run) (port_at network.topology.ports port).from
+    → IsFed rule network run port
+station_fed {judge} {rule} network run port known station keeps =
+    let a : AtStation judge rule network run port = record { known = known; station = station } in
+    let from : ℕ = (port_at network.topology.ports port).from in
+    fed network run port known
+    (run_hops (Paced network from) (DeclaredAt network port) network 0 run (journey_declared network run port a)
+    (paced network run from known keeps))
+    (λ i h. elim (cases_eq (talker_of network i) from) as (λ _. Kept rule network run port i) [
+      | inl begins ↦ record {
+        others = frames_of i (releases_of run);
+        keeps = keeps.streams i h begins;
+        no_more = λ weight. own_weight network run i port weight a;
+      }
+      | inr other ↦ record {
+        others = [];
+        keeps = known.regulator.keeps (declared_by network) 0 [] i
+            (sender_ruled network known.net i (stream_exists network i h) (stream_class network known.net i h));
+        no_more = λ weight. other_weight network run i port weight a other;
+      }
+    ])
 
 pub station_offered : StationIsOffered
 station_offered network run port net legal within station keeps =
-    let known : Case network run = record { net = net; legal = legal } in
-    let a : AtStation network run port = record { known = known; station = station } in
-    let from : ℕ = (port_at network.topology.ports port).from in
-    offered network run port
-    (run_hops (Paced network from) (DeclaredAt network port) network 0 run (journey_declared network run port a)
-    (paced network run from known keeps))
-    (λ i h.
-    let s : Sender = sender_at network i in
-    elim (cases_eq (talker_of network i) from) as (λ _.
-    KeepsWindows s.rate s.burst_bits (frames_by i (sent_by network run port))) [
-      | inl begins ↦ KeepsWindows-fewer s.rate s.burst_bits (frames_of i (releases_of run))
-          (frames_by i (sent_by network run port))
-          (λ first last. own_bits network run i port first last a)
-          (windows_from_places s.rate s.burst_bits (frames_of i (releases_of run)) (keeps.streams i h begins)).windows
-      | inr other ↦ no_bits s.rate s.burst_bits (frames_by i (sent_by network run port))
-          (λ first last. other_bits network run i port first last a other)
-    ])
+    (station_fed network run port (ats_case network run net legal) station keeps).offered

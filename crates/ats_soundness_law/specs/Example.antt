@@ -1,4 +1,4 @@
-use Rattle.std.specs.Prelude.{◌≡◌, ℕ, ◌+◌, ◌<◌, List, [], ◌∷◌, sum_by, Contains}
+use Rattle.std.specs.Prelude.{◌≡◌, ℕ, ◌+◌, List, [], ◌∷◌, sum_by, Contains}
 use Rattle.ats_topology.specs.Port.{port_at}
 use Rattle.ats_network.specs.Bridges.{IsBridgeAt}
 use Rattle.ats_network.specs.Network.{IsNetwork}
@@ -6,7 +6,7 @@ use Rattle.ats_network.specs.Path.{IsStationAt}
 use Rattle.ats_network.specs.Senders.{sender_at}
 use Rattle.ats_certificate.specs.Certificate.{Holds}
 use Rattle.ats_certificate.specs.declared.row.Row.{Row}
-use Rattle.ats_trace.specs.Journey.{Travel}
+use Rattle.ats_trace.specs.Journey.{Travel, IsOfStream}
 use Rattle.ats_trace.specs.Run.{IsLegal, releases_of}
 use Rattle.ats_trace.specs.Stored.{travel_at}
 use Rattle.ats_trace.specs.Talker.{talker_of, KeepsBuckets}
@@ -55,7 +55,7 @@ pub record LawsAreMet : Type 0 where
   pub holds : Holds line line_rows
   pub legal : IsLegal line one_frame
   pub among : Contains one_frame the_frame
-  pub shaped : 0 < (sender_at line the_frame.release.sender).class
+  pub of_stream : IsOfStream line the_frame
   pub keeps : KeepsBuckets line (releases_of one_frame) (talker_of line the_frame.release.sender)
   pub station : IsStationAt line.topology (port_at line.topology.ports 0).from
   pub to_bridge : IsBridgeAt line.topology (port_at line.topology.ports 0).to

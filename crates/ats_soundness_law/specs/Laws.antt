@@ -8,11 +8,13 @@ use Rattle.ats_certificate.specs.PortSums.{is_used}
 use Rattle.ats_certificate.specs.Certificate.{RowHolds, Holds}
 use Rattle.ats_certificate.specs.declared.row.Row.{Row}
 use Rattle.ats_port_law.specs.PortLaw.{IsOffered}
-use Rattle.ats_trace.specs.Journey.{Travel}
+use Rattle.ats_group_law.specs.Regulator.{Judge, IsRegulator, bucket_rule}
+use Rattle.ats_trace.specs.Journey.{Travel, IsOfStream}
 use Rattle.ats_trace.specs.Projections.{Handed, sent_by, handed_by}
 use Rattle.ats_trace.specs.Run.{IsLegal, releases_of}
 use Rattle.ats_trace.specs.Talker.{talker_of, KeepsBuckets}
-use Rattle.ats_soundness_law.specs.Sound.{IsEligibleBy, IsServed, IsContained, IsSound}
+use Rattle.ats_soundness_law.specs.Rules.{Rule, Keeps}
+use Rattle.ats_soundness_law.specs.Sound.{IsEligibleBy, IsServed, IsContained, IsSoundBy, IsSound}
 
 -- what a port that leaves a station is asked to send, where the station keeps its buckets: frames of declared sizes,
 -- and those of each stream conform
@@ -31,7 +33,7 @@ BridgeIsOffered = (network : DeclaredNetwork) (run : List Travel) (port : ℕ) �
 
 -- a frame is eligible behind the port, within the row's bound of its eligibility at the port
 abbrev pub IsHandedOn : Row → Handed → Type 0
-IsHandedOn row h = IsEligibleBy (h.hop.sent.eligible + row.bound) (λ e. Unit {0}) h.verdict
+IsHandedOn row h = IsEligibleBy (h.crossing.sent.eligible + row.bound) (λ e. Unit {0}) h.verdict
 
 -- shaping is free: where a row holds whose port and class some stream uses, and the port leads to a bridge and is asked
 -- to send what the port law wants, the bridge makes each frame of the row's class eligible within the row's bound
@@ -46,7 +48,7 @@ ShapingForFree = (network : DeclaredNetwork) (run : List Travel) (row : Row) →
 abbrev pub PathLaw : Type 0
 PathLaw = (network : DeclaredNetwork) (rows : List Row) → IsNetwork network → Holds network rows
     → (run : List Travel) → IsLegal network run → (journey : Travel) → Contains run journey
-    → 0 < (sender_at network journey.release.sender).class
+    → IsOfStream network journey
     → KeepsBuckets network (releases_of run) (talker_of network journey.release.sender)
     → IsServed rows (sender_at network journey.release.sender) journey
 
@@ -54,10 +56,16 @@ PathLaw = (network : DeclaredNetwork) (rows : List Row) → IsNetwork network �
 abbrev pub Containment : Type 0
 Containment = (network : DeclaredNetwork) (rows : List Row) → IsNetwork network → Holds network rows
     → (run : List Travel) → IsLegal network run → (journey : Travel) → Contains run journey
-    → 0 < (sender_at network journey.release.sender).class
+    → IsOfStream network journey
     → IsContained rows (sender_at network journey.release.sender) journey
 
--- a certificate that holds is sound
+-- where groups regulate by token buckets, bounds that keep each of the ten rules are sound
+abbrev pub SoundByRules : Type 0
+SoundByRules = (judge : Judge) (network : DeclaredNetwork) (rows : List Row) → IsRegulator judge bucket_rule
+    → IsNetwork network
+    → ((rule : Rule) → Keeps rule network rows) → IsSoundBy judge bucket_rule network rows
+
+-- so where a certificate holds, whose groups are those of Asynchronous Traffic Shaping
 abbrev pub CertificateIsSound : Type 0
 CertificateIsSound = (network : DeclaredNetwork) (rows : List Row) → IsNetwork network → Holds network rows
     → IsSound network rows

@@ -1,5 +1,7 @@
 pub mod Sound
+pub mod Rules
 pub mod Laws
 pub mod Example
-pub mod Rules
 pub mod RuleExamples
+pub mod RunExamples
+pub mod JudgeExample

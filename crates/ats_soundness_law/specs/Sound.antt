@@ -1,14 +1,17 @@
-use Rattle.std.specs.Prelude.{ℕ, ◌+◌, ◌≤◌, ◌<◌, List, [], ◌∷◌, sum_by, Contains}
+use Rattle.std.specs.Prelude.{ℕ, ◌+◌, ◌≤◌, List, [], ◌∷◌, sum_by, Contains}
 use Rattle.ats_network.specs.Sender.{Sender}
 use Rattle.ats_network.specs.Network.{DeclaredNetwork}
 use Rattle.ats_network.specs.Senders.{sender_at}
 use Rattle.ats_certificate.specs.Certificate.{bound_at}
 use Rattle.ats_certificate.specs.declared.row.Row.{Row}
+use Rattle.ats_bucket.specs.Conforming.{Frame}
+use Rattle.ats_group.specs.declared.member.Declared.{Declared}
 use Rattle.ats_group.specs.declared.verdict.Verdict.{Verdict}
 use Rattle.ats_group.specs.declared.verdict.Verdict.TheVariants.{Eligible, Late, Size}
-use Rattle.ats_trace.specs.Journey.{Travel, class_at}
-use Rattle.ats_trace.specs.Run.{IsLegal, releases_of}
-use Rattle.ats_trace.specs.Talker.{talker_of, KeepsBuckets}
+use Rattle.ats_group_law.specs.Regulator.{OnEligible, Judge, ats_judge, bucket_rule}
+use Rattle.ats_trace.specs.Journey.{Travel, IsOfStream, class_at}
+use Rattle.ats_trace.specs.Run.{IsLegalBy, releases_of}
+use Rattle.ats_trace.specs.Talker.{talker_of, KeepsBucketsBy}
 use Rattle.ats_trace.specs.declared.journey.HopRecord.{HopRecord}
 use Rattle.ats_trace.specs.declared.journey.Ending.{Ending}
 use Rattle.ats_trace.specs.declared.journey.Ending.TheVariants.{Sink, Discard}
@@ -44,12 +47,6 @@ pub record IsServed (rows : List Row) (sender : Sender) (journey : Travel) : Typ
   pub prompt : IsPrompt (bounds_of rows sender) journey.release.at.0 sender.path journey.hops journey.ending
   pub arrives : ArrivesBy (journey.release.at.0 + sum_by (bounds_of rows sender) sender.path) journey.ending
 
--- where a verdict is eligible, this holds of its time
-abbrev pub OnEligible : Verdict → (ℕ → Type 0) → Type 0
-OnEligible (Eligible e) next = next e.0
-OnEligible (Late e) next = Unit {0}
-OnEligible Size next = Unit {0}
-
 -- behind a port where it is eligible a frame is prompt
 abbrev pub IsPromptOnce : (ℕ → ℕ) → List ℕ → List HopRecord → Ending → Type 0
 IsPromptOnce bound [] hops ending = Unit {0}
@@ -72,13 +69,18 @@ abbrev pub IsContained : List Row → Sender → Travel → Type 0
 IsContained rows sender journey =
     IsPromptOnce (bounds_of rows sender) (later_ports sender.path) (later_hops journey.hops) journey.ending
 
--- the bounds of these rows are sound: in each legal run, each frame of a stream whose talker keeps its buckets is
--- served, and each frame of any stream is contained
-pub record IsSound (network : DeclaredNetwork) (rows : List Row) : Type 0 where
-  pub served : (run : List Travel) → IsLegal network run → (journey : Travel) → Contains run journey
-      → 0 < (sender_at network journey.release.sender).class
-      → KeepsBuckets network (releases_of run) (talker_of network journey.release.sender)
+-- the bounds of these rows are sound, where groups judge so and talkers keep this rule: in each legal run, each frame
+-- of a stream whose talker keeps the rule is served, and each frame of any stream is contained
+pub record IsSoundBy (judge : Judge) (rule : Declared → List Frame → Type 0) (network : DeclaredNetwork)
+    (rows : List Row) : Type 0 where
+  pub served : (run : List Travel) → IsLegalBy judge network run → (journey : Travel) → Contains run journey
+      → IsOfStream network journey
+      → KeepsBucketsBy rule network (releases_of run) (talker_of network journey.release.sender)
       → IsServed rows (sender_at network journey.release.sender) journey
-  pub contained : (run : List Travel) → IsLegal network run → (journey : Travel) → Contains run journey
-      → 0 < (sender_at network journey.release.sender).class
+  pub contained : (run : List Travel) → IsLegalBy judge network run → (journey : Travel) → Contains run journey
+      → IsOfStream network journey
       → IsContained rows (sender_at network journey.release.sender) journey
+
+-- and the groups are those of Asynchronous Traffic Shaping, and talkers keep their buckets
+abbrev pub IsSound : DeclaredNetwork → List Row → Type 0
+IsSound network rows = IsSoundBy ats_judge bucket_rule network rows

@@ -2,9 +2,12 @@
 
 ghost use Rattle.ats_soundness_law.specs.Example.{LawsAreMet};
 ghost use Rattle.ats_soundness_law.specs.RuleExamples.{EachRuleCounts};
+ghost use Rattle.ats_soundness_law.specs.RunExamples.{BabblerIsContained, BridgedAreSound, ExactExamples};
+ghost use Rattle.ats_soundness_law.specs.RunExamples.{OrderDoesNotCount};
 ghost use Rattle.ats_soundness_law.specs.Rules.{HoldsIsEachRule};
+ghost use Rattle.ats_soundness_law.specs.JudgeExample.{RegulatorCounts};
 ghost use Rattle.ats_soundness_law.specs.Laws.{StationIsOffered, BridgeIsOffered, ShapingForFree, PathLaw, Containment};
-ghost use Rattle.ats_soundness_law.specs.Laws.{CertificateIsSound};
+ghost use Rattle.ats_soundness_law.specs.Laws.{SoundByRules, CertificateIsSound};
 
 /// A port that leaves a station that keeps its buckets is asked to send no more than the port law
 /// wants: frames of declared sizes, and those of each stream conform to its rate and burst.
@@ -39,6 +42,13 @@ pub fn containment()
     ensures { Containment }
 {}
 
+/// Ten rules make bounds sound, and nothing else is asked of a certificate: neither deadlines, nor
+/// the order of its rows, nor that it has no more of them. So it is for any groups that regulate
+/// what the senders declare.
+pub fn sound_by_rules()
+    ensures { SoundByRules }
+{}
+
 /// A certificate that holds is sound: in each legal run of the network the path law and containment
 /// are kept, whatever other talkers and flows send and whichever lawful choice each port makes
 /// among equals.
@@ -66,4 +76,26 @@ pub fn holds_is_each_rule()
 /// later than its bounds say.
 pub fn each_rule_counts()
     ensures { EachRuleCounts }
+{}
+
+/// What the laws say of runs over two bridges and over three: one frame arrives exactly when the
+/// sum of its bounds is over; of two at once, which are more than the burst, the second is not
+/// served, and from the first bridge on it is contained, just so. And of a run with a babbler: the
+/// other station's frame is served, and each frame is contained.
+pub fn runs_are_sound()
+    ensures bridged { BridgedAreSound }
+    ensures babbler { BabblerIsContained }
+{}
+
+/// A run whose frames take exactly the latency of each port, and one that takes 1 ps more. And rows
+/// out of order, which are no certificate, and sound.
+pub fn more_examples()
+    ensures exact { ExactExamples }
+    ensures turned { OrderDoesNotCount }
+{}
+
+/// That groups regulate counts: by a judge that lets nothing through there is a legal run in which
+/// a frame is discarded whose talker keeps its buckets.
+pub fn regulator_counts()
+    ensures { RegulatorCounts }
 {}

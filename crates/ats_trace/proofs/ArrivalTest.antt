@@ -7,7 +7,7 @@ use Rattle.ats_trace.specs.Projections.{Handed}
 -- frames in the order of their arrivals: one frame put before the first that is no earlier
 abbrev pub put : Handed → List Handed → List Handed
 put h [] = h ∷ []
-put h (k ∷ ks) = cond (nat_le h.arrival k.arrival) (h ∷ k ∷ ks) (k ∷ put h ks)
+put h (k ∷ ks) = cond (nat_le h.crossing.arrival k.crossing.arrival) (h ∷ k ∷ ks) (k ∷ put h ks)
 
 -- and each in turn
 abbrev pub by_arrival : List Handed → List Handed
@@ -19,7 +19,7 @@ swap_first h k ks = IsPermutation-swap (h ∷ k ∷ ks) (k ∷ h ∷ ks) 0 1 (om
 
 same_put : (h : Handed) (ks : List Handed) → IsPermutation (h ∷ ks) (put h ks)
 same_put h [] = IsPermutation-refl (h ∷ [])
-same_put h (k ∷ ks) = by (nat_le h.arrival k.arrival) (same_put h ks)
+same_put h (k ∷ ks) = by (nat_le h.crossing.arrival k.crossing.arrival) (same_put h ks)
   where
     by : (b : Bool) → IsPermutation (h ∷ ks) (put h ks)
         → IsPermutation (h ∷ k ∷ ks) (cond b (h ∷ k ∷ ks) (k ∷ put h ks))

@@ -3,6 +3,8 @@ use Rattle.std.proofs.Common.{subst, arith, inl, inr, ◌⊎◌, lit<, lit≤}
 use Rattle.std.specs.Prelude.{◌^◌, IsPermutation, Contains}
 use Rattle.std.proofs.lemmas.List.Sorted.{length_permutation, Contains-permutation}
 use Rattle.ats_num.specs.Tie.{late_key}
+use Rattle.ats_num.specs.declared.time.Ps.{Ps}
+use Rattle.ats_group_law.specs.Regulator.{ats_judge}
 use Rattle.ats_port_rule.specs.Transmission.{Transmission}
 use Rattle.ats_port_rule.specs.PortRule.{StartsAfterGap, IsAhead}
 use Rattle.ats_group.specs.Group.{first, verdicts_of}
@@ -11,18 +13,19 @@ use Rattle.ats_group.specs.declared.verdict.Verdict.{Verdict}
 use Rattle.ats_group.specs.declared.verdict.Verdict.TheVariants.{Eligible, Late, Size}
 use Rattle.ats_trace.specs.Stored.{no_travel}
 use Rattle.ats_trace.specs.Run.{IsLegal, IsRunBy}
-use Rattle.ats_trace.specs.Projections.{Handed, sent_by, handed_by}
+use Rattle.ats_trace.specs.Projections.{Crossing, Handed, sent_by, handed_by}
 use Rattle.ats_trace.specs.Examples.{line, line_and_flow, fork, first_goes_first, second_goes_first}
 use Rattle.ats_trace.specs.LegalExamples.{frame_key}
-use Rattle.ats_trace.specs.Changes.{released_later, of_no_sender, of_63_octets, sunk_late, held_at_station}
-use Rattle.ats_trace.specs.Changes.{started_early, sent_slowly, overlapped, passed_over, started_late, eligible_early}
-use Rattle.ats_trace.specs.Changes.{flow_eligible_early, ChangedExamplesAreNot}
+use Rattle.ats_trace.specs.Changes.{released_later, of_no_sender, of_63_octets, sunk_late, not_received, comes_late}
+use Rattle.ats_trace.specs.Changes.{held_at_station, started_early, sent_slowly, overlapped, passed_over, started_late}
+use Rattle.ats_trace.specs.Changes.{eligible_early, flow_eligible_early, ChangedExamplesAreNot}
 
 pub no_transmission : Transmission
 no_transmission = record { frame = 0; sender = 0; class = 0; bits = 0; eligible = 0; start = 0; end = 0 }
 
 pub no_frame : Handed
-no_frame = record { hop = record { port = 0; sent = no_transmission }; octets = 0; arrival = 0; verdict = Size }
+no_frame =
+    record { crossing = record { port = 0; octets = 0; came = 0; sent = no_transmission; arrival = 0 }; verdict = Size }
 
 -- the time in a verdict
 abbrev pub time_in : Verdict → ℕ
@@ -45,14 +48,25 @@ not_octets h =
     let short : 64 ≤ 63 = (h.journeys 0 no_travel (lit< tt)).octets.least in
     absurd (omega arith)
 
-not_a_way : ¬ IsLegal line sunk_late
-not_a_way h =
-    let late : ◌≡◌ {A = ℕ} 26672001 26672000 = (h.journeys 0 no_travel (lit< tt)).way.1.1 in
+pub no_crossing : Crossing
+no_crossing = record { port = 0; octets = 0; came = 0; sent = no_transmission; arrival = 0 }
+
+not_a_way : ¬ IsLegal line not_received
+not_a_way h = (h.journeys 0 no_travel (lit< tt)).way
+
+not_in_time : ¬ IsLegal line sunk_late
+not_in_time h =
+    let late : 26672001 ≤ 26672000 = ((h.links 2 (lit< tt)).within 0 no_crossing (lit< tt)).latest in
+    absurd (omega arith)
+
+not_at_release : ¬ IsLegal line comes_late
+not_at_release h =
+    let late : ◌≡◌ {A = ℕ} 1 0 = ap (λ (t : Ps). t.0) (h.journeys 0 no_travel (lit< tt)).released.0 in
     absurd (omega arith)
 
 not_released : ¬ IsLegal line_and_flow held_at_station
 not_released h =
-    let held : ◌≡◌ {A = ℕ} 2 1 = ap time_in (h.journeys 1 no_travel (lit< tt)).released in
+    let held : ◌≡◌ {A = ℕ} 2 1 = ap time_in (h.journeys 1 no_travel (lit< tt)).released.1 in
     absurd (omega arith)
 
 not_waiting : ¬ IsLegal line started_early
@@ -114,7 +128,7 @@ early_frame = handed_by line_and_flow eligible_early 0 6
 
 not_judged : ¬ IsLegal line_and_flow eligible_early
 not_judged h =
-    let judged : IsJudged line_and_flow (residence_behind line_and_flow 0) early_frame =
+    let judged : IsJudged ats_judge line_and_flow (residence_behind line_and_flow 0) early_frame =
     h.groups 0 6 (lit< tt) (lit≤ tt) in
     let same : judged.arrivals ≡ early_frame = only (get_or early_frame 0 no_frame) judged.arrivals judged.same in
     let told : map (λ (f : Handed). f.verdict) early_frame ≡ verdicts_of (declared_by line_and_flow)
@@ -151,6 +165,8 @@ changed_are_not =
       sender = not_a_sender;
       octets = not_octets;
       way = not_a_way;
+      links = not_in_time;
+      came = not_at_release;
       released = not_released;
       waits = not_waiting;
       takes = not_taking;

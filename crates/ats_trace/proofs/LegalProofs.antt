@@ -9,7 +9,7 @@ use Rattle.ats_trace.specs.Run.{IsLegal, IsRunBy}
 use Rattle.ats_trace.specs.Examples.{line, line_and_flow, fork, one_frame, long_frame, behind_a_flow, first_goes_first}
 use Rattle.ats_trace.specs.Examples.{second_goes_first}
 use Rattle.ats_trace.specs.LegalExamples.{frame_key, ExamplesAreLegal}
-use Rattle.ats_trace.proofs.LegalTest.{ascending_by, ports_by, groups_by, flows_by, ties_by}
+use Rattle.ats_trace.proofs.LegalTest.{ascending_by, ports_by, links_by, groups_by, flows_by, ties_by}
 
 one_of : (x : Travel) → IsJourney line x → All (IsJourney line) (x ∷ [])
 one_of x j = All-cons (IsJourney line) x [] j (All-nil (IsJourney line))
@@ -28,8 +28,9 @@ one_frame_legal =
     record {
       in_order = ascending_by (0 ∷ []) refl;
       journeys = one_of (travel_at one_frame 0)
-          (record { sender = omega arith; octets = size_1522; way = (refl, (refl, refl)); released = refl });
+          (record { sender = omega arith; octets = size_1522; way = tt; released = (refl, refl) });
       ports = ports_by line one_frame refl;
+      links = links_by line one_frame refl;
       groups = groups_by line one_frame refl;
       flows = flows_by line one_frame refl;
     }
@@ -42,10 +43,11 @@ long_frame_legal =
           (record {
             sender = omega arith;
             octets = record { least = omega arith; most = omega arith };
-            way = (refl, (refl, (refl, refl)));
-            released = refl;
+            way = (refl, refl);
+            released = (refl, refl);
           });
       ports = ports_by line long_frame refl;
+      links = links_by line long_frame refl;
       groups = groups_by line long_frame refl;
       flows = flows_by line long_frame refl;
     }
@@ -55,9 +57,10 @@ behind_a_flow_legal =
     record {
       in_order = ascending_by (0 ∷ 1 ∷ []) refl;
       journeys = two_of line_and_flow (travel_at behind_a_flow 0) (travel_at behind_a_flow 1)
-          (record { sender = omega arith; octets = size_1522; way = (refl, (refl, refl)); released = refl })
-          (record { sender = omega arith; octets = size_1522; way = (refl, (refl, refl)); released = refl });
+          (record { sender = omega arith; octets = size_1522; way = tt; released = (refl, refl) })
+          (record { sender = omega arith; octets = size_1522; way = tt; released = (refl, refl) });
       ports = ports_by line_and_flow behind_a_flow refl;
+      links = links_by line_and_flow behind_a_flow refl;
       groups = groups_by line_and_flow behind_a_flow refl;
       flows = flows_by line_and_flow behind_a_flow refl;
     }
@@ -68,9 +71,10 @@ first_goes_first_legal =
       legal = record {
         in_order = ascending_by (0 ∷ 0 ∷ []) refl;
         journeys = two_of fork (travel_at first_goes_first 0) (travel_at first_goes_first 1)
-            (record { sender = omega arith; octets = size_1522; way = (refl, (refl, refl)); released = refl })
-            (record { sender = omega arith; octets = size_1522; way = (refl, (refl, refl)); released = refl });
+            (record { sender = omega arith; octets = size_1522; way = tt; released = (refl, refl) })
+            (record { sender = omega arith; octets = size_1522; way = tt; released = (refl, refl) });
         ports = ports_by fork first_goes_first refl;
+        links = links_by fork first_goes_first refl;
         groups = groups_by fork first_goes_first refl;
         flows = flows_by fork first_goes_first refl;
       };
@@ -83,9 +87,10 @@ second_goes_first_legal =
       legal = record {
         in_order = ascending_by (0 ∷ 0 ∷ []) refl;
         journeys = two_of fork (travel_at second_goes_first 0) (travel_at second_goes_first 1)
-            (record { sender = omega arith; octets = size_1522; way = (refl, (refl, refl)); released = refl })
-            (record { sender = omega arith; octets = size_1522; way = (refl, (refl, refl)); released = refl });
+            (record { sender = omega arith; octets = size_1522; way = tt; released = (refl, refl) })
+            (record { sender = omega arith; octets = size_1522; way = tt; released = (refl, refl) });
         ports = ports_by fork second_goes_first refl;
+        links = links_by fork second_goes_first refl;
         groups = groups_by fork second_goes_first refl;
         flows = flows_by fork second_goes_first refl;
       };

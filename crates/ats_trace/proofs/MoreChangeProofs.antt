@@ -3,13 +3,13 @@ use Rattle.ats_port_rule.specs.PortRule.{IsAhead, StartsAfterGap}
 use Rattle.ats_trace.specs.Projections.{sent_by}
 use Rattle.ats_trace.specs.Stored.{no_travel}
 use Rattle.ats_trace.specs.Examples.{line, line_and_flow}
-use Rattle.ats_trace.specs.Parts.{octets, way, chosen, prompt, flows, Keeps}
-use Rattle.ats_trace.specs.MoreChanges.{later_eligible_first, idle_over_flow, long_link, discarded_and_sunk}
+use Rattle.ats_trace.specs.Parts.{octets, way, links, chosen, prompt, flows, Keeps}
+use Rattle.ats_trace.specs.MoreChanges.{later_eligible_first, idle_over_flow, long_link, short_link, discarded_and_sunk}
 use Rattle.ats_trace.specs.MoreChanges.{discarded_twice, never_sent, lost, long_of_flow, of_2001_octets}
 use Rattle.ats_trace.specs.MoreChanges.{EachBreaksAlone}
 use Rattle.ats_trace.specs.declared.journey.Ending.{Ending}
 use Rattle.ats_trace.specs.declared.journey.Ending.TheVariants.{Sink, Discard}
-use Rattle.ats_trace.proofs.ChangeProofs.{no_transmission, no_frame, time_in}
+use Rattle.ats_trace.proofs.ChangeProofs.{no_transmission, no_crossing, no_frame, time_in}
 use Rattle.ats_trace.proofs.PartTest.{others_by}
 
 not_chosen : ¬ Keeps chosen line later_eligible_first
@@ -32,9 +32,14 @@ not_prompt keeps =
     let idle : 5 ≤ 0 = keeps 0 (lit< tt) 1 no_transmission (lit< tt) 0 no_transmission (lit< tt) gap_there (lit≤ tt) in
     absurd (omega arith)
 
-not_so_far : ¬ Keeps way line long_link
+not_so_far : ¬ Keeps links line long_link
 not_so_far keeps =
-    let far : ◌≡◌ {A = ℕ} 13836001 13836000 = (keeps 0 no_travel (lit< tt)).1.1.0 in
+    let far : 13836001 ≤ 13836000 = ((keeps 0 (lit< tt)).within 0 no_crossing (lit< tt)).latest in
+    absurd (omega arith)
+
+not_so_near : ¬ Keeps links line short_link
+not_so_near keeps =
+    let near : 13836000 ≤ 13835999 = ((keeps 0 (lit< tt)).within 0 no_crossing (lit< tt)).earliest in
     absurd (omega arith)
 
 -- which of the endings it is
@@ -44,19 +49,19 @@ ending_number Discard = 0
 
 not_sunk : ¬ Keeps way line discarded_and_sunk
 not_sunk keeps =
-    let other : ◌≡◌ {A = ℕ} 1 0 = ap ending_number (keeps 0 no_travel (lit< tt)).1.1.1.1 in
+    let other : ◌≡◌ {A = ℕ} 1 0 = ap ending_number (keeps 0 no_travel (lit< tt)).1.1 in
     absurd (omega arith)
 
 not_twice : ¬ Keeps way line discarded_twice
 not_twice keeps =
-    let more : ◌≡◌ {A = ℕ} 1 0 = ap length (keeps 0 no_travel (lit< tt)).1.1.1.0 in
+    let more : ◌≡◌ {A = ℕ} 1 0 = ap length (keeps 0 no_travel (lit< tt)).1.0 in
     absurd (omega arith)
 
 not_unsent : ¬ Keeps way line never_sent
-not_unsent keeps = (keeps 0 no_travel (lit< tt)).1.1.1
+not_unsent keeps = (keeps 0 no_travel (lit< tt)).1
 
 not_lost : ¬ Keeps way line lost
-not_lost keeps = (keeps 0 no_travel (lit< tt)).1.1
+not_lost keeps = (keeps 0 no_travel (lit< tt)).1
 
 not_of_flow : ¬ Keeps flows line_and_flow long_of_flow
 not_of_flow keeps =
@@ -73,7 +78,8 @@ each_breaks_alone =
     record {
       later_eligible_first = record { broken = not_chosen; others = others_by chosen line later_eligible_first refl };
       idle_over_flow = record { broken = not_prompt; others = others_by prompt line_and_flow idle_over_flow refl };
-      long_link = record { broken = not_so_far; others = others_by way line long_link refl };
+      long_link = record { broken = not_so_far; others = others_by links line long_link refl };
+      short_link = record { broken = not_so_near; others = others_by links line short_link refl };
       discarded_and_sunk = record { broken = not_sunk; others = others_by way line discarded_and_sunk refl };
       discarded_twice = record { broken = not_twice; others = others_by way line discarded_twice refl };
       never_sent = record { broken = not_unsent; others = others_by way line never_sent refl };

@@ -3,15 +3,16 @@ use Rattle.std.proofs.Common.{lit≤}
 use Rattle.ats_network.specs.Network.{DeclaredNetwork}
 use Rattle.ats_port_rule.specs.PortRule.{IsAhead, StartsAfterGap}
 use Rattle.ats_group.specs.Group.{first, verdicts_of}
+use Rattle.ats_group_law.specs.Regulator.{ats_judge}
 use Rattle.ats_trace.specs.Journey.{Travel}
 use Rattle.ats_trace.specs.Projections.{Handed, sent_by, handed_by}
 use Rattle.ats_trace.specs.Eligibility.{declared_by, offer_of, residence_behind, IsJudged}
 use Rattle.ats_trace.specs.Stored.{no_travel}
 use Rattle.ats_trace.specs.Run.{IsLegal}
 use Rattle.ats_trace.specs.Examples.{line_and_flow}
-use Rattle.ats_trace.specs.Parts.{Part, in_order, octets, way, released, waits, takes, apart, chosen, prompt, groups}
-use Rattle.ats_trace.specs.Parts.{flows, Keeps, deviation, LegalIsEachPart, EachPartCounts}
-use Rattle.ats_trace.proofs.ChangeProofs.{no_transmission, no_frame, time_in, first_time, only}
+use Rattle.ats_trace.specs.Parts.{Part, in_order, octets, way, released, links, waits, takes, apart, chosen, prompt}
+use Rattle.ats_trace.specs.Parts.{groups, flows, Keeps, deviation, LegalIsEachPart, EachPartCounts}
+use Rattle.ats_trace.proofs.ChangeProofs.{no_transmission, no_crossing, no_frame, time_in, first_time, only}
 use Rattle.ats_trace.proofs.PartTest.{others_by}
 
 -- the parts of a legal run
@@ -22,6 +23,7 @@ part_of_legal network run h in_order = h.in_order
 part_of_legal network run h octets = λ k d within. (h.journeys k d within).octets
 part_of_legal network run h way = λ k d within. ((h.journeys k d within).sender, (h.journeys k d within).way)
 part_of_legal network run h released = λ k d within. (h.journeys k d within).released
+part_of_legal network run h links = h.links
 part_of_legal network run h waits = λ port within. (h.ports port within).waits
 part_of_legal network run h takes = λ port within. (h.ports port within).takes
 part_of_legal network run h apart = λ port within. (h.ports port within).apart
@@ -48,6 +50,7 @@ legal_of_parts network run keeps =
         chosen = keeps chosen port within;
         prompt = keeps prompt port within;
       };
+      links = keeps links;
       groups = keeps groups;
       flows = keeps flows;
     }
@@ -66,7 +69,7 @@ early_frame = handed_by line_and_flow (deviation groups) 0 6
 
 not_judged : ¬ Keeps groups line_and_flow (deviation groups)
 not_judged keeps =
-    let judged : IsJudged line_and_flow (residence_behind line_and_flow 0) early_frame =
+    let judged : IsJudged ats_judge line_and_flow (residence_behind line_and_flow 0) early_frame =
     keeps 0 6 (lit< tt) (lit≤ tt) in
     let same : judged.arrivals ≡ early_frame = only (get_or early_frame 0 no_frame) judged.arrivals judged.same in
     let told : map (λ (f : Handed). f.verdict) early_frame ≡ verdicts_of (declared_by line_and_flow)
@@ -81,9 +84,12 @@ not_judged keeps =
 not_kept : (part : Part) → ¬ Keeps part line_and_flow (deviation part)
 not_kept in_order keeps = let back : 1 ≤ 0 = keeps 0 1 0 (lit≤ tt) (lit< tt) in absurd (omega arith)
 not_kept octets keeps = let short : 64 ≤ 63 = (keeps 0 no_travel (lit< tt)).least in absurd (omega arith)
-not_kept way keeps = let late : ◌≡◌ {A = ℕ} 26672001 26672000 = (keeps 0 no_travel (lit< tt)).1.1.1 in
+not_kept way keeps = (keeps 0 no_travel (lit< tt)).1
+not_kept links keeps =
+    let late : 26672001 ≤ 26672000 = ((keeps 2 (lit< tt)).within 0 no_crossing (lit< tt)).latest in
     absurd (omega arith)
-not_kept released keeps = let held : ◌≡◌ {A = ℕ} 2 1 = ap time_in (keeps 1 no_travel (lit< tt)) in absurd (omega arith)
+not_kept released keeps = let held : ◌≡◌ {A = ℕ} 2 1 = ap time_in (keeps 1 no_travel (lit< tt)).1 in
+    absurd (omega arith)
 not_kept waits keeps = let early : 13836000 ≤ 13835999 = keeps 2 (lit< tt) 0 no_transmission (lit< tt) in
     absurd (omega arith)
 not_kept takes keeps = let slow : ◌≡◌ {A = ℕ} 12336000 12328000 = keeps 0 (lit< tt) 0 no_transmission (lit< tt) in
@@ -114,6 +120,8 @@ each_part_counts octets =
 each_part_counts way = record { broken = not_kept way; others = others_by way line_and_flow (deviation way) refl }
 each_part_counts released =
     record { broken = not_kept released; others = others_by released line_and_flow (deviation released) refl }
+each_part_counts links =
+    record { broken = not_kept links; others = others_by links line_and_flow (deviation links) refl }
 each_part_counts waits =
     record { broken = not_kept waits; others = others_by waits line_and_flow (deviation waits) refl }
 each_part_counts takes =

@@ -63,10 +63,10 @@ of_each_by R test shows sent passed =
 of_le : (a b : ℕ) → a ≤ b → nat_le a b ≡ true
 of_le a b h = grind (arith, nat_tests)
 
-of_lt : (a b : ℕ) → a < b → nat_lt a b ≡ true
+pub of_lt : (a b : ℕ) → a < b → nat_lt a b ≡ true
 of_lt a b h = grind (arith, nat_tests)
 
-of_eq : (a b : ℕ) → a ≡ b → (a == b) ≡ true
+pub of_eq : (a b : ℕ) → a ≡ b → (a == b) ≡ true
 of_eq a b h = grind (arith, nat_tests)
 
 of_ne : (a b : ℕ) → a ≢ b → not (a == b) ≡ true

@@ -1,6 +1,6 @@
-use Rattle.std.proofs.Common.{◌≡◌, ℕ, suc, ◌+◌, ◌*◌, ◌<◌, ◌≤◌, Bool, true, false, ◌&&◌, List, length, refl, arith, lit<}
-use Rattle.std.proofs.Common.{lit≤}
-use Rattle.std.specs.Prelude.{nat_le}
+use Rattle.std.proofs.Common.{◌≡◌, ℕ, suc, ◌+◌, ◌*◌, ◌<◌, ◌≤◌, Bool, true, false, ◌&&◌, ◌||◌, List, length, refl, arith}
+use Rattle.std.proofs.Common.{lit<, lit≤}
+use Rattle.std.specs.Prelude.{nat_le, not, ◌==◌}
 use Rattle.std.specs.List.{list_all}
 use Rattle.std.proofs.lemmas.Bool.{and_parts, false≢true}
 use Rattle.ats_num.specs.declared.time.TheConstants.{PS_PER_SECOND}
@@ -14,8 +14,9 @@ use Rattle.ats_trace.specs.Talker.{talker_of, frames_of, IsDeclaredSize, KeepsBu
 use Rattle.ats_trace.specs.Examples.{line, fork, one_frame, long_frame, first_goes_first}
 use Rattle.ats_trace.specs.TalkerExamples.{two_frames, TalkersOfExamples}
 use Rattle.ats_trace.specs.declared.journey.Release.{Release}
-use Rattle.ats_trace.proofs.Tests.{le_of, all_by, pairs_pass, each_below, below_by}
+use Rattle.ats_trace.proofs.Tests.{le_of, implied, all_by, pairs_pass, each_below, below_by}
 use Rattle.ats_trace.proofs.LegalTest.{ascending_by}
+use Rattle.ats_trace.proofs.PortTest.{of_eq}
 
 -- the frames from place i to place j are no more than the bucket gives
 abbrev pub within : ℕ → ℕ → List Frame → ℕ → ℕ → Bool
@@ -49,14 +50,20 @@ stream_conforms network releases i =
 abbrev pub is_sized : DeclaredNetwork → Release → Bool
 is_sized network r = is_declared_size (declared_by network r.sender) r.octets
 
+-- those of a stream that begins at this station do
+abbrev pub stream_keeps : DeclaredNetwork → List Release → ℕ → ℕ → Bool
+stream_keeps network releases station i = not (talker_of network i == station) || stream_conforms network releases i
+
 pub keeps_by : (network : DeclaredNetwork) (releases : List Release) (station : ℕ)
-    → each_below (stream_conforms network releases) (length network.streams) ≡ true
+    → each_below (stream_keeps network releases station) (length network.streams) ≡ true
     → list_all (is_sized network) releases ≡ true → KeepsBuckets network releases station
 keeps_by network releases station conform sized =
     record {
       streams = λ i there begins.
           conforms_by (sender_at network i).rate (sender_at network i).burst_bits (frames_of i releases)
-          (below_by (stream_conforms network releases) (length network.streams) conform i there);
+          (implied (talker_of network i == station) (stream_conforms network releases i)
+          (below_by (stream_keeps network releases station) (length network.streams) conform i there)
+          (of_eq (talker_of network i) station begins));
       sizes = all_by (λ (r : Release). r.sender < length (senders_of network) → talker_of network r.sender ≡ station
           → IsDeclaredSize network r) (is_sized network) (λ r h there begins. h) releases sized;
     }

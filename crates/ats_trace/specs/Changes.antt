@@ -4,6 +4,7 @@ use Rattle.ats_trace.specs.Journey.{Travel}
 use Rattle.ats_trace.specs.Run.{IsLegal, IsRunBy}
 use Rattle.ats_trace.specs.Examples.{line, line_and_flow, fork, hop, sunk, first_goes_first, second_goes_first}
 use Rattle.ats_trace.specs.LegalExamples.{frame_key}
+use Rattle.ats_trace.specs.declared.journey.Ending.TheVariants.{Discard}
 
 -- Each of these runs is one of the legal examples with one number changed.
 
@@ -25,6 +26,20 @@ of_63_octets = sunk 0 0 63 (hop 0 0 0 12336000 ∷ hop 13836000 13836000 1383600
 -- the listener's arrival is not the end of the last transmission and the port's latency
 abbrev pub sunk_late : List Travel
 sunk_late = sunk 0 0 1522 (hop 0 0 0 12336000 ∷ hop 13836000 13836000 13836000 26172000 ∷ []) 26672001 ∷ []
+
+-- and does not come there
+abbrev pub not_received : List Travel
+not_received =
+    record {
+      release = record { at = record { 0 = 0 }; sender = 0; octets = 1522 };
+      hops = hop 0 0 0 12336000 ∷ hop 13836000 13836000 13836000 26172000 ∷ [];
+      ending = Discard;
+    }
+    ∷ []
+
+-- the frame comes to its station's port 1 ps after its release
+abbrev pub comes_late : List Travel
+comes_late = sunk 0 0 1522 (hop 1 0 0 12336000 ∷ hop 13836000 13836000 13836000 26172000 ∷ []) 26672000 ∷ []
 
 -- the station's own frame is eligible 1 ps after its release
 abbrev pub held_at_station : List Travel
@@ -74,13 +89,16 @@ flow_eligible_early =
     ∷ []
 
 -- none of them is legal. Each field has the name of a field of a legal run, a journey or the port rule that the run
--- breaks, some of them beside others: that the sender exists follows from the way and the release, so a run without its
--- sender breaks those too. And neither order of the two frames that become eligible together is that of the other key
+-- breaks, some of them beside others, and `came` that of what a release says besides: that the sender exists follows
+-- from the way and the release, so a run without its sender breaks those too. And neither order of the two frames that
+-- become eligible together is that of the other key
 pub record ChangedExamplesAreNot : Type 0 where
   pub in_order : ¬ IsLegal line_and_flow released_later
   pub sender : ¬ IsLegal line of_no_sender
   pub octets : ¬ IsLegal line of_63_octets
-  pub way : ¬ IsLegal line sunk_late
+  pub way : ¬ IsLegal line not_received
+  pub links : ¬ IsLegal line sunk_late
+  pub came : ¬ IsLegal line comes_late
   pub released : ¬ IsLegal line_and_flow held_at_station
   pub waits : ¬ IsLegal line started_early
   pub takes : ¬ IsLegal line sent_slowly

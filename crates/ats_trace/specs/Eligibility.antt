@@ -4,7 +4,8 @@ use Rattle.ats_network.specs.Sender.{Sender}
 use Rattle.ats_network.specs.Network.{DeclaredNetwork}
 use Rattle.ats_network.specs.Senders.{sender_at}
 use Rattle.ats_network.specs.Residence.{residence_after}
-use Rattle.ats_group.specs.Group.{Offer, first, verdicts_of, is_declared_size}
+use Rattle.ats_group.specs.Group.{Offer, is_declared_size}
+use Rattle.ats_group_law.specs.Regulator.{Judge}
 use Rattle.ats_group.specs.declared.member.Declared.{Declared}
 use Rattle.ats_group.specs.declared.verdict.Verdict.TheVariants.{Eligible, Size}
 use Rattle.ats_trace.specs.Projections.{Handed}
@@ -20,16 +21,15 @@ declared_by network i = declared_of (sender_at network i)
 
 -- a frame as it comes to the group behind a port
 abbrev pub offer_of : Handed → Offer
-offer_of h = record { member = h.hop.sent.sender; arrival = h.arrival; octets = h.octets }
+offer_of h = record { member = h.crossing.sent.sender; arrival = h.crossing.arrival; octets = h.crossing.octets }
 
--- frames of one port and class get their verdicts from one group of schedulers, which takes them in order of their
--- arrivals
-pub record IsJudged (network : DeclaredNetwork) (residence_ns : ℕ) (handed : List Handed) : Type 0 where
+-- frames of one port and class get their verdicts from one group, which judges them in the order of their arrivals
+pub record IsJudged (judge : Judge) (network : DeclaredNetwork) (residence_ns : ℕ) (handed : List Handed) : Type 0 where
   pub arrivals : List Handed
   pub same : IsPermutation handed arrivals
-  pub in_order : IsNonDecreasing (map (λ (h : Handed). h.arrival) arrivals)
+  pub in_order : IsNonDecreasing (map (λ (h : Handed). h.crossing.arrival) arrivals)
   pub verdicts : map (λ (h : Handed). h.verdict) arrivals
-      ≡ verdicts_of (declared_by network) residence_ns (first (declared_by network)) (map offer_of arrivals)
+      ≡ judge (declared_by network) residence_ns (map offer_of arrivals)
 
 -- the maximum residence time behind a port, in nanoseconds; 0 behind a port to a station
 abbrev pub residence_behind : DeclaredNetwork → ℕ → ℕ
@@ -38,5 +38,6 @@ residence_behind network port = unwrap_or (residence_after network.topology port
 -- a flow's frame behind a port: eligible at its arrival where it has a declared size, else discarded for its size
 abbrev pub IsPassed : DeclaredNetwork → Handed → Type 0
 IsPassed network h =
-    h.verdict ≡ (if is_declared_size (declared_by network h.hop.sent.sender) h.octets
-    then Eligible (record { 0 = h.arrival }) else Size)
+    h.verdict
+    ≡ (if is_declared_size (declared_by network h.crossing.sent.sender) h.crossing.octets
+    then Eligible (record { 0 = h.crossing.arrival }) else Size)

@@ -1,8 +1,6 @@
-use Rattle.std.specs.Prelude.{◌≡◌, ℕ, ◌+◌, ◌<◌, List, [], ◌∷◌, length, Option, Some, None}
+use Rattle.std.specs.Prelude.{◌≡◌, ℕ, ◌<◌, List, [], ◌∷◌, length, Option, Some, None}
 use Rattle.ats_num.specs.declared.time.Ps.{Ps}
 use Rattle.ats_num.specs.Wire.{IsFrameSize}
-use Rattle.ats_topology.specs.Port.{port_at}
-use Rattle.ats_topology.specs.declared.port.Port.{Port}
 use Rattle.ats_network.specs.Sender.{Sender}
 use Rattle.ats_network.specs.Network.{DeclaredNetwork, senders_of}
 use Rattle.ats_network.specs.Senders.{sender_at}
@@ -23,38 +21,35 @@ pub record Travel : Type 0 where
 abbrev pub class_at : Sender → ℕ → ℕ
 class_at sender port = sender.class
 
--- when a frame arrives behind a port that has sent it until this time
-abbrev pub arrival_after : Port → ℕ → ℕ
-arrival_after port end = end + port.latency.0
+-- what follows a verdict and the times of a transmission: an eligible frame is sent and goes on; a frame with another
+-- verdict is not sent, and its way ends
+abbrev pub GoesOn : Type 0 → Verdict → Option (Ps × Ps) → List HopRecord → Ending → Type 0
+GoesOn onward (Eligible e) (Some times) hops ending = onward
+GoesOn onward (Eligible e) None hops ending = ⊥
+GoesOn onward verdict (Some times) hops ending = ⊥
+GoesOn onward verdict None hops ending = (hops ≡ []) × (ending ≡ Discard)
 
--- what follows a verdict and the times of a transmission at a port: an eligible frame is sent, arrives behind the port
--- and goes on from there; a frame with another verdict is not sent, and its way ends
-abbrev pub GoesOn : (ℕ → Type 0) → Port → Verdict → Option (Ps × Ps) → List HopRecord → Ending → Type 0
-GoesOn onward port (Eligible e) (Some times) hops ending = onward (arrival_after port times.1.0)
-GoesOn onward port (Eligible e) None hops ending = ⊥
-GoesOn onward port verdict (Some times) hops ending = ⊥
-GoesOn onward port verdict None hops ending = (hops ≡ []) × (ending ≡ Discard)
+-- the way of a frame over what is left of its path: a record for each port that it comes to, and behind the last port
+-- its listener. When it comes there the links say
+abbrev pub IsWay : List ℕ → List HopRecord → Ending → Type 0
+IsWay [] [] (Sink at) = Unit {0}
+IsWay [] [] Discard = ⊥
+IsWay [] (hop ∷ hops) ending = ⊥
+IsWay (p ∷ path) [] ending = ⊥
+IsWay (p ∷ path) (hop ∷ hops) ending = GoesOn (IsWay path hops ending) hop.verdict hop.sent hops ending
 
--- the way of a frame that comes at this time to the first port of what is left of its path, with the records from there
--- on: one for each port that it comes to, and after the last port the listener's arrival
-abbrev pub IsWay : List Port → ℕ → List ℕ → List HopRecord → Ending → Type 0
-IsWay ports due [] [] (Sink at) = at.0 ≡ due
-IsWay ports due [] [] Discard = ⊥
-IsWay ports due [] (hop ∷ hops) ending = ⊥
-IsWay ports due (p ∷ path) [] ending = ⊥
-IsWay ports due (p ∷ path) (hop ∷ hops) ending =
-    (hop.arrival.0 ≡ due)
-    × GoesOn (λ at. IsWay ports at path hops ending) (port_at ports p) hop.verdict hop.sent hops ending
-
--- the first hop of a journey: a station's own frame is eligible at its release
+-- the first hop of a journey: a station's own frame comes to its port at its release, and is eligible then
 abbrev pub IsReleased : Release → List HopRecord → Type 0
 IsReleased release [] = ⊥
-IsReleased release (hop ∷ hops) = hop.verdict ≡ Eligible release.at
+IsReleased release (hop ∷ hops) = (hop.arrival ≡ release.at) × (hop.verdict ≡ Eligible release.at)
 
 -- one frame's journey over its sender's path
 pub record IsJourney (network : DeclaredNetwork) (journey : Travel) : Type 0 where
   pub sender : journey.release.sender < length (senders_of network)
   pub octets : IsFrameSize journey.release.octets
-  pub way : IsWay network.topology.ports journey.release.at.0
-      (sender_at network journey.release.sender).path journey.hops journey.ending
+  pub way : IsWay (sender_at network journey.release.sender).path journey.hops journey.ending
   pub released : IsReleased journey.release journey.hops
+
+-- the frame is one of a stream: these are the first senders, and the flows follow
+abbrev pub IsOfStream : DeclaredNetwork → Travel → Type 0
+IsOfStream network journey = journey.release.sender < length network.streams

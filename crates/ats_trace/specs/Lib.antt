@@ -1,7 +1,9 @@
 pub mod Journey
 pub mod Projections
+pub mod Links
 pub mod Eligibility
 pub mod Run
+pub mod ExactLinks
 pub mod Stored
 pub mod Talker
 pub mod Examples
@@ -11,3 +13,6 @@ pub mod Parts
 pub mod Regulated
 pub mod MoreChanges
 pub mod TalkerExamples
+pub mod LinkExamples
+pub mod BridgeExamples
+pub mod Babbler

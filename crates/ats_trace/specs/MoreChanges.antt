@@ -2,7 +2,7 @@ use Rattle.std.specs.Prelude.{ℕ, ◌+◌, List, [], ◌∷◌, None}
 use Rattle.ats_group.specs.declared.verdict.Verdict.TheVariants.{Eligible, Size}
 use Rattle.ats_trace.specs.Journey.{Travel}
 use Rattle.ats_trace.specs.Examples.{line, line_and_flow, hop, sunk}
-use Rattle.ats_trace.specs.Parts.{octets, way, chosen, prompt, flows, BreaksAlone}
+use Rattle.ats_trace.specs.Parts.{octets, way, links, chosen, prompt, flows, BreaksAlone}
 use Rattle.ats_trace.specs.declared.journey.HopRecord.{HopRecord}
 use Rattle.ats_trace.specs.declared.journey.Ending.{Ending}
 use Rattle.ats_trace.specs.declared.journey.Ending.TheVariants.{Sink, Discard}
@@ -27,6 +27,10 @@ idle_over_flow = small 1 0 672005 ∷ small 0 5 5 ∷ []
 -- the frame arrives at the bridge 1 ps late, and all that follows is 1 ps later
 abbrev pub long_link : List Travel
 long_link = sunk 0 0 1522 (hop 0 0 0 12336000 ∷ hop 13836001 13836001 13836001 26172001 ∷ []) 26672001 ∷ []
+
+-- and 1 ps early
+abbrev pub short_link : List Travel
+short_link = sunk 0 0 1522 (hop 0 0 0 12336000 ∷ hop 13835999 13835999 13835999 26171999 ∷ []) 26671999 ∷ []
 
 -- the record of a frame that is discarded for its size when it arrives
 abbrev pub too_long : ℕ → HopRecord
@@ -70,7 +74,8 @@ of_2001_octets = ended 2001 (hop 0 0 0 16168000 ∷ too_long 17668000 ∷ []) Di
 pub record EachBreaksAlone : Type 0 where
   pub later_eligible_first : BreaksAlone chosen line later_eligible_first
   pub idle_over_flow : BreaksAlone prompt line_and_flow idle_over_flow
-  pub long_link : BreaksAlone way line long_link
+  pub long_link : BreaksAlone links line long_link
+  pub short_link : BreaksAlone links line short_link
   pub discarded_and_sunk : BreaksAlone way line discarded_and_sunk
   pub discarded_twice : BreaksAlone way line discarded_twice
   pub never_sent : BreaksAlone way line never_sent

@@ -8,7 +8,9 @@ use Rattle.ats_port_rule.specs.Transmission.{Transmission}
 use Rattle.ats_port_rule.specs.PortRule.{AreApart, IsAhead, StartsAfterGap}
 use Rattle.ats_group.specs.declared.verdict.Verdict.TheVariants.{Size}
 use Rattle.ats_trace.specs.Journey.{Travel, IsWay, IsReleased}
-use Rattle.ats_trace.specs.Projections.{sent_by, handed_by}
+use Rattle.ats_trace.specs.Projections.{sent_by, crossings_by, handed_by}
+use Rattle.ats_trace.specs.Links.{KeepsLinkRule}
+use Rattle.ats_group_law.specs.Regulator.{ats_judge}
 use Rattle.ats_trace.specs.Eligibility.{IsJudged, IsPassed, residence_behind}
 use Rattle.ats_trace.specs.Run.{releases_of, IsLegal}
 use Rattle.ats_trace.specs.Examples.{line_and_flow, hop, sunk}
@@ -22,6 +24,7 @@ pub data Part : Type 0 where
   octets : Part
   way : Part
   released : Part
+  links : Part
   waits : Part
   takes : Part
   apart : Part
@@ -41,8 +44,11 @@ Keeps in_order network run = IsNonDecreasing (map (λ (r : Release). r.at.0) (re
 Keeps octets network run = All (λ (j : Travel). IsFrameSize j.release.octets) run
 Keeps way network run =
     All (λ (j : Travel). (j.release.sender < length (senders_of network))
-    × IsWay network.topology.ports j.release.at.0 (sender_at network j.release.sender).path j.hops j.ending) run
+    × IsWay (sender_at network j.release.sender).path j.hops j.ending) run
 Keeps released network run = All (λ (j : Travel). IsReleased j.release j.hops) run
+Keeps links network run =
+    (port : ℕ) → port < length network.topology.ports
+    → KeepsLinkRule (port_at network.topology.ports port) (crossings_by network run port)
 Keeps waits network run = EachPort (λ ps sent. All (λ (x : Transmission). x.eligible ≤ x.start) sent) network run
 Keeps takes network run =
     EachPort (λ ps sent. All (λ (x : Transmission). x.end ≡ x.start + ps * x.bits) sent) network run
@@ -55,7 +61,7 @@ Keeps prompt network run =
     (λ (y : Transmission). StartsAfterGap sent x → x.start ≤ y.start → x.start ≤ y.eligible) sent) sent) network run
 Keeps groups network run =
     (port class : ℕ) → port < length network.topology.ports → 1 ≤ class
-    → IsJudged network (residence_behind network port) (handed_by network run port class)
+    → IsJudged ats_judge network (residence_behind network port) (handed_by network run port class)
 Keeps flows network run = (port : ℕ) → port < length network.topology.ports
     → All (IsPassed network) (handed_by network run port 0)
 
@@ -80,8 +86,16 @@ deviation octets =
       ending = Discard;
     }
     ∷ []
+-- the frame that the bridge sends does not arrive
+deviation way =
+    record {
+      release = record { at = record { 0 = 0 }; sender = 0; octets = 1522 };
+      hops = hop 0 0 0 12336000 ∷ hop 13836000 13836000 13836000 26172000 ∷ [];
+      ending = Discard;
+    }
+    ∷ []
 -- the listener's arrival is 1 ps late
-deviation way = sunk 0 0 1522 (hop 0 0 0 12336000 ∷ hop 13836000 13836000 13836000 26172000 ∷ []) 26672001 ∷ []
+deviation links = sunk 0 0 1522 (hop 0 0 0 12336000 ∷ hop 13836000 13836000 13836000 26172000 ∷ []) 26672001 ∷ []
 -- the second frame is eligible at its station 1 ps after its release
 deviation released =
     sunk 0 1 1522 (hop 0 0 0 12336000 ∷ hop 13836000 13836000 13836000 26172000 ∷ []) 26672000

@@ -10,17 +10,26 @@ use Rattle.ats_port_rule.specs.Transmission.{Transmission}
 use Rattle.ats_trace.specs.Journey.{Travel, class_at}
 use Rattle.ats_trace.specs.declared.journey.Release.{Release}
 use Rattle.ats_trace.specs.declared.journey.HopRecord.{HopRecord}
+use Rattle.ats_trace.specs.declared.journey.Ending.{Ending}
+use Rattle.ats_trace.specs.declared.journey.Ending.TheVariants.{Sink, Discard}
 
 -- a transmission, and the port that made it
 pub record Hop : Type 0 where
   pub port : ℕ
   pub sent : Transmission
 
--- a frame that a port sent, with its octets, and its arrival and verdict behind that port
-pub record Handed : Type 0 where
-  pub hop : Hop
+-- a frame's way over a port and the link behind it: its octets, when it came to the node that the port leaves, its
+-- transmission, and when it arrived behind the port, at the next node of its path or at its listener
+pub record Crossing : Type 0 where
+  pub port : ℕ
   pub octets : ℕ
+  pub came : ℕ
+  pub sent : Transmission
   pub arrival : ℕ
+
+-- a frame that crossed a port to another one of its path, with its verdict there
+pub record Handed : Type 0 where
+  pub crossing : Crossing
   pub verdict : Verdict
 
 -- the transmission of a frame with this release, in this class, by its verdict and the times of its start and end
@@ -45,17 +54,25 @@ abbrev pub hop_at : ℕ → Option Transmission → List Hop
 hop_at port None = []
 hop_at port (Some sent) = record { port = port; sent = sent } ∷ []
 
--- and with what the next record tells
-abbrev pub handed_at : ℕ → ℕ → Option Transmission → List HopRecord → List Handed
-handed_at octets port None next = []
-handed_at octets port (Some sent) [] = []
-handed_at octets port (Some sent) (next ∷ hops) =
-    record {
-      hop = record { port = port; sent = sent };
-      octets = octets;
-      arrival = next.arrival.0;
-      verdict = next.verdict;
-    } ∷ []
+-- the crossing of a frame with so many octets, which came at this time, was sent so, and arrived behind the port at
+-- that
+abbrev pub crossing_of : ℕ → ℕ → ℕ → Transmission → ℕ → Crossing
+crossing_of octets came port sent arrival =
+    record { port = port; octets = octets; came = came; sent = sent; arrival = arrival }
+
+-- the next record, or behind the last port the ending, tells when it arrived
+abbrev pub crossing_at : ℕ → ℕ → ℕ → Option Transmission → List HopRecord → Ending → List Crossing
+crossing_at octets came port None hops ending = []
+crossing_at octets came port (Some sent) (next ∷ hops) ending = crossing_of octets came port sent next.arrival.0 ∷ []
+crossing_at octets came port (Some sent) [] (Sink at) = crossing_of octets came port sent at.0 ∷ []
+crossing_at octets came port (Some sent) [] Discard = []
+
+-- and the next record, where there is one, its verdict there
+abbrev pub handed_at : ℕ → ℕ → ℕ → Option Transmission → List HopRecord → List Handed
+handed_at octets came port None hops = []
+handed_at octets came port (Some sent) [] = []
+handed_at octets came port (Some sent) (next ∷ hops) =
+    record { crossing = crossing_of octets came port sent next.arrival.0; verdict = next.verdict } ∷ []
 
 -- the transmissions of a frame along what is left of its path
 abbrev pub hops_along : ℕ → Release → Sender → List ℕ → List HopRecord → List Hop
@@ -64,18 +81,31 @@ hops_along frame release sender (p ∷ path) [] = []
 hops_along frame release sender (p ∷ path) (hop ∷ hops) =
     hop_at p (transmission_of frame release (class_at sender p) hop) ++ hops_along frame release sender path hops
 
--- the same, each with what became of the frame behind the port
+-- those of them behind which it arrived, with its arrivals
+abbrev pub crossings_along : ℕ → Release → Sender → List ℕ → List HopRecord → Ending → List Crossing
+crossings_along frame release sender [] hops ending = []
+crossings_along frame release sender (p ∷ path) [] ending = []
+crossings_along frame release sender (p ∷ path) (hop ∷ hops) ending =
+    crossing_at release.octets hop.arrival.0 p (transmission_of frame release (class_at sender p) hop) hops ending
+    ++ crossings_along frame release sender path hops ending
+
+-- and those behind which it came to another port, with its verdicts there
 abbrev pub handed_along : ℕ → Release → Sender → List ℕ → List HopRecord → List Handed
 handed_along frame release sender [] hops = []
 handed_along frame release sender (p ∷ path) [] = []
 handed_along frame release sender (p ∷ path) (hop ∷ hops) =
-    handed_at release.octets p (transmission_of frame release (class_at sender p) hop) hops
+    handed_at release.octets hop.arrival.0 p (transmission_of frame release (class_at sender p) hop) hops
     ++ handed_along frame release sender path hops
 
 -- of the journey with this number
 abbrev pub journey_hops : DeclaredNetwork → ℕ → Travel → List Hop
 journey_hops network frame j =
     hops_along frame j.release (sender_at network j.release.sender) (sender_at network j.release.sender).path j.hops
+
+abbrev pub journey_crossings : DeclaredNetwork → ℕ → Travel → List Crossing
+journey_crossings network frame j =
+    crossings_along frame j.release (sender_at network j.release.sender)
+    (sender_at network j.release.sender).path j.hops j.ending
 
 abbrev pub journey_handed : DeclaredNetwork → ℕ → Travel → List Handed
 journey_handed network frame j =
@@ -86,6 +116,10 @@ abbrev pub hops_from : DeclaredNetwork → ℕ → List Travel → List Hop
 hops_from network frame [] = []
 hops_from network frame (j ∷ run) = journey_hops network frame j ++ hops_from network (frame + 1) run
 
+abbrev pub crossings_from : DeclaredNetwork → ℕ → List Travel → List Crossing
+crossings_from network frame [] = []
+crossings_from network frame (j ∷ run) = journey_crossings network frame j ++ crossings_from network (frame + 1) run
+
 abbrev pub handed_from : DeclaredNetwork → ℕ → List Travel → List Handed
 handed_from network frame [] = []
 handed_from network frame (j ∷ run) = journey_handed network frame j ++ handed_from network (frame + 1) run
@@ -94,7 +128,11 @@ handed_from network frame (j ∷ run) = journey_handed network frame j ++ handed
 abbrev pub sent_by : DeclaredNetwork → List Travel → ℕ → List Transmission
 sent_by network run port = map (λ (h : Hop). h.sent) (filter (λ (h : Hop). h.port == port) (hops_from network 0 run))
 
+-- the crossings of a port in a run
+abbrev pub crossings_by : DeclaredNetwork → List Travel → ℕ → List Crossing
+crossings_by network run port = filter (λ (c : Crossing). c.port == port) (crossings_from network 0 run)
+
 -- the frames of a class that a port has handed on in a run
 abbrev pub handed_by : DeclaredNetwork → List Travel → ℕ → ℕ → List Handed
 handed_by network run port class =
-    filter (λ (h : Handed). h.hop.port == port && h.hop.sent.class == class) (handed_from network 0 run)
+    filter (λ (h : Handed). h.crossing.port == port && h.crossing.sent.class == class) (handed_from network 0 run)

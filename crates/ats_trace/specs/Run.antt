@@ -4,7 +4,9 @@ use Rattle.ats_topology.specs.Port.{port_at}
 use Rattle.ats_network.specs.Network.{DeclaredNetwork}
 use Rattle.ats_port_rule.specs.PortRule.{KeepsPortRule, KeepsTie}
 use Rattle.ats_trace.specs.Journey.{Travel, IsJourney}
-use Rattle.ats_trace.specs.Projections.{sent_by, handed_by}
+use Rattle.ats_group_law.specs.Regulator.{Judge, ats_judge}
+use Rattle.ats_trace.specs.Projections.{sent_by, crossings_by, handed_by}
+use Rattle.ats_trace.specs.Links.{KeepsLinkRule}
 use Rattle.ats_trace.specs.Eligibility.{IsJudged, IsPassed, residence_behind}
 use Rattle.ats_trace.specs.declared.journey.Release.{Release}
 
@@ -13,16 +15,23 @@ abbrev pub releases_of : List Travel → List Release
 releases_of run = map (λ (j : Travel). j.release) run
 
 -- a run of a network in which nothing happens that its rules forbid: the frames are numbered in the order of their
--- releases, each makes a journey, each port keeps the port rule, and behind each port a group of schedulers judges the
--- streams' frames of each class, and the flows' frames are judged by their size alone
-pub record IsLegal (network : DeclaredNetwork) (run : List Travel) : Type 0 where
+-- releases, each makes a journey, each port keeps the port rule, each link, with the node behind it, keeps the link
+-- rule, and behind each port a group judges the streams' frames of each class, and the flows' frames are judged by
+-- their size alone
+pub record IsLegalBy (judge : Judge) (network : DeclaredNetwork) (run : List Travel) : Type 0 where
   pub in_order : IsNonDecreasing (map (λ (r : Release). r.at.0) (releases_of run))
   pub journeys : All (IsJourney network) run
   pub ports : (port : ℕ) → port < length network.topology.ports
       → KeepsPortRule (port_at network.topology.ports port).ps_per_bit (sent_by network run port)
+  pub links : (port : ℕ) → port < length network.topology.ports
+      → KeepsLinkRule (port_at network.topology.ports port) (crossings_by network run port)
   pub groups : (port class : ℕ) → port < length network.topology.ports → 1 ≤ class
-      → IsJudged network (residence_behind network port) (handed_by network run port class)
+      → IsJudged judge network (residence_behind network port) (handed_by network run port class)
   pub flows : (port : ℕ) → port < length network.topology.ports → All (IsPassed network) (handed_by network run port 0)
+
+-- and the groups are those of Asynchronous Traffic Shaping
+abbrev pub IsLegal : DeclaredNetwork → List Travel → Type 0
+IsLegal network run = IsLegalBy ats_judge network run
 
 -- a run in which each port breaks each tie by this key
 pub record IsRunBy (key : ℕ → ℕ → ℕ) (network : DeclaredNetwork) (run : List Travel) : Type 0 where

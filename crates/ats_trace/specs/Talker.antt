@@ -3,8 +3,10 @@ use Rattle.ats_num.specs.Wire.{bits_of}
 use Rattle.ats_topology.specs.Port.{port_at}
 use Rattle.ats_topology.specs.declared.port.Port.{Port}
 use Rattle.ats_network.specs.Network.{DeclaredNetwork, senders_of}
-use Rattle.ats_bucket.specs.Conforming.{Frame, Conforms}
+use Rattle.ats_bucket.specs.Conforming.{Frame}
+use Rattle.ats_group_law.specs.Regulator.{bucket_rule}
 use Rattle.ats_group.specs.Group.{is_declared_size}
+use Rattle.ats_group.specs.declared.member.Declared.{Declared}
 use Rattle.ats_network.specs.Senders.{sender_at}
 use Rattle.ats_trace.specs.Eligibility.{declared_by}
 use Rattle.ats_trace.specs.declared.journey.Release.{Release}
@@ -30,10 +32,15 @@ frames_of i releases = map frame_of (filter (λ (r : Release). r.sender == i) re
 abbrev pub IsDeclaredSize : DeclaredNetwork → Release → Type 0
 IsDeclaredSize network r = IsTrue (is_declared_size (declared_by network r.sender) r.octets)
 
--- a station keeps its buckets: the releases of each stream that begins there conform to the stream's rate and burst,
--- and each release of a stream or flow that begins there has a declared size
-pub record KeepsBuckets (network : DeclaredNetwork) (releases : List Release) (station : ℕ) : Type 0 where
+-- a station keeps a rule: what each stream declares that begins there, and its releases, are as the rule says, and each
+-- release of a stream or flow that begins there has a declared size
+pub record KeepsBucketsBy (rule : Declared → List Frame → Type 0) (network : DeclaredNetwork) (releases : List Release)
+    (station : ℕ) : Type 0 where
   pub streams : (i : ℕ) → i < length network.streams → talker_of network i ≡ station
-      → Conforms (sender_at network i).rate (sender_at network i).burst_bits (frames_of i releases)
+      → rule (declared_by network i) (frames_of i releases)
   pub sizes : All (λ (r : Release). r.sender < length (senders_of network) → talker_of network r.sender ≡ station
       → IsDeclaredSize network r) releases
+
+-- a station keeps its buckets
+abbrev pub KeepsBuckets : DeclaredNetwork → List Release → ℕ → Type 0
+KeepsBuckets network releases station = KeepsBucketsBy bucket_rule network releases station

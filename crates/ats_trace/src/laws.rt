@@ -1,7 +1,11 @@
 //! What is proved of the definitions themselves: runs of small networks, written out in full, that are legal or not.
 
+ghost use Rattle.ats_trace.specs.Babbler.{BabblerIsLegal};
+ghost use Rattle.ats_trace.specs.BridgeExamples.{BridgedAreLegal};
 ghost use Rattle.ats_trace.specs.Changes.{ChangedExamplesAreNot};
+ghost use Rattle.ats_trace.specs.ExactLinks.{LinksAreExact};
 ghost use Rattle.ats_trace.specs.LegalExamples.{ExamplesAreLegal};
+ghost use Rattle.ats_trace.specs.LinkExamples.{LinkExamples};
 ghost use Rattle.ats_trace.specs.MoreChanges.{EachBreaksAlone};
 ghost use Rattle.ats_trace.specs.Parts.{EachPartCounts, LegalIsEachPart};
 ghost use Rattle.ats_trace.specs.Regulated.{RegulatedAreLegal};
@@ -14,6 +18,15 @@ ghost use Rattle.ats_trace.specs.TalkerExamples.{TalkersOfExamples};
 pub fn examples_are_legal()
     ensures plain { ExamplesAreLegal }
     ensures regulated { RegulatedAreLegal }
+{}
+
+/// One frame over two bridges and over three, and behind it one more of its talker at once, which
+/// the first bridge holds back and no later one. And a station that babbles: of 23 small frames at
+/// once the bridge sends most on as they come, holds some back and discards the last; another
+/// station's frame goes between them.
+pub fn bridged_are_legal()
+    ensures bridged { BridgedAreLegal }
+    ensures babbler { BabblerIsLegal }
 {}
 
 /// Runs that are not legal: for each field of a legal run, of a journey and of the port rule one of
@@ -33,8 +46,21 @@ pub fn each_part_counts()
     ensures { EachPartCounts }
 {}
 
+/// Where each port has one latency, as in each network so far, a run is legal exactly where each
+/// frame arrives behind each port that sends it when its transmission has ended and the port's
+/// latency is over.
+pub fn links_are_exact()
+    ensures { LinksAreExact }
+{}
+
 /// A talker that sends its burst, and again as soon as its rate allows, keeps its bucket; 1 ps
 /// sooner it breaks it, as does one with a frame that is too long.
 pub fn talkers_of_examples()
     ensures { TalkersOfExamples }
+{}
+
+/// A link that takes no fixed time: a frame may arrive as soon as the one sent before it has, in
+/// its own time, and neither with it nor before.
+pub fn link_examples()
+    ensures { LinkExamples }
 {}

@@ -1,4 +1,4 @@
-use Rattle.ats_soundness_law.proofs.RuleProofs as rules
+use Rattle.ats_soundness_law.proofs.EachRule as rules
 use Rattle.ats_soundness_law.proofs.laws.holds_is_each_rule.Goals as goal
 
 pub returns : goal.returns

@@ -1,0 +1,79 @@
+use Rattle.std.proofs.Common.{◌≡◌, ℕ, ◌+◌, Bool, true, false, List, [], ◌∷◌, sum_by, refl, sym, ap, ◌∙◌, arith}
+use Rattle.std.proofs.lemmas.List.Sums.{sum_by-cons}
+use Rattle.std.specs.Prelude.{if◌then◌else◌}
+use Rattle.std.specs.List.{AllZip}
+use Rattle.ats_group.specs.declared.member.Declared.{Declared}
+use Rattle.ats_group.specs.declared.verdict.Verdict.{Verdict}
+use Rattle.ats_group.specs.declared.verdict.Verdict.TheVariants.{Eligible, Late, Size}
+use Rattle.ats_group.specs.Group.{Offer, State, first, next, verdicts_of, is_declared_size}
+use Rattle.ats_bucket.specs.Conforming.{Frame}
+use Rattle.ats_group_law.specs.Regulator.{OnEligible, IsEligibleSized, IsRule, bucket_rule, IsDelayedBy, AtsIsRegulator}
+use Rattle.ats_group_law.specs.Shaping.{Passage, IsDelayed}
+use Rattle.ats_group_law.specs.Windows.{bits_within}
+use Rattle.ats_group_law.proofs.WindowBits.{bits_in, bits_within-cons}
+use Rattle.ats_group_law.proofs.WindowParts.{KeepsWindows-fewer}
+use Rattle.ats_group_law.proofs.WindowPlaces.{windows_from_places, places_from_windows}
+use Rattle.ats_group_law.proofs.OutputLaws.{output_conforms}
+use Rattle.ats_group_law.proofs.ShapingFree.{shaping_free}
+
+on_any : (verdict : Verdict) (Z : Type 0) → Z → OnEligible verdict (λ e. Z)
+on_any (Eligible e) Z z = z
+on_any (Late e) Z z = tt
+on_any Size Z z = tt
+
+-- a verdict by a test of the size is eligible only where the test passes
+pub by_size : (size : Bool) (verdict : Verdict) → OnEligible (if size then verdict else Size) (λ e. size ≡ true)
+by_size true verdict = on_any verdict (true ≡ true) refl
+by_size false verdict = tt
+
+-- so is each verdict of a group
+sized_from : (declared : ℕ → Declared) (residence_ns : ℕ) (state : State) (offers : List Offer)
+    → AllZip (IsEligibleSized declared) offers (verdicts_of declared residence_ns state offers)
+sized_from declared residence_ns state [] = tt
+sized_from declared residence_ns state (offer ∷ offers) = (
+  by_size (is_declared_size (declared offer.member) offer.octets) _,
+  sized_from declared residence_ns (next declared residence_ns state offer) offers,
+)
+
+-- the bits of a window, as a sum over all frames
+window_bits : (frames : List Frame) (from to : ℕ) → bits_within frames from to ≡ sum_by (bits_in from to) frames
+window_bits [] from to = refl
+window_bits (f ∷ fs) from to =
+    bits_within-cons f fs from to ∙ ap (λ (n : ℕ). bits_in from to f + n) (window_bits fs from to)
+    ∙ sym (sum_by-cons (bits_in from to) f fs)
+
+bucket_is_rule : IsRule bucket_rule
+bucket_is_rule = record {
+  fewer = λ d frames others conforms ascends no_more.
+      places_from_windows d.rate d.burst_bits frames (record {
+        in_order = ascends;
+        windows = KeepsWindows-fewer d.rate d.burst_bits others frames
+            (λ from to.
+            omega (arith, window_bits frames from to, window_bits others from to, no_more (bits_in from to)))
+            (windows_from_places d.rate d.burst_bits others conforms).windows;
+      });
+  conforms = λ d frames ruled sized conforms. conforms;
+}
+
+-- frames that conform keep all windows
+delayed_by : (declared : ℕ → Declared) (residence_ns bound : ℕ) (passages : List Passage)
+    → IsDelayedBy bucket_rule declared residence_ns bound passages → IsDelayed declared residence_ns bound passages
+delayed_by declared residence_ns bound passages d = record {
+  ruled = d.ruled;
+  sized = d.sized;
+  in_order = d.in_order;
+  conformed = λ k e h. (windows_from_places _ _ _ (d.kept k e h)).windows;
+  arrives = d.arrives;
+  may_stay = d.may_stay;
+}
+
+pub ats_is_regulator : AtsIsRegulator
+ats_is_regulator = record {
+  rule = bucket_is_rule;
+  regulator = record {
+    sized = λ declared residence_ns offers. sized_from declared residence_ns (first declared) offers;
+    keeps = λ declared residence_ns offers member ruled. output_conforms declared residence_ns offers member ruled;
+    free = λ declared residence_ns bound passages delayed.
+        shaping_free declared residence_ns bound passages (delayed_by declared residence_ns bound passages delayed);
+  };
+}
