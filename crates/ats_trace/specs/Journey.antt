@@ -3,7 +3,7 @@ use Rattle.ats_num.specs.declared.time.Ps.{Ps}
 use Rattle.ats_num.specs.Wire.{IsFrameSize}
 use Rattle.ats_topology.specs.Port.{port_at}
 use Rattle.ats_topology.specs.declared.port.Port.{Port}
-use Rattle.ats_network.specs.Sender.{Sender}
+pub use Rattle.ats_network.specs.Class.{class_at}
 use Rattle.ats_network.specs.Network.{DeclaredNetwork, senders_of}
 use Rattle.ats_network.specs.Senders.{sender_at}
 use Rattle.ats_group.specs.declared.verdict.Verdict.{Verdict}
@@ -18,10 +18,6 @@ pub record Travel : Type 0 where
   pub release : Release
   pub hops : List HopRecord
   pub ending : Ending
-
--- the class of a sender's frames at a port: the same at each
-abbrev pub class_at : Sender → ℕ → ℕ
-class_at sender port = sender.class
 
 -- when a frame arrives behind a port that has sent it until this time
 abbrev pub arrival_after : Port → ℕ → ℕ
