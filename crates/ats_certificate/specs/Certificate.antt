@@ -5,6 +5,8 @@ use Rattle.ats_num.specs.declared.time.TheConstants.{PS_PER_SECOND, PS_PER_NS}
 use Rattle.ats_topology.specs.Port.{port_at}
 use Rattle.ats_topology.specs.declared.port.Port.{Port}
 use Rattle.ats_streams.specs.Stream.{DeclaredStream}
+use Rattle.ats_network.specs.Sender.{Sender, stream_sender}
+use Rattle.ats_network.specs.Class.{class_at}
 use Rattle.ats_network.specs.Network.{DeclaredNetwork}
 use Rattle.ats_network.specs.Residence.{residence_after}
 use Rattle.ats_certificate.specs.PortSums.{PortSums, port_sums, is_used}
@@ -22,9 +24,13 @@ row_of rows port class = find (is_row_of port class) rows
 abbrev pub bound_at : List Row → ℕ → ℕ → ℕ
 bound_at rows port class = unwrap_or (option_map (λ (row : Row). row.bound) (row_of rows port class)) 0
 
+-- the bound of a hop: that of its port, in the class that the sender has there
+abbrev pub bound_of_hop : List Row → Sender → ℕ → ℕ
+bound_of_hop rows sender port = bound_at rows port (class_at sender port)
+
 -- the sum of the bounds along a stream's path
 abbrev pub bound_along : List Row → DeclaredStream → ℕ
-bound_along rows stream = sum_by (λ port. bound_at rows port stream.class) stream.path
+bound_along rows stream = sum_by (bound_of_hop rows (stream_sender stream)) stream.path
 
 -- the first row comes before the second: its port is lower, or the port is the same and its class is lower
 abbrev pub IsBefore : Row → Row → Type 0

@@ -5,3 +5,4 @@ pub mod Judged
 pub mod Breaches
 pub mod FirstFound
 pub mod FirstRefusal
+pub mod InTime

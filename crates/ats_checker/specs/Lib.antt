@@ -3,3 +3,4 @@ pub mod Laws
 pub mod Ports
 pub mod Rows
 pub mod First
+pub mod InTime

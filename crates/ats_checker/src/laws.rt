@@ -1,5 +1,6 @@
 //! Laws of the judgement, and what an accepted certificate promises of each legal run.
 
+ghost use Rattle.ats_checker.specs.InTime.{HoldingIsInTime};
 ghost use Rattle.ats_checker.specs.Laws.{EachRefusalIsTheFirst, LeastIsAccepted, RefusedUnlessHolding};
 ghost use Rattle.ats_port_law.specs.PortLaw.{PortLaw};
 ghost use Rattle.ats_soundness_law.specs.Laws.{ShapingForFree, PathLaw, Containment, CertificateIsSound};
@@ -58,3 +59,9 @@ pub fn certificate_is_sound()
 {
     ats_soundness_law::laws::certificate_is_sound()
 }
+
+/// Deadlines are kept: where a certificate holds, in each legal run each frame of a stream whose talker keeps its
+/// buckets arrives within the sum of the bounds along its path, and within its stream's deadline.
+pub fn holding_is_in_time()
+    ensures { HoldingIsInTime }
+{}

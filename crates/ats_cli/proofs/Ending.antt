@@ -1,6 +1,6 @@
 use Rattle.std.proofs.Common.{◌≡◌, ℕ, List, [], Option, Some, None, Result, inl, inr, Ok, Err, refl, sym, ap, subst}
-use Rattle.std.proofs.Common.{lit<}
-use Rattle.std.specs.Prelude.{IfSome, OnOk, ◌⊎◌, codes}
+use Rattle.std.proofs.Common.{◌∙◌, lit<}
+use Rattle.std.specs.Prelude.{IfSome, IfOk, ◌⊎◌, codes}
 use Rattle.std.specs.Global.{Vec}
 use Rattle.ats_io.specs.Outside.{Rose, TakesPrefix}
 use Rattle.ats_command.specs.Command.{Command, Shape, Show, Bound, Check, Unknown}
@@ -102,13 +102,23 @@ words_end_as_due told status write is_told (inl printed) failed quiet =
     inr (words_answer, record { is_told = is_told; answers = refl }, sym printed)
 words_end_as_due told status write is_told (inr cut) failed quiet = absurd (quiet (failed cut))
 
--- where an outcome was printed as done, what holds of an outcome with a text holds
-pub done_holds : (outcome : Result (Vec ℕ) Stop) (text : List ℕ) (P : Type 0) → OnOk outcome P
-    → answer_of outcome ≡ Some (record { status = Done; text = text }) → P
-done_holds (Ok text') text P h made = h
+one_text : (a b : Answer) → Some a ≡ Some b → a.text ≡ b.text
+one_text a b h = ap (λ (answer : Answer). answer.text) (one_value a b h)
+
+-- where an outcome was printed as done, what holds of the text that an outcome has holds of what was printed
+pub done_holds : (outcome : Result (Vec ℕ) Stop) (text : List ℕ) (P : List ℕ → Type 0)
+    → IfOk outcome (λ (made : Vec ℕ). P made.items)
+    → answer_of outcome ≡ Some (record { status = Done; text = text }) → P text
+done_holds (Ok text') text P h made = subst P (one_text (record { status = Done; text = text'.items })
+    (record { status = Done; text = text }) made) h
 done_holds (Err (stop.Input why)) text P h made = absurd (other_status (record { status = Input; text = why.items })
     (record { status = Done; text = text }) input_is_not_done made)
 done_holds (Err (stop.Refused why)) text P h made = absurd (other_status (record { status = Refused; text = why.items })
     (record { status = Done; text = text }) refused_is_not_done made)
 done_holds (Err stop.ReadFailed) text P h made = absurd (nothing (record { status = Done; text = text }) made)
 done_holds (Err stop.NoMemory) text P h made = absurd (nothing (record { status = Done; text = text }) made)
+
+-- the line for words outside the table does not end as done
+pub words_are_not_done : (status : Status) → (status ≡ Words) ⊎ (status ≡ WriteFailed) → status ≡ Done → ⊥
+words_are_not_done status (inl words) done = let clash : Words ≡ Done = sym words ∙ done in cc
+words_are_not_done status (inr cut) done = let clash : WriteFailed ≡ Done = sym cut ∙ done in cc

@@ -1,6 +1,6 @@
 //! The program's call.
 
-ghost use Rattle.std.specs.Prelude.{◌≡◌, ◌≤◌, ◌⊎◌, IsErrOf, OnOk};
+ghost use Rattle.std.specs.Prelude.{◌≡◌, ◌≤◌, ◌⊎◌, IfOk, IsErrOf};
 ghost use Rattle.ats_io.specs.Outside.{Rose, Continues};
 ghost use Rattle.ats_command.specs.Command.{command_of};
 ghost use Rattle.ats_command.specs.Command as table;
@@ -8,7 +8,7 @@ ghost use Rattle.ats_command.specs.Named.{texts_of, view};
 ghost use Rattle.ats_command.specs.Answer.{HasText};
 ghost use Rattle.ats_command.specs.Due.{IsTold};
 ghost use Rattle.ats_command.specs.Outcome.{Answers};
-ghost use Rattle.ats_command.specs.Soundness.{IsSoundCheck};
+ghost use Rattle.ats_command.specs.Soundness.{IsSoundCheck, PrintsSoundly};
 ghost use Rattle.ats_command.specs.Calls.{Printed, PrintedPrefix, ReadRose, IsCalm, StatusIsDue};
 
 use ats_command::{Command, Status, Stop, bound, check, finish, named_by, print, shape, show};
@@ -26,8 +26,11 @@ pub fn ats<F: Files, O: Sink>(alloc: Global, words: &[String], files: &mut F, ou
     ensures unknown { command_of (texts_of words.now) ≡ table.Unknown
         → (result ≡ Status.Words) ⊎ (result ≡ Status.WriteFailed) }
 
-    // Done to `check NET CERT` means that the bounds of the certificate are sound in each legal run of the network.
-    ensures sound { result ≡ Status.Done → IsSoundCheck (F.told files.old) (command_of (texts_of words.now)) }
+    // Done to `check NET CERT` has printed the bounds and sums of the rows that the files declare for a network. They
+    // are sound in each legal run of it, and there each frame of a stream whose talker keeps its buckets arrives within
+    // its stream's sum and its deadline.
+    ensures sound { result ≡ Status.Done
+        → PrintsSoundly (F.told files.old) (command_of (texts_of words.now)) (O.held out.old) (O.held out.new) }
 
     // ReadFailed and WriteFailed have a cause.
     ensures read_failed { result ≡ Status.ReadFailed
@@ -65,7 +68,8 @@ fn carry_out<F: Files, O: Sink>(
     ensures printed { HasText result
         → Printed (F.told files.old) (view command.entry) result (O.held out.old) (O.held out.new) }
     ensures no_words { ¬ (result ≡ Status.Words) }
-    ensures sound { result ≡ Status.Done → IsSoundCheck (F.told files.old) (view command.entry) }
+    ensures sound { result ≡ Status.Done
+        → PrintsSoundly (F.told files.old) (view command.entry) (O.held out.old) (O.held out.new) }
     ensures read_failed { result ≡ Status.ReadFailed
         → ReadRose (F.told files.old) (view command.entry) (F.faults files.old) (F.faults files.new) }
     ensures write_failed { result ≡ Status.WriteFailed → Rose (O.faults out.old) (O.faults out.new) }
@@ -82,7 +86,7 @@ fn carry_out<F: Files, O: Sink>(
 // What a command of the table comes to.
 fn outcome_of<F: Files>(alloc: Global, command: Command, files: &mut F) -> Result<Vec<u8>, Stop>
     ensures due { Answers (F.told files.old) (view command.entry) result }
-    ensures sound { OnOk result (IsSoundCheck (F.told files.old) (view command.entry)) }
+    ensures sound { IfOk result (λ text. IsSoundCheck (F.told files.old) (view command.entry) text.items) }
     ensures failed { IsErrOf result Stop.ReadFailed
         → ReadRose (F.told files.old) (view command.entry) (F.faults files.old) (F.faults files.new) }
     ensures continues { Continues F.told F.faults files.old files.new }

@@ -5,3 +5,4 @@ pub mod Judging
 pub mod Steps
 pub mod OneAnswer
 pub mod Meanings
+pub mod PrintedBounds

@@ -23,6 +23,7 @@ use Rattle.ats_checker.specs.declared.refusal.Refusal.{Refusal}
 use Rattle.ats_checker.proofs.Refused.{refused_unless_holding}
 use Rattle.ats_verdict_text.specs.Text.{accepted_text, reason_text, refusal_text}
 use Rattle.ats_soundness_law.proofs.Soundness.{certificate_is_sound}
+use Rattle.ats_checker.proofs.InTime.{holding_is_in_time}
 use Rattle.ats_num.specs.Failure.{◌>>=◌}
 use Rattle.ats_command.specs.Answer.{Answer, input_answer, settled}
 use Rattle.ats_command.specs.Due.{bound_answer, check_answer}
@@ -108,8 +109,8 @@ judged_check : (net certificate net_bytes certificate_bytes : List ℕ) (network
     (refusal : Option Refusal)
     → network_in net net_bytes ≡ Ok network → rows_in network.topology certificate certificate_bytes ≡ Ok rows
     → IsNetwork network → AllPairs IsBefore rows → refusal_of network rows ≡ refusal
-    → CheckSays net certificate net_bytes certificate_bytes
-    (settled (judged (accepted_text network rows) (option_map (refusal_text network.topology) refusal))).status
+    → (let answer = settled (judged (accepted_text network rows) (option_map (refusal_text network.topology) refusal))
+    in CheckSays net certificate net_bytes certificate_bytes answer.text answer.status)
 judged_check net certificate net_bytes certificate_bytes network rows None network_is rows_are rules ordered is =
     let holds = (refused_unless_holding network rows rules ordered).0 is in (
       network,
@@ -120,6 +121,8 @@ judged_check net certificate net_bytes certificate_bytes network rows None netwo
         rules = rules;
         holds = holds;
         sound = certificate_is_sound network rows rules holds;
+        in_time = holding_is_in_time network rows rules holds;
+        written = refl;
       },
     )
 judged_check net certificate net_bytes certificate_bytes network rows (Some refusal)
@@ -142,14 +145,14 @@ rows_say : (net certificate net_bytes certificate_bytes : List ℕ) (network : D
     (declared : Result (List Row) Answer)
     → network_in net net_bytes ≡ Ok network → IsNetwork network → rows_in network.topology certificate certificate_bytes
     ≡ declared → MatchResult declared (AllPairs IsBefore) IsInput
-    → CheckSays net certificate net_bytes certificate_bytes
-    (settled (declared >>= λ rows. check_judged network rows)).status
+    → (let answer = settled (declared >>= λ rows. check_judged network rows)
+    in CheckSays net certificate net_bytes certificate_bytes answer.text answer.status)
 unfolding check_judged
 rows_say net certificate net_bytes certificate_bytes network (Ok rows) network_is rules is ordered =
     judged_check net certificate net_bytes certificate_bytes network rows (refusal_of network rows)
     network_is is rules ordered refl
 rows_say net certificate net_bytes certificate_bytes network (Err answer) network_is rules is input =
-    subst (CheckSays net certificate net_bytes certificate_bytes) (sym input)
+    subst (CheckSays net certificate net_bytes certificate_bytes answer.text) (sym input)
     (inr (
       network,
       record {
@@ -160,14 +163,15 @@ rows_say net certificate net_bytes certificate_bytes network (Err answer) networ
 
 check_says : (net certificate net_bytes certificate_bytes : List ℕ) (declared : Result DeclaredNetwork Answer)
     → network_in net net_bytes ≡ declared → MatchResult declared IsNetwork IsInput
-    → CheckSays net certificate net_bytes certificate_bytes (settled (declared >>= λ network.
-    rows_in network.topology certificate certificate_bytes >>= λ rows. check_judged network rows)).status
+    → (let answer = settled (declared >>= λ network.
+    rows_in network.topology certificate certificate_bytes >>= λ rows. check_judged network rows)
+    in CheckSays net certificate net_bytes certificate_bytes answer.text answer.status)
 check_says net certificate net_bytes certificate_bytes (Ok network) is rules =
     rows_say net certificate net_bytes certificate_bytes network
     (rows_in network.topology certificate certificate_bytes) is rules refl
     (rows_give network.topology certificate certificate_bytes)
 check_says net certificate net_bytes certificate_bytes (Err answer) is input =
-    subst (CheckSays net certificate net_bytes certificate_bytes) (sym input)
+    subst (CheckSays net certificate net_bytes certificate_bytes answer.text) (sym input)
     (inl (none_declared (network_in net net_bytes) answer is))
 
 pub check_means : CheckMeans

@@ -1,6 +1,6 @@
 use Rattle.std.proofs.Common.{◌≡◌, ℕ, List, [], Option, Some, None, Result, Ok, Err, refl, sym, ◌∙◌, ap, subst, arith}
 use Rattle.ats_io.specs.Outside.{Rose}
-use Rattle.std.specs.Prelude.{IsSome, IfSome, IfOk, IsErrAnd, IsOk, OnOk, ◌≤◌, unwrap_or}
+use Rattle.std.specs.Prelude.{IsSome, IfSome, IfOk, IsErrAnd, IsOk, ◌≤◌, unwrap_or}
 use Rattle.std.specs.Global.{Vec}
 use Rattle.ats_num.specs.Failure.{◌>>=◌}
 use Rattle.ats_command.specs.Answer.{Answer, settled}
@@ -75,10 +75,11 @@ pub result_settles : (result : Result (Vec ℕ) Stop) (due : Result (List ℕ) A
 result_settles (Ok text) due h = text_settles text.items due h
 result_settles (Err stop) due h = stop_settles stop due h
 
--- what holds where a call gave a value
-pub on_ok_then : {X : Type 0} (result : Result X Stop) (P Q : Type 0) → OnOk result P → (P → Q) → OnOk result Q
-on_ok_then (Ok x) P Q h f = f h
-on_ok_then (Err e) P Q h f = tt
+-- what holds of the text that a call gave
+pub text_then : (result : Result (Vec ℕ) Stop) (P Q : List ℕ → Type 0) → IfOk result (λ (text : Vec ℕ). P text.items)
+    → ((text : List ℕ) → P text → Q text) → IfOk result (λ (text : Vec ℕ). Q text.items)
+text_then (Ok text) P Q h f = f text.items h
+text_then (Err stop) P Q h f = tt
 
 -- a fault that came after some state came after an earlier one
 pub rose_since : (before between after : ℕ) → before ≤ between → Rose between after → Rose before after

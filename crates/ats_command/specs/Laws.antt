@@ -1,4 +1,13 @@
-use Rattle.std.specs.Prelude.{◌≡◌, ℕ, List, Option}
+use Rattle.std.specs.Prelude.{◌≡◌, ℕ, List, ◌++◌, codes, decimal, Option, Some, slice_get, sum_by}
+use Rattle.std.specs.List.{flat_map}
+use Rattle.ats_topology.specs.Topology.{DeclaredTopology}
+use Rattle.ats_port_names.specs.PortName.{port_name}
+use Rattle.ats_streams.specs.Stream.{DeclaredStream}
+use Rattle.ats_network.specs.Network.{DeclaredNetwork}
+use Rattle.ats_network.specs.Senders.{sender_at}
+use Rattle.ats_certificate.specs.declared.row.Row.{Row}
+use Rattle.ats_soundness_law.specs.Sound.{bounds_of}
+use Rattle.ats_verdict_text.specs.Text.{stream_lines}
 use Rattle.ats_command.specs.Command.{command_of}
 use Rattle.ats_command.specs.Answer.{Answer}
 use Rattle.ats_command.specs.Due.{IsDue, IsTold}
@@ -12,3 +21,16 @@ pub record IsOnlyDue (told : List ℕ → Option (List ℕ)) (words : List (List
 abbrev pub OneAnswerIsDue : Type 0
 OneAnswerIsDue = (told : List ℕ → Option (List ℕ)) (words : List (List ℕ)) → IsTold told (command_of words)
     → (answer : Answer) × IsOnlyDue told words answer
+
+-- a line `hop NAME PORT BOUND` for each port of a path, by these bounds, and a line `sum NAME SUM` with their sum
+abbrev pub lines_by : DeclaredTopology → List ℕ → (ℕ → ℕ) → List ℕ → List ℕ
+lines_by topology name bound path =
+    flat_map (λ port. codes "hop " ++ name ++ codes " " ++ port_name topology port ++ codes " " ++ decimal (bound port)
+    ++ codes "\n") path ++ codes "sum " ++ name ++ codes " " ++ decimal (sum_by bound path) ++ codes "\n"
+
+-- what is printed of the stream with a number: at each port of its path the bound of which soundness speaks, and the
+-- sum of these bounds
+abbrev pub PrintedBoundsAreSound : Type 0
+PrintedBoundsAreSound = (network : DeclaredNetwork) (rows : List Row) (i : ℕ) (stream : DeclaredStream)
+    → slice_get network.streams i ≡ Some stream → stream_lines network.topology rows stream
+    ≡ lines_by network.topology stream.name (bounds_of rows (sender_at network i)) (sender_at network i).path

@@ -5,6 +5,8 @@ use Rattle.ats_certificate.specs.declared.row.Row.{Row}
 use Rattle.ats_certificate_file.specs.Text.{certificate_text}
 use Rattle.ats_bound.specs.Least.{least_certificate}
 use Rattle.ats_soundness_law.specs.Sound.{IsSound}
+use Rattle.ats_checker.specs.InTime.{FramesAreInTime}
+use Rattle.ats_verdict_text.specs.Text.{accepted_text}
 use Rattle.ats_command.specs.Input.{network_in, rows_in}
 use Rattle.ats_command.specs.Due.{bound_answer, check_answer}
 use Rattle.ats_command.specs.declared.status.Status.{Status}
@@ -39,14 +41,17 @@ BoundSays net bytes text NoMemory = ⊥
 abbrev pub BoundMeans : Type 0
 BoundMeans = (net bytes : List ℕ) → BoundSays net bytes (bound_answer net bytes).text (bound_answer net bytes).status
 
--- two files of these bytes declare this network and these rows, which hold for it and are sound
-pub record IsAccepted (net certificate net_bytes certificate_bytes : List ℕ) (network : DeclaredNetwork)
+-- two files of these bytes declare this network and these rows, which hold for it and are sound; by them frames are in
+-- time, and the text gives their bounds and sums
+pub record IsAccepted (net certificate net_bytes certificate_bytes text : List ℕ) (network : DeclaredNetwork)
     (rows : List Row) : Type 0 where
   pub network_declared : network_in net net_bytes ≡ Ok network
   pub rows_declared : rows_in network.topology certificate certificate_bytes ≡ Ok rows
   pub rules : IsNetwork network
   pub holds : Holds network rows
   pub sound : IsSound network rows
+  pub in_time : FramesAreInTime network rows
+  pub written : text ≡ accepted_text network rows
 
 -- they declare this network and these rows, which do not hold for it
 pub record IsRefused (net certificate net_bytes certificate_bytes : List ℕ) (network : DeclaredNetwork)
@@ -61,23 +66,24 @@ pub record HasNoRows (net certificate net_bytes certificate_bytes : List ℕ) (n
   pub network_declared : network_in net net_bytes ≡ Ok network
   pub no_rows : IsErr (rows_in network.topology certificate certificate_bytes)
 
--- what an answer to `check NET CERT` says of the bytes of both files, by its status; the same four never come
-abbrev pub CheckSays : List ℕ → List ℕ → List ℕ → List ℕ → Status → Type 0
-CheckSays net certificate net_bytes certificate_bytes Done =
+-- what an answer to `check NET CERT` says of the bytes of both files, by its text and status; the same four never come
+abbrev pub CheckSays : List ℕ → List ℕ → List ℕ → List ℕ → List ℕ → Status → Type 0
+CheckSays net certificate net_bytes certificate_bytes text Done =
     (network : DeclaredNetwork) × (rows : List Row)
-    × IsAccepted net certificate net_bytes certificate_bytes network rows
-CheckSays net certificate net_bytes certificate_bytes Input =
+    × IsAccepted net certificate net_bytes certificate_bytes text network rows
+CheckSays net certificate net_bytes certificate_bytes text Input =
     IsErr (network_in net net_bytes)
     ⊎ ((network : DeclaredNetwork) × HasNoRows net certificate net_bytes certificate_bytes network)
-CheckSays net certificate net_bytes certificate_bytes Refused =
+CheckSays net certificate net_bytes certificate_bytes text Refused =
     (network : DeclaredNetwork) × (rows : List Row) × IsRefused net certificate net_bytes certificate_bytes network rows
-CheckSays net certificate net_bytes certificate_bytes Words = ⊥
-CheckSays net certificate net_bytes certificate_bytes ReadFailed = ⊥
-CheckSays net certificate net_bytes certificate_bytes WriteFailed = ⊥
-CheckSays net certificate net_bytes certificate_bytes NoMemory = ⊥
+CheckSays net certificate net_bytes certificate_bytes text Words = ⊥
+CheckSays net certificate net_bytes certificate_bytes text ReadFailed = ⊥
+CheckSays net certificate net_bytes certificate_bytes text WriteFailed = ⊥
+CheckSays net certificate net_bytes certificate_bytes text NoMemory = ⊥
 
 -- so for all file words and bytes
 abbrev pub CheckMeans : Type 0
 CheckMeans = (net certificate net_bytes certificate_bytes : List ℕ)
     → CheckSays net certificate net_bytes certificate_bytes
+    (check_answer net certificate net_bytes certificate_bytes).text
     (check_answer net certificate net_bytes certificate_bytes).status

@@ -1,15 +1,14 @@
 //! `check NET CERT`: judges a certificate of a network, and gives the sums.
 
-ghost use Rattle.std.specs.Prelude.{◌≡◌, IfOk, IsErrOf, OnOk};
+ghost use Rattle.std.specs.Prelude.{◌≡◌, IfOk, IsErrOf};
 ghost use Rattle.ats_io.specs.Outside.{Continues};
 ghost use Rattle.ats_checker.specs.Ports.{RefusalInside, RowsInside};
 ghost use Rattle.ats_verdict_text.specs.Text.{refusal_text, refused_text};
-ghost use Rattle.ats_soundness_law.specs.Sound.{IsSound};
 ghost use Rattle.ats_command.specs.Command as table;
 ghost use Rattle.ats_command.specs.Calls.{ReadRose};
 ghost use Rattle.ats_command.specs.Judged.{check_judged};
 ghost use Rattle.ats_command.specs.Outcome.{Answers, Gives};
-ghost use Rattle.ats_command.specs.Soundness.{IsSoundCheck};
+ghost use Rattle.ats_command.specs.Soundness.{IsSoundCheck, IsSoundText};
 
 use crate::input_file::{certificate_in, network_in};
 use crate::outcome::Stop;
@@ -22,8 +21,8 @@ use ats_topology::Topology;
 use ats_verdict_text::{accepted, write_refusal};
 use std::alloc::{AllocError, Global};
 
-/// The text of `check NET CERT`. It stops where the network's file and then where the certificate's
-/// has a fault or can't be read, and where the certificate does not hold.
+/// The text of `check NET CERT`: the bounds and sums of the certificate, which are sound. It stops where the network's
+/// file and then where the certificate's has a fault or can't be read, and where the certificate does not hold.
 pub fn check<F: Files>(
     alloc: Global,
     net: &str,
@@ -31,7 +30,8 @@ pub fn check<F: Files>(
     files: &mut F,
 ) -> Result<Vec<u8>, Stop>
     ensures due { Answers (F.told files.old) (table.Check net.now certificate.now) result }
-    ensures sound { OnOk result (IsSoundCheck (F.told files.old) (table.Check net.now certificate.now)) }
+    ensures sound { IfOk result (λ text.
+        IsSoundCheck (F.told files.old) (table.Check net.now certificate.now) text.items) }
     ensures failed { IsErrOf result Stop.ReadFailed
         → ReadRose (F.told files.old) (table.Check net.now certificate.now) (F.faults files.old) (F.faults files.new) }
     ensures continues { Continues F.told F.faults files.old files.new }
@@ -49,7 +49,7 @@ fn judgement_of(
 ) -> Result<Vec<u8>, Stop>
     requires { RowsInside network.now.topology certificate.now }
     ensures due { Gives (λ text. text.items) result (check_judged network.now certificate.now) }
-    ensures sound { OnOk result (IsSound network.now certificate.now) }
+    ensures sound { IfOk result (λ text. IsSoundText network.now certificate.now text.items) }
     ensures was_read { ¬ IsErrOf result Stop.ReadFailed }
 {
     let topology = network.topology();

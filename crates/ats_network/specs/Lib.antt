@@ -1,4 +1,5 @@
 pub mod Sender
+pub mod Class
 pub mod Path
 pub mod Network
 pub mod FaultText

@@ -2,14 +2,14 @@ use Rattle.std.specs.Prelude.{ℕ, ◌+◌, ◌≤◌, List, [], ◌∷◌, sum_
 use Rattle.ats_network.specs.Sender.{Sender}
 use Rattle.ats_network.specs.Network.{DeclaredNetwork}
 use Rattle.ats_network.specs.Senders.{sender_at}
-use Rattle.ats_certificate.specs.Certificate.{bound_at}
+use Rattle.ats_certificate.specs.Certificate.{bound_of_hop}
 use Rattle.ats_certificate.specs.declared.row.Row.{Row}
 use Rattle.ats_bucket.specs.Conforming.{Frame}
 use Rattle.ats_group.specs.declared.member.Declared.{Declared}
 use Rattle.ats_group.specs.declared.verdict.Verdict.{Verdict}
 use Rattle.ats_group.specs.declared.verdict.Verdict.TheVariants.{Eligible, Late, Size}
 use Rattle.ats_group_law.specs.Regulator.{OnEligible, Judge, ats_judge, bucket_rule}
-use Rattle.ats_trace.specs.Journey.{Travel, IsOfStream, class_at}
+use Rattle.ats_trace.specs.Journey.{Travel, IsOfStream}
 use Rattle.ats_trace.specs.Run.{IsLegalBy, releases_of}
 use Rattle.ats_trace.specs.Talker.{talker_of, KeepsBucketsBy}
 use Rattle.ats_trace.specs.declared.journey.HopRecord.{HopRecord}
@@ -39,7 +39,7 @@ ArrivesBy limit Discard = ⊥
 
 -- the bounds of the ports of a sender's path, by the rows of a certificate
 abbrev pub bounds_of : List Row → Sender → ℕ → ℕ
-bounds_of rows sender port = bound_at rows port (class_at sender port)
+bounds_of rows sender port = bound_of_hop rows sender port
 
 -- a frame is never discarded, is eligible at each next hop within the bound of the hop before, and arrives within the
 -- sum

@@ -1,7 +1,7 @@
 use Rattle.std.specs.Prelude.{◌≡◌, ℕ, ◌<◌, List, [], ◌∷◌, length, Option, Some, None}
 use Rattle.ats_num.specs.declared.time.Ps.{Ps}
 use Rattle.ats_num.specs.Wire.{IsFrameSize}
-use Rattle.ats_network.specs.Sender.{Sender}
+pub use Rattle.ats_network.specs.Class.{class_at}
 use Rattle.ats_network.specs.Network.{DeclaredNetwork, senders_of}
 use Rattle.ats_network.specs.Senders.{sender_at}
 use Rattle.ats_group.specs.declared.verdict.Verdict.{Verdict}
@@ -16,10 +16,6 @@ pub record Travel : Type 0 where
   pub release : Release
   pub hops : List HopRecord
   pub ending : Ending
-
--- the class of a sender's frames at a port: the same at each
-abbrev pub class_at : Sender → ℕ → ℕ
-class_at sender port = sender.class
 
 -- what follows a verdict and the times of a transmission: an eligible frame is sent and goes on; a frame with another
 -- verdict is not sent, and its way ends

@@ -3,8 +3,9 @@ use Rattle.std.specs.List.{flat_map}
 use Rattle.ats_topology.specs.Topology.{DeclaredTopology}
 use Rattle.ats_port_names.specs.PortName.{port_name}
 use Rattle.ats_streams.specs.Stream.{DeclaredStream}
+use Rattle.ats_network.specs.Sender.{stream_sender}
 use Rattle.ats_network.specs.Network.{DeclaredNetwork}
-use Rattle.ats_certificate.specs.Certificate.{bound_at, bound_along}
+use Rattle.ats_certificate.specs.Certificate.{bound_of_hop, bound_along}
 use Rattle.ats_certificate.specs.declared.row.Row.{Row}
 use Rattle.ats_tally.specs.declared.reason.Reason.{Reason}
 use Rattle.ats_tally.specs.declared.reason.Reason.TheVariants as reason
@@ -18,7 +19,7 @@ use Rattle.ats_checker.specs.declared.refusal.Refusal.TheVariants.{Network}
 unfoldable pub hop_line : DeclaredTopology → List Row → DeclaredStream → ℕ → List ℕ
 hop_line topology rows s port =
     codes "hop " ++ s.name ++ codes " " ++ port_name topology port ++ codes " "
-    ++ decimal (bound_at rows port s.class) ++ codes "\n"
+    ++ decimal (bound_of_hop rows (stream_sender s) port) ++ codes "\n"
 
 -- a line for each port of a stream's path
 abbrev pub hop_lines : DeclaredTopology → List Row → DeclaredStream → List ℕ

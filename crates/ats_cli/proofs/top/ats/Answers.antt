@@ -5,9 +5,9 @@ use Rattle.ats_command.specs.Command.{Command}
 use Rattle.ats_command.specs.Named.{view}
 use Rattle.ats_command.specs.Due.{IsTold}
 use Rattle.ats_command.specs.Calls.{PrintedPrefix, ReadRose, IsCalm, StatusIsDue}
-use Rattle.ats_command.specs.Soundness.{IsSoundCheck}
+use Rattle.ats_command.specs.Soundness.{PrintsSoundly}
 use Rattle.ats_command.specs.declared.status.Status.TheVariants.{NoMemory}
-use Rattle.ats_cli.proofs.Ending.{ends_as_due, calm_unread, words_end_as_due, front_of_words}
+use Rattle.ats_cli.proofs.Ending.{ends_as_due, calm_unread, words_end_as_due, front_of_words, words_are_not_done}
 use Rattle.ats_cli.proofs.top.ats.Goals as goal
 
 pub returns-in-Some-clause-complete : goal.returns-in-Some-clause-complete
@@ -46,7 +46,10 @@ returns-in-None-clause-complete g c =
 
 pub returns-in-Some-clause-sound : goal.returns-in-Some-clause-sound
 returns-in-Some-clause-sound g c =
-    λ done. subst (IsSoundCheck (g.F.Files.told c.args.files.now)) c.in-Some.ensures (c.carry_out.ensures.sound done)
+    λ done. subst (λ (command : Command). PrintsSoundly (g.F.Files.told c.args.files.now) command
+    (g.O.Sink.held c.args.out.now) (g.O.Sink.held c.carry_out.new.out)) c.in-Some.ensures
+    (c.carry_out.ensures.sound done)
 
 pub returns-in-None-clause-sound : goal.returns-in-None-clause-sound
-returns-in-None-clause-sound g c = λ done. subst (IsSoundCheck (g.F.Files.told c.args.files.now)) c.in-None.ensures tt
+returns-in-None-clause-sound g c = λ done.
+    absurd (words_are_not_done c.print.result c.print.ensures.ends done)

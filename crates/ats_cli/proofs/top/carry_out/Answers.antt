@@ -20,7 +20,10 @@ returns-clause-cut_short g c =
 
 pub returns-clause-sound : goal.returns-clause-sound
 returns-clause-sound g c = λ done.
-    let prints = c.finish.ensures.printed (subst HasText (sym done) tt) in
-    done_holds c.outcome_of-outcome.result prints.0
-    (IsSoundCheck (g.F.Files.told c.args.files.now) (view c.args.command)) c.outcome_of-outcome.ensures.sound
-    (prints.2 ∙ ap (λ (s : Status). Some (record { status = s; text = prints.0 })) done)
+    let prints = c.finish.ensures.printed (subst HasText (sym done) tt) in (
+      prints.0,
+      prints.1,
+      done_holds c.outcome_of-outcome.result prints.0
+          (IsSoundCheck (g.F.Files.told c.args.files.now) (view c.args.command)) c.outcome_of-outcome.ensures.sound
+          (prints.2 ∙ ap (λ (s : Status). Some (record { status = s; text = prints.0 })) done),
+    )

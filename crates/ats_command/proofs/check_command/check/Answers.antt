@@ -3,7 +3,6 @@ use Rattle.std.specs.Global.{Vec}
 use Rattle.ats_topology.specs.Topology.{DeclaredTopology}
 use Rattle.ats_network.specs.Network.{DeclaredNetwork}
 use Rattle.ats_certificate.specs.declared.row.Row.{Row}
-use Rattle.ats_soundness_law.specs.Sound.{IsSound}
 use Rattle.ats_num.specs.Failure.{◌>>=◌}
 use Rattle.ats_command.specs.Answer.{Answer}
 use Rattle.ats_command.specs.Command.{Check}
@@ -11,10 +10,10 @@ use Rattle.ats_command.specs.Input.{network_in, rows_in}
 use Rattle.ats_command.specs.Judged.{check_judged}
 use Rattle.ats_command.specs.Due.{told_bytes, check_answer}
 use Rattle.ats_command.specs.Outcome.{Gives, IsStopOf}
-use Rattle.ats_command.specs.Soundness.{IsSoundCheck}
+use Rattle.ats_command.specs.Soundness.{IsSoundCheck, IsSoundText}
 use Rattle.ats_command.specs.declared.outcome.Stop.{Stop}
 use Rattle.ats_command.specs.declared.outcome.Stop.TheVariants.{ReadFailed}
-use Rattle.ats_command.proofs.Steps.{told_is, err_is, stops_all, goes_on, step_settles, result_settles, on_ok_then}
+use Rattle.ats_command.proofs.Steps.{told_is, err_is, stops_all, goes_on, step_settles, result_settles, text_then}
 use Rattle.ats_command.proofs.Steps.{rose_since, same_stop, declared_is_ok}
 use Rattle.ats_command.proofs.check_command.check.Goals as goal
 
@@ -95,9 +94,9 @@ returns-clause-sound g c =
     let certificate : List ℕ = c.args.certificate.now in
     let network : DeclaredNetwork = c.in_ok-network.network in
     let rows : List Row = c.in_ok-rows.rows in
-    on_ok_then c.judgement_of.result (IsSound network rows) (IsSoundCheck told (Check net certificate))
+    text_then c.judgement_of.result (IsSoundText network rows) (IsSoundCheck told (Check net certificate))
     c.judgement_of.ensures.sound
-    (λ sound is_told.
+    (λ text sound is_told.
     let still : g.F.Files.told c.network_in.new.files certificate ≡ Some (told_bytes told certificate) =
     ap (λ (t : List ℕ → Option (List ℕ)). t certificate) c.network_in.ensures.continues.holds
     ∙ told_is told certificate (is_told 1 [] (lit< tt)) in (
@@ -109,6 +108,6 @@ returns-clause-sound g c =
         rows_declared = subst (λ (t : DeclaredTopology). rows_in t certificate (told_bytes told certificate) ≡ Ok rows)
             c.topology.ensures.value
             (c.in_ok-rows.ensures.due (told_bytes told certificate) still);
-        sound = sound;
+        is_sound = sound;
       },
     ))

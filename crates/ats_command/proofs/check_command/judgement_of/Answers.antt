@@ -6,6 +6,7 @@ use Rattle.ats_verdict_text.specs.Text.{accepted_text}
 use Rattle.ats_checker.specs.Refusal.{refusal_of}
 use Rattle.ats_checker.specs.declared.refusal.Refusal.{Refusal}
 use Rattle.ats_soundness_law.proofs.Soundness.{certificate_is_sound}
+use Rattle.ats_checker.proofs.InTime.{holding_is_in_time}
 use Rattle.ats_command.proofs.Judging.{check_text, check_refused}
 use Rattle.ats_command.proofs.check_command.judgement_of.Goals as goal
 
@@ -17,8 +18,14 @@ returns-in_ok-accepted-in-Ok-clause-due c =
     (c.in_ok-accepted-in-Ok.ensures ∙ ap (λ (d : NetworkRows). accepted_text d.network d.rows) c.in-Ok.ensures.ok)
 
 pub returns-in_ok-accepted-in-Ok-clause-sound : goal.returns-in_ok-accepted-in-Ok-clause-sound
-returns-in_ok-accepted-in-Ok-clause-sound c = certificate_is_sound c.args.network.now c.args.certificate.now
-    c.topology-topology.ensures.rules c.in-Ok.ensures.holds
+returns-in_ok-accepted-in-Ok-clause-sound c = record {
+  sound = certificate_is_sound c.args.network.now c.args.certificate.now c.topology-topology.ensures.rules
+      c.in-Ok.ensures.holds;
+  in_time = holding_is_in_time c.args.network.now c.args.certificate.now c.topology-topology.ensures.rules
+      c.in-Ok.ensures.holds;
+  written = c.in_ok-accepted-in-Ok.ensures
+      ∙ ap (λ (d : NetworkRows). accepted_text d.network d.rows) c.in-Ok.ensures.ok;
+}
 
 pub returns-in_ok-refused-in-Err-Fault-clause-due : goal.returns-in_ok-refused-in-Err-Fault-clause-due
 returns-in_ok-refused-in-Err-Fault-clause-due c =

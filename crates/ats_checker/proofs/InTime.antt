@@ -1,0 +1,54 @@
+-- By a certificate that holds each frame of a talker that keeps its buckets arrives within its stream's deadline.
+use Rattle.std.proofs.Common.{◌≡◌, ℕ, ◌+◌, ◌*◌, ◌<◌, ◌≤◌, List, length, Some, get_or, sum_by, subst, sym, ap, ◌∙◌, arith}
+use Rattle.std.specs.Prelude.{slice_get}
+use Rattle.std.proofs.lemmas.Option.{slice_get_within, get_or_from_slice_get}
+use Rattle.ats_num.specs.declared.time.TheConstants.{PS_PER_NS}
+use Rattle.ats_streams.specs.Stream.{DeclaredStream}
+use Rattle.ats_network.specs.Sender.{Sender, stream_sender}
+use Rattle.ats_network.specs.Network.{DeclaredNetwork, IsNetwork}
+use Rattle.ats_network.specs.Senders.{sender_at}
+use Rattle.ats_certificate.specs.Certificate.{IsInTime, Holds, bound_along}
+use Rattle.ats_certificate.specs.declared.row.Row.{Row}
+use Rattle.ats_trace.specs.declared.journey.Ending.{Ending}
+use Rattle.ats_trace.specs.declared.journey.Ending.TheVariants.{Sink, Discard}
+use Rattle.ats_port_law.proofs.Senders.{no_stream, stream_at}
+use Rattle.ats_soundness_law.specs.Sound.{ArrivesBy, bounds_of}
+use Rattle.ats_soundness_law.proofs.Streams.{stream_class}
+use Rattle.ats_soundness_law.proofs.Soundness.{path_law}
+use Rattle.ats_checker.specs.InTime.{HoldingIsInTime}
+
+-- the stream with a number, as a sender
+pub sender_of_stream : (network : DeclaredNetwork) (i : ℕ) (stream : DeclaredStream)
+    → slice_get network.streams i ≡ Some stream → sender_at network i ≡ stream_sender stream
+sender_of_stream network i stream named =
+    stream_at network i (slice_get_within network.streams i stream named)
+    ∙ ap stream_sender (get_or_from_slice_get network.streams i stream no_stream named)
+
+-- what arrives by a time arrives by each later one
+arrives_later : (early late : ℕ) (ending : Ending) → early ≤ late → ArrivesBy early ending → ArrivesBy late ending
+arrives_later early late (Sink at) after by = omega (arith, after, by)
+arrives_later early late Discard after by = by
+
+-- the deadline of a stream with a number is kept
+deadline_kept : (network : DeclaredNetwork) (rows : List Row) (i : ℕ) (stream : DeclaredStream)
+    → slice_get network.streams i ≡ Some stream → Holds network rows
+    → bound_along rows stream ≤ PS_PER_NS * stream.deadline_ns
+deadline_kept network rows i stream named holds =
+    subst (IsInTime rows) (get_or_from_slice_get network.streams i stream no_stream named)
+    (holds.deadlines i no_stream (slice_get_within network.streams i stream named))
+
+pub holding_is_in_time : HoldingIsInTime
+holding_is_in_time network rows net holds run legal journey there stream named keeps =
+    let i : ℕ = journey.release.sender in
+    let at : ℕ = journey.release.at.0 in
+    let served = path_law network rows net holds run legal journey there
+    (stream_class network net i (slice_get_within network.streams i stream named)) keeps in
+    let sum : ArrivesBy (at + bound_along rows stream) journey.ending =
+    subst (λ (s : Sender). ArrivesBy (at + sum_by (bounds_of rows s) s.path) journey.ending)
+    (sender_of_stream network i stream named) served.arrives in
+    let kept = deadline_kept network rows i stream named holds in
+    record {
+      sum = sum;
+      deadline = arrives_later (at + bound_along rows stream) (at + PS_PER_NS * stream.deadline_ns) journey.ending
+          (omega (arith, kept)) sum;
+    }
