@@ -1,6 +1,5 @@
 -- By a certificate that holds each frame of a talker that keeps its buckets arrives within its stream's deadline.
-use Rattle.std.proofs.Common.{◌≡◌, ℕ, ◌+◌, ◌*◌, ◌<◌, ◌≤◌, List, length, Some, get_or, sum_by, subst, sym, ap, ◌∙◌}
-use Rattle.std.proofs.Common.{arith}
+use Rattle.std.proofs.Common.{◌≡◌, ℕ, ◌+◌, ◌*◌, ◌≤◌, Some, List, sum_by, subst, ap, ◌∙◌, arith}
 use Rattle.std.specs.Prelude.{slice_get}
 use Rattle.std.proofs.lemmas.Option.{slice_get_within, get_or_from_slice_get}
 use Rattle.ats_num.specs.declared.time.TheConstants.{PS_PER_NS}
@@ -14,7 +13,6 @@ use Rattle.ats_trace.specs.declared.journey.Ending.{Ending}
 use Rattle.ats_trace.specs.declared.journey.Ending.TheVariants.{Sink, Discard}
 use Rattle.ats_port_law.proofs.Senders.{no_stream, stream_at}
 use Rattle.ats_soundness_law.specs.Sound.{ArrivesBy, bounds_of}
-use Rattle.ats_soundness_law.proofs.Streams.{stream_class}
 use Rattle.ats_soundness_law.proofs.Soundness.{path_law}
 use Rattle.ats_checker.specs.InTime.{HoldingIsInTime}
 
@@ -43,7 +41,7 @@ holding_is_in_time network rows net holds run legal journey there stream named k
     let i : ℕ = journey.release.sender in
     let at : ℕ = journey.release.at.0 in
     let served = path_law network rows net holds run legal journey there
-    (stream_class network net i (slice_get_within network.streams i stream named)) keeps in
+    (slice_get_within network.streams i stream named) keeps in
     let sum : ArrivesBy (at + bound_along rows stream) journey.ending =
     subst (λ (s : Sender). ArrivesBy (at + sum_by (bounds_of rows s) s.path) journey.ending)
     (sender_of_stream network i stream named) served.arrives in

@@ -1,5 +1,5 @@
 -- The printed bounds and sums are those of which soundness speaks.
-use Rattle.std.proofs.Common.{◌≡◌, ℕ, List, refl, subst, sym}
+use Rattle.std.proofs.Common.{◌≡◌, List, refl, subst, sym}
 use Rattle.ats_streams.specs.Stream.{DeclaredStream}
 use Rattle.ats_network.specs.Sender.{Sender, stream_sender}
 use Rattle.ats_network.specs.Network.{DeclaredNetwork}
