@@ -1,11 +1,11 @@
-//! Ports at each of the three ties, through the bound.
+//! Ports, through the bound of their tie.
 
 ghost use Rattle.std.specs.Prelude.{◌≡◌, ℕ, ◌+◌, ◌<◌, ◌≤◌, true, false, [], length, slice_index, All, IfSome, IfNone};
 ghost use Rattle.ats_num.specs.Wire.{IsFrameSize};
 ghost use Rattle.ats_transmit.specs.Sending.{last_end};
 
 use ats_num::time::END;
-use ats_num::{Early, Late, Mixed, Ps, Tie};
+use ats_num::{Early, Late, Ps, Tie};
 use ats_transmit::{Offer, Pick, Port};
 use std::alloc::AllocGlobal;
 use std::process::Abort;
@@ -60,45 +60,24 @@ fn start<T: Tie>(port: &mut Port<T>) -> Option<(u32, Ps)>
 }
 
 // Sends the next frame, when it is due, to its end.
-fn send<T: Tie>(port: &mut Port<T>) -> Option<u32>
+fn send<T: Tie>(port: &mut Port<T>) -> Option<(u32, u64)>
     requires { port.old.is_sending ≡ false }
     ensures { port.new.is_sending ≡ false }
 {
     let (_, end) = start(port)?;
-    Some(port.finish(end))
+    Some((port.finish(end), end.0))
 }
 
-#[test]
-fn sends_the_highest_class_once_free(rt: HostRuntime) {
-    let mut port = open(&rt, Late);
-    offer(&mut port, 0, 0, 1, Ps(5));
-    offer(&mut port, 1, 1, 6, Ps(7));
-    offer(&mut port, 2, 2, 6, Ps(7));
-    assert_eq!(rt; port.due(), Some(Ps(5)));
-
-    let (frame, end) = start(&mut port).expect(&rt, "a start");
-    assert_eq!(rt; frame, 0);
-    assert_eq!(rt; end.0, 672_005);
-    assert_eq!(rt; port.due(), Some(Ps(672_005)));
-    let Pick::Busy { end: until } = port.select(Ps(7)) else {
-        panic!(rt; "not busy");
-    };
-    assert_eq!(rt; until.0, 672_005);
-    assert_eq!(rt; port.finish(until), 0);
-
-    let (frame, end) = start(&mut port).expect(&rt, "a start");
-    assert_eq!(rt; frame, 2);
-    assert_eq!(rt; end.0, 1_344_005);
-    assert_eq!(rt; port.sent().len(), 2);
-}
-
-// Three frames that are eligible together, in the order in which they are sent.
-fn order<T: Tie>(rt: &(impl Abort + AllocGlobal), tie: T) -> [Option<u32>; 4] {
+// Four frames in the order in which they are sent, each with its end: a lower one is on the way when two of a class
+// become eligible at the moment of its end, and one of a higher class a picosecond after that.
+fn order<T: Tie>(rt: &(impl Abort + AllocGlobal), tie: T) -> [Option<(u32, u64)>; 5] {
     let mut port = open(rt, tie);
-    offer(&mut port, 1, 5, 6, Ps(20));
-    offer(&mut port, 2, 9, 6, Ps(20));
-    offer(&mut port, 4, 7, 6, Ps(20));
+    offer(&mut port, 0, 0, 1, Ps(5));
+    offer(&mut port, 1, 1, 6, Ps(672_005));
+    offer(&mut port, 2, 2, 6, Ps(672_005));
+    offer(&mut port, 3, 0, 7, Ps(672_006));
     [
+        send(&mut port),
         send(&mut port),
         send(&mut port),
         send(&mut port),
@@ -107,36 +86,27 @@ fn order<T: Tie>(rt: &(impl Abort + AllocGlobal), tie: T) -> [Option<u32>; 4] {
 }
 
 #[test]
-fn breaks_ties(rt: HostRuntime) {
+fn sends_the_highest_class_once_free(rt: HostRuntime) {
+    let [first, second] = [Some((0, 672_005)), Some((3, 2_016_005))];
     let early = order(&rt, Early);
-    assert_eq!(rt; early, [Some(1), Some(2), Some(4), None]);
+    assert!(rt;
+        early
+            == [
+                first,
+                Some((1, 1_344_005)),
+                second,
+                Some((2, 2_688_005)),
+                None
+            ]
+    );
     let late = order(&rt, Late);
-    assert_eq!(rt; late, [Some(2), Some(4), Some(1), None]);
-    let mixed = order(&rt, Mixed(2));
-    assert_eq!(rt; mixed, [Some(4), Some(1), Some(2), None]);
-}
-
-#[test]
-fn takes_a_frame_that_becomes_eligible_at_the_very_moment(rt: HostRuntime) {
-    let mut port = open(&rt, Early);
-    offer(&mut port, 0, 0, 1, Ps(5));
-    offer(&mut port, 1, 0, 1, Ps(6));
-    offer(&mut port, 2, 1, 6, Ps(672_005));
-    offer(&mut port, 3, 2, 7, Ps(672_006));
-    assert_eq!(rt; send(&mut port), Some(0));
-    assert_eq!(rt; send(&mut port), Some(2));
-    assert_eq!(rt; send(&mut port), Some(3));
-    assert_eq!(rt; send(&mut port), Some(1));
-    assert!(rt; port.due().is_none());
-}
-
-#[test]
-fn sends_eight_classes_from_the_highest(rt: HostRuntime) {
-    let mut port = open(&rt, Mixed(3));
-    for class in 0..8 {
-        offer(&mut port, u32::from(class), 0, class, Ps(5));
-    }
-    for frame in (0..8).rev() {
-        assert_eq!(rt; send(&mut port), Some(frame));
-    }
+    assert!(rt;
+        late == [
+            first,
+            Some((2, 1_344_005)),
+            second,
+            Some((1, 2_688_005)),
+            None
+        ]
+    );
 }

@@ -1,69 +1,51 @@
 //! Runs: whose a hop record is.
 
-ghost use Rattle.std.specs.Prelude.{◌≡◌};
+ghost use Rattle.std.specs.Prelude.{◌≡◌, length};
 
 use ats_group::Verdict;
 use ats_num::Ps;
 use ats_trace::{Ending, HopRecord, Journey, Release, Run};
+use std::alloc::AllocGlobal;
+use std::process::Abort;
 
-fn eligible(arrival: u64, start: u64, end: u64) -> HopRecord {
+// The record of a frame that was discarded for its size when it came.
+fn discarded(arrival: u64) -> HopRecord {
     HopRecord {
         arrival: Ps(arrival),
-        verdict: Verdict::Eligible(Ps(arrival)),
-        sent: Some((Ps(start), Ps(end))),
+        verdict: Verdict::Size,
+        sent: None,
     }
 }
 
-fn journey(at: u64, octets: u32, first: u32, ending: Ending) -> Journey
+// A journey of one hop, whose record stands at this place.
+fn journey(first: u32) -> Journey
     ensures place { result.first ≡ first }
-    ensures count { result.count ≡ 2 }
+    ensures count { result.count ≡ 1 }
 {
     Journey {
         release: Release {
-            at: Ps(at),
+            at: Ps(0),
             sender: 0,
-            octets,
+            octets: 1523,
         },
         first,
-        count: 2,
-        ending,
+        count: 1,
+        ending: Ending::Discard,
     }
 }
 
-// The records of the second frame stand first, and one of them is nobody's.
-#[test]
-fn tells_whose_a_record_is(rt: HostRuntime) {
-    let size = HopRecord {
-        arrival: Ps(13_844_000),
-        verdict: Verdict::Size,
-        sent: None,
-    };
-    let hops = [
-        eligible(1, 12_344_000, 24_680_000),
-        eligible(26_180_000, 26_180_000, 38_516_000),
-        size,
-        eligible(0, 0, 12_344_000),
-        size,
-    ];
-    let sunk = Ending::Sink(Ps(39_008_000));
-    let discarded = journey(0, 1523, 3, Ending::Discard);
-    let arrived = journey(1, 1522, 0, sunk);
-    let run = Run::new(
-        vec![in rt.alloc(); discarded, arrived].expect(&rt, "room"),
-        Vec::from_slice(rt.alloc(), &hops).expect(&rt, "room"),
-    );
-    assert_eq!(rt; run.len(), 2);
-    assert!(rt; !run.is_empty());
-    assert_eq!(rt; run.hops_of(0), &hops[3..]);
-    assert_eq!(rt; run.hops_of(1), &hops[..2]);
-    assert_eq!(rt; run.journeys()[0], discarded);
-    assert_eq!(rt; run.journeys()[1], arrived);
+// The run of two frames, where the record of the second stands first.
+fn run(rt: &(impl Abort + AllocGlobal)) -> Run
+    ensures { length result ≡ 2 }
+{
+    let journeys = vec![in rt.alloc(); journey(1), journey(0)].expect(rt, "room");
+    let hops = vec![in rt.alloc(); discarded(20), discarded(10)].expect(rt, "room");
+    Run::new(journeys, hops)
 }
 
 #[test]
-fn has_no_frame(rt: HostRuntime) {
-    let run = Run::new(Vec::new(rt.alloc()), Vec::new(rt.alloc()));
-    assert_eq!(rt; run.len(), 0);
-    assert!(rt; run.is_empty());
-    assert!(rt; run.journeys().is_empty());
+fn tells_whose_a_record_is(rt: HostRuntime) {
+    let run = run(&rt);
+    assert!(rt; run.hops_of(0) == [discarded(10)].as_slice());
+    assert!(rt; run.hops_of(1) == [discarded(20)].as_slice());
 }

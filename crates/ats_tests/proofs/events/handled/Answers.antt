@@ -10,11 +10,11 @@ drive-requires g c =
     let InTime : Moment × ℕ → Type 0 = λ entry. (entry.1 < c.args.event + 1) × (entry.0.at.0 + entry.1 < 2 ^ 64) in
     let entry : Moment × ℕ = (c.moment.result, c.args.event) in
     let i = c.insert.ensures.inserted in
-    let before = c.open.result.entries in
-    let agenda : c.open.result ≡ opened 1 c.args.order = c.open.ensures in
+    let before = c.open-agenda.result.entries in
+    let agenda : c.open-agenda.result ≡ opened 1 c.args.order = c.open-agenda.ensures in
     let AllInTime : List (Moment × ℕ) → Type 0 = λ entries. All InTime entries in
     let empty : before ≡ [] = ap (λ a. a.entries) agenda in
-    let capacity : c.open.result.capacity ≡ 1 = ap (λ a. a.capacity) agenda in
+    let capacity : c.open-agenda.result.capacity ≡ 1 = ap (λ a. a.capacity) agenda in
     let none : AllInTime before = subst AllInTime (sym empty) (λ k d h. absurd (omega arith)) in
     let one : InTime entry = (omega arith, omega arith) in (
       omega arith,

@@ -1,4 +1,4 @@
-use Rattle.std.proofs.Common.{◌≡◌, ℕ, ◌+◌, ◌<◌, List, ◌∷◌, length, All, arith}
+use Rattle.std.proofs.Common.{◌+◌, ◌<◌, All, arith}
 use Rattle.std.proofs.lemmas.List.Elements.{All-cons}
 use Rattle.std.proofs.lemmas.List.Sorted.{All-permutation, length_permutation}
 use Rattle.ats_transmit.specs.declared.offer.Offer.{Offer}
