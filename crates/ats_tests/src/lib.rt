@@ -1,6 +1,6 @@
-//! Tests of what no command shows: limits that a network file reaches before, rows that no certificate file has, and the
-//! queues, ports, events and runs, which no command reaches yet. There is nothing else here, so that the crates below are
-//! proved without tests.
+//! Tests of what no command shows: limits that a network file reaches before, rows that no
+//! certificate file has, and the queues, ports, events and runs, which no command reaches yet.
+//! There is nothing else here, so that the crates below are proved without tests.
 #![tactic(auto)]
 
 #[cfg(test)]
