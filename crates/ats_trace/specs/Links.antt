@@ -1,4 +1,5 @@
-use Rattle.std.specs.Prelude.{ℕ, ◌+◌, ◌<◌, ◌≤◌, List, All}
+use Rattle.std.specs.Prelude.{◌≡◌, ℕ, ◌+◌, ◌<◌, ◌≤◌, nat_lt, max, List, map, filter, fold, All}
+use Rattle.ats_topology.specs.Port.{spread_of}
 use Rattle.ats_topology.specs.declared.port.Port.{Port}
 use Rattle.ats_trace.specs.Projections.{Crossing}
 
@@ -13,11 +14,19 @@ pub record KeepsTimes (least most : ℕ) (crossings : List Crossing) : Type 0 wh
   pub order : All
       (λ (x : Crossing). All (λ (y : Crossing). x.sent.end < y.sent.end → x.arrival < y.arrival) crossings) crossings
 
--- the least picoseconds from the end of a transmission to the frame's arrival behind the port; the port's latency is
--- the most of them, and so far they are the same
-abbrev pub earliest_of : Port → ℕ
-earliest_of port = port.latency.0
-
--- what a port's link does, and the node behind it while it takes in what comes
+-- what a port's link does, and the node behind it while it takes in what comes: between the port's earliest latency and
+-- its latency after the end of its transmission a frame arrives
 abbrev pub KeepsLinkRule : Port → List Crossing → Type 0
-KeepsLinkRule port crossings = KeepsTimes (earliest_of port) port.latency.0 crossings
+KeepsLinkRule port crossings = KeepsTimes port.earliest.0 port.latency.0 crossings
+
+-- a picosecond after the last arrival of those frames that were sent to their end before this time; 0 where none was
+abbrev pub next_arrival : ℕ → List Crossing → ℕ
+next_arrival end crossings =
+    fold max 0 (map (λ (x : Crossing). x.arrival + 1) (filter (λ (x : Crossing). nat_lt x.sent.end end) crossings))
+
+-- each frame arrives behind the port as early as the link rule lets it with a wait that goes by its number and the
+-- port's spread: so long after the earliest latency, and after all frames that were sent before it
+abbrev pub KeepsPace : (ℕ → ℕ → ℕ) → Port → List Crossing → Type 0
+KeepsPace wait port crossings = All
+    (λ (x : Crossing). x.arrival
+    ≡ max (x.sent.end + port.earliest.0 + wait x.sent.frame (spread_of port)) (next_arrival x.sent.end crossings)) crossings
