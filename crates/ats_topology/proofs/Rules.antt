@@ -206,6 +206,7 @@ port_is nodes link x y m n at_x at_y differ rate within each = record {
   rate = rate_of link.mbps rate;
   ordered = omega (arith, (node_is nodes each (node_number nodes y)).ordered);
   latency = omega (arith, within, (node_is nodes each (node_number nodes y)).processing);
+  spread = omega (arith, (node_is nodes each (node_number nodes y)).processing);
 }
 
 ports_are : (nodes : List Node) → All IsNode nodes → (links : List Link) → All (IsOpen (names_of nodes)) links
