@@ -1,5 +1,5 @@
 use Rattle.std.specs.Prelude.{◌≡◌, ℕ, ◌≤◌, ◌<◌, ◌^◌, Bool, ◌||◌, ◌&&◌, ◌==◌, not, nat_lt, if◌then◌else◌, List, [], ◌∷◌, length}
-use Rattle.std.specs.Prelude.{repeat, All, Option, Some, None}
+use Rattle.std.specs.Prelude.{replicate, All, Option, Some, None}
 use Rattle.std.specs.List.{list_any}
 use Rattle.std.specs.Option.{ForSome, option_or}
 use Rattle.ats_streams.specs.Rules.{KeepsRules}
@@ -61,7 +61,7 @@ MayIdentify identity = ForSome identity (λ pair. IsIdentity pair.0 pair.1)
 
 -- the classes of a stream along a path of so many ports, of those that are given: one stands for each port
 abbrev pub classes_along : ℕ → List ℕ → List ℕ
-classes_along ports (class ∷ []) = repeat class ports
+classes_along ports (class ∷ []) = replicate ports class
 classes_along ports given = given
 
 -- what each stream keeps
