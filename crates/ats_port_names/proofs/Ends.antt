@@ -8,7 +8,7 @@ use Rattle.std.proofs.lemmas.List.{get_or_default, take_more}
 use Rattle.ats_topology.specs.Faults.{topology_fault, node_twice, link_twice, no_link, self_link, unknown_node}
 use Rattle.ats_topology.specs.Node.{names_of}
 use Rattle.ats_topology.specs.Port.{goes, no_port, port_at, port_between}
-use Rattle.ats_topology.specs.Topology.{IsTopology, KeepsPorts, link_at, port_of, ports_of, topology_of}
+use Rattle.ats_topology.specs.Topology.{IsTopology, HasLawfulPorts, link_at, port_of, ports_of, topology_of}
 use Rattle.ats_topology.specs.declared.node.Node.{Node}
 use Rattle.ats_topology.specs.declared.link.Link.{Link}
 use Rattle.ats_topology.specs.declared.port.Port.{Port}
@@ -16,7 +16,7 @@ use Rattle.ats_topology.specs.declared.fault.TopologyFault.{TopologyFault}
 use Rattle.ats_topology.proofs.Known.{IsOpen, all_open}
 use Rattle.ats_topology.proofs.Numbered.{first_absent, second_absent}
 use Rattle.ats_topology.proofs.PositionLemmas.{position_from-some}
-use Rattle.ats_topology.proofs.Rules.{topology_rules, ports_are_kept}
+use Rattle.ats_topology.proofs.Rules.{topology_rules, ports_are_lawful}
 use Rattle.std.specs.Prelude.{Option}
 
 some_fault : (fault : TopologyFault) → None ≡ Some fault → ⊥
@@ -82,8 +82,8 @@ before nodes links sound p within = by (halved p)
     rules : IsTopology (topology_of nodes links)
     rules = topology_rules nodes links sound
 
-    kept : KeepsPorts (topology_of nodes links)
-    kept = ports_are_kept (topology_of nodes links) rules
+    kept : HasLawfulPorts (topology_of nodes links)
+    kept = ports_are_lawful (topology_of nodes links) rules
 
     joined : AreJoined nodes links
     joined = are_joined nodes links sound

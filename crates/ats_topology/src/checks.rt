@@ -20,7 +20,7 @@ use std::alloc::Global;
 use std::collections::BTreeSet;
 
 /// The names of the nodes, or the first fault of nodes and links.
-#[tactic(auto, using(crate::proofs::Due::passed_on, crate::proofs::Due::link_twice_due, crate::proofs::Due::self_link_due, crate::proofs::Due::unknown_node_due, crate::proofs::Due::station_links_due, crate::proofs::Due::bad_rate_due, crate::proofs::Due::limit_due, crate::proofs::Due::bad_processing_due))]
+#[tactic(auto, using(crate::proofs::Due::passed_on, crate::proofs::Due::due_first, crate::proofs::Due::due_later))]
 pub(crate) fn check(
     alloc: Global,
     nodes: &[Node],
