@@ -61,8 +61,8 @@ stream_identity : (well : Result (Unit {0}) DocumentFault) (name : Result (List 
     (classes : Result (List ℕ) DocumentFault)
     (rate burst least most deadline : Result ℕ DocumentFault) (identity : Result (Option (ℕ × ℕ)) DocumentFault)
     (s : DeclaredStream)
-    → (well >>= λ _. name >>= λ name. route >>= λ route. classes >>= λ classes. rate >>= λ rate. burst >>= λ burst. least
-    >>= λ least. most >>= λ most. deadline >>= λ deadline. identity >>= λ identity.
+    → (well >>= λ _. name >>= λ name. route >>= λ route. classes >>= λ classes. rate >>= λ rate. burst >>= λ burst.
+    least >>= λ least. most >>= λ most. deadline >>= λ deadline. identity >>= λ identity.
     Ok (record {
       name = name;
       route = route;

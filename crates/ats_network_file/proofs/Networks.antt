@@ -54,8 +54,9 @@ name_free : (network : DeclaredNetwork) (name : List ℕ) → is_name_taken netw
     → place_of name (names_of (senders_of network)) ≡ None
 name_free network name h = not_found (place_of name (names_of (senders_of network))) name network refl h
 
-stream_push_kept : (network : DeclaredNetwork) (stream : DeclaredStream) (next : DeclaredNetwork) → IsNetwork network → IsStream stream
-    → IsValidPath network.topology stream.path → Sound (stream_push_fault network stream) (with_stream network stream) next
+stream_push_kept : (network : DeclaredNetwork) (stream : DeclaredStream) (next : DeclaredNetwork)
+    → IsNetwork network → IsStream stream → IsValidPath network.topology stream.path
+    → Sound (stream_push_fault network stream) (with_stream network stream) next
     → IsNetwork next
 stream_push_kept network stream next is keeps valid sound =
     let a = passed (is_name_taken network stream.name) _ _ sound.none in
@@ -86,8 +87,9 @@ stream_add_kept network n e next identified is h =
     stream_push_kept network stream next is (stream_keeps e.classes stream refl may sound.none)
     (path_kept network.topology Stream n e.route routed.first routed.is) (added stream sound.same)
 
-flow_push_kept : (network : DeclaredNetwork) (flow : DeclaredFlow) (next : DeclaredNetwork) → IsNetwork network → IsFlow flow
-    → IsValidPath network.topology flow.path → Sound (flow_push_fault network flow) (with_flow network flow) next
+flow_push_kept : (network : DeclaredNetwork) (flow : DeclaredFlow) (next : DeclaredNetwork)
+    → IsNetwork network → IsFlow flow → IsValidPath network.topology flow.path
+    → Sound (flow_push_fault network flow) (with_flow network flow) next
     → IsNetwork next
 flow_push_kept network flow next is keeps valid sound =
     let a = passed (is_name_taken network flow.name) _ _ sound.none in

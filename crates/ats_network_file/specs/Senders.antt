@@ -15,7 +15,8 @@ use Rattle.ats_network_file.specs.Routes.{ports_of, is_valid}
 use Rattle.ats_network_file.specs.declared.senders.SenderTable.{SenderTable}
 use Rattle.ats_network_file.specs.declared.senders.SenderTable.TheVariants.{Stream, Flow}
 use Rattle.ats_network_file.specs.declared.fault.NetFault.{NetFault}
-use Rattle.ats_network_file.specs.declared.fault.NetFault.TheVariants.{Form, BadPath, Sender, SenderTwice, IdentityTwice}
+use Rattle.ats_network_file.specs.declared.fault.NetFault.TheVariants.{Form, BadPath, Sender, SenderTwice}
+use Rattle.ats_network_file.specs.declared.fault.NetFault.TheVariants.{IdentityTwice}
 
 -- the table of a sender among all tables of a file
 abbrev pub table_of : SenderTable → Table
@@ -45,8 +46,8 @@ stream_made n e stream = unless (Sender Stream n) (stream_fault e.classes stream
 abbrev pub flow_made : ℕ → DeclaredFlow → Result DeclaredFlow NetFault
 flow_made n flow = unless (Sender Flow n) (flow_fault flow) flow
 
--- why a network does not take the sender of an entry: an earlier sender has its name, an earlier stream its identity, or
--- there are as many as a network may have
+-- why a network does not take the sender of an entry: an earlier sender has its name, an earlier stream its identity,
+-- or there are as many as a network may have
 abbrev pub refusal_of : SenderTable → ℕ → PushFault → NetFault
 refusal_of t n NameTaken = SenderTwice t n
 refusal_of t n IdentityTaken = IdentityTwice n
