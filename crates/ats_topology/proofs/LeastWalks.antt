@@ -154,6 +154,14 @@ pub is_at_eq : (far : ℕ) (o : Option ℕ) → is_at far o ≡ option_eq eqb o 
 is_at_eq far None = refl
 is_at_eq far (Some e) = refl
 
+-- so what it gives of the port at a place is what the definition gives
+pub is_far_as : (far p : ℕ) (distances : List (Option ℕ)) (ports given : List Port) (tested passes : Bool)
+    → given ≡ ports → tested ≡ option_eq eqb (distance distances (port_at given p).to) (Some far) → tested ≡ passes
+    → is_at far (distance distances (port_at ports p).to) ≡ passes
+is_far_as far p distances ports given tested passes same test h =
+    ap (λ (ps : List Port). is_at far (distance distances (port_at ps p).to)) (sym same)
+    ∙ is_at_eq far (distance distances (port_at given p).to) ∙ sym test ∙ h
+
 -- the port that is found leads one nearer
 pub nearer_end : (ports : List Port) (distances : List (Option ℕ)) (at far p : ℕ)
     → find (λ q. is_at far (distance distances (port_at ports q).to)) (leaving at ports) ≡ Some p
