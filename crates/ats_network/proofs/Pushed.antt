@@ -1,10 +1,10 @@
-use Rattle.std.proofs.Common.{◌≡◌, ℕ, ◌<◌, false, List, [], ◌∷◌, ◌++◌, map, length, Option, Some, None, sym, arith}
-use Rattle.std.proofs.Common.{append_assoc, length-append}
+use Rattle.std.proofs.Common.{◌≡◌, ℕ, ◌<◌, false, List, [], ◌∷◌, ◌++◌, map, length, Option, None, sym, arith}
+use Rattle.std.proofs.Common.{ap, ◌∙◌, append_assoc, length-append}
 use Rattle.std.specs.Prelude.{is_some}
 use Rattle.std.proofs.lemmas.List.{map-append, append-nil}
 use Rattle.std.proofs.lemmas.List.Elements.{All-append, All-push}
-use Rattle.std.proofs.lemmas.Bool.{true≢false}
 use Rattle.ats_facts.proofs.Lists.{all_left, all_right}
+use Rattle.ats_facts.proofs.Options.{is_some-false}
 use Rattle.ats_num.specs.Places.{place_of}
 use Rattle.ats_topology.specs.Node.{AreApart}
 use Rattle.ats_streams.specs.Stream.{DeclaredStream, IsStream}
@@ -97,8 +97,9 @@ pushed_flow network flow is keeps valid absent room = record {
         (rw (append-nil (names ++ flow.name ∷ [])) at last)
 
 -- a name that a look-up did not find
-pub not_found : (found : Option ℕ) (name : List ℕ) (network : DeclaredNetwork)
-    → found ≡ place_of name (names_of (senders_of network)) → is_some found ≡ false
+pub not_found : (found : Option ℕ) (asked name : List ℕ) (network told : DeclaredNetwork) → network ≡ told
+    → asked ≡ name → found ≡ place_of asked (names_of (senders_of told)) → is_some found ≡ false
     → place_of name (names_of (senders_of network)) ≡ None
-not_found None name network same h = sym same
-not_found (Some n) name network same h = absurd (true≢false h)
+not_found found asked name network told same is at none =
+    ap (λ (n : DeclaredNetwork). place_of name (names_of (senders_of n))) same
+    ∙ sym (at ∙ ap (λ (t : List ℕ). place_of t (names_of (senders_of told))) is) ∙ is_some-false found none
