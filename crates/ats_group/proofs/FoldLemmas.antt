@@ -1,8 +1,8 @@
 use Rattle.std.proofs.Common.{◌≡◌, ℕ, ◌<◌, Bool, true, false, List, [], ◌∷◌, length, All, sym, ap, ◌∙◌, refl, subst}
-use Rattle.std.proofs.Common.{eq-eqb, arith}
-use Rattle.std.specs.Prelude.{◌≢◌, ◌==◌, filter, slice_index, if◌then◌else◌}
+use Rattle.std.proofs.Common.{arith}
+use Rattle.std.specs.Prelude.{◌==◌, filter, slice_index, if◌then◌else◌}
 use Rattle.std.proofs.lemmas.Map.Views.{exact_unsigned_eq}
-use Rattle.std.proofs.lemmas.Bool.{false≢true}
+use Rattle.std.proofs.lemmas.Bool.{eqb-false}
 use Rattle.std.proofs.lemmas.List.Elements.{All-tail}
 use Rattle.ats_group.specs.declared.member.Declared.{Declared}
 use Rattle.ats_group.specs.declared.member.Member.{Member}
@@ -33,9 +33,6 @@ state_more true declared residence state later last offer offers e n s =
     e ∙ ap (λ (x : State). state_after declared residence x offers) (n refl)
 state_more false declared residence state later last offer offers e n s =
     e ∙ ap (λ (x : State). state_after declared residence x offers) (s refl)
-
-not_same : (m n : ℕ) → (m == n) ≡ false → m ≢ n
-not_same m n e = λ p. false≢true (sym e ∙ eq-eqb m n p)
 
 -- the same fold, told by the members and residences of another moment
 like : (s t : Standing) (group : ℕ) (offers : List Offer) → t.members ≡ s.members → t.residences_ns ≡ s.residences_ns
@@ -74,7 +71,7 @@ each_group standing (offer ∷ offers) group k a =
     let in_group : test ≡ true → IsStep standing offer group =
     λ e. step_in standing offer group step (exact_unsigned_eq (group_of standing offer.member) group e) in
     let elsewhere : test ≡ false → state_of later group ≡ state_of standing group =
-    λ e. step.others group (λ p. not_same (group_of standing offer.member) group e (sym p)) in
+    λ e. step.others group (λ p. eqb-false (group_of standing offer.member) group e (sym p)) in
     record {
       verdicts = verdicts_more test (declared_of standing) (residence_of standing group) (state_of standing group)
           (state_of later group) offer (verdict_at standing offer) (verdicts_in later group offers)

@@ -1,16 +1,13 @@
-use Rattle.std.proofs.Common.{◌≡◌, ℕ, ◌+◌, Bool, true, false, List, [], ◌∷◌, sum_by, refl, sym, ap, ◌∙◌, arith}
-use Rattle.std.proofs.lemmas.List.Sums.{sum_by-cons}
+use Rattle.std.proofs.Common.{◌≡◌, ℕ, Bool, true, false, List, [], ◌∷◌, refl, arith}
 use Rattle.std.specs.Prelude.{if◌then◌else◌}
 use Rattle.std.specs.List.{AllZip}
 use Rattle.ats_group.specs.declared.member.Declared.{Declared}
 use Rattle.ats_group.specs.declared.verdict.Verdict.{Verdict}
 use Rattle.ats_group.specs.declared.verdict.Verdict.TheVariants.{Eligible, Late, Size}
 use Rattle.ats_group.specs.Group.{Offer, State, first, next, verdicts_of, is_declared_size}
-use Rattle.ats_bucket.specs.Conforming.{Frame}
 use Rattle.ats_group_law.specs.Regulator.{OnEligible, IsEligibleSized, IsRule, bucket_rule, IsDelayedBy, AtsIsRegulator}
 use Rattle.ats_group_law.specs.Shaping.{Passage, IsDelayed}
-use Rattle.ats_group_law.specs.Windows.{bits_within}
-use Rattle.ats_group_law.proofs.WindowBits.{bits_in, bits_within-cons}
+use Rattle.ats_group_law.proofs.WindowBits.{bits_in, bits_within-sum}
 use Rattle.ats_group_law.proofs.WindowParts.{KeepsWindows-fewer}
 use Rattle.ats_group_law.proofs.WindowPlaces.{windows_from_places, places_from_windows}
 use Rattle.ats_group_law.proofs.OutputLaws.{output_conforms}
@@ -35,13 +32,6 @@ sized_from declared residence_ns state (offer ∷ offers) = (
   sized_from declared residence_ns (next declared residence_ns state offer) offers,
 )
 
--- the bits of a window, as a sum over all frames
-window_bits : (frames : List Frame) (from to : ℕ) → bits_within frames from to ≡ sum_by (bits_in from to) frames
-window_bits [] from to = refl
-window_bits (f ∷ fs) from to =
-    bits_within-cons f fs from to ∙ ap (λ (n : ℕ). bits_in from to f + n) (window_bits fs from to)
-    ∙ sym (sum_by-cons (bits_in from to) f fs)
-
 bucket_is_rule : IsRule bucket_rule
 bucket_is_rule = record {
   fewer = λ d frames others conforms ascends no_more.
@@ -49,7 +39,7 @@ bucket_is_rule = record {
         in_order = ascends;
         windows = KeepsWindows-fewer d.rate d.burst_bits others frames
             (λ from to.
-            omega (arith, window_bits frames from to, window_bits others from to, no_more (bits_in from to)))
+            omega (arith, bits_within-sum frames from to, bits_within-sum others from to, no_more (bits_in from to)))
             (windows_from_places d.rate d.burst_bits others conforms).windows;
       });
   conforms = λ d frames ruled sized conforms. conforms;

@@ -3,6 +3,7 @@ use Rattle.std.proofs.Common.{length-append}
 use Rattle.std.specs.List.{All, AllPairs}
 use Rattle.std.proofs.lemmas.List.{get_or-append_right, get_or-map, length-map}
 use Rattle.std.proofs.lemmas.List.Elements.{All-nil, All-cons, All-head, All-tail, All-append}
+use Rattle.ats_facts.proofs.Lists.{all_left, all_right, pairs_tail}
 use Rattle.ats_streams.specs.Rules.{AreSizes, KeepsRules}
 use Rattle.ats_streams.specs.Path.{IsPath}
 use Rattle.ats_streams.specs.Stream.{DeclaredStream, IsStream}
@@ -15,7 +16,6 @@ use Rattle.ats_network.specs.Path.{IsValidPath}
 use Rattle.ats_network.specs.Network.{DeclaredNetwork, senders_of}
 use Rattle.ats_network.specs.Senders.{IsSender, sender_at, no_sender}
 use Rattle.ats_network.specs.Laws.{EachIsSender}
-use Rattle.ats_network.proofs.Appended.{all_left, all_right, pairs_tail}
 use Rattle.ats_network.proofs.PathLemmas.{nodes_to, walk_ports}
 use Rattle.ats_network.proofs.BridgeLemmas.{meet_at_bridges}
 

@@ -2,11 +2,11 @@
 use Rattle.std.proofs.Common.{◌<◌, List, length, get_or, map, subst, arith}
 use Rattle.std.specs.List.{All}
 use Rattle.std.proofs.lemmas.List.{get_or-map, length-map}
+use Rattle.ats_facts.proofs.Lists.{all_left}
 use Rattle.ats_streams.specs.Stream.{DeclaredStream}
 use Rattle.ats_network.specs.Network.{DeclaredNetwork, IsNetwork}
 use Rattle.ats_network.specs.Sender.{Sender, stream_sender, flow_sender}
 use Rattle.ats_network.specs.Senders.{IsSender, no_sender}
-use Rattle.ats_network.proofs.Appended.{all_left}
 use Rattle.ats_network.proofs.SenderLemmas.{each_is_sender}
 
 -- the ports of each stream's path are there

@@ -1,8 +1,7 @@
 use Rattle.std.proofs.Common.{◌≡◌, ℕ, ◌+◌, ◌-◌, ◌*◌, ◌<◌, ◌≤◌, inl, inr, arith}
 use Rattle.std.proofs.Math.Nat.{mul-le-mul_right, div-mul-le_self}
 use Rattle.std.proofs.lemmas.Bool.{cases_lt}
-use Rattle.ats_num.specs.Division.{IsCeiling}
-use Rattle.ats_tally.specs.Waits.{ceiling}
+use Rattle.ats_num.specs.Division.{IsCeiling, ceiling}
 
 -- a greater number, taken d times, is at least d more
 steps : (k q d : ℕ) → k < q → k * d + d ≤ q * d
