@@ -33,7 +33,8 @@ pub record IsLegalBy (judge : Judge) (network : DeclaredNetwork) (run : List Tra
 abbrev pub IsLegal : DeclaredNetwork → List Travel → Type 0
 IsLegal network run = IsLegalBy ats_judge network run
 
--- a run in which each port breaks each tie by this key, and each frame takes its way over a link by this pace
+-- a run in which each port breaks each tie by this key, of a sender and a frame, and behind each port frames arrive by
+-- this pace: by this wait, of a frame and a spread
 pub record IsRunBy (key wait : ℕ → ℕ → ℕ) (network : DeclaredNetwork) (run : List Travel) : Type 0 where
   pub legal : IsLegal network run
   pub pace : (port : ℕ) → port < length network.topology.ports
