@@ -81,7 +81,7 @@ each_is_sender network is =
     (streams_are network.topology network.streams is.topology is.streams (all_left Goes streams flows is.paths))
     (flows_are network.topology network.flows is.topology is.flows (all_right Goes streams flows is.paths))
 
-no_flow : DeclaredFlow
+pub no_flow : DeclaredFlow
 no_flow = record { name = []; path = []; max_octets = 0 }
 
 -- a sender past the streams is of class 0
