@@ -3,6 +3,7 @@ use Rattle.std.proofs.Common.{◌≡◌, ℕ, ◌*◌, ◌≤◌, true, List, Op
 use Rattle.std.proofs.Common.{get_or, arith}
 use Rattle.std.specs.Prelude.{nat_lt}
 use Rattle.std.specs.List.{All}
+use Rattle.std.proofs.lemmas.Option.{same_Some}
 use Rattle.ats_num.specs.declared.time.TheConstants.{PS_PER_SECOND, PS_PER_NS}
 use Rattle.ats_network.specs.Network.{DeclaredNetwork, IsNetwork}
 use Rattle.ats_network.specs.Residence.{residence_after}
@@ -14,7 +15,6 @@ use Rattle.ats_certificate.specs.declared.row.Row.{Row}
 use Rattle.ats_tally.specs.Reason.{first_some, overstay_by, overstay, late}
 use Rattle.ats_tally.specs.declared.reason.Reason.{Reason}
 use Rattle.ats_tally.specs.declared.reason.Reason.TheVariants.{Overloaded, Residence, Deadline}
-use Rattle.ats_tally.proofs.Firsts.{some_is}
 use Rattle.ats_tally.proofs.Lists.{All-found, IsFound, found_is, option_cases}
 use Rattle.ats_tally.proofs.Places.{Precedes, places_used}
 use Rattle.ats_bound.specs.First.{IsFirstOverload, IsFirstOverstay, IsFirstLate, IsFirstReason, RowMayStay}
@@ -139,4 +139,4 @@ each_reason_is_the_first network reason is =
 
 pub first_reason_is_one : FirstReasonIsOne
 first_reason_is_one network a b is first second =
-    some_is a b (sym (first_is_found network is a first) ∙ first_is_found network is b second)
+    same_Some a b (sym (first_is_found network is a first) ∙ first_is_found network is b second)

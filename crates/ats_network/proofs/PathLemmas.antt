@@ -9,7 +9,7 @@ use Rattle.std.proofs.lemmas.Option.{same_Some, none-some}
 use Rattle.ats_facts.proofs.Lists.{pairs_head, pairs_tail}
 use Rattle.ats_topology.specs.Port.{port_at}
 use Rattle.ats_topology.specs.Topology.{DeclaredTopology}
-use Rattle.ats_topology.specs.Walks.{IsWalk, ArePorts}
+use Rattle.ats_topology.specs.Walks.{IsPortFrom, IsWalk, ArePorts}
 use Rattle.ats_topology.specs.declared.port.Port.{Port}
 use Rattle.ats_network.specs.Path.{IsValidPath, IsStationAt}
 use Rattle.ats_network.specs.PathSteps.{walk_end, ends_of, comes_to, part_ways}
@@ -28,7 +28,9 @@ walk_from_end ports a (p ∷ path) b h =
     by true e h more =
         let parts : (ltb p (length ports) ≡ true) × (eqb (port_at ports p).from a ≡ true) =
         and_parts (ltb p (length ports)) (eqb (port_at ports p).from a) e in
-        (record { within = ltb-true p (length ports) parts.0; from = eqb-true (port_at ports p).from a parts.1 }, more h)
+        let goes : IsPortFrom ports a p =
+        record { within = ltb-true p (length ports) parts.0; from = eqb-true (port_at ports p).from a parts.1 } in
+        (goes, more h)
     by false e h more = absurd (none-some b h)
 
 pub walk_end-walk : (ports : List Port) (a : ℕ) (path : List ℕ) (b : ℕ) → IsWalk ports a b path
@@ -87,7 +89,8 @@ ends_of-valid topology (p ∷ path) valid =
 
 pub no_ends : (topology : DeclaredTopology) (path : List ℕ) → ends_of topology.ports path ≡ None
     → IsValidPath topology path → ⊥
-no_ends topology path none valid = none-some (valid.talker, valid.listener) (sym none ∙ ends_of-valid topology path valid)
+no_ends topology path none valid =
+    none-some (valid.talker, valid.listener) (sym none ∙ ends_of-valid topology path valid)
 
 -- and they are its talker and its listener
 pub talker_is : (topology : DeclaredTopology) (path : List ℕ) (a b : ℕ) → ends_of topology.ports path ≡ Some (a, b)

@@ -22,7 +22,7 @@ use Rattle.ats_network_toml.specs.declared.fault.DocumentFault.TheVariants as fa
 use Rattle.ats_network_toml.specs.declared.key.Key.TheVariants as key
 use Rattle.ats_network_toml.specs.declared.table.Table.{Table}
 use Rattle.ats_network_toml.specs.declared.table.Table.TheVariants as table
-use Rattle.ats_network_file.proofs.Steps.{Both, both, or_fault_ok}
+use Rattle.ats_network_file.proofs.Steps.{both, or_fault_ok}
 use Rattle.ats_network_file.proofs.Identities.{address_kept, whole_kept}
 
 -- What a document that is read keeps: its streams' identities, and the limits on its streams and flows.

@@ -1,7 +1,9 @@
-use Rattle.std.proofs.Common.{◌≡◌, ℕ, ◌+◌, ◌≤◌, ◌<◌, Bool, true, false, not, List, [], ◌∷◌, length, Option, Some, None}
+use Rattle.std.proofs.Common.{◌≡◌, ℕ, ◌+◌, ◌≤◌, ◌<◌, not, List, [], ◌∷◌, length, None}
 use Rattle.std.proofs.Common.{Result, Ok, Err, refl, sym, ap, subst, ◌∙◌, arith, length-append}
 use Rattle.std.specs.List.{All}
 use Rattle.std.proofs.lemmas.List.Elements.{All-nil, All-head, All-tail}
+use Rattle.std.proofs.lemmas.Bool.{not-true}
+use Rattle.ats_facts.proofs.Options.{is_some-false}
 use Rattle.ats_num.specs.Places.{place_of}
 use Rattle.ats_topology.specs.Faults.{topology_fault}
 use Rattle.ats_topology.specs.Topology.{DeclaredTopology, IsTopology, topology_of}
@@ -13,7 +15,7 @@ use Rattle.ats_network.specs.Path.{IsValidPath}
 use Rattle.ats_network.specs.Network.{DeclaredNetwork, IsNetwork, declared_network, senders_of, names_of}
 use Rattle.ats_network.specs.Pushes.{with_stream, with_flow, is_name_taken, is_identity_taken}
 use Rattle.ats_network.specs.declared.network.TheConstants.{MAX_STREAMS, MAX_FLOWS}
-use Rattle.ats_network.proofs.Pushed.{pushed_stream, pushed_flow, not_found}
+use Rattle.ats_network.proofs.Pushed.{pushed_stream, pushed_flow}
 use Rattle.ats_network_toml.specs.Document as file
 use Rattle.ats_network_toml.specs.Reading.{document_of}
 use Rattle.ats_network_toml.specs.declared.fault.DocumentFault.{DocumentFault}
@@ -25,16 +27,12 @@ use Rattle.ats_network_file.specs.Reading.{all_added, network_in, network_of}
 use Rattle.ats_network_file.specs.Routes.{ports_of, is_valid}
 use Rattle.ats_num.specs.Failure.{◌>>=◌, or_fault, ok_where}
 use Rattle.ats_network_file.specs.declared.fault.NetFault.TheVariants as net
-use Rattle.ats_network_file.proofs.Steps.{Both, both, or_fault_ok, Given, ok_where_ok, Sound, unless_ok}
+use Rattle.ats_network_file.proofs.Steps.{both, Given, ok_where_ok, Sound, unless_ok}
 use Rattle.ats_network_file.proofs.Documents.{Identified, Kept, document_kept}
 use Rattle.ats_network_file.proofs.Senders.{stream_keeps, flow_keeps}
 use Rattle.ats_network_file.proofs.ValidPaths.{valid_passed}
 
 -- What a text declares is a network.
-
-not_true : (b : Bool) → not b ≡ true → b ≡ false
-not_true true h = sym h
-not_true false h = refl
 
 -- the path of an entry is valid
 path_kept : (t : DeclaredTopology) (table : Table) (n : ℕ) (route : file.DeclaredRoute) (path : List ℕ)
@@ -74,11 +72,11 @@ stream_push_kept network n stream next is keeps valid room h =
     let last : with_stream network identified.first ≡ next = cc (identified.then) in
     let made : with_stream network stream ≡ next = ap (with_stream network) second.same ∙ last in
     let absent : place_of stream.name (names_of (senders_of network)) ≡ None =
-    not_found (place_of stream.name (names_of (senders_of network))) stream.name network refl
-    (not_true (is_name_taken network stream.name) first.passed) in
+    is_some-false (place_of stream.name (names_of (senders_of network)))
+    (not-true (is_name_taken network stream.name) first.passed) in
     let with : WithStream network (with_stream network stream) = record {
       is = pushed_stream network stream is keeps valid absent
-          (not_true (is_identity_taken network.streams stream.identity) second.passed) room;
+          (not-true (is_identity_taken network.streams stream.identity) second.passed) room;
       flows = refl;
       count = length-append network.streams (stream ∷ []);
     } in
@@ -137,8 +135,8 @@ flow_push_kept network n flow next is keeps valid room h =
     let last : with_flow network named.first ≡ next = cc (named.then) in
     let made : with_flow network flow ≡ next = ap (with_flow network) first.same ∙ last in
     let absent : place_of flow.name (names_of (senders_of network)) ≡ None =
-    not_found (place_of flow.name (names_of (senders_of network))) flow.name network refl
-    (not_true (is_name_taken network flow.name) first.passed) in
+    is_some-false (place_of flow.name (names_of (senders_of network)))
+    (not-true (is_name_taken network flow.name) first.passed) in
     let with : WithFlow network (with_flow network flow) = record {
       is = pushed_flow network flow is keeps valid absent room;
       count = length-append network.flows (flow ∷ []);

@@ -1,7 +1,7 @@
 use Rattle.std.proofs.Common.{◌≡◌, ℕ, ◌≤◌, Bool, true, false, ◌||◌, cond, length, Option, Some, None, refl}
 use Rattle.std.specs.Prelude.{nat_lt}
-use Rattle.std.specs.Option.{option_or}
 use Rattle.std.proofs.lemmas.Bool.{or_parts, ltb-false}
+use Rattle.ats_facts.proofs.Options.{option_or-none}
 use Rattle.ats_num.specs.Wire.{bits_of}
 use Rattle.ats_num.specs.declared.rate.TheConstants.{MAX_BPS, MAX_BURST_BITS}
 use Rattle.ats_num.specs.declared.wire.TheConstants.{MIN_OCTETS, MAX_OCTETS}
@@ -23,14 +23,6 @@ record Passed (a : Bool) (rest : Option StreamFault) : Type 0 where
 passed : (a : Bool) (fault : StreamFault) (rest : Option StreamFault) → cond a (Some fault) rest ≡ None → Passed a rest
 passed true fault rest h = cc
 passed false fault rest h = record { test = refl; none = h }
-
-record NoneOf (a b : Option StreamFault) : Type 0 where
-  first : a ≡ None
-  then : b ≡ None
-
-none_of : (a b : Option StreamFault) → option_or a b ≡ None → NoneOf a b
-none_of None b h = record { first = refl; then = h }
-none_of (Some f) b h = cc
 
 record Between (least most x : ℕ) : Type 0 where
   above : least ≤ x
@@ -68,15 +60,16 @@ pub stream_keeps : (s : DeclaredStream) → MayIdentify s.identity → stream_fa
 stream_keeps s identity h =
     let a = passed (nat_lt s.class 1 || nat_lt MAX_CLASS s.class) _ _ h in
     let b =
-    none_of (rules_fault s.rate s.burst_bits s.min_octets s.max_octets) (limit_fault s.path s.deadline_ns) a.none in
-    let c = passed (nat_lt (length s.path) 1 || nat_lt MAX_PORTS (length s.path)) _ _ b.then in
+    option_or-none (rules_fault s.rate s.burst_bits s.min_octets s.max_octets) (limit_fault s.path s.deadline_ns)
+    a.none in
+    let c = passed (nat_lt (length s.path) 1 || nat_lt MAX_PORTS (length s.path)) _ _ b.1 in
     let d = passed (nat_lt s.deadline_ns 1 || nat_lt MAX_DEADLINE_NS s.deadline_ns) _ _ c.none in
     let class : Between 1 MAX_CLASS s.class = between 1 MAX_CLASS s.class a.test in
     let ports : Between 1 MAX_PORTS (length s.path) = between 1 MAX_PORTS (length s.path) c.test in
     let deadline : Between 1 MAX_DEADLINE_NS s.deadline_ns = between 1 MAX_DEADLINE_NS s.deadline_ns d.test in
     record {
       class = record { least = class.above; most = class.below };
-      rules = rules_kept s.rate s.burst_bits s.min_octets s.max_octets b.first;
+      rules = rules_kept s.rate s.burst_bits s.min_octets s.max_octets b.0;
       path = record { least = ports.above; most = ports.below };
       deadline = record { positive = deadline.above; most = deadline.below };
       identity = identity;

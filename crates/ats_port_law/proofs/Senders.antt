@@ -4,10 +4,10 @@ use Rattle.std.specs.Prelude.{◌==◌, nat_lt}
 use Rattle.std.proofs.lemmas.Bool.{cases_Bool, cases_lt, cases_order, cond-true, cond-false, eqb-true, eq-eqb, ne_eqb}
 use Rattle.std.proofs.lemmas.Bool.{lt-ltb, le-ltb, true≢false}
 use Rattle.std.proofs.lemmas.List.{get_or-map, length-map, get_or_append_left, get_or-append_right}
+use Rattle.ats_network.proofs.SenderLemmas.{no_flow}
 use Rattle.ats_num.specs.declared.time.TheConstants.{PS_PER_SECOND}
 use Rattle.ats_port_rule.specs.Transmission.{Transmission}
 use Rattle.ats_streams.specs.Stream.{DeclaredStream}
-use Rattle.ats_streams.specs.Flow.{DeclaredFlow}
 use Rattle.ats_network.specs.Sender.{Sender, stream_sender, flow_sender}
 use Rattle.ats_network.specs.Network.{DeclaredNetwork, IsNetwork, senders_of}
 use Rattle.ats_network.specs.Senders.{sender_at, no_sender}
@@ -29,9 +29,6 @@ no_stream = record {
   deadline_ns = 0;
   identity = None;
 }
-
-no_flow : DeclaredFlow
-no_flow = record { name = []; path = []; max_octets = 0 }
 
 -- the first senders are the streams
 pub stream_at : (network : DeclaredNetwork) (i : ℕ) → i < length network.streams

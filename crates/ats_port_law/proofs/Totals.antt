@@ -1,33 +1,15 @@
 use Rattle.std.proofs.Common.{◌≡◌, ℕ, ◌+◌, ◌*◌, ◌<◌, ◌≤◌, Bool, true, false, cond, List, [], ◌∷◌, length, get_or, map}
-use Rattle.std.proofs.Common.{filter, sum_by, All, subst, sym, ap, ◌∙◌, inl, inr, arith}
+use Rattle.std.proofs.Common.{filter, sum_by, All, ap, ◌∙◌, arith}
 use Rattle.std.specs.Prelude.{fold, min, max, ◌||◌}
-use Rattle.std.proofs.lemmas.Bool.{cases_Bool, true≢false}
-use Rattle.std.proofs.lemmas.List.Elements.{All-nil, All-cons, All-head, All-tail}
+use Rattle.std.proofs.lemmas.List.Elements.{All-nil, All-cons}
 use Rattle.std.proofs.lemmas.List.Sums.{get_or-le-sum_by}
+use Rattle.ats_facts.proofs.Lists.{All-from_filter}
 use Rattle.ats_network.specs.Sender.{Sender}
 use Rattle.ats_certificate.specs.PortSums.{uses, is_above, is_of, sum_where, greatest_where, least_of, least_where}
 use Rattle.ats_certificate.specs.PortSums.{senders_at}
 use Rattle.ats_port_law.proofs.Sums.{sum_by-filter, sum_by-three}
 
--- what holds of each kept element holds of each that passes
-pub All-from_filter : {X : Type 0} (test : X → Bool) (P : X → Type 0) (xs : List X) → All P (filter test xs)
-    → All (λ (x : X). test x ≡ true → P x) xs
-All-from_filter {X} test P [] all = All-nil (λ (x : X). test x ≡ true → P x)
-All-from_filter {X} test P (x ∷ xs) all =
-    let Passes : X → Type 0 = λ (x : X). test x ≡ true → P x in
-    elim (cases_Bool (test x)) as (λ _. All Passes (x ∷ xs)) [
-      | inl e ↦ (
-          let kept : All P (x ∷ filter test xs) =
-          subst (All P) (ap (λ (b : Bool). cond b (x ∷ filter test xs) (filter test xs)) e) all in
-          All-cons Passes x xs (λ _. All-head P x (filter test xs) kept)
-          (All-from_filter test P xs (All-tail P x (filter test xs) kept)))
-      | inr e ↦ (
-          let kept : All P (filter test xs) =
-          subst (All P) (ap (λ (b : Bool). cond b (x ∷ filter test xs) (filter test xs)) e) all in
-          All-cons Passes x xs (λ t. absurd (true≢false (sym t ∙ e))) (All-from_filter test P xs kept))
-    ]
-
--- so of the senders that use a port and pass a test
+-- what holds of each sender that a port and a test keep holds of each that uses the port and passes
 pub at_sender_where : (port : ℕ) (test : Sender → Bool) (P : Sender → Type 0) (senders : List Sender)
     → All P (filter test (senders_at port senders))
     → (i : ℕ) (d : Sender) → i < length senders → uses port (get_or senders i d) ≡ true

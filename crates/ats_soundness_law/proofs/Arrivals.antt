@@ -5,6 +5,7 @@ use Rattle.std.proofs.Math.Nat.{mul-le-mul_right}
 use Rattle.std.proofs.lemmas.Bool.{and_parts, eqb-true, cases_order}
 use Rattle.std.proofs.lemmas.List.{get_or-map, length-map, get_or_default}
 use Rattle.std.proofs.lemmas.List.Elements.{All-filter, filter_passes, All-contains, All-contains_itself}
+use Rattle.ats_facts.proofs.Lists.{All-from_filter}
 use Rattle.ats_topology.specs.Port.{port_at}
 use Rattle.ats_network.specs.Network.{DeclaredNetwork}
 use Rattle.ats_network.specs.Senders.{sender_at}
@@ -12,7 +13,6 @@ use Rattle.ats_port_rule.specs.Transmission.{Transmission}
 use Rattle.ats_port_rule.specs.PortRule.{KeepsPortRule, AreApart}
 use Rattle.ats_port_law.specs.PortLaw.{IsOffered}
 use Rattle.ats_port_law.proofs.Pairs.{TakesTime, eligible_no_later}
-use Rattle.ats_port_law.proofs.Totals.{All-from_filter}
 use Rattle.ats_bucket.specs.Conforming.{Frame}
 use Rattle.ats_group.specs.declared.member.Declared.{Declared}
 use Rattle.ats_trace.specs.Journey.{Travel}

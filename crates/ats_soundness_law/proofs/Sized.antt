@@ -3,11 +3,11 @@ use Rattle.std.specs.Prelude.{◌==◌, ◌&&◌}
 use Rattle.std.proofs.lemmas.Bool.{cases_lt, and_from, eq-eqb}
 use Rattle.std.proofs.lemmas.List.Elements.{All-weaker}
 use Rattle.std.proofs.lemmas.List.Sorted.{All-permutation, IsPermutation-sym}
+use Rattle.ats_facts.proofs.Lists.{All-from_filter}
 use Rattle.ats_network.specs.Network.{DeclaredNetwork}
 use Rattle.ats_group.specs.Group.{Offer, is_declared_size}
 use Rattle.ats_group.specs.declared.verdict.Verdict.{Verdict}
 use Rattle.ats_group.specs.declared.verdict.Verdict.TheVariants.{Eligible}
-use Rattle.ats_port_law.proofs.Totals.{All-from_filter}
 use Rattle.ats_bucket.specs.Conforming.{Frame}
 use Rattle.ats_group.specs.declared.member.Declared.{Declared}
 use Rattle.ats_trace.specs.Journey.{Travel}

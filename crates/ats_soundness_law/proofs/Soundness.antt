@@ -3,17 +3,16 @@ use Rattle.std.proofs.Common.{arith}
 use Rattle.std.specs.Prelude.{Contains, ◌==◌, ◌&&◌, Option}
 use Rattle.std.proofs.lemmas.Bool.{and_from, eq-eqb}
 use Rattle.std.proofs.lemmas.List.Elements.{All-nil, All-cons, All-tail, All-contains, All-contains_itself}
+use Rattle.ats_facts.proofs.Lists.{all_right, All-from_filter}
 use Rattle.ats_network.specs.Sender.{Sender}
 use Rattle.ats_network.specs.Path.{IsValidPath}
 use Rattle.ats_network.specs.Bridges.{MeetAtBridge}
 use Rattle.ats_network.specs.Network.{DeclaredNetwork, IsNetwork}
 use Rattle.ats_network.specs.Senders.{sender_at, IsSender, AllNeighbours}
-use Rattle.ats_network.proofs.Appended.{all_right}
 use Rattle.ats_certificate.specs.PortSums.{uses}
 use Rattle.ats_certificate.specs.declared.row.Row.{Row}
 use Rattle.ats_group.specs.declared.verdict.Verdict.{Verdict}
 use Rattle.ats_port_rule.specs.Transmission.{Transmission}
-use Rattle.ats_port_law.proofs.Totals.{All-from_filter}
 use Rattle.ats_bucket.specs.Conforming.{Frame}
 use Rattle.ats_group.specs.declared.member.Declared.{Declared}
 use Rattle.ats_trace.specs.Journey.{Travel, IsJourney, IsOfStream, IsReleased, IsWay, class_at}

@@ -2,7 +2,6 @@ pub mod ArrivalTest
 pub mod BridgeProofs
 pub mod ChangeProofs
 pub mod ExactLinks
-pub mod Filtered
 pub mod LegalProofs
 pub mod LegalTest
 pub mod LinkExamples

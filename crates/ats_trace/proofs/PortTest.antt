@@ -1,8 +1,8 @@
-use Rattle.std.proofs.Common.{◌≡◌, ◌≢◌, ℕ, ◌+◌, ◌*◌, ◌<◌, ◌≤◌, Bool, true, false, ◌&&◌, ◌||◌, List, All, refl, arith}
+use Rattle.std.proofs.Common.{◌≡◌, ◌≢◌, ℕ, ◌+◌, ◌*◌, ◌<◌, ◌≤◌, Bool, true, ◌&&◌, ◌||◌, List, All, arith}
 use Rattle.std.proofs.Common.{inl, inr}
 use Rattle.std.specs.Prelude.{AllPairs, not, nat_le, nat_lt, ◌==◌}
 use Rattle.std.specs.List.{list_all}
-use Rattle.std.proofs.lemmas.Bool.{and_parts}
+use Rattle.std.proofs.lemmas.Bool.{and_parts, le-leb, and_from}
 use Rattle.std.proofs.lemmas.Bool.Decides.{nat_tests}
 use Rattle.ats_port_rule.specs.Transmission.{Transmission}
 use Rattle.ats_port_rule.specs.PortRule.{AreApart, IsAhead, StartsAfterGap, KeepsPortRule, TieAgrees, KeepsTie}
@@ -60,9 +60,6 @@ of_each_by R test shows sent passed =
     all_by (λ (x : Transmission). All (λ (y : Transmission). R x y) sent) (λ (x : Transmission). list_all (test x) sent)
     (λ x h. all_by (R x) (test x) (shows x) sent h) sent passed
 
-of_le : (a b : ℕ) → a ≤ b → nat_le a b ≡ true
-of_le a b h = grind (arith, nat_tests)
-
 pub of_lt : (a b : ℕ) → a < b → nat_lt a b ≡ true
 of_lt a b h = grind (arith, nat_tests)
 
@@ -71,11 +68,6 @@ of_eq a b h = grind (arith, nat_tests)
 
 of_ne : (a b : ℕ) → a ≢ b → not (a == b) ≡ true
 of_ne a b h = grind (arith, nat_tests)
-
-both : (a b : Bool) → a ≡ true → b ≡ true → (a && b) ≡ true
-both true true p q = refl
-both true false p q = q
-both false b p q = p
 
 apart_by : (x y : Transmission) → apart x y ≡ true → AreApart x y
 apart_by x y h = elim (either (nat_le x.end y.start) (nat_le y.end x.start) h) [
@@ -96,8 +88,8 @@ ahead_by x y h =
 chosen_by : (x y : Transmission) → chosen x y ≡ true → x.start < y.start → y.eligible ≤ x.start → IsAhead x y
 chosen_by x y h before eligible =
     ahead_by x y (implied (nat_lt x.start y.start && nat_le y.eligible x.start) (ahead x y) h
-    (both (nat_lt x.start y.start) (nat_le y.eligible x.start) (of_lt x.start y.start before)
-    (of_le y.eligible x.start eligible)))
+    (and_from (nat_lt x.start y.start) (nat_le y.eligible x.start) (of_lt x.start y.start before)
+    (le-leb y.eligible x.start eligible)))
 
 prompt_by : (sent : List Transmission) (x y : Transmission) → prompt sent x y ≡ true → StartsAfterGap sent x
     → x.start ≤ y.start → x.start ≤ y.eligible
@@ -105,7 +97,7 @@ prompt_by sent x y h gap before =
     let passes : after_gap sent x ≡ true = test_of_all (λ (z : Transmission). z.end ≢ x.start)
     (λ (z : Transmission). not (z.end == x.start)) (λ z. of_ne z.end x.start) sent gap in
     le_of x.start y.eligible (implied (after_gap sent x && nat_le x.start y.start) (nat_le x.start y.eligible) h
-    (both (after_gap sent x) (nat_le x.start y.start) passes (of_le x.start y.start before)))
+    (and_from (after_gap sent x) (nat_le x.start y.start) passes (le-leb x.start y.start before)))
 
 pub waits_by : (ps : ℕ) (sent : List Transmission) → waits_pass ps sent ≡ true
     → All (λ (x : Transmission). x.eligible ≤ x.start) sent
@@ -159,8 +151,8 @@ tie_by key x y h class eligible before =
     lt_of (key x.sender x.frame) (key y.sender y.frame)
     (implied (x.class == y.class && (x.eligible == y.eligible && nat_lt x.start y.start))
     (nat_lt (key x.sender x.frame) (key y.sender y.frame)) h
-    (both (x.class == y.class) _ (of_eq x.class y.class class)
-    (both (x.eligible == y.eligible) _ (of_eq x.eligible y.eligible eligible) (of_lt x.start y.start before))))
+    (and_from (x.class == y.class) _ (of_eq x.class y.class class)
+    (and_from (x.eligible == y.eligible) _ (of_eq x.eligible y.eligible eligible) (of_lt x.start y.start before))))
 
 pub keeps_tie_by : (key : ℕ → ℕ → ℕ) (sent : List Transmission) → of_each (tie_agrees key) sent ≡ true
     → KeepsTie key sent
