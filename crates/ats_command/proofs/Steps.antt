@@ -1,5 +1,4 @@
 use Rattle.std.proofs.Common.{◌≡◌, ℕ, List, [], Option, Some, None, Result, Ok, Err, refl, sym, ◌∙◌, ap, subst, arith}
-use Rattle.ats_io.specs.Outside.{IfTold}
 use Rattle.std.specs.Prelude.{IsSome, IfSome, IfOk, IsErrAnd, IsOk, ◌≤◌, unwrap_or}
 use Rattle.std.specs.Global.{Vec}
 use Rattle.ats_num.specs.Failure.{◌>>=◌}
@@ -101,22 +100,3 @@ pub declared_keeps : {A F : Type 0} (P : A → Type 0) (result : Result A Stop) 
 declared_keeps P (Err stop) file words due h keeps = tt
 declared_keeps P (Ok value) file words (Err fault) h keeps = cc
 declared_keeps P (Ok value) file words (Ok other) h keeps = keeps value (let same : other ≡ value = cc in ap Ok same)
-
--- where bytes are told under a name, what stops their reading settles the command
-pub file_settles : {A : Type 0} (told : List ℕ → Option (List ℕ)) (file : List ℕ) (result : Result (Vec ℕ) Stop)
-    (stop : Stop) (declared : List ℕ → Result A Answer) (next : A → Result (List ℕ) Answer)
-    → IsErrAnd result (λ e. e ≡ stop) → IfTold (told file) (λ bytes. IsStopOf stop (declared bytes))
-    → IsSome (told file)
-    → IfSome (answer_of result) (λ (answer : Answer). answer ≡ settled (declared (told_bytes told file) >>= next))
-file_settles told file result stop declared next is stops there =
-    step_settles result stop (declared (told_bytes told file)) next (err_is result stop is)
-    (stops (told_bytes told file) (told_is told file there))
-
--- and so does the text of what they declare
-pub text_of_file : {A : Type 0} (told : List ℕ → Option (List ℕ)) (file text : List ℕ)
-    (declared : List ℕ → Result A Answer) (value : A) (text_of : A → List ℕ)
-    → IfTold (told file) (λ bytes. declared bytes ≡ Ok value) → IsSome (told file) → text ≡ text_of value
-    → record { status = status.Done; text = text } ≡ settled (declared (told_bytes told file) >>= λ a. Ok (text_of a))
-text_of_file told file text declared value text_of gives there is =
-    text_settles text (declared (told_bytes told file) >>= λ a. Ok (text_of a))
-    (ap (λ d. d >>= λ a. Ok (text_of a)) (gives (told_bytes told file) (told_is told file there)) ∙ ap Ok (sym is))

@@ -14,7 +14,7 @@ use Rattle.ats_command.specs.Outcome.{Gives, IsStopOf}
 use Rattle.ats_command.specs.Soundness.{IsSoundCheck, IsSoundText}
 use Rattle.ats_command.specs.declared.outcome.Stop.{Stop}
 use Rattle.ats_command.specs.declared.outcome.Stop.TheVariants.{ReadFailed}
-use Rattle.ats_command.proofs.Steps.{told_is, err_is, stops_all, goes_on, file_settles, result_settles, text_then}
+use Rattle.ats_command.proofs.Steps.{told_is, err_is, stops_all, goes_on, step_settles, result_settles, text_then}
 use Rattle.ats_command.proofs.Steps.{same_stop, declared_is_ok}
 use Rattle.ats_command.proofs.check_command.check.Goals as goal
 
@@ -22,11 +22,13 @@ pub returns-in_err-network-clause-due : goal.returns-in_err-network-clause-due
 unfolding check_answer
 returns-in_err-network-clause-due g c = λ is_told.
     let told : List ℕ → Option (List ℕ) = g.F.Files.told c.args.files.now in
+    let net : List ℕ = c.args.net.now in
     let certificate : List ℕ = c.args.certificate.now in
-    file_settles told c.args.net.now c.from_residual.result c.in_err-network.field-0.0 (network_in c.args.net.now)
+    step_settles c.from_residual.result c.in_err-network.field-0.0 (network_in net (told_bytes told net))
     (λ network. rows_in network.topology certificate (told_bytes told certificate)
     >>= λ rows. check_judged network rows)
-    c.from_residual.ensures.1 c.in_err-network.ensures.due (is_told 0 [] (lit< tt))
+    (err_is c.from_residual.result c.in_err-network.field-0.0 c.from_residual.ensures.1)
+    (c.in_err-network.ensures.due (told_bytes told net) (told_is told net (is_told 0 [] (lit< tt))))
 
 pub returns-in_err-rows-clause-due : goal.returns-in_err-rows-clause-due
 unfolding check_answer
