@@ -1,7 +1,7 @@
 use Rattle.std.proofs.Common.{◌≡◌, ◌≢◌, ℕ, ◌+◌, ◌*◌, ◌<◌, ◌≤◌, Bool, true, false, List, [], ◌∷◌, length, get_or, All}
 use Rattle.std.proofs.Common.{refl, inl, inr, ◌⊎◌, arith, lit<, lit≤}
 use Rattle.std.specs.Prelude.{◌==◌, not, nat_lt, codes, AllPairs, Contains}
-use Rattle.std.proofs.lemmas.Bool.{false≢true, not-true}
+use Rattle.std.proofs.lemmas.Bool.{false≢true}
 use Rattle.std.proofs.lemmas.Option.{none-some}
 use Rattle.std.proofs.lemmas.List.Elements.{All-contains_itself}
 use Rattle.ats_topology.specs.Topology.{topology_of}
@@ -59,8 +59,12 @@ is_stream name path some few = record {
   identity = λ pair given. absurd (none-some pair given);
 }
 
+not_true : (b : Bool) → not b ≡ true → b ≡ false
+not_true true h = absurd (false≢true h)
+not_true false h = refl
+
 apart : (a b : ℕ) → not (a == b) ≡ true → a ≢ b
-apart a b h = differ a b (not-true (a == b) h)
+apart a b h = differ a b (not_true (a == b) h)
 
 -- the paths over two bridges and over three
 path_over_two : IsValidPath over_two.topology (0 ∷ 2 ∷ 4 ∷ [])
