@@ -2,6 +2,7 @@ use Rattle.std.proofs.Common.{◌≡◌, ℕ, List, [], Option, Some, None, Resu
 use Rattle.std.proofs.Common.{◌∙◌, lit<}
 use Rattle.std.specs.Prelude.{IfSome, IfOk, ◌⊎◌, codes}
 use Rattle.std.specs.Global.{Vec}
+use Rattle.std.proofs.lemmas.Option.{same_Some, none-some}
 use Rattle.ats_io.specs.Outside.{Rose, TakesPrefix}
 use Rattle.ats_command.specs.Command.{Command, Shape, Show, Bound, Check, Unknown}
 use Rattle.ats_command.specs.Answer.{Answer, HasText, words_answer}
@@ -23,14 +24,8 @@ made_due told command outcome answer answers made is_told =
       answers = subst (λ (o : Option Answer). IfSome o (IsAnswer (told_bytes told) command)) made (answers is_told);
     }
 
-nothing : (answer : Answer) → None ≡ Some answer → ⊥
-nothing answer h = cc
-
-one_value : {A : Type 0} (a b : A) → Some a ≡ Some b → a ≡ b
-one_value a b h = cc
-
 other_status : (a b : Answer) → (a.status ≡ b.status → ⊥) → Some a ≡ Some b → ⊥
-other_status a b differs h = differs (ap (λ (answer : Answer). answer.status) (one_value a b h))
+other_status a b differs h = differs (ap (λ (answer : Answer). answer.status) (same_Some a b h))
 
 input_is_not_done : Input ≡ Done → ⊥
 input_is_not_done h = cc
@@ -103,7 +98,7 @@ words_end_as_due told status write is_told (inl printed) failed quiet =
 words_end_as_due told status write is_told (inr cut) failed quiet = absurd (quiet (failed cut))
 
 one_text : (a b : Answer) → Some a ≡ Some b → a.text ≡ b.text
-one_text a b h = ap (λ (answer : Answer). answer.text) (one_value a b h)
+one_text a b h = ap (λ (answer : Answer). answer.text) (same_Some a b h)
 
 -- where an outcome was printed as done, what holds of the text that an outcome has holds of what was printed
 pub done_holds : (outcome : Result (Vec ℕ) Stop) (text : List ℕ) (P : List ℕ → Type 0)
@@ -115,8 +110,8 @@ done_holds (Err (stop.Input why)) text P h made = absurd (other_status (record {
     (record { status = Done; text = text }) input_is_not_done made)
 done_holds (Err (stop.Refused why)) text P h made = absurd (other_status (record { status = Refused; text = why.items })
     (record { status = Done; text = text }) refused_is_not_done made)
-done_holds (Err stop.ReadFailed) text P h made = absurd (nothing (record { status = Done; text = text }) made)
-done_holds (Err stop.NoMemory) text P h made = absurd (nothing (record { status = Done; text = text }) made)
+done_holds (Err stop.ReadFailed) text P h made = absurd (none-some (record { status = Done; text = text }) made)
+done_holds (Err stop.NoMemory) text P h made = absurd (none-some (record { status = Done; text = text }) made)
 
 -- the line for words outside the table does not end as done
 pub words_are_not_done : (status : Status) → (status ≡ Words) ⊎ (status ≡ WriteFailed) → status ≡ Done → ⊥

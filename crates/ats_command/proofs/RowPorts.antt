@@ -1,6 +1,7 @@
 use Rattle.std.proofs.Common.{◌≡◌, ℕ, ◌+◌, ◌<◌, Bool, true, false, cond, List, [], ◌∷◌, ◌++◌, length, Option, Some}
-use Rattle.std.proofs.Common.{None, Result, Ok, subst, arith}
+use Rattle.std.proofs.Common.{None, Result, Ok, refl, subst, arith}
 use Rattle.std.specs.Prelude.{IfOk, IfSome}
+use Rattle.ats_facts.proofs.Lists.{position_from-lt}
 use Rattle.ats_num.specs.declared.wire.TheConstants.{MAX_WIRE_BITS}
 use Rattle.std.specs.List.{position_from}
 use Rattle.std.proofs.lemmas.List.Elements.{All-push, All-nil}
@@ -17,24 +18,12 @@ use Rattle.ats_certificate_file.specs.declared.fault.CertFault.TheVariants.{Unkn
 use Rattle.ats_command.proofs.RowSteps.{behind, always, followed, where_passed, rows_keep}
 
 -- a place that is found is one of the list
-either : (b : Bool) (i n : ℕ) (r : Option ℕ) → i < n → IfSome r (λ p. p < n) → IfSome (cond b (Some i) r) (λ p. p < n)
-either true i n r here later = here
-either false i n r here later = later
-
-found_within : {X : Type 0} (test : X → Bool) (i : ℕ) (xs : List X)
-    → IfSome (position_from test i xs) (λ p. p < i + length xs)
-found_within test i [] = tt
-found_within test i (x ∷ xs) =
-    either (test x) i (i + length (x ∷ xs)) (position_from test (i + 1) xs) (omega arith)
-    (let At : ℕ → Type 0 = λ n. IfSome (position_from test (i + 1) xs) (λ p. p < n) in
-    let same : (i + 1) + length xs ≡ i + length (x ∷ xs) = omega arith in
-    subst At same (found_within test (i + 1) xs))
-
 found_first : {X : Type 0} (test : X → Bool) (xs : List X) → IfSome (position_from test 0 xs) (λ p. p < length xs)
-found_first test xs =
-    let At : ℕ → Type 0 = λ n. IfSome (position_from test 0 xs) (λ p. p < n) in
-    let same : 0 + length xs ≡ length xs = omega arith in
-    subst At same (found_within test 0 xs)
+found_first test xs = by (position_from test 0 xs) refl
+  where
+    by : (o : Option ℕ) → position_from test 0 xs ≡ o → IfSome o (λ p. p < length xs)
+    by None e = tt
+    by (Some p) e = omega (arith, position_from-lt test 0 xs p e)
 
 or_within : {B : Type 0} (P : B → Type 0) (n : ℕ) (e : CertFault) (o : Option ℕ) (f : ℕ → Result B CertFault)
     → IfSome o (λ p. p < n) → ((p : ℕ) → p < n → IfOk (f p) P) → IfOk (or_fault e o >>= f) P

@@ -1,5 +1,4 @@
 use Rattle.std.proofs.Common.{◌≡◌, ℕ, List, [], Option, Some, None, Result, Ok, Err, refl, sym, ◌∙◌, ap, subst, arith}
-use Rattle.ats_io.specs.Outside.{Rose}
 use Rattle.std.specs.Prelude.{IsSome, IfSome, IfOk, IsErrAnd, IsOk, ◌≤◌, unwrap_or}
 use Rattle.std.specs.Global.{Vec}
 use Rattle.ats_num.specs.Failure.{◌>>=◌}
@@ -80,10 +79,6 @@ pub text_then : (result : Result (Vec ℕ) Stop) (P Q : List ℕ → Type 0) →
     → ((text : List ℕ) → P text → Q text) → IfOk result (λ (text : Vec ℕ). Q text.items)
 text_then (Ok text) P Q h f = f text.items h
 text_then (Err stop) P Q h f = tt
-
--- a fault that came after some state came after an earlier one
-pub rose_since : (before between after : ℕ) → before ≤ between → Rose between after → Rose before after
-rose_since before between after h rose = omega arith
 
 one_error : {X : Type 0} (stop other : Stop) → (let r : Result X Stop = Err stop in r ≡ Err other) → stop ≡ other
 one_error stop other h = cc

@@ -1,6 +1,6 @@
-use Rattle.std.proofs.Common.{◌≡◌, ◌≢◌, ℕ, zero, suc, ◌<◌, false, List, [], ◌∷◌, length, refl, arith}
+use Rattle.std.proofs.Common.{◌≡◌, ◌≢◌, ℕ, zero, suc, ◌<◌, false, List, [], ◌∷◌, length, refl, sym, ◌∙◌, arith}
 use Rattle.std.specs.Prelude.{AllPairs, ◌==◌, None}
-use Rattle.std.proofs.lemmas.Bool.{eqb-false}
+use Rattle.std.proofs.lemmas.Bool.{true≢false, eq-eqb}
 use Rattle.std.proofs.lemmas.List.Elements.{All-nil}
 use Rattle.ats_topology.specs.Faults.{topology_fault}
 use Rattle.ats_topology.specs.Port.{port_at}
@@ -30,6 +30,9 @@ bare nodes links sound = record {
   few_flows = omega arith;
 }
 
+pub differ : (a b : ℕ) → (a == b) ≡ false → a ≢ b
+differ a b h same = absurd (true≢false (sym (eq-eqb a b same) ∙ h))
+
 three_apart : (a b c : ℕ) → a ≢ b → a ≢ c → b ≢ c → AllPairs (λ x y. x ≢ y) (a ∷ b ∷ c ∷ [])
 three_apart a b c ab ac bc zero zero d order h = absurd (omega arith)
 three_apart a b c ab ac bc zero (suc zero) d order h = ab
@@ -55,8 +58,8 @@ over_bridge t p q first second meet begins ends up through down = record {
   walk = (record { within = first; from = refl }, (record { within = second; from = meet }, refl));
   begins = begins;
   ends = ends;
-  differ = eqb-false (port_at t.ports p).from (port_at t.ports q).to through;
-  apart = three_apart _ _ _ (eqb-false (port_at t.ports p).from (port_at t.ports p).to up)
-      (eqb-false (port_at t.ports p).from (port_at t.ports q).to through)
-      (eqb-false (port_at t.ports p).to (port_at t.ports q).to down);
+  differ = differ (port_at t.ports p).from (port_at t.ports q).to through;
+  apart = three_apart _ _ _ (differ (port_at t.ports p).from (port_at t.ports p).to up)
+      (differ (port_at t.ports p).from (port_at t.ports q).to through)
+      (differ (port_at t.ports p).to (port_at t.ports q).to down);
 }

@@ -6,15 +6,10 @@ use Rattle.std.proofs.lemmas.List.Kept.{AllPairs-cons}
 use Rattle.std.proofs.lemmas.List.Sorted.{IsPermutation-refl}
 use Rattle.ats_num.specs.declared.time.TheConstants.{PS_PER_SECOND}
 use Rattle.ats_bucket.specs.Conforming.{Frame, times_of, bits_between, time_between, Conforms}
-use Rattle.ats_topology.specs.Port.{port_at}
-use Rattle.ats_network.specs.Network.{DeclaredNetwork}
 use Rattle.ats_network.specs.Senders.{sender_at}
-use Rattle.ats_certificate.specs.PortSums.{port_sums}
-use Rattle.ats_certificate.specs.Certificate.{HasSums, Covers, FitsLink, IsEnough, bound_of}
-use Rattle.ats_certificate.specs.declared.row.Row.{Row}
 use Rattle.ats_port_rule.specs.Transmission.{Transmission}
 use Rattle.ats_port_rule.specs.PortRule.{KeepsPortRule, AreApart, IsAhead, StartsAfterGap}
-use Rattle.ats_port_law.specs.PortLaw.{IsDeclared, IsOffered, IsWithinBound, ConformsInOrder, frames_by}
+use Rattle.ats_port_law.specs.PortLaw.{IsDeclared, IsWithinBound, ConformsInOrder, frames_by}
 use Rattle.ats_port_law.specs.Rows.{with_flow, row_with_flow, sent_behind_flow, next_row_with_flow, sent_on_behind_flow}
 use Rattle.ats_port_law.specs.Rows.{IsWorked, BehindFlow, with_two, first_row_with_two, sent_at_once, AtOnce}
 use Rattle.ats_port_law.specs.Rows.{row_with_two, sent_in_turn, InTurn}
@@ -107,59 +102,55 @@ none_in_order rate burst =
           record { in_order = λ i j d order h. absurd (omega arith); within = λ i j order h. absurd (omega arith) };
     }
 
--- a row that says the sums of its port and class, and what follows from them
-covers_by : (network : DeclaredNetwork) (row : Row) → HasSums row (port_sums network row.port row.class)
-    → row.bound ≡ bound_of (port_at network.topology.ports row.port) row.wait row.least → FitsLink row
-    → IsEnough (port_at network.topology.ports row.port) row → Covers network row
-covers_by network row sums bound load wait = record { sums = sums; bound = bound; load = load; wait = wait }
-
 flow_streams : (i : ℕ) → i < length with_flow.streams
     → ConformsInOrder (sender_at with_flow i).rate (sender_at with_flow i).burst_bits (frames_by i sent_behind_flow)
 flow_streams zero h = one_in_order 100000000 12336 (record { at = 1; bits = 12336 }) (omega arith)
 flow_streams (suc i) h = absurd (omega arith)
+
+pub at_station : IsWorked with_flow row_with_flow sent_behind_flow
+at_station = record {
+  valid = flow_network;
+  used = refl;
+  covers = record {
+    sums = record { higher = refl; equal = refl; bursts = refl; lower = refl; least = refl };
+    bound = refl;
+    load = omega arith;
+    wait = omega arith;
+  };
+  rule = rule_of_two 1000 _ _ (omega arith) (omega arith) refl refl refl (omega arith) (omega arith)
+      (λ order known. absurd (omega arith)) (omega arith) (omega arith);
+  offered = record {
+    each = all_two (IsDeclared with_flow 0) _ _
+        (record { exists = omega arith; uses = refl; class = refl; least = omega arith; most = omega arith })
+        (record { exists = omega arith; uses = refl; class = refl; least = omega arith; most = omega arith });
+    streams = flow_streams;
+  };
+  within = all_two (IsWithinBound with_flow row_with_flow) _ _ (λ class. absurd (cc)) (λ class. omega arith);
+}
 
 next_streams : (i : ℕ) → i < length with_flow.streams
     → ConformsInOrder (sender_at with_flow i).rate (sender_at with_flow i).burst_bits (frames_by i sent_on_behind_flow)
 next_streams zero h = one_in_order 100000000 12336 (record { at = 26172000; bits = 12336 }) (omega arith)
 next_streams (suc i) h = absurd (omega arith)
 
-offered_at_station : IsOffered with_flow 0 sent_behind_flow
-offered_at_station = record {
-  each = all_two (IsDeclared with_flow 0) _ _
-      (record { exists = omega arith; uses = refl; class = refl; least = omega arith; most = omega arith })
-      (record { exists = omega arith; uses = refl; class = refl; least = omega arith; most = omega arith });
-  streams = flow_streams;
-}
-
-offered_at_bridge : IsOffered with_flow 2 sent_on_behind_flow
-offered_at_bridge = record {
-  each = all_two (IsDeclared with_flow 2) _ _
-      (record { exists = omega arith; uses = refl; class = refl; least = omega arith; most = omega arith })
-      (record { exists = omega arith; uses = refl; class = refl; least = omega arith; most = omega arith });
-  streams = next_streams;
-}
-
-pub at_station : IsWorked with_flow row_with_flow sent_behind_flow
-at_station = record {
-  valid = flow_network;
-  used = refl;
-  covers = covers_by _ _ (record { higher = refl; equal = refl; bursts = refl; lower = refl; least = refl }) refl
-      (omega arith) (omega arith);
-  rule = rule_of_two 1000 _ _ (omega arith) (omega arith) refl refl refl (omega arith) (omega arith)
-      (λ order known. absurd (omega arith)) (omega arith) (omega arith);
-  offered = offered_at_station;
-  within = all_two (IsWithinBound with_flow row_with_flow) _ _ (λ class. absurd (cc)) (λ class. omega arith);
-}
-
 at_bridge : IsWorked with_flow next_row_with_flow sent_on_behind_flow
 at_bridge = record {
   valid = flow_network;
   used = refl;
-  covers = covers_by _ _ (record { higher = refl; equal = refl; bursts = refl; lower = refl; least = refl }) refl
-      (omega arith) (omega arith);
+  covers = record {
+    sums = record { higher = refl; equal = refl; bursts = refl; lower = refl; least = refl };
+    bound = refl;
+    load = omega arith;
+    wait = omega arith;
+  };
   rule = rule_of_two 1000 _ _ (omega arith) (omega arith) refl refl refl (omega arith) (omega arith)
       (λ order known. absurd (omega arith)) (omega arith) (omega arith);
-  offered = offered_at_bridge;
+  offered = record {
+    each = all_two (IsDeclared with_flow 2) _ _
+        (record { exists = omega arith; uses = refl; class = refl; least = omega arith; most = omega arith })
+        (record { exists = omega arith; uses = refl; class = refl; least = omega arith; most = omega arith });
+    streams = next_streams;
+  };
   within = all_two (IsWithinBound with_flow next_row_with_flow) _ _ (λ class. absurd (cc)) (λ class. omega arith);
 }
 
@@ -177,8 +168,12 @@ in_turn = record {
   worked = record {
     valid = two_network;
     used = refl;
-    covers = covers_by _ _ (record { higher = refl; equal = refl; bursts = refl; lower = refl; least = refl }) refl
-        (omega arith) (omega arith);
+    covers = record {
+      sums = record { higher = refl; equal = refl; bursts = refl; lower = refl; least = refl };
+      bound = refl;
+      load = omega arith;
+      wait = omega arith;
+    };
     rule = rule_of_two 1000 _ _ (omega arith) (omega arith) refl refl refl (omega arith) (omega arith)
         (λ order known. record { class = omega arith; eligible = λ same. omega arith }) (omega arith) (omega arith);
     offered = record {
@@ -198,45 +193,47 @@ streams_at_s1 zero h = one_in_order 100000000 12336 (record { at = 0; bits = 123
 streams_at_s1 (suc zero) h = none_in_order 100000000 12336
 streams_at_s1 (suc (suc i)) h = absurd (omega arith)
 
+pub at_s1 : IsWorked with_two (first_row_with_two 0) (sent_at_once 0)
+at_s1 = record {
+  valid = two_network;
+  used = refl;
+  covers = record {
+    sums = record { higher = refl; equal = refl; bursts = refl; lower = refl; least = refl };
+    bound = refl;
+    load = omega arith;
+    wait = omega arith;
+  };
+  rule = rule_of_one 1000 _ (omega arith) refl (omega arith);
+  offered = record {
+    each = all_one (IsDeclared with_two 0) _
+        (record { exists = omega arith; uses = refl; class = refl; least = omega arith; most = omega arith });
+    streams = streams_at_s1;
+  };
+  within = all_one (IsWithinBound with_two (first_row_with_two 0)) _ (λ class. omega arith);
+}
+
 streams_at_s3 : (i : ℕ) → i < length with_two.streams
     → ConformsInOrder (sender_at with_two i).rate (sender_at with_two i).burst_bits (frames_by i (sent_at_once 1))
 streams_at_s3 zero h = none_in_order 100000000 12336
 streams_at_s3 (suc zero) h = one_in_order 100000000 12336 (record { at = 0; bits = 12336 }) (omega arith)
 streams_at_s3 (suc (suc i)) h = absurd (omega arith)
 
-offered_at_s1 : IsOffered with_two 0 (sent_at_once 0)
-offered_at_s1 = record {
-  each = all_one (IsDeclared with_two 0) _
-      (record { exists = omega arith; uses = refl; class = refl; least = omega arith; most = omega arith });
-  streams = streams_at_s1;
-}
-
-offered_at_s3 : IsOffered with_two 4 (sent_at_once 1)
-offered_at_s3 = record {
-  each = all_one (IsDeclared with_two 4) _
-      (record { exists = omega arith; uses = refl; class = refl; least = omega arith; most = omega arith });
-  streams = streams_at_s3;
-}
-
-pub at_s1 : IsWorked with_two (first_row_with_two 0) (sent_at_once 0)
-at_s1 = record {
-  valid = two_network;
-  used = refl;
-  covers = covers_by _ _ (record { higher = refl; equal = refl; bursts = refl; lower = refl; least = refl }) refl
-      (omega arith) (omega arith);
-  rule = rule_of_one 1000 _ (omega arith) refl (omega arith);
-  offered = offered_at_s1;
-  within = all_one (IsWithinBound with_two (first_row_with_two 0)) _ (λ class. omega arith);
-}
-
 at_s3 : IsWorked with_two (first_row_with_two 4) (sent_at_once 1)
 at_s3 = record {
   valid = two_network;
   used = refl;
-  covers = covers_by _ _ (record { higher = refl; equal = refl; bursts = refl; lower = refl; least = refl }) refl
-      (omega arith) (omega arith);
+  covers = record {
+    sums = record { higher = refl; equal = refl; bursts = refl; lower = refl; least = refl };
+    bound = refl;
+    load = omega arith;
+    wait = omega arith;
+  };
   rule = rule_of_one 1000 _ (omega arith) refl (omega arith);
-  offered = offered_at_s3;
+  offered = record {
+    each = all_one (IsDeclared with_two 4) _
+        (record { exists = omega arith; uses = refl; class = refl; least = omega arith; most = omega arith });
+    streams = streams_at_s3;
+  };
   within = all_one (IsWithinBound with_two (first_row_with_two 4)) _ (λ class. omega arith);
 }
 

@@ -37,7 +37,7 @@ stream_on name path = record {
   identity = None;
 }
 
--- a stream and a flow from s1 over b1 to s2
+-- a stream and a flow from s1 over b1 to s2, and the rows of the first port and of the bridge's
 abbrev pub with_flow : DeclaredNetwork
 with_flow = declared_network
     (topology_of (station (codes "s1") ∷ bridge (codes "b1") 1000000 ∷ station (codes "s2") ∷ [])
@@ -45,10 +45,9 @@ with_flow = declared_network
     (stream_on (codes "a") (0 ∷ 2 ∷ []) ∷ [])
     (record { name = codes "f"; path = 0 ∷ 2 ∷ []; max_octets = 1522 } ∷ [])
 
--- the row of a port with this bound, where they come, and the rows of the first port and of the bridge's
-abbrev pub row_behind_flow : ℕ → ℕ → Row
-row_behind_flow port bound = record {
-  port = port;
+abbrev pub row_with_flow : Row
+row_with_flow = record {
+  port = 0;
   class = 6;
   higher = 0;
   equal = 100000000000;
@@ -56,14 +55,8 @@ row_behind_flow port bound = record {
   lower = 12336;
   least = 672;
   wait = 24000000;
-  bound = bound;
+  bound = 26172000;
 }
-
-abbrev pub row_with_flow : Row
-row_with_flow = row_behind_flow 0 26172000
-
-abbrev pub next_row_with_flow : Row
-next_row_with_flow = row_behind_flow 2 25172000
 
 -- the flow's frame, released at 0, is sent to its end before the stream's, released at 1
 abbrev pub sent_behind_flow : List Transmission
@@ -71,6 +64,19 @@ sent_behind_flow =
     record { frame = 0; sender = 1; class = 0; bits = 12336; eligible = 0; start = 0; end = 12336000 }
     ∷ record { frame = 1; sender = 0; class = 6; bits = 12336; eligible = 1; start = 12336000; end = 24672000 }
     ∷ []
+
+abbrev pub next_row_with_flow : Row
+next_row_with_flow = record {
+  port = 2;
+  class = 6;
+  higher = 0;
+  equal = 100000000000;
+  bursts = 12336;
+  lower = 12336;
+  least = 672;
+  wait = 24000000;
+  bound = 25172000;
+}
 
 -- the bridge sends both in the same order; the stream's frame comes when the flow's has been sent
 abbrev pub sent_on_behind_flow : List Transmission

@@ -11,7 +11,7 @@ use Rattle.ats_trace.specs.Run.{IsLegal, releases_of}
 use Rattle.ats_trace.specs.Stored.{travel_at}
 use Rattle.ats_trace.specs.Talker.{talker_of, KeepsBuckets}
 use Rattle.ats_trace.specs.Examples.{line, line_and_flow, one_frame, behind_a_flow}
-use Rattle.ats_trace.proofs.LegalProofs.{examples_legal, behind_a_flow_legal}
+use Rattle.ats_trace.proofs.LegalProofs.{examples_legal}
 use Rattle.ats_soundness_law.specs.Sound.{IsServed, IsSound}
 use Rattle.ats_soundness_law.specs.Rules.{Rule, rows_are_there, higher_is_right, equal_is_right, bursts_are_right}
 use Rattle.ats_soundness_law.specs.Rules.{lower_is_right, least_is_right, bound_follows, load_fits, wait_is_enough}
@@ -22,7 +22,7 @@ use Rattle.ats_soundness_law.proofs.Example.{is_network}
 use Rattle.ats_soundness_law.proofs.RuleNetworks.{pair_is, below_is, fast_is, with_flow_is}
 use Rattle.ats_soundness_law.proofs.RuleRuns.{of_two, of_three, of_classes, of_fast, two_legal, two_kept, three_legal}
 use Rattle.ats_soundness_law.proofs.RuleRuns.{three_kept, classes_legal, classes_kept, fast_legal, fast_kept}
-use Rattle.ats_soundness_law.proofs.RuleRuns.{flow_kept, one_kept}
+use Rattle.ats_soundness_law.proofs.RuleRuns.{flow_legal, flow_kept, one_kept}
 use Rattle.ats_soundness_law.proofs.RuleTest.{same_rule, others_pass, others_by, rest_passes, rest_by}
 use Rattle.ats_soundness_law.proofs.Soundness.{sound_by_rules}
 
@@ -116,7 +116,7 @@ each_rule_counts equal_is_right = at_rule equal_is_right fast_is refl refl (fast
 each_rule_counts bursts_are_right =
     at_rule bursts_are_right (pair_is 1000000 refl) refl refl (two_unsound (rows_for bursts_are_right) (lit< tt))
 each_rule_counts lower_is_right = at_rule lower_is_right with_flow_is refl refl (unsound_by line_and_flow
-    (rows_for lower_is_right) behind_a_flow 1 behind_a_flow_legal (1, lit< tt, refl) (lit< tt) flow_kept flow_unserved)
+    (rows_for lower_is_right) behind_a_flow 1 flow_legal (1, lit< tt, refl) (lit< tt) flow_kept flow_unserved)
 each_rule_counts least_is_right =
     at_rule least_is_right (pair_is 12335 refl) refl refl (three_unsound (rows_for least_is_right))
 each_rule_counts bound_follows =

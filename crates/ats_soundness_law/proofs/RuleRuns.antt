@@ -72,6 +72,9 @@ fast_legal = legal_by fast of_fast refl
 pub fast_kept : KeepsBuckets fast (releases_of of_fast) 0
 fast_kept = keeps_by fast (releases_of of_fast) 0 refl refl
 
+pub flow_legal : IsLegal line_and_flow behind_a_flow
+flow_legal = legal_by line_and_flow behind_a_flow refl
+
 pub flow_kept : KeepsBuckets line_and_flow (releases_of behind_a_flow) 0
 flow_kept = keeps_by line_and_flow (releases_of behind_a_flow) 0 refl refl
 

@@ -1,7 +1,7 @@
-use Rattle.std.proofs.Common.{◌≡◌, ◌≢◌, ℕ, ◌+◌, ◌*◌, ◌<◌, ◌≤◌, true, List, [], ◌∷◌, length, get_or, All}
+use Rattle.std.proofs.Common.{◌≡◌, ◌≢◌, ℕ, ◌+◌, ◌*◌, ◌<◌, ◌≤◌, Bool, true, false, List, [], ◌∷◌, length, get_or, All}
 use Rattle.std.proofs.Common.{refl, inl, inr, ◌⊎◌, arith, lit<, lit≤}
 use Rattle.std.specs.Prelude.{◌==◌, not, nat_lt, codes, AllPairs, Contains}
-use Rattle.std.proofs.lemmas.Bool.{not-true, eqb-false}
+use Rattle.std.proofs.lemmas.Bool.{false≢true}
 use Rattle.std.proofs.lemmas.Option.{none-some}
 use Rattle.std.proofs.lemmas.List.Elements.{All-contains_itself}
 use Rattle.ats_topology.specs.Topology.{topology_of}
@@ -12,7 +12,7 @@ use Rattle.ats_network.specs.Senders.{sender_at}
 use Rattle.ats_network.proofs.Pushed.{pushed_stream}
 use Rattle.ats_certificate.specs.Certificate.{IsBefore, Holds}
 use Rattle.ats_certificate.specs.declared.row.Row.{Row}
-use Rattle.ats_port_law.proofs.Networks.{bare, over_bridge}
+use Rattle.ats_port_law.proofs.Networks.{bare, differ, over_bridge}
 use Rattle.ats_group_law.specs.Regulator.{ats_judge}
 use Rattle.ats_group_law.proofs.Regulator.{ats_is_regulator}
 use Rattle.ats_trace.specs.Journey.{Travel, IsOfStream}
@@ -59,8 +59,12 @@ is_stream name path some few = record {
   identity = λ pair given. absurd (none-some pair given);
 }
 
+not_true : (b : Bool) → not b ≡ true → b ≡ false
+not_true true h = absurd (false≢true h)
+not_true false h = refl
+
 apart : (a b : ℕ) → not (a == b) ≡ true → a ≢ b
-apart a b h = eqb-false a b (not-true (a == b) h)
+apart a b h = differ a b (not_true (a == b) h)
 
 -- the paths over two bridges and over three
 path_over_two : IsValidPath over_two.topology (0 ∷ 2 ∷ 4 ∷ [])
@@ -73,7 +77,7 @@ path_over_two = record {
   );
   begins = record { within = lit< tt; station = refl };
   ends = record { within = lit< tt; station = refl };
-  differ = eqb-false 0 1 refl;
+  differ = differ 0 1 refl;
   apart =
       pairs_by (λ a b. a ≢ b) (λ a b. not (a == b)) apart (nodes_along over_two.topology.ports (0 ∷ 2 ∷ 4 ∷ [])) refl;
 }
@@ -91,7 +95,7 @@ path_over_three = record {
   );
   begins = record { within = lit< tt; station = refl };
   ends = record { within = lit< tt; station = refl };
-  differ = eqb-false 0 1 refl;
+  differ = differ 0 1 refl;
   apart = pairs_by (λ a b. a ≢ b) (λ a b. not (a == b)) apart
       (nodes_along over_three.topology.ports (0 ∷ 2 ∷ 4 ∷ 6 ∷ [])) refl;
 }

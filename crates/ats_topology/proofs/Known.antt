@@ -7,6 +7,7 @@ use Rattle.std.proofs.lemmas.Bool.{false≢true, or_parts}
 use Rattle.std.proofs.lemmas.Bool.Decides.{same_from_decides, Decides-eqb}
 use Rattle.std.proofs.lemmas.Slice.Eq.{bytes_eq-Decides}
 use Rattle.std.proofs.lemmas.Option.{same_Some, none-some}
+use Rattle.ats_facts.proofs.Bytes.{bytes_eq-same, bytes_eq-true}
 use Rattle.ats_facts.proofs.Options.{is_some-false}
 use Rattle.ats_num.specs.Places.{place_of}
 use Rattle.ats_topology.specs.Node.{names_of, AreApart}
@@ -36,7 +37,7 @@ apart nodes none n within =
     let again : is_some (place_of name (take n names)) ≡ false = none_below (is_name_again names) (length nodes) n
     (no_place NodeTwice _ none) (omega (arith, length-names_of nodes)) in
     position_from-some (bytes_eq name) 0 names n [] (is_some-false (place_of name (take n names)) again) within
-    ((bytes_eq-Decides name name).1 refl)
+    (bytes_eq-same name)
     ∙ ap Some (omega arith)
 
 -- the place where a name is found has that name
@@ -46,7 +47,7 @@ name_there names name i at =
     let f : IsFound (bytes_eq name) names [] 0 i = found (bytes_eq name) 0 names i [] at in
     let same : i ≡ f.place = omega (arith, f.is) in (
       omega (arith, f.within),
-      (bytes_eq-Decides name (get_or names f.place [])).0 f.passes
+      bytes_eq-true name (get_or names f.place []) f.passes
           ∙ ap (λ (n : ℕ). get_or names n []) (sym same),
     )
 
@@ -55,7 +56,7 @@ pub number_is : (names : List (List ℕ)) → AreApart names → (name : List �
     → n < length names → eqb i n ≡ bytes_eq name (get_or names n [])
 number_is names separate name i n at within =
     same_from_decides (eqb i n) (bytes_eq name (get_or names n [])) (Decides-eqb i n) (
-      λ h. let same : name ≡ get_or names n [] = (bytes_eq-Decides name (get_or names n [])).0 h in
+      λ h. let same : name ≡ get_or names n [] = bytes_eq-true name (get_or names n []) h in
           same_Some i n (sym at ∙ ap (λ (x : List ℕ). place_of x names) same ∙ separate n within),
       λ h. (bytes_eq-Decides name (get_or names n [])).1
           ((name_there names name i at).1 ∙ ap (λ (k : ℕ). get_or names k []) h),

@@ -126,9 +126,10 @@ first_time (v ∷ vs) = time_in v
 abbrev early_frame : List Handed
 early_frame = handed_by line_and_flow eligible_early 0 6
 
--- a frame that is eligible earlier than its group lets it is not judged by its group
-pub not_early : ¬ IsJudged ats_judge line_and_flow (residence_behind line_and_flow 0) early_frame
-not_early judged =
+not_judged : ¬ IsLegal line_and_flow eligible_early
+not_judged h =
+    let judged : IsJudged ats_judge line_and_flow (residence_behind line_and_flow 0) early_frame =
+    h.groups 0 6 (lit< tt) (lit≤ tt) in
     let same : judged.arrivals ≡ early_frame = only (get_or early_frame 0 no_frame) judged.arrivals judged.same in
     let told : map (λ (f : Handed). f.verdict) early_frame ≡ verdicts_of (declared_by line_and_flow)
     (residence_behind line_and_flow 0) (first (declared_by line_and_flow)) (map offer_of early_frame)
@@ -137,9 +138,6 @@ not_early judged =
     same judged.verdicts in
     let early : ◌≡◌ {A = ℕ} 26171999 26172000 = ap first_time told in
     absurd (omega arith)
-
-not_judged : ¬ IsLegal line_and_flow eligible_early
-not_judged h = not_early (h.groups 0 6 (lit< tt) (lit≤ tt))
 
 not_passed : ¬ IsLegal line_and_flow flow_eligible_early
 not_passed h =

@@ -1,5 +1,6 @@
 use Rattle.std.proofs.Common.{ℕ, List, [], Option, Some, Result, Ok, Err, lit<, sym, ap, subst, refl, inr, ◌≡◌, ◌∙◌}
 use Rattle.std.specs.Global.{Vec}
+use Rattle.ats_io.proofs.Outside.{Rose-since}
 use Rattle.ats_topology.specs.Topology.{DeclaredTopology}
 use Rattle.ats_network.specs.Network.{DeclaredNetwork}
 use Rattle.ats_certificate.specs.declared.row.Row.{Row}
@@ -14,7 +15,7 @@ use Rattle.ats_command.specs.Soundness.{IsSoundCheck, IsSoundText}
 use Rattle.ats_command.specs.declared.outcome.Stop.{Stop}
 use Rattle.ats_command.specs.declared.outcome.Stop.TheVariants.{ReadFailed}
 use Rattle.ats_command.proofs.Steps.{told_is, err_is, stops_all, goes_on, step_settles, result_settles, text_then}
-use Rattle.ats_command.proofs.Steps.{rose_since, same_stop, declared_is_ok}
+use Rattle.ats_command.proofs.Steps.{same_stop, declared_is_ok}
 use Rattle.ats_command.proofs.check_command.check.Goals as goal
 
 pub returns-in_err-network-clause-due : goal.returns-in_err-network-clause-due
@@ -58,7 +59,7 @@ returns-in_err-rows-clause-failed g c = λ failed.
     let certificate : List ℕ = c.args.certificate.now in (
       certificate,
       inr (refl, λ bytes told. declared_is_ok _ _ (c.in_ok-network.ensures.due bytes told)),
-      rose_since _ _ _ (c.network_in.ensures.continues.counts certificate)
+      Rose-since _ _ _ (c.network_in.ensures.continues.counts certificate)
           (c.in_err-rows.ensures.failed (ap Err (same_stop c.from_residual-in_err-rows.result
           c.in_err-rows.field-0.0 ReadFailed (err_is c.from_residual-in_err-rows.result c.in_err-rows.field-0.0
           c.from_residual-in_err-rows.ensures.1) failed))),
