@@ -8,9 +8,9 @@ use Rattle.ats_group.specs.declared.verdict.Verdict.{Verdict}
 use Rattle.ats_group.specs.declared.verdict.Verdict.TheVariants.{Eligible, Late, Size}
 use Rattle.ats_group.specs.Group.{State, verdict_on, empty_once, IsRuled}
 
--- where all groups stand: the maximum residence time of each group in nanoseconds, the members, the group eligibility
+-- what all groups keep: the maximum residence time of each group in nanoseconds, the members, the group eligibility
 -- time of each group, and the bucket-empty time of each member, multiplied by its rate
-pub record Standing : Type 0 where
+pub record GroupsState : Type 0 where
   pub residences_ns : List ℕ
   pub members : List Member
   pub times : List Ps
@@ -31,31 +31,31 @@ abbrev pub empty_at : List ℤ → ℕ → ℤ
 empty_at empties member = slice_index_or empties member (pos 0)
 
 -- the group of a member, and what is declared of it
-abbrev pub group_of : Standing → ℕ → ℕ
-group_of standing member = (member_at standing.members member).group
+abbrev pub group_of : GroupsState → ℕ → ℕ
+group_of groups member = (member_at groups.members member).group
 
-abbrev pub declared_of : Standing → ℕ → Declared
-declared_of standing member = (member_at standing.members member).declared
+abbrev pub declared_of : GroupsState → ℕ → Declared
+declared_of groups member = (member_at groups.members member).declared
 
 -- the maximum residence time of a group, in nanoseconds
-abbrev pub residence_of : Standing → ℕ → ℕ
-residence_of standing group = slice_index standing.residences_ns group
+abbrev pub residence_of : GroupsState → ℕ → ℕ
+residence_of groups group = slice_index groups.residences_ns group
 
 -- what one group keeps; a member of another group has a bucket as at first
-abbrev pub state_of : Standing → ℕ → State
-state_of standing group =
+abbrev pub state_of : GroupsState → ℕ → State
+state_of groups group =
     record {
-      time = time_at standing.times group;
-      empty = λ member. if group_of standing member == group then empty_at standing.empties member
-          else first_empty (declared_of standing member).burst_bits;
+      time = time_at groups.times group;
+      empty = λ member. if group_of groups member == group then empty_at groups.empties member
+          else first_empty (declared_of groups member).burst_bits;
     }
 
 -- each member's bucket-empty time at first
 abbrev pub first_empties : List Member → List ℤ
 first_empties members = map (λ (m : Member). first_empty m.declared.burst_bits) members
 
--- where the groups stand at first
-abbrev pub opened : List ℕ → List Member → Standing
+-- what the groups keep at first
+abbrev pub opened : List ℕ → List Member → GroupsState
 opened residences_ns members =
     record {
       residences_ns = residences_ns;
@@ -65,27 +65,27 @@ opened residences_ns members =
     }
 
 -- the verdict on a frame of a member
-abbrev pub verdict_of : Standing → ℕ → ℕ → ℕ → Verdict
-verdict_of standing member arrival octets =
-    let group = group_of standing member in
-    verdict_on (declared_of standing member) (residence_of standing group) (time_at standing.times group)
-    (empty_at standing.empties member) arrival octets
+abbrev pub verdict_of : GroupsState → ℕ → ℕ → ℕ → Verdict
+verdict_of groups member arrival octets =
+    let group = group_of groups member in
+    verdict_on (declared_of groups member) (residence_of groups group) (time_at groups.times group)
+    (empty_at groups.empties member) arrival octets
 
--- where the groups stand after a verdict on a frame of a member
-abbrev pub standing_after : Standing → ℕ → ℕ → Verdict → Standing
-standing_after standing member octets (Eligible e) =
-    record standing {
-      times = slice_set standing.times (group_of standing member) e;
-      empties = slice_set standing.empties member
-          (empty_once (declared_of standing member) (empty_at standing.empties member) e.0 octets);
+-- what the groups keep after a verdict on a frame of a member
+abbrev pub groups_after : GroupsState → ℕ → ℕ → Verdict → GroupsState
+groups_after groups member octets (Eligible e) =
+    record groups {
+      times = slice_set groups.times (group_of groups member) e;
+      empties = slice_set groups.empties member
+          (empty_once (declared_of groups member) (empty_at groups.empties member) e.0 octets);
     }
-standing_after standing member octets (Late e) = standing
-standing_after standing member octets Size = standing
+groups_after groups member octets (Late e) = groups
+groups_after groups member octets Size = groups
 
--- where the groups stand after a frame of a member
-abbrev pub value_after : Standing → ℕ → ℕ → ℕ → Standing
-value_after standing member arrival octets =
-    standing_after standing member octets (verdict_of standing member arrival octets)
+-- what the groups keep after a frame of a member
+abbrev pub value_after : GroupsState → ℕ → ℕ → ℕ → GroupsState
+value_after groups member arrival octets =
+    groups_after groups member octets (verdict_of groups member arrival octets)
 
 -- a member's group is one of so many, and what is declared of it keeps the rules of a stream
 pub record IsMember (groups : ℕ) (m : Member) : Type 0 where
@@ -100,7 +100,7 @@ abbrev pub AreRuled : List Member → Type 0
 AreRuled members = All (λ (m : Member). IsRuled m.declared) members
 
 -- each group has a time, each member a bucket-empty time, and each member's group is there
-pub record IsStanding (standing : Standing) : Type 0 where
-  pub times : length standing.times ≡ length standing.residences_ns
-  pub empties : length standing.empties ≡ length standing.members
-  pub members : AreMembers (length standing.residences_ns) standing.members
+pub record AreGroups (groups : GroupsState) : Type 0 where
+  pub times : length groups.times ≡ length groups.residences_ns
+  pub empties : length groups.empties ≡ length groups.members
+  pub members : AreMembers (length groups.residences_ns) groups.members
