@@ -5,6 +5,7 @@ pub mod Number
 pub mod Name
 pub mod NameInside
 pub mod Tie
+pub mod Pace
 pub mod ReadsBack
 pub mod Failure
 pub mod IfFault

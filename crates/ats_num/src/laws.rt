@@ -5,6 +5,7 @@ ghost use Rattle.ats_num.specs.ReadsBack.{ReadsBack};
 ghost use Rattle.ats_num.specs.declared.time.TheConstants.{PS_PER_SECOND, PS_PER_NS, END};
 ghost use Rattle.ats_num.specs.declared.rate.TheConstants.{MAX_BPS, MAX_BURST_BITS};
 ghost use Rattle.ats_num.specs.declared.wire.TheConstants.{MIN_OCTETS, MAX_OCTETS, MAX_WIRE_BITS};
+ghost use Rattle.ats_num.specs.declared.pace.TheConstants.{MAX_SPREAD};
 
 /// What is printed in decimal is read back, for each number below 10^36.
 pub fn decimal_reads_back()
@@ -21,4 +22,5 @@ pub fn constants_are()
     ensures least { MIN_OCTETS ≡ 64 }
     ensures most { MAX_OCTETS ≡ 2000 }
     ensures bits { MAX_WIRE_BITS ≡ 16160 }
+    ensures spread { MAX_SPREAD ≡ 1000000000 }
 {}

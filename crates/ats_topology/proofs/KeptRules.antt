@@ -5,12 +5,12 @@ use Rattle.std.specs.List.{All}
 use Rattle.std.proofs.lemmas.List.Elements.{All-weaker}
 use Rattle.ats_topology.specs.Port.{IsBetween, ArePaired, GoesBetween, port_between, port_at, goes, no_port}
 use Rattle.ats_topology.specs.PortTable.{NodePorts}
-use Rattle.ats_topology.specs.Topology.{DeclaredTopology, ports_of, IsPort, IsTopology}
+use Rattle.ats_topology.specs.Topology.{DeclaredTopology, ports_of, topology_of, IsPort, IsTopology, KeepsPorts}
 use Rattle.ats_topology.specs.Kept.{AreKept}
 use Rattle.ats_topology.specs.declared.node.Node.{Node}
 use Rattle.ats_topology.specs.declared.link.Link.{Link}
 use Rattle.ats_topology.specs.declared.port.Port.{Port}
-use Rattle.ats_topology.proofs.Rules.{topology_rules}
+use Rattle.ats_topology.proofs.Rules.{topology_rules, ports_are_kept}
 use Rattle.ats_topology.proofs.PositionLemmas.{IsFound, found}
 
 -- what is kept beside nodes and links makes them a topology
@@ -22,6 +22,18 @@ kept_rules nodes links table between value kept is =
     subst IsTopology (sym (ap with_ports (ap (λ (v : NodePorts). v.ports) kept.ports)) ∙ is)
     (topology_rules nodes links kept.sound)
 
+-- and its ports keep what those of a topology keep
+pub kept_ports : (nodes : List Node) (links : List Link) (table : List (List ℕ))
+    (between : NodePorts) (value : DeclaredTopology) → AreKept nodes links table between
+    → record { nodes = nodes; links = links; ports = between.ports } ≡ value → KeepsPorts value
+kept_ports nodes links table between value kept is =
+    ports_are_kept value (kept_rules nodes links table between value kept is)
+
+own_ports : (nodes : List Node) (links : List Link) (table : List (List ℕ)) (between : NodePorts)
+    → AreKept nodes links table between → KeepsPorts (topology_of nodes links)
+own_ports nodes links table between kept =
+    ports_are_kept (topology_of nodes links) (topology_rules nodes links kept.sound)
+
 -- its ports lie between its nodes
 pub all_between : (nodes : ℕ) (ports : List Port) → All (IsPort nodes) ports → All (IsBetween nodes) ports
 all_between nodes ports each = All-weaker (IsPort nodes) (IsBetween nodes) (λ p h. h.between) ports each
@@ -31,12 +43,12 @@ pub table_between : (nodes : List Node) (links : List Link) (table : List (List 
     → AreKept nodes links table between → All (IsBetween between.nodes) between.ports
 table_between nodes links table between kept =
     subst (λ (v : NodePorts). All (IsBetween v.nodes) v.ports) (sym kept.ports)
-    (all_between (length nodes) (ports_of nodes links) (topology_rules nodes links kept.sound).each_port)
+    (all_between (length nodes) (ports_of nodes links) (own_ports nodes links table between kept).each)
 
 pub table_paired : (nodes : List Node) (links : List Link) (table : List (List ℕ)) (between : NodePorts)
     → AreKept nodes links table between → ArePaired between.ports
 table_paired nodes links table between kept =
-    subst (λ (v : NodePorts). ArePaired v.ports) (sym kept.ports) (topology_rules nodes links kept.sound).paired
+    subst (λ (v : NodePorts). ArePaired v.ports) (sym kept.ports) (own_ports nodes links table between kept).paired
 
 -- the port that a search finds goes between its nodes
 pub goes_between : (ports : List Port) (a b : ℕ) (number : Option ℕ) → number ≡ port_between a b ports

@@ -13,16 +13,18 @@ use Rattle.std.proofs.lemmas.List.Sums.{sum_by-cons}
 use Rattle.std.proofs.lemmas.List.Elements.{All-nil, All-cons, All-head, All-tail, All-weaker}
 use Rattle.std.proofs.lemmas.Slice.Eq.{bytes_eq-Decides}
 use Rattle.ats_num.specs.Places.{place_of}
-use Rattle.ats_topology.specs.Node.{names_of, is_station, processing_of, residence_of, AreApart}
+use Rattle.ats_topology.specs.Node.{names_of, is_station, least_processing_of, greatest_processing_of, residence_of}
+use Rattle.ats_topology.specs.Node.{AreApart}
 use Rattle.ats_topology.specs.Link.{ends_at, is_self_link}
 use Rattle.ats_topology.specs.Rates.{ps_per_bit_of, link_rates, IsPsPerBit}
 use Rattle.ats_topology.specs.Port.{port_at, leaves, leads_to, HasBack, ArePaired}
 use Rattle.ats_topology.specs.Faults.{topology_fault, node_twice, link_twice, self_link, unknown_node, station_links}
-use Rattle.ats_topology.specs.Faults.{bad_rate, is_over, is_node_over, is_link_over, is_badly_linked}
+use Rattle.ats_topology.specs.Faults.{bad_rate, is_over, is_node_over, is_link_over, is_badly_linked, bad_processing}
+use Rattle.ats_topology.specs.Faults.{has_bad_processing, limit}
 use Rattle.ats_topology.specs.Topology.{no_node, node_at, node_number, link_at, port_of, ports_of, topology_of, IsNode}
-use Rattle.ats_topology.specs.Topology.{IsLink, IsPort, HasOnePort, IsTopology}
+use Rattle.ats_topology.specs.Topology.{IsLink, IsPort, HasOnePort, DeclaredTopology, IsTopology, IsLinked, KeepsPorts}
 use Rattle.ats_topology.specs.declared.fault.TopologyFault.{TopologyFault}
-use Rattle.ats_topology.specs.declared.fault.TopologyFault.TheVariants.{StationLinks, SelfLink, Limit}
+use Rattle.ats_topology.specs.declared.fault.TopologyFault.TheVariants.{StationLinks, SelfLink, Limit, BadProcessing}
 use Rattle.ats_topology.specs.declared.node.Node.{Node}
 use Rattle.ats_topology.specs.declared.link.Link.{Link}
 use Rattle.ats_topology.specs.declared.port.Port.{Port}
@@ -30,7 +32,7 @@ use Rattle.ats_topology.specs.declared.node.TheConstants.{MAX_NODES, MAX_PROCESS
 use Rattle.ats_topology.specs.declared.link.TheConstants.{MAX_LINKS, MAX_PROPAGATION_NS}
 use Rattle.ats_topology.proofs.PositionLemmas.{all_fail}
 use Rattle.ats_topology.proofs.NameLemmas.{length-names_of, name_at}
-use Rattle.ats_topology.proofs.Known.{IsOpen, no_place, apart, all_open, number_is}
+use Rattle.ats_topology.proofs.Known.{IsOpen, no_place, apart, all_open, number_is, name_there}
 use Rattle.ats_topology.proofs.Numbered.{node_number_is, node_number_within, has_rate, length-ports_of}
 
 -- no fault of any kind
@@ -42,6 +44,7 @@ record HasNoFault (nodes : List Node) (links : List Link) : Type 0 where
   stations : station_links nodes links ≡ None
   rated : bad_rate links ≡ None
   within : is_over nodes links ≡ false
+  ordered : bad_processing nodes ≡ None
 
 some_fault : (fault : TopologyFault) → None ≡ Some fault → ⊥
 some_fault fault h = cc
@@ -62,6 +65,7 @@ no_fault nodes links h =
     let four = none_parts (unknown_node nodes links) _ three.1 in
     let five = none_parts (station_links nodes links) _ four.1 in
     let six = none_parts (bad_rate links) _ five.1 in
+    let seven = none_parts (limit nodes links) _ six.1 in
     record {
       apart = one.0;
       joined = two.0;
@@ -69,7 +73,8 @@ no_fault nodes links h =
       known = four.0;
       stations = five.0;
       rated = six.0;
-      within = not_over (is_over nodes links) six.1;
+      within = not_over (is_over nodes links) seven.0;
+      ordered = seven.1;
     }
 
 any_false : {X : Type 0} (t : X → Bool) (xs : List X) → list_any t xs ≡ false → All (λ (x : X). t x ≡ false) xs
@@ -82,17 +87,18 @@ any_false t (x ∷ xs) h =
 record IsWithinLimits (nodes : List Node) (links : List Link) : Type 0 where
   few_nodes : length nodes ≤ MAX_NODES
   few_links : length links ≤ MAX_LINKS
-  each_node : All IsNode nodes
+  each_node : All (λ (node : Node). is_node_over node ≡ false) nodes
   propagation : All (λ (link : Link). link.propagation_ns ≤ MAX_PROPAGATION_NS) links
 
-is_node : (node : Node) → is_node_over node ≡ false → IsNode node
-is_node node h =
-    let parts : (nat_lt MAX_PROCESSING_NS (processing_of node.kind) ≡ false)
+is_node : (node : Node) → is_node_over node ≡ false → has_bad_processing node ≡ false → IsNode node
+is_node node h ordered =
+    let parts : (nat_lt MAX_PROCESSING_NS (greatest_processing_of node.kind) ≡ false)
     × (nat_lt MAX_RESIDENCE_NS (residence_of node.kind) ≡ false) =
-    or_parts (nat_lt MAX_PROCESSING_NS (processing_of node.kind))
+    or_parts (nat_lt MAX_PROCESSING_NS (greatest_processing_of node.kind))
     (nat_lt MAX_RESIDENCE_NS (residence_of node.kind)) h in
     record {
-      processing = ltb-false MAX_PROCESSING_NS (processing_of node.kind) parts.0;
+      ordered = ltb-false (greatest_processing_of node.kind) (least_processing_of node.kind) ordered;
+      processing = ltb-false MAX_PROCESSING_NS (greatest_processing_of node.kind) parts.0;
       residence = ltb-false MAX_RESIDENCE_NS (residence_of node.kind) parts.1;
     }
 
@@ -106,8 +112,7 @@ limits nodes links h =
     record {
       few_nodes = ltb-false MAX_NODES (length nodes) parts.0;
       few_links = ltb-false MAX_LINKS (length links) parts.1;
-      each_node =
-          All-weaker (λ (n : Node). is_node_over n ≡ false) IsNode is_node nodes (any_false is_node_over nodes parts.2);
+      each_node = any_false is_node_over nodes parts.2;
       propagation =
           All-weaker (λ (l : Link). is_link_over l ≡ false) (λ (l : Link). l.propagation_ns ≤ MAX_PROPAGATION_NS)
           (λ l g. ltb-false MAX_PROPAGATION_NS l.propagation_ns g) links (any_false is_link_over links parts.3);
@@ -118,10 +123,6 @@ limits nodes links h =
     four false true d e h = absurd (true≢false h)
     four false false true e h = absurd (true≢false h)
     four false false false e h = (refl, refl, refl, h)
-
--- each link keeps what a link keeps
-record IsRated (link : Link) : Type 0 where
-  rate : IsSome (ps_per_bit_of link.mbps)
 
 link_of : (nodes : List Node) (link : Link) → IsOpen (names_of nodes) link → IsSome (ps_per_bit_of link.mbps)
     → is_self_link link ≡ false → link.propagation_ns ≤ MAX_PROPAGATION_NS → IsLink nodes link
@@ -186,11 +187,13 @@ rate_of mbps h = by (ps_per_bit_of mbps) refl h
     by None e g = absurd (false≢true g)
     by (Some v) e g = value_of IsPsPerBit (λ rate. rate == mbps) link_rates v tabled e
 
-processing_small : (nodes : List Node) → All IsNode nodes → (n : ℕ)
-    → processing_of (node_at nodes n).kind ≤ MAX_PROCESSING_NS
-processing_small nodes each n = ⊎_elim (λ h. (each n no_node h).processing)
-    (λ h. let past : node_at nodes n ≡ no_node = get_or_past nodes n no_node h in
-    omega (arith, ap (λ (node : Node). processing_of node.kind) past)) (cases_lt n (length nodes))
+station_is : IsNode no_node
+station_is = record { ordered = omega arith; processing = omega arith; residence = omega arith }
+
+-- so does the node with any number, where one past the end is a station
+node_is : (nodes : List Node) → All IsNode nodes → (n : ℕ) → IsNode (node_at nodes n)
+node_is nodes each n = ⊎_elim (each n no_node)
+    (λ h. subst IsNode (sym (get_or_past nodes n no_node h)) station_is) (cases_lt n (length nodes))
 
 -- the port from one end of a link to the other keeps what a port keeps
 port_is : (nodes : List Node) (link : Link) (x y : List ℕ) (m n : ℕ) → place_of x (names_of nodes) ≡ Some m
@@ -201,25 +204,23 @@ port_is nodes link x y m n at_x at_y differ rate within each = record {
   between = record { from = node_number_within nodes x m at_x; to = node_number_within nodes y n at_y };
   differ = λ same. differ (sym (node_number_is nodes x m at_x) ∙ same ∙ node_number_is nodes y n at_y);
   rate = rate_of link.mbps rate;
-  latency = omega (arith, within, processing_small nodes each (node_number nodes y));
+  ordered = omega (arith, (node_is nodes each (node_number nodes y)).ordered);
+  latency = omega (arith, within, (node_is nodes each (node_number nodes y)).processing);
+  spread = omega (arith, (node_is nodes each (node_number nodes y)).processing);
 }
 
 ports_are : (nodes : List Node) → All IsNode nodes → (links : List Link) → All (IsOpen (names_of nodes)) links
-    → All IsRated links → All (λ (link : Link). link.propagation_ns ≤ MAX_PROPAGATION_NS) links
-    → All (IsPort (length nodes)) (ports_of nodes links)
-ports_are nodes each [] opens rates times = All-nil (IsPort (length nodes))
-ports_are nodes each (link ∷ links) opens rates times =
+    → All (IsLink nodes) links → All (IsPort (length nodes)) (ports_of nodes links)
+ports_are nodes each [] opens links_are = All-nil (IsPort (length nodes))
+ports_are nodes each (link ∷ links) opens links_are =
     let o : IsOpen (names_of nodes) link = All-head (IsOpen (names_of nodes)) link links opens in
-    let r : IsRated link = All-head IsRated link links rates in
-    let t : link.propagation_ns ≤ MAX_PROPAGATION_NS =
-    All-head (λ (l : Link). l.propagation_ns ≤ MAX_PROPAGATION_NS) link links times in
+    let l : IsLink nodes link = All-head (IsLink nodes) link links links_are in
     All-cons (IsPort (length nodes)) (port_of nodes link link.a link.b) (port_of nodes link link.b link.a
-    ∷ ports_of nodes links) (port_is nodes link link.a link.b o.a o.b o.a_at o.b_at o.differ r.rate t each)
+    ∷ ports_of nodes links) (port_is nodes link link.a link.b o.a o.b o.a_at o.b_at o.differ l.rate l.propagation each)
     (All-cons (IsPort (length nodes)) (port_of nodes link link.b link.a) (ports_of nodes links)
-    (port_is nodes link link.b link.a o.b o.a o.b_at o.a_at (λ e. o.differ (sym e)) r.rate t each)
+    (port_is nodes link link.b link.a o.b o.a o.b_at o.a_at (λ e. o.differ (sym e)) l.rate l.propagation each)
     (ports_are nodes each links (All-tail (IsOpen (names_of nodes)) link links opens)
-    (All-tail IsRated link links rates)
-    (All-tail (λ (l : Link). l.propagation_ns ≤ MAX_PROPAGATION_NS) link links times)))
+    (All-tail (IsLink nodes) link links links_are)))
 
 -- two ports on is one link on
 port_later : (p q : Port) (ports : List Port) (n : ℕ) → port_at (p ∷ q ∷ ports) (n + 2) ≡ port_at ports n
@@ -332,17 +333,13 @@ pub topology_rules : (nodes : List Node) (links : List Link) → topology_fault 
     → IsTopology (topology_of nodes links)
 topology_rules nodes links sound = record {
   numbered = refl;
-  names = separate;
+  names = apart nodes none.apart;
   few_nodes = small.few_nodes;
   few_links = small.few_links;
-  two_each = length-ports_of nodes links;
-  each_node = small.each_node;
+  each_node = λ k d h. is_node (get_or nodes k d) (small.each_node k d h) (ordered k d h);
   each_link =
-      λ k d h. link_of nodes (get_or links k d) (opens k d h) (rates k d h).rate (self k d h) (small.propagation k d h);
-  each_port = ports_are nodes small.each_node links opens rates small.propagation;
-  link_ports = λ i h. record { there = there_at nodes links i h; back = back_at nodes links i h };
-  stations = station;
-  paired = all_paired nodes links;
+      λ k d h. link_of nodes (get_or links k d) (opens k d h) (rate k d h) (self k d h) (small.propagation k d h);
+  stations = λ k d h. one_link links (get_or nodes k d) (linked k d h);
 }
   where
     none : HasNoFault nodes links
@@ -351,8 +348,11 @@ topology_rules nodes links sound = record {
     small : IsWithinLimits nodes links
     small = limits nodes links none.within
 
-    separate : AreApart (names_of nodes)
-    separate = apart nodes none.apart
+    ordered : All (λ (node : Node). has_bad_processing node ≡ false) nodes
+    ordered = all_fail has_bad_processing 0 nodes (no_place BadProcessing _ none.ordered)
+
+    linked : All (λ (node : Node). is_badly_linked links node ≡ false) nodes
+    linked = all_fail (is_badly_linked links) 0 nodes (no_place StationLinks _ none.stations)
 
     opens : All (IsOpen (names_of nodes)) links
     opens = all_open nodes links none.known none.differ
@@ -360,21 +360,58 @@ topology_rules nodes links sound = record {
     self : All (λ (link : Link). is_self_link link ≡ false) links
     self = all_fail is_self_link 0 links (no_place SelfLink _ none.differ)
 
-    rates : All IsRated links
-    rates k d h = record {
-      rate = has_rate links none.rated k (get_or links k d) h (get_or_default links k d (get_or links k d) h);
+    rate : All (λ (link : Link). IsSome (ps_per_bit_of link.mbps)) links
+    rate k d h = has_rate links none.rated k (get_or links k d) h (get_or_default links k d (get_or links k d) h)
+
+-- the ends of a link of a topology are numbers of two nodes
+open_of : (nodes : List Node) (link : Link) → IsLink nodes link → IsOpen (names_of nodes) link
+open_of nodes link l =
+    let names : List (List ℕ) = names_of nodes in
+    let a : (n : ℕ) × (place_of link.a names ≡ Some n) = there (place_of link.a names) l.a in
+    let b : (n : ℕ) × (place_of link.b names ≡ Some n) = there (place_of link.b names) l.b in
+    record {
+      a = a.0;
+      b = b.0;
+      a_at = a.1;
+      b_at = b.1;
+      differ = λ same. l.differ ((name_there names link.a a.0 a.1).1 ∙ ap (λ (n : ℕ). get_or names n []) same
+          ∙ sym (name_there names link.b b.0 b.1).1);
     }
+  where
+    there : (o : Option ℕ) → IsSome o → (n : ℕ) × (o ≡ Some n)
+    there None h = absurd (false≢true h)
+    there (Some n) h = (n, refl)
+
+-- what the ports of the links of nodes and links keep, where these make a topology
+ports_keep : (nodes : List Node) (links : List Link) → AreApart (names_of nodes) → All IsNode nodes
+    → All (IsLink nodes) links → All (IsLinked links) nodes → KeepsPorts (topology_of nodes links)
+ports_keep nodes links separate each_node each_link linked = record {
+  two_each = length-ports_of nodes links;
+  each = ports_are nodes each_node links opens each_link;
+  link_ports = λ i h. record { there = there_at nodes links i h; back = back_at nodes links i h };
+  stations = station;
+  paired = all_paired nodes links;
+}
+  where
+    opens : All (IsOpen (names_of nodes)) links
+    opens k d h = open_of nodes (get_or links k d) (each_link k d h)
 
     station : (n : ℕ) → n < length nodes → IsTrue (is_station (node_at nodes n).kind)
         → HasOnePort (ports_of nodes links) n
     station n within is =
         let node : Node = node_at nodes n in
         let named : n < length (names_of nodes) = omega (arith, length-names_of nodes) in
-        let fine : is_badly_linked links node ≡ false =
-        all_fail (is_badly_linked links) 0 nodes (no_place StationLinks _ none.stations) n no_node within in
         let name : get_or (names_of nodes) n [] ≡ node.name =
         name_at nodes n node within (get_or_default nodes n no_node node within) in
         let one : count_by (ends_at (get_or (names_of nodes) n [])) links ≡ 1 =
-        ap (λ (x : List ℕ). count_by (ends_at x) links) name ∙ one_link links node fine is in
+        ap (λ (x : List ℕ). count_by (ends_at x) links) name ∙ linked n no_node within is in
         let counts = count_ports nodes separate n named links opens in
         record { leaves = counts.0 ∙ one; leads = counts.1 ∙ one }
+
+-- what the ports of a topology keep follows from its rules
+pub ports_are_kept : (topology : DeclaredTopology) → IsTopology topology → KeepsPorts topology
+ports_are_kept topology t =
+    let with_ports : List Port → DeclaredTopology =
+    λ ports. record { nodes = topology.nodes; links = topology.links; ports = ports } in
+    subst KeepsPorts (sym (ap with_ports t.numbered))
+    (ports_keep topology.nodes topology.links t.names t.each_node t.each_link t.stations)

@@ -2,9 +2,10 @@ use Rattle.std.specs.Prelude.{◌≡◌, ℕ, ◌+◌, ◌*◌, ◌<◌, ◌≤�
 use Rattle.std.specs.Prelude.{unwrap_or, count_by, All}
 use Rattle.std.specs.List.{flat_map}
 use Rattle.ats_num.specs.Places.{place_of}
+use Rattle.ats_num.specs.declared.pace.TheConstants.{MAX_SPREAD}
 use Rattle.ats_topology.specs.Node.{names_of, is_station, least_processing_of, greatest_processing_of, residence_of}
 use Rattle.ats_topology.specs.Node.{AreApart}
-use Rattle.ats_topology.specs.Port.{port_at, leaves, leads_to, IsBetween, ArePaired}
+use Rattle.ats_topology.specs.Port.{port_at, leaves, leads_to, spread_of, IsBetween, ArePaired}
 use Rattle.ats_topology.specs.Rates.{ps_per_bit_of, IsPsPerBit}
 use Rattle.ats_topology.specs.Faults.{no_link}
 use Rattle.ats_topology.specs.Link.{ends_at}
@@ -81,13 +82,14 @@ pub record IsLink (nodes : List Node) (link : Link) : Type 0 where
   pub rate : IsSome (ps_per_bit_of link.mbps)
   pub propagation : link.propagation_ns ≤ MAX_PROPAGATION_NS
 
--- what each port between so many nodes keeps
+-- what each port between so many nodes keeps: its ends are two of them, and its times are those of a link and a node
 pub record IsPort (nodes : ℕ) (port : Port) : Type 0 where
   pub between : IsBetween nodes port
   pub differ : port.from ≢ port.to
   pub rate : IsPsPerBit port.ps_per_bit
   pub ordered : port.earliest.0 ≤ port.latency.0
   pub latency : port.latency.0 ≤ 2000000000
+  pub spread : spread_of port ≤ MAX_SPREAD
 
 -- link i has port 2 * i from its first end to its second, and port 2 * i + 1 back
 pub record HasPorts (topology : DeclaredTopology) (i : ℕ) : Type 0 where

@@ -7,6 +7,7 @@ ghost use Rattle.ats_topology.specs.Node.{names_of};
 ghost use Rattle.ats_topology.specs.Link.{is_self_link};
 ghost use Rattle.ats_topology.specs.Faults.{node_twice, link_twice, self_link, unknown_node, bad_rate, limit};
 ghost use Rattle.ats_topology.specs.Faults.{has_unknown_end, has_bad_rate, is_kind_over, is_node_over, is_link_over};
+ghost use Rattle.ats_topology.specs.Faults.{bad_processing, has_bad_processing};
 ghost use Rattle.ats_topology.specs.Faults.{is_over};
 
 use crate::fault::TopologyFault;
@@ -150,9 +151,10 @@ fn is_kind_over(kind: &Kind) -> bool
     match kind {
         Kind::Station => false,
         Kind::Bridge {
-            processing_ns,
+            processing_max_ns,
             residence_ns,
-        } => *processing_ns > MAX_PROCESSING_NS || *residence_ns > MAX_RESIDENCE_NS,
+            ..
+        } => *processing_max_ns > MAX_PROCESSING_NS || *residence_ns > MAX_RESIDENCE_NS,
     }
 }
 
@@ -162,4 +164,22 @@ fn are_links_over(links: &[Link]) -> bool
     links
         .iter()
         .any(|link| link.propagation_ns > MAX_PROPAGATION_NS)
+}
+
+/// The first bridge whose least processing is over its greatest.
+pub(crate) fn bad_processing(nodes: &[Node]) -> Option<TopologyFault>
+    requires few { length nodes.now < 4294967295 }
+    ensures { result ≡ bad_processing nodes.now }
+{
+    match bad_processing_place(nodes) {
+        Some(i) => Some(TopologyFault::BadProcessing(i as u32 + 1)),
+        None => None,
+    }
+}
+
+fn bad_processing_place(nodes: &[Node]) -> Option<usize>
+    ensures place { result ≡ position_from has_bad_processing 0 nodes.now }
+    ensures within { IfSome result (λ i. i < length nodes.now) }
+{
+    nodes.iter().position(|node| node.kind.processing_min_ns() > node.kind.processing_max_ns())
 }

@@ -20,9 +20,11 @@ pub enum TopologyFault {
     StationLinks(u32),
     /// The rate of the link is none that a link may have.
     BadRate(u32),
-    /// There are over 1024 nodes or 2048 links, or a propagation or processing is over 1,000,000
-    /// ns, or a residence over 1,000,000,000 ns.
+    /// There are over 1024 nodes or 2048 links, or a propagation or a greatest processing is over
+    /// 1,000,000 ns, or a residence over 1,000,000,000 ns.
     Limit,
+    /// The node is a bridge whose least processing is over its greatest.
+    BadProcessing(u32),
 }
 
 impl Fault for TopologyFault {}
@@ -42,6 +44,7 @@ impl fmt::Display for TopologyFault {
             TopologyFault::StationLinks(n) => write!(f, "station-links {n}"),
             TopologyFault::BadRate(n) => write!(f, "bad-rate {n}"),
             TopologyFault::Limit => f.write_str("limit"),
+            TopologyFault::BadProcessing(n) => write!(f, "bad-processing {n}"),
         }
     }
 }

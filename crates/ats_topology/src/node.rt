@@ -1,17 +1,17 @@
 //! Nodes of a network.
 
 ghost use Rattle.std.specs.Prelude.{◌≡◌};
-ghost use Rattle.ats_topology.specs.Node.{is_station, processing_of};
+ghost use Rattle.ats_topology.specs.Node.{is_station, least_processing_of, greatest_processing_of};
 
 use ats_num::Name;
 
 /// The most nodes of a network.
 pub const MAX_NODES: usize = 1024;
 
-/// The greatest processing time of a bridge, in nanoseconds.
+/// The limit of the greatest processing time of a bridge, in nanoseconds.
 pub const MAX_PROCESSING_NS: u32 = 1_000_000;
 
-/// The greatest maximum residence time of a bridge, in nanoseconds.
+/// The limit of the maximum residence time of a bridge, in nanoseconds.
 pub const MAX_RESIDENCE_NS: u32 = 1_000_000_000;
 
 /// What a node is.
@@ -21,8 +21,11 @@ pub enum Kind {
     Station,
     /// A bridge (IEEE Std 802.1Q).
     Bridge {
-        /// The time from the end of a frame's reception to its arrival at the next port, 0 to 1,000,000 ns.
-        processing_ns: u32,
+        /// The least time from the end of a frame's reception to its arrival at the next port, at
+        /// most the greatest.
+        processing_min_ns: u32,
+        /// The greatest such time, 0 to 1,000,000 ns.
+        processing_max_ns: u32,
         /// The maximum residence time, 0 to 1,000,000,000 ns (IEEE Std 802.1Qcr, MaxResidenceTime).
         residence_ns: u32,
     },
@@ -42,23 +45,33 @@ impl Kind {
     {
         match self {
             Kind::Station => true,
-            Kind::Bridge {
-                processing_ns: _,
-                residence_ns: _,
-            } => false,
+            Kind::Bridge { .. } => false,
         }
     }
 
-    /// The processing time in nanoseconds; a station has none.
-    pub fn processing_ns(&self) -> u32
-        ensures { result ≡ processing_of self.now }
+    /// The least processing time in nanoseconds; a station has none.
+    pub fn processing_min_ns(&self) -> u32
+        ensures { result ≡ least_processing_of self.now }
     {
         match self {
             Kind::Station => 0,
             Kind::Bridge {
-                processing_ns,
-                residence_ns: _,
-            } => *processing_ns,
+                processing_min_ns,
+                ..
+            } => *processing_min_ns,
+        }
+    }
+
+    /// The greatest processing time in nanoseconds; a station has none.
+    pub fn processing_max_ns(&self) -> u32
+        ensures { result ≡ greatest_processing_of self.now }
+    {
+        match self {
+            Kind::Station => 0,
+            Kind::Bridge {
+                processing_max_ns,
+                ..
+            } => *processing_max_ns,
         }
     }
 }

@@ -1,6 +1,6 @@
 //! The ports of links.
 
-ghost use Rattle.std.specs.Prelude.{◌≡◌, ◌≤◌, None, IfOk, IsSome, length};
+ghost use Rattle.std.specs.Prelude.{◌≡◌, ◌+◌, ◌*◌, ◌≤◌, None, IfOk, IsSome, length};
 ghost use Rattle.ats_num.specs.Places.{place_of};
 ghost use Rattle.ats_topology.specs.Node.{names_of};
 ghost use Rattle.ats_topology.specs.Rates.{ps_per_bit_of};
@@ -50,11 +50,19 @@ fn port_of(names: &NameTable, nodes: &[Node], link: &Link, from: &Name, to: &Nam
     ensures { result ≡ port_of nodes.now link.now from.now to.now }
 {
     let to = names.place(to).unwrap();
-    let processing_ns = nodes[to as usize].kind.processing_ns();
+    let kind = &nodes[to as usize].kind;
     Port {
         from: names.place(from).unwrap(),
         to,
         ps_per_bit: ps_per_bit(link.mbps).unwrap(),
-        latency: Ps(PS_PER_NS * (u64::from(link.propagation_ns) + u64::from(processing_ns))),
+        earliest: after(link, kind.processing_min_ns()),
+        latency: after(link, kind.processing_max_ns()),
     }
+}
+
+// The propagation of a link and so many nanoseconds of processing, in picoseconds.
+fn after(link: &Link, processing_ns: u32) -> Ps
+    ensures { result ≡ record { 0 = 1000 * (link.now.propagation_ns + processing_ns) } }
+{
+    Ps(PS_PER_NS * (u64::from(link.propagation_ns) + u64::from(processing_ns)))
 }

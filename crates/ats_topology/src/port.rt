@@ -1,5 +1,8 @@
 //! Ports of a network.
 
+ghost use Rattle.std.specs.Prelude.{◌≡◌};
+ghost use Rattle.ats_topology.specs.Port.{spread_of};
+
 use ats_num::Ps;
 
 /// One direction of a link: the port of node `from` that sends to node `to`. Both are node numbers.
@@ -9,8 +12,21 @@ pub struct Port {
     pub to: u32,
     /// The picoseconds that one bit takes, 10 to 100,000.
     pub ps_per_bit: u32,
-    /// The picoseconds from the end of a transmission to the frame's arrival, 0 to 2,000,000,000:
-    /// the propagation of the link, and the processing of the bridge that the port leads to (a
-    /// station adds none).
+    /// The least picoseconds from the end of a transmission to the frame's arrival: the propagation
+    /// of the link, and the least processing of the bridge that the port leads to (a station adds
+    /// none). At most the latency.
+    pub earliest: Ps,
+    /// The most picoseconds from the end of a transmission to the frame's arrival, 0 to
+    /// 2,000,000,000: the propagation of the link, and the greatest processing of that bridge.
     pub latency: Ps,
+}
+
+impl Port {
+    /// The spread: by how many picoseconds the latest arrival behind the port comes after the
+    /// earliest; 0 where it comes before.
+    pub fn spread(&self) -> u64
+        ensures { result ≡ spread_of self.now }
+    {
+        self.latency.0.saturating_sub(self.earliest.0)
+    }
 }

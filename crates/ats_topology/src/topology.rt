@@ -6,10 +6,12 @@ ghost use Rattle.ats_num.specs.Places.{place_of};
 ghost use Rattle.ats_topology.specs.Node.{names_of};
 ghost use Rattle.ats_topology.specs.Port.{port_between, GoesBetween};
 ghost use Rattle.ats_topology.specs.Faults.{topology_fault};
-ghost use Rattle.ats_topology.specs.Topology.{topology_of, IsTopology};
+ghost use Rattle.ats_topology.specs.Topology.{topology_of, IsTopology, KeepsPorts};
 ghost use Rattle.ats_topology.specs.Walks.{IsLeastWalk, NoWalk, ArePorts};
 
-use crate::checks::{bad_rate, check_joined, limit, named, self_link, unknown_node};
+use crate::checks::{
+    bad_processing, bad_rate, check_joined, limit, named, self_link, unknown_node,
+};
 use crate::fault::TopologyFault;
 use crate::link::Link;
 use crate::node::Node;
@@ -76,6 +78,9 @@ impl Topology {
         if let Some(fault) = limit(&nodes, &links) {
             return Err(Failure::Fault(fault));
         }
+        if let Some(fault) = bad_processing(&nodes) {
+            return Err(Failure::Fault(fault));
+        }
         let table = ports_of(alloc, &names, &nodes, &links)?;
         Ok(Topology {
             node_list: nodes,
@@ -89,6 +94,7 @@ impl Topology {
     pub fn nodes(&self) -> &[Node]
         ensures value { result.now ≡ self.now.nodes }
         ensures rules { IsTopology self.now }
+        ensures kept { KeepsPorts self.now }
     {
         self.node_list.as_slice()
     }
@@ -97,6 +103,7 @@ impl Topology {
     pub fn links(&self) -> &[Link]
         ensures value { result.now ≡ self.now.links }
         ensures rules { IsTopology self.now }
+        ensures kept { KeepsPorts self.now }
     {
         self.link_list.as_slice()
     }
@@ -105,6 +112,7 @@ impl Topology {
     pub fn ports(&self) -> &[Port]
         ensures value { result.now ≡ self.now.ports }
         ensures rules { IsTopology self.now }
+        ensures kept { KeepsPorts self.now }
     {
         self.table.ports()
     }
