@@ -11,7 +11,8 @@ use Rattle.ats_group.specs.declared.member.Member.{Member}
 use Rattle.ats_group.specs.declared.verdict.Verdict.{Verdict}
 use Rattle.ats_group.specs.declared.verdict.Verdict.TheVariants.{Eligible, Late, Size}
 use Rattle.ats_group.specs.Group.{State, Offer, judged, after, verdict_on, empty_once}
-use Rattle.ats_group.specs.GroupsState.{GroupsState, AreGroups, no_member, declared_of, group_of, time_at, empty_at, opened}
+use Rattle.ats_group.specs.GroupsState.{GroupsState, AreGroups, no_member, declared_of, group_of, time_at, empty_at}
+use Rattle.ats_group.specs.GroupsState.{opened}
 use Rattle.ats_group.specs.GroupsState.{residence_of, state_of, groups_after}
 use Rattle.ats_group.specs.Laws.{verdict_at, EachFrameIsAStep, OpenedIsFirst, Outlasts, EachFrameKeepsTheRest}
 use Rattle.ats_group.proofs.Kept.{groups-after}

@@ -35,7 +35,8 @@ abbrev pub scheduler_after : MemberScheduler → ℕ → ℕ → MemberScheduler
 scheduler_after scheduler eligible octets =
     record scheduler {
       bucket = record scheduler.bucket {
-        empty = empty_after scheduler.bucket.rate scheduler.bucket.burst scheduler.bucket.empty eligible (bits_of octets);
+        empty = empty_after scheduler.bucket.rate scheduler.bucket.burst scheduler.bucket.empty eligible
+            (bits_of octets);
       };
     }
 
@@ -48,7 +49,12 @@ empties_of schedulers = map (λ (s : MemberScheduler). s.bucket.empty) scheduler
 -- the groups that these lists hold
 abbrev pub groups_from : List ℕ → List Ps → List MemberScheduler → GroupsState
 groups_from residences_ns times schedulers =
-    record { residences_ns = residences_ns; members = members_of schedulers; times = times; empties = empties_of schedulers }
+    record {
+      residences_ns = residences_ns;
+      members = members_of schedulers;
+      times = times;
+      empties = empties_of schedulers;
+    }
 
 -- the lists fit each other, and their entries are within their ranges
 pub record IsKept (residences_ns : List ℕ) (times : List Ps) (schedulers : List MemberScheduler) : Type 0 where
@@ -56,4 +62,4 @@ pub record IsKept (residences_ns : List ℕ) (times : List Ps) (schedulers : Lis
   pub residences : All (λ (r : ℕ). r ≤ MAX_RESIDENCE_NS) residences_ns
   pub times_bounded : All (λ (t : Ps). t.0 ≤ END) times
   pub groups : All (λ (s : MemberScheduler). s.member.group < length residences_ns) schedulers
-  pub schedulers : All IsMemberScheduler schedulers
+  pub ruled : All IsMemberScheduler schedulers

@@ -5,7 +5,8 @@ use Rattle.ats_num.specs.declared.time.Ps.{Ps}
 use Rattle.ats_bucket.specs.Scheduler.{first_empty}
 use Rattle.ats_group.specs.declared.member.Member.{Member}
 use Rattle.ats_group.specs.Group.{State, Offer, IsRuled, first, judged, verdicts_of, state_after}
-use Rattle.ats_group.specs.GroupsState.{GroupsState, AreGroups, no_member, member_at, declared_of, group_of, residence_of}
+use Rattle.ats_group.specs.GroupsState.{GroupsState, AreGroups, no_member, member_at, declared_of, group_of}
+use Rattle.ats_group.specs.GroupsState.{residence_of}
 use Rattle.ats_group.specs.GroupsState.{state_of, time_at, opened}
 use Rattle.ats_group.specs.Laws.{verdict_at, groups_next, groups_last, verdicts_in, offers_to, Outlasts}
 use Rattle.ats_group.proofs.StepLemmas.{each_frame, the_rest, opened_first}

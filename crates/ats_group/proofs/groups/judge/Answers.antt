@@ -6,7 +6,7 @@ use Rattle.ats_group.proofs.groups.judge.Goals as goal
 pub returns-in-Eligible-clause-value : goal.returns-in-Eligible-clause-value
 returns-in-Eligible-clause-value c =
     value_after-is _ _ _ _ _ _ c.index-schedulers-member.result c.after.result c.in-Eligible.eligible c.requires.member
-    c.index-schedulers-member.is c.requires.kept.schedulers c.after.ensures.value (grind (arith, common_steps))
+    c.index-schedulers-member.is c.requires.kept.ruled c.after.ensures.value (grind (arith, common_steps))
 
 pub returns-in-Eligible-clause-kept : goal.returns-in-Eligible-clause-kept
 returns-in-Eligible-clause-kept c =

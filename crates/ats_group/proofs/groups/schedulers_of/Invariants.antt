@@ -7,4 +7,5 @@ use Rattle.ats_group.proofs.groups.schedulers_of.Given as goal
 abbrev pub invariant-loop-member : goal.invariant-loop-member
 invariant-loop-member l =
     (members_of l.schedulers.items ≡ take l.member-index l.members)
-    × (empties_of l.schedulers.items ≡ first_empties (take l.member-index l.members)) × All IsMemberScheduler l.schedulers.items
+    × (empties_of l.schedulers.items ≡ first_empties (take l.member-index l.members))
+    × All IsMemberScheduler l.schedulers.items
