@@ -1,5 +1,5 @@
-use Rattle.std.specs.Prelude.{◌≡◌, ℕ, ◌≤◌, ◌<◌, ◌^◌, Bool, ◌||◌, ◌&&◌, ◌==◌, not, nat_lt, if◌then◌else◌, List, [], ◌∷◌, length}
-use Rattle.std.specs.Prelude.{replicate, All, Option, Some, None}
+use Rattle.std.specs.Prelude.{◌≡◌, ℕ, ◌-◌, ◌≤◌, ◌<◌, ◌^◌, Bool, ◌||◌, ◌&&◌, ◌==◌, not, nat_lt, if◌then◌else◌}
+use Rattle.std.specs.Prelude.{List, [], ◌∷◌, length, replicate, drop, All, Option, Some, None}
 use Rattle.std.specs.List.{list_any}
 use Rattle.std.specs.Option.{ForSome, option_or}
 use Rattle.ats_streams.specs.Rules.{KeepsRules}
@@ -60,9 +60,13 @@ abbrev pub MayIdentify : Option (ℕ × ℕ) → Type 0
 MayIdentify identity = ForSome identity (λ pair. IsIdentity pair.0 pair.1)
 
 -- the classes of a stream along a path of so many ports, of those that are given: one stands for each port
-abbrev pub classes_along : ℕ → List ℕ → List ℕ
-classes_along ports (class ∷ []) = replicate ports class
-classes_along ports given = given
+abbrev pub classes_for : ℕ → List ℕ → List ℕ
+classes_for ports (class ∷ []) = replicate ports class
+classes_for ports given = given
+
+-- behind the classes at so many ports, an array of 16 has zeros
+abbrev pub HasZerosBehind : ℕ → List ℕ → Type 0
+HasZerosBehind ports classes = drop ports classes ≡ replicate (16 - ports) 0
 
 -- what each stream keeps
 pub record IsStream (stream : DeclaredStream) : Type 0 where
@@ -89,8 +93,8 @@ abbrev pub are_bad_classes : ℕ → List ℕ → Bool
 are_bad_classes ports given =
     list_any is_bad_class given || (not (length given == 1) && not (length given == ports))
 
--- the first rule that a stream for which these classes are given breaks, if it breaks one: the classes, then rate, sizes
--- and burst, then the limits
+-- the first rule that a stream for which these classes are given breaks, if it breaks one: the classes, then rate,
+-- sizes and burst, then the limits
 abbrev pub stream_fault : List ℕ → DeclaredStream → Option StreamFault
 stream_fault given stream =
     if are_bad_classes (length stream.path) given then Some BadClass

@@ -1,6 +1,7 @@
 //! Declared streams and flows, and the rules that they keep.
 #![tactic(auto)]
 
+pub mod classes;
 pub mod fault;
 pub mod flow;
 pub mod laws;

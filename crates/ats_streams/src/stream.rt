@@ -1,13 +1,14 @@
 //! Declared streams.
 
-ghost use Rattle.std.specs.Prelude.{◌≡◌, ◌↔◌, IsTrue, IsNone, IfOk};
+ghost use Rattle.std.specs.Prelude.{◌≡◌, ◌↔◌, length, IsTrue, IsNone, IfOk};
 ghost use Rattle.std.specs.Result.{result_err};
 ghost use Rattle.ats_num.specs.Rate.{IsRate};
 ghost use Rattle.ats_streams.specs.Rules.{KeepsRules};
 ghost use Rattle.ats_streams.specs.Path.{IsPath};
-ghost use Rattle.ats_streams.specs.Stream.{IsClass, IsDeadline, IsIdentity, MayIdentify, IsStream, declared_stream};
-ghost use Rattle.ats_streams.specs.Stream.{limit_fault, stream_fault};
+ghost use Rattle.ats_streams.specs.Stream.{IsDeadline, IsIdentity, MayIdentify, IsStream, declared_stream};
+ghost use Rattle.ats_streams.specs.Stream.{classes_for, limit_fault, stream_fault};
 
+use crate::classes::{are_bad_classes, classes_for};
 use crate::fault::{StreamFault, declared_fault};
 use crate::path::is_path;
 use ats_num::{Name, Rate};
@@ -35,7 +36,7 @@ pub fn is_identity(address: u64, vlan: u16) -> bool
 pub struct Stream {
     name: Name,
     path: Vec<u32>,
-    class: u8,
+    classes: [u8; 16],
     rate: Rate,
     burst_bits: u64,
     min_octets: u32,
@@ -45,36 +46,40 @@ pub struct Stream {
 }
 
 impl Model for Stream {
-    ghost use Rattle.ats_streams.specs.Stream.{DeclaredStream, IsStream, declared_stream};
+    ghost use Rattle.std.specs.Prelude.{length, take};
+    ghost use Rattle.ats_streams.specs.Stream.{DeclaredStream, IsStream, HasZerosBehind, declared_stream};
 
     ghost Value = { DeclaredStream };
 
-    ghost view = { λ s. declared_stream s.name s.path.items s.class s.rate s.burst_bits
-        s.min_octets s.max_octets s.deadline_ns s.identity };
+    ghost view = { λ s. declared_stream s.name s.path.items (take (length s.path.items) s.classes) s.rate
+        s.burst_bits s.min_octets s.max_octets s.deadline_ns s.identity };
 
-    ghost invariant = { λ s. IsStream (declared_stream s.name s.path.items s.class s.rate s.burst_bits
-        s.min_octets s.max_octets s.deadline_ns s.identity) };
+    ghost invariant = { λ s. IsStream (declared_stream s.name s.path.items (take (length s.path.items) s.classes)
+        s.rate s.burst_bits s.min_octets s.max_octets s.deadline_ns s.identity)
+        × HasZerosBehind (length s.path.items) s.classes };
 }
 
 impl Stream {
-    /// The stream with this name, the ports of its path, its class, its rate in bits per second,
-    /// its burst in bits, its least and greatest octets counted with the frame check sequence, its
-    /// deadline in nanoseconds, and the destination address and VLAN identifier of its frames,
-    /// where they are declared. It holds exactly these, and takes no memory.
+    /// The stream with this name, the ports of its path, its class at each of them, its rate in bits
+    /// per second, its burst in bits, its least and greatest octets counted with the frame check
+    /// sequence, its deadline in nanoseconds, and the destination address and VLAN identifier of its
+    /// frames, where they are declared. It holds exactly these, and takes no memory. Of the classes,
+    /// a single one stands for each port; else each port has its own, in the order of the path.
     ///
     /// An address that is given has 48 bits, and its VLAN identifier is 1 to 4094; `is_identity` tests it.
     ///
     /// # Errors
     ///
-    /// The first of these, in this order: `BadClass` where the class is not 1 to 7; `BadRate` where
-    /// the rate is not 1 to 100,000,000,000; `BadSizes` where the sizes are not `64 <= min_octets
-    /// <= max_octets <= 2000`; `BurstBelowFrame` where the burst is below the wire bits of
-    /// `max_octets`; `Limit` where the path has no port or more than 16, the burst is over
-    /// 1,000,000,000, or the deadline is not 1 to 1,000,000,000.
+    /// The first of these, in this order: `BadClass` where a class is not 1 to 7, or where there are
+    /// neither one class nor as many as the path has ports; `BadRate` where the rate is not 1 to
+    /// 100,000,000,000; `BadSizes` where the sizes are not `64 <= min_octets <= max_octets <= 2000`;
+    /// `BurstBelowFrame` where the burst is below the wire bits of `max_octets`; `Limit` where the
+    /// path has no port or more than 16, the burst is over 1,000,000,000, or the deadline is not 1 to
+    /// 1,000,000,000.
     pub fn new(
         name: Name,
         path: Vec<u32>,
-        class: u64,
+        classes: &[u64],
         rate_bps: u64,
         burst_bits: u64,
         min_octets: u64,
@@ -83,13 +88,15 @@ impl Stream {
         identity: Option<(u64, u16)>,
     ) -> Result<Self, StreamFault>
         requires { MayIdentify identity }
-        ensures fault { result_err result ≡ stream_fault (declared_stream name path.items class rate_bps burst_bits
-            min_octets max_octets deadline_ns identity) }
-        ensures value { IfOk result (λ stream. stream ≡ declared_stream name path.items class rate_bps burst_bits
-            min_octets max_octets deadline_ns identity) }
+        ensures fault { result_err result ≡ stream_fault classes.now (declared_stream name path.items
+            (classes_for (length path.items) classes.now) rate_bps burst_bits min_octets max_octets deadline_ns
+            identity) }
+        ensures value { IfOk result (λ stream. stream ≡ declared_stream name path.items
+            (classes_for (length path.items) classes.now) rate_bps burst_bits min_octets max_octets deadline_ns
+            identity) }
         ensures rules { IfOk result IsStream }
     {
-        if class < 1 || class > MAX_CLASS {
+        if are_bad_classes(path.len(), classes) {
             return Err(StreamFault::BadClass);
         }
         if let Some(fault) = declared_fault(rate_bps, burst_bits, min_octets, max_octets) {
@@ -98,10 +105,11 @@ impl Stream {
         if let Some(fault) = limit_fault(&path, deadline_ns) {
             return Err(fault);
         }
+        let classes = classes_for(path.len(), classes);
         Ok(Stream {
             name,
             path,
-            class: class as u8,
+            classes,
             rate: Rate::new(rate_bps).unwrap(),
             burst_bits,
             min_octets: min_octets as u32,
@@ -126,12 +134,12 @@ impl Stream {
         self.path.as_slice()
     }
 
-    /// Its class, from 1 to 7.
-    pub fn class(&self) -> u8
-        ensures value { result ≡ self.now.class }
-        ensures valid { IsClass self.now.class }
+    /// Its class at each port of its path, from 1 to 7, in the order of the path.
+    pub fn classes(&self) -> &[u8]
+        ensures value { result.now ≡ self.now.classes }
+        ensures rules { IsStream self.now }
     {
-        self.class
+        &self.classes[..self.path.len()]
     }
 
     /// Its committed rate.

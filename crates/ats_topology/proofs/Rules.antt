@@ -36,15 +36,15 @@ use Rattle.ats_topology.proofs.Known.{IsOpen, no_place, apart, all_open, number_
 use Rattle.ats_topology.proofs.Numbered.{node_number_is, node_number_within, has_rate, length-ports_of}
 
 -- no fault of any kind
-record HasNoFault (nodes : List Node) (links : List Link) : Type 0 where
-  apart : node_twice nodes ≡ None
-  joined : link_twice links ≡ None
-  differ : self_link links ≡ None
-  known : unknown_node nodes links ≡ None
-  stations : station_links nodes links ≡ None
-  rated : bad_rate links ≡ None
-  within : is_over nodes links ≡ false
-  ordered : bad_processing nodes ≡ None
+pub record HasNoFault (nodes : List Node) (links : List Link) : Type 0 where
+  pub apart : node_twice nodes ≡ None
+  pub joined : link_twice links ≡ None
+  pub differ : self_link links ≡ None
+  pub known : unknown_node nodes links ≡ None
+  pub stations : station_links nodes links ≡ None
+  pub rated : bad_rate links ≡ None
+  pub within : is_over nodes links ≡ false
+  pub ordered : bad_processing nodes ≡ None
 
 some_fault : (fault : TopologyFault) → None ≡ Some fault → ⊥
 some_fault fault h = cc
@@ -57,7 +57,7 @@ not_over : (b : Bool) → cond b (Some Limit) None ≡ None → b ≡ false
 not_over true h = absurd (some_fault Limit (sym h))
 not_over false h = refl
 
-no_fault : (nodes : List Node) (links : List Link) → topology_fault nodes links ≡ None → HasNoFault nodes links
+pub no_fault : (nodes : List Node) (links : List Link) → topology_fault nodes links ≡ None → HasNoFault nodes links
 no_fault nodes links h =
     let one = none_parts (node_twice nodes) _ h in
     let two = none_parts (link_twice links) _ one.1 in

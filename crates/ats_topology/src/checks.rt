@@ -1,25 +1,49 @@
 //! The faults of a list of nodes and a list of links.
 
-ghost use Rattle.std.specs.Prelude.{◌≡◌, ◌<◌, ◌≤◌, None, IfSome, IfOk, IfErr, OnOk, length};
+ghost use Rattle.std.specs.Prelude.{◌≡◌, ◌<◌, ◌≤◌, Some, None, IfSome, IfOk, IfErr, OnOk, length};
 ghost use Rattle.std.specs.List.{position_from, list_any};
 ghost use Rattle.ats_num.specs.Failure.{IsDue};
 ghost use Rattle.ats_topology.specs.Node.{names_of};
 ghost use Rattle.ats_topology.specs.Link.{is_self_link};
 ghost use Rattle.ats_topology.specs.Faults.{node_twice, link_twice, self_link, unknown_node, bad_rate, limit};
 ghost use Rattle.ats_topology.specs.Faults.{has_unknown_end, has_bad_rate, is_kind_over, is_node_over, is_link_over};
-ghost use Rattle.ats_topology.specs.Faults.{bad_processing, has_bad_processing};
+ghost use Rattle.ats_topology.specs.Faults.{bad_processing, has_bad_processing, topology_fault};
 ghost use Rattle.ats_topology.specs.Faults.{is_over};
 
 use crate::fault::TopologyFault;
 use crate::link::{Link, MAX_LINKS, MAX_PROPAGATION_NS};
 use crate::node::{Kind, MAX_NODES, MAX_PROCESSING_NS, MAX_RESIDENCE_NS, Node};
 use crate::rates::ps_per_bit;
+use crate::stations::check_stations;
 use ats_num::{Failure, NameTable};
 use std::alloc::Global;
 use std::collections::BTreeSet;
 
-/// The names of the nodes, or the first node whose name an earlier one has.
-pub(crate) fn named(alloc: Global, nodes: &[Node]) -> Result<NameTable, Failure<TopologyFault>>
+/// The names of the nodes, or the first fault of nodes and links.
+pub(crate) fn check(
+    alloc: Global,
+    nodes: &[Node],
+    links: &[Link],
+) -> Result<NameTable, Failure<TopologyFault>>
+    requires few_nodes { length nodes.now < 4294967295 }
+    requires few_links { length links.now < 4294967295 }
+    ensures names { IfOk result (λ names. names ≡ names_of nodes.now) }
+    ensures sound { OnOk result (topology_fault nodes.now links.now ≡ None) }
+    ensures fault { IfErr result (λ fault. IsDue fault (topology_fault nodes.now links.now)) }
+{
+    let names = named(alloc, nodes)?;
+    check_joined(alloc, links)?;
+    check_open(links)?;
+    check_ends(&names, nodes, links)?;
+    check_stations(alloc, &names, nodes, links)?;
+    check_rates(links)?;
+    check_limits(nodes, links)?;
+    check_processing(nodes)?;
+    Ok(names)
+}
+
+// The names of the nodes, or the first node whose name an earlier one has.
+fn named(alloc: Global, nodes: &[Node]) -> Result<NameTable, Failure<TopologyFault>>
     requires few { length nodes.now < 4294967295 }
     ensures names { IfOk result (λ names. names ≡ names_of nodes.now) }
     ensures ok { OnOk result (node_twice nodes.now ≡ None) }
@@ -35,8 +59,8 @@ pub(crate) fn named(alloc: Global, nodes: &[Node]) -> Result<NameTable, Failure<
     Ok(names)
 }
 
-/// The first link that joins what an earlier one joins.
-pub(crate) fn check_joined(alloc: Global, links: &[Link]) -> Result<(), Failure<TopologyFault>>
+// The first link that joins what an earlier one joins.
+fn check_joined(alloc: Global, links: &[Link]) -> Result<(), Failure<TopologyFault>>
     requires few { length links.now < 4294967295 }
     ensures ok { OnOk result (link_twice links.now ≡ None) }
     ensures fault { IfErr result (λ fault. IsDue fault (link_twice links.now)) }
@@ -52,14 +76,15 @@ pub(crate) fn check_joined(alloc: Global, links: &[Link]) -> Result<(), Failure<
     Ok(())
 }
 
-/// The first link with one name at both ends.
-pub(crate) fn self_link(links: &[Link]) -> Option<TopologyFault>
+// The first link with one name at both ends.
+fn check_open(links: &[Link]) -> Result<(), TopologyFault>
     requires few { length links.now < 4294967295 }
-    ensures { result ≡ self_link links.now }
+    ensures ok { OnOk result (self_link links.now ≡ None) }
+    ensures fault { IfErr result (λ fault. self_link links.now ≡ Some fault) }
 {
     match self_place(links) {
-        Some(i) => Some(TopologyFault::SelfLink(i as u32 + 1)),
-        None => None,
+        Some(i) => Err(TopologyFault::SelfLink(i as u32 + 1)),
+        None => Ok(()),
     }
 }
 
@@ -70,19 +95,16 @@ fn self_place(links: &[Link]) -> Option<usize>
     links.iter().position(|link| link.a == link.b)
 }
 
-/// The first link with an end that is the name of no node.
-pub(crate) fn unknown_node(
-    names: &NameTable,
-    nodes: &[Node],
-    links: &[Link],
-) -> Option<TopologyFault>
+// The first link with an end that is the name of no node.
+fn check_ends(names: &NameTable, nodes: &[Node], links: &[Link]) -> Result<(), TopologyFault>
     requires few { length links.now < 4294967295 }
     requires names { names.now ≡ names_of nodes.now }
-    ensures { result ≡ unknown_node nodes.now links.now }
+    ensures ok { OnOk result (unknown_node nodes.now links.now ≡ None) }
+    ensures fault { IfErr result (λ fault. unknown_node nodes.now links.now ≡ Some fault) }
 {
     match unknown_place(names, links) {
-        Some(i) => Some(TopologyFault::UnknownNode(i as u32 + 1)),
-        None => None,
+        Some(i) => Err(TopologyFault::UnknownNode(i as u32 + 1)),
+        None => Ok(()),
     }
 }
 
@@ -99,14 +121,15 @@ fn has_unknown_end(names: &NameTable, link: &Link) -> bool
     names.place(&link.a).is_none() || names.place(&link.b).is_none()
 }
 
-/// The first link with a rate that a link may not have.
-pub(crate) fn bad_rate(links: &[Link]) -> Option<TopologyFault>
+// The first link with a rate that a link may not have.
+fn check_rates(links: &[Link]) -> Result<(), TopologyFault>
     requires few { length links.now < 4294967295 }
-    ensures { result ≡ bad_rate links.now }
+    ensures ok { OnOk result (bad_rate links.now ≡ None) }
+    ensures fault { IfErr result (λ fault. bad_rate links.now ≡ Some fault) }
 {
     match bad_rate_place(links) {
-        Some(i) => Some(TopologyFault::BadRate(i as u32 + 1)),
-        None => None,
+        Some(i) => Err(TopologyFault::BadRate(i as u32 + 1)),
+        None => Ok(()),
     }
 }
 
@@ -119,15 +142,15 @@ fn bad_rate_place(links: &[Link]) -> Option<usize>
         .position(|link| ps_per_bit(link.mbps).is_none())
 }
 
-/// A number of nodes or links, or a time of one of them, that is over its limit.
-pub(crate) fn limit(nodes: &[Node], links: &[Link]) -> Option<TopologyFault>
-    ensures { result ≡ limit nodes.now links.now }
+// A number of nodes or links, or a time of one of them, that is over its limit.
+fn check_limits(nodes: &[Node], links: &[Link]) -> Result<(), TopologyFault>
+    ensures ok { OnOk result (limit nodes.now links.now ≡ None) }
+    ensures fault { IfErr result (λ fault. limit nodes.now links.now ≡ Some fault) }
 {
     if is_over(nodes, links) {
-        Some(TopologyFault::Limit)
-    } else {
-        None
+        return Err(TopologyFault::Limit);
     }
+    Ok(())
 }
 
 fn is_over(nodes: &[Node], links: &[Link]) -> bool
@@ -166,14 +189,15 @@ fn are_links_over(links: &[Link]) -> bool
         .any(|link| link.propagation_ns > MAX_PROPAGATION_NS)
 }
 
-/// The first bridge whose least processing is over its greatest.
-pub(crate) fn bad_processing(nodes: &[Node]) -> Option<TopologyFault>
+// The first bridge whose least processing is over its greatest.
+fn check_processing(nodes: &[Node]) -> Result<(), TopologyFault>
     requires few { length nodes.now < 4294967295 }
-    ensures { result ≡ bad_processing nodes.now }
+    ensures ok { OnOk result (bad_processing nodes.now ≡ None) }
+    ensures fault { IfErr result (λ fault. bad_processing nodes.now ≡ Some fault) }
 {
     match bad_processing_place(nodes) {
-        Some(i) => Some(TopologyFault::BadProcessing(i as u32 + 1)),
-        None => None,
+        Some(i) => Err(TopologyFault::BadProcessing(i as u32 + 1)),
+        None => Ok(()),
     }
 }
 

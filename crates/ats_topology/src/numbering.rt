@@ -1,10 +1,10 @@
 //! The ports of links.
 
-ghost use Rattle.std.specs.Prelude.{◌≡◌, ◌+◌, ◌*◌, ◌≤◌, None, IfOk, IsSome, length};
+ghost use Rattle.std.specs.Prelude.{◌≡◌, ◌+◌, ◌*◌, None, IfOk, IsSome, length};
 ghost use Rattle.ats_num.specs.Places.{place_of};
 ghost use Rattle.ats_topology.specs.Node.{names_of};
 ghost use Rattle.ats_topology.specs.Rates.{ps_per_bit_of};
-ghost use Rattle.ats_topology.specs.Faults.{node_twice, link_twice, self_link, unknown_node, bad_rate};
+ghost use Rattle.ats_topology.specs.Faults.{topology_fault};
 ghost use Rattle.ats_topology.specs.PortTable.{node_ports};
 ghost use Rattle.ats_topology.specs.Topology.{port_of, ports_of};
 
@@ -25,12 +25,7 @@ pub(crate) fn ports_of(
     links: &[Link],
 ) -> Result<PortTable, AllocError>
     requires names { names.now ≡ names_of nodes.now }
-    requires apart { node_twice nodes.now ≡ None }
-    requires joined { link_twice links.now ≡ None }
-    requires open { self_link links.now ≡ None }
-    requires known { unknown_node nodes.now links.now ≡ None }
-    requires rated { bad_rate links.now ≡ None }
-    requires few { length links.now ≤ 2048 }
+    requires sound { topology_fault nodes.now links.now ≡ None }
     ensures { IfOk result (λ table. table ≡ node_ports (length nodes.now) (ports_of nodes.now links.now)) }
 {
     let mut table = PortTable::new(alloc, nodes.len())?;

@@ -9,16 +9,13 @@ ghost use Rattle.ats_topology.specs.Faults.{topology_fault};
 ghost use Rattle.ats_topology.specs.Topology.{topology_of, IsTopology, KeepsPorts};
 ghost use Rattle.ats_topology.specs.Walks.{IsLeastWalk, NoWalk, ArePorts};
 
-use crate::checks::{
-    bad_processing, bad_rate, check_joined, limit, named, self_link, unknown_node,
-};
+use crate::checks::check;
 use crate::fault::TopologyFault;
 use crate::link::Link;
 use crate::node::Node;
 use crate::numbering::ports_of;
 use crate::port::Port;
 use crate::port_table::PortTable;
-use crate::stations::check_stations;
 use crate::walks::least_walk;
 use ats_num::{Failure, Name, NameTable};
 use std::alloc::{AllocError, Global};
@@ -63,24 +60,7 @@ impl Topology {
         ensures sound { OnOk result (topology_fault nodes.items links.items ≡ None) }
         ensures fault { IfErr result (λ fault. IsDue fault (topology_fault nodes.items links.items)) }
     {
-        let names = named(alloc, &nodes)?;
-        check_joined(alloc, &links)?;
-        if let Some(fault) = self_link(&links) {
-            return Err(Failure::Fault(fault));
-        }
-        if let Some(fault) = unknown_node(&names, &nodes, &links) {
-            return Err(Failure::Fault(fault));
-        }
-        check_stations(alloc, &names, &nodes, &links)?;
-        if let Some(fault) = bad_rate(&links) {
-            return Err(Failure::Fault(fault));
-        }
-        if let Some(fault) = limit(&nodes, &links) {
-            return Err(Failure::Fault(fault));
-        }
-        if let Some(fault) = bad_processing(&nodes) {
-            return Err(Failure::Fault(fault));
-        }
+        let names = check(alloc, &nodes, &links)?;
         let table = ports_of(alloc, &names, &nodes, &links)?;
         Ok(Topology {
             node_list: nodes,
