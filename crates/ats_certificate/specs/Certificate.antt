@@ -2,7 +2,7 @@ use Rattle.std.specs.Prelude.{◌≡◌, ℕ, ◌+◌, ◌-◌, ◌*◌, ◌<◌
 use Rattle.std.specs.Prelude.{sum_by, All, AllPairs, Option, unwrap_or}
 use Rattle.std.specs.Option.{option_map, ForSome}
 use Rattle.ats_num.specs.declared.time.TheConstants.{PS_PER_SECOND, PS_PER_NS}
-use Rattle.ats_topology.specs.Port.{port_at}
+use Rattle.ats_topology.specs.Port.{port_at, spread_of}
 use Rattle.ats_topology.specs.declared.port.Port.{Port}
 use Rattle.ats_streams.specs.Stream.{DeclaredStream}
 use Rattle.ats_network.specs.Sender.{Sender, stream_sender}
@@ -66,9 +66,15 @@ pub record Covers (network : DeclaredNetwork) (row : Row) : Type 0 where
   pub load : FitsLink row
   pub wait : IsEnough (port_at network.topology.ports row.port) row
 
--- where a port leads to a bridge, a wait at the port is at most the maximum residence time there
+-- how long a frame may have to stay behind a port: the wait at the port, and the port's spread
+abbrev pub need_of : Port → ℕ → ℕ
+need_of port wait = wait + spread_of port
+
+-- where a port leads to a bridge, this need is at most the maximum residence time there
 abbrev pub MayStay : DeclaredNetwork → ℕ → ℕ → Type 0
-MayStay network port wait = ForSome (residence_after network.topology port) (λ ns. wait ≤ PS_PER_NS * ns)
+MayStay network port wait =
+    ForSome (residence_after network.topology port)
+    (λ ns. need_of (port_at network.topology.ports port) wait ≤ PS_PER_NS * ns)
 
 -- what each row of a certificate keeps
 pub record RowHolds (network : DeclaredNetwork) (row : Row) : Type 0 where

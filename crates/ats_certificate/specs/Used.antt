@@ -4,8 +4,8 @@ use Rattle.ats_network.specs.Network.{DeclaredNetwork}
 use Rattle.ats_certificate.specs.PortSums.{is_used}
 
 -- the classes of streams
-abbrev pub classes : List ℕ
-classes = 1 ∷ 2 ∷ 3 ∷ 4 ∷ 5 ∷ 6 ∷ 7 ∷ []
+abbrev pub stream_classes : List ℕ
+stream_classes = 1 ∷ 2 ∷ 3 ∷ 4 ∷ 5 ∷ 6 ∷ 7 ∷ []
 
 -- a port and a class
 abbrev pub place : ℕ → ℕ → ℕ × ℕ
@@ -13,7 +13,7 @@ place port class = (port, class)
 
 -- the places of a port at which some stream is, by class
 abbrev pub places_at : DeclaredNetwork → ℕ → List (ℕ × ℕ)
-places_at network port = map (place port) (filter (λ class. is_used network port class) classes)
+places_at network port = map (place port) (filter (λ class. is_used network port class) stream_classes)
 
 -- the same for ports that are numbered from this number on
 abbrev pub places_from : DeclaredNetwork → ℕ → List Port → List (ℕ × ℕ)

@@ -1,6 +1,30 @@
-use Rattle.std.specs.Prelude.{ℕ}
+use Rattle.std.specs.Prelude.{ℕ, ◌==◌, if◌then◌else◌, List, [], ◌∷◌}
 use Rattle.ats_network.specs.Sender.{Sender}
 
--- the class of a sender's frames at a port: the same at each
+-- of classes that belong to the ports of a path, one by one, that of this port; 0 where the path does not have it
+abbrev pub class_along : ℕ → List ℕ → List ℕ → ℕ
+class_along port (p ∷ path) (class ∷ classes) = if p == port then class else class_along port path classes
+class_along port path classes = 0
+
+-- the class of a sender's frames at a port
 abbrev pub class_at : Sender → ℕ → ℕ
-class_at sender port = sender.class
+class_at sender port = class_along port sender.path sender.classes
+
+-- a sender as a port sees it: its class there, its committed rate in bits per second, its committed burst in bits, and
+-- its least and greatest octets
+pub record PortSender : Type 0 where
+  pub class : ℕ
+  pub rate : ℕ
+  pub burst_bits : ℕ
+  pub min_octets : ℕ
+  pub max_octets : ℕ
+
+-- so a port sees a sender
+abbrev pub seen_at : ℕ → Sender → PortSender
+seen_at port s = record {
+  class = class_at s port;
+  rate = s.rate;
+  burst_bits = s.burst_bits;
+  min_octets = s.min_octets;
+  max_octets = s.max_octets;
+}

@@ -1,14 +1,15 @@
-use Rattle.std.specs.Prelude.{ℕ, List}
+use Rattle.std.specs.Prelude.{ℕ, List, map}
 use Rattle.ats_num.specs.declared.wire.TheConstants.{MIN_OCTETS}
 use Rattle.ats_streams.specs.Stream.{DeclaredStream}
 use Rattle.ats_streams.specs.Flow.{DeclaredFlow}
 
 -- what a network's ports and schedulers know of a declared stream or flow: its name's bytes, the numbers of its ports,
--- its class, its committed rate in bits per second, its committed burst in bits, and its least and greatest octets
+-- its class at each of them, its committed rate in bits per second, its committed burst in bits, and its least and
+-- greatest octets
 pub record Sender : Type 0 where
   pub name : List ℕ
   pub path : List ℕ
-  pub class : ℕ
+  pub classes : List ℕ
   pub rate : ℕ
   pub burst_bits : ℕ
   pub min_octets : ℕ
@@ -19,19 +20,19 @@ abbrev pub stream_sender : DeclaredStream → Sender
 stream_sender s = record {
   name = s.name;
   path = s.path;
-  class = s.class;
+  classes = s.classes;
   rate = s.rate;
   burst_bits = s.burst_bits;
   min_octets = s.min_octets;
   max_octets = s.max_octets;
 }
 
--- a flow as a sender: best effort, so of class 0, with neither rate nor burst
+-- a flow as a sender: best effort, so of class 0 at each port, with neither rate nor burst
 abbrev pub flow_sender : DeclaredFlow → Sender
 flow_sender f = record {
   name = f.name;
   path = f.path;
-  class = 0;
+  classes = map (λ port. 0) f.path;
   rate = 0;
   burst_bits = 0;
   min_octets = MIN_OCTETS;

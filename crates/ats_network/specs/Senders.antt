@@ -1,4 +1,4 @@
-use Rattle.std.specs.Prelude.{◌≢◌, ℕ, ◌≤◌, List, [], ◌∷◌, AllPairs, slice_index_or}
+use Rattle.std.specs.Prelude.{◌≡◌, ◌≢◌, ℕ, ◌≤◌, List, [], ◌∷◌, length, All, AllPairs, slice_index_or}
 use Rattle.ats_num.specs.declared.wire.TheConstants.{MIN_OCTETS}
 use Rattle.ats_streams.specs.Rules.{AreSizes, KeepsRules}
 use Rattle.ats_streams.specs.Path.{IsPath}
@@ -6,6 +6,7 @@ use Rattle.ats_streams.specs.declared.stream.TheConstants.{MAX_CLASS}
 use Rattle.ats_topology.specs.Topology.{DeclaredTopology}
 use Rattle.ats_topology.specs.Walks.{ArePorts}
 use Rattle.ats_network.specs.Sender.{Sender}
+use Rattle.ats_network.specs.Class.{class_at}
 use Rattle.ats_network.specs.Path.{IsValidPath}
 use Rattle.ats_network.specs.Bridges.{MeetAtBridge}
 use Rattle.ats_network.specs.Network.{DeclaredNetwork, senders_of}
@@ -15,7 +16,7 @@ abbrev pub no_sender : Sender
 no_sender = record {
   name = [];
   path = [];
-  class = 0;
+  classes = [];
   rate = 0;
   burst_bits = 0;
   min_octets = MIN_OCTETS;
@@ -33,14 +34,16 @@ AllNeighbours R (p ∷ []) = Unit {0}
 AllNeighbours R (p ∷ q ∷ path) = R p q × AllNeighbours R (q ∷ path)
 
 -- what each sender of a network keeps: a valid path of 1 to 16 different ports of the topology that meet at bridges, a
--- class of at most 7, and sizes of frames; and, where its class is not 0, a rate and a burst as a declared stream has
--- them
+-- class of at most 7 for each of them, and sizes of frames; and, where its class at a port is not 0, a rate and a burst
+-- as a declared stream has them
 pub record IsSender (topology : DeclaredTopology) (sender : Sender) : Type 0 where
   pub path : IsPath sender.path
   pub valid : IsValidPath topology sender.path
   pub ports : ArePorts topology.ports sender.path
   pub apart : AllPairs (λ p q. p ≢ q) sender.path
   pub bridges : AllNeighbours (MeetAtBridge topology) sender.path
-  pub class : sender.class ≤ MAX_CLASS
+  pub each_port : length sender.classes ≡ length sender.path
+  pub classes : All (λ class. class ≤ MAX_CLASS) sender.classes
   pub sizes : AreSizes sender.min_octets sender.max_octets
-  pub shaped : 1 ≤ sender.class → KeepsRules sender.rate sender.burst_bits sender.min_octets sender.max_octets
+  pub shaped : (port : ℕ) → 1 ≤ class_at sender port
+      → KeepsRules sender.rate sender.burst_bits sender.min_octets sender.max_octets

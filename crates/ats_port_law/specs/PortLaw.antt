@@ -1,21 +1,23 @@
 use Rattle.std.specs.Prelude.{◌≡◌, ℕ, ◌+◌, ◌<◌, ◌≤◌, ◌==◌, IsTrue, List, length, map, filter, All, IsPermutation}
 use Rattle.ats_topology.specs.Port.{port_at}
 use Rattle.ats_network.specs.Network.{DeclaredNetwork, IsNetwork, senders_of}
-use Rattle.ats_certificate.specs.PortSums.{uses, longest, shortest, is_used}
+use Rattle.ats_num.specs.Wire.{bits_of}
+use Rattle.ats_certificate.specs.PortSums.{uses, is_used}
 use Rattle.ats_certificate.specs.Certificate.{Covers}
 use Rattle.ats_certificate.specs.declared.row.Row.{Row}
 use Rattle.ats_bucket.specs.Conforming.{Frame, Conforms}
 use Rattle.ats_port_rule.specs.Transmission.{Transmission}
 use Rattle.ats_port_rule.specs.PortRule.{KeepsPortRule}
+use Rattle.ats_network.specs.Class.{class_at}
 use Rattle.ats_network.specs.Senders.{sender_at}
 
--- a transmission of a frame that a sender of the port may send: of its class, with a size that it declares
+-- a transmission of a frame that a sender of the port may send: of its class there, with a size that it declares
 pub record IsDeclared (network : DeclaredNetwork) (port : ℕ) (x : Transmission) : Type 0 where
   pub exists : x.sender < length (senders_of network)
   pub uses : IsTrue (uses port (sender_at network x.sender))
-  pub class : x.class ≡ (sender_at network x.sender).class
-  pub least : shortest (sender_at network x.sender) ≤ x.bits
-  pub most : x.bits ≤ longest (sender_at network x.sender)
+  pub class : x.class ≡ class_at (sender_at network x.sender) port
+  pub least : bits_of (sender_at network x.sender).min_octets ≤ x.bits
+  pub most : x.bits ≤ bits_of (sender_at network x.sender).max_octets
 
 -- a transmission as a token bucket counts it, by its eligibility time
 abbrev pub frame_of : Transmission → Frame

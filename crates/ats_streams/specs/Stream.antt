@@ -1,4 +1,6 @@
-use Rattle.std.specs.Prelude.{ℕ, ◌≤◌, ◌<◌, ◌^◌, ◌||◌, nat_lt, if◌then◌else◌, List, length, Option, Some, None}
+use Rattle.std.specs.Prelude.{◌≡◌, ℕ, ◌≤◌, ◌<◌, ◌^◌, Bool, ◌||◌, ◌&&◌, ◌==◌, not, nat_lt, if◌then◌else◌, List, [], ◌∷◌, length}
+use Rattle.std.specs.Prelude.{replicate, All, Option, Some, None}
+use Rattle.std.specs.List.{list_any}
 use Rattle.std.specs.Option.{ForSome, option_or}
 use Rattle.ats_streams.specs.Rules.{KeepsRules}
 use Rattle.ats_streams.specs.Fault.{rules_fault}
@@ -8,13 +10,13 @@ use Rattle.ats_streams.specs.declared.fault.StreamFault.TheVariants.{BadClass, L
 use Rattle.ats_streams.specs.declared.path.TheConstants.{MAX_PORTS}
 use Rattle.ats_streams.specs.declared.stream.TheConstants.{MAX_CLASS, MAX_DEADLINE_NS, MAX_VLAN}
 
--- what a stream declares: its name's bytes, the numbers of its ports, its class, its rate in bits per second, its burst
--- in bits, its least and greatest octets, its deadline in nanoseconds, and the address and VLAN identifier of its
--- frames
+-- what a stream declares: its name's bytes, the numbers of its ports, its class at each of them, its rate in bits per
+-- second, its burst in bits, its least and greatest octets, its deadline in nanoseconds, and the address and VLAN
+-- identifier of its frames
 pub record DeclaredStream : Type 0 where
   pub name : List ℕ
   pub path : List ℕ
-  pub class : ℕ
+  pub classes : List ℕ
   pub rate : ℕ
   pub burst_bits : ℕ
   pub min_octets : ℕ
@@ -23,12 +25,12 @@ pub record DeclaredStream : Type 0 where
   pub identity : Option (ℕ × ℕ)
 
 -- these as one declaration
-abbrev pub declared_stream : List ℕ → List ℕ → ℕ → ℕ → ℕ → ℕ → ℕ → ℕ → Option (ℕ × ℕ) → DeclaredStream
-declared_stream name path class rate burst_bits min_octets max_octets deadline_ns identity =
+abbrev pub declared_stream : List ℕ → List ℕ → List ℕ → ℕ → ℕ → ℕ → ℕ → ℕ → Option (ℕ × ℕ) → DeclaredStream
+declared_stream name path classes rate burst_bits min_octets max_octets deadline_ns identity =
     record {
       name = name;
       path = path;
-      class = class;
+      classes = classes;
       rate = rate;
       burst_bits = burst_bits;
       min_octets = min_octets;
@@ -57,9 +59,15 @@ pub record IsIdentity (address vlan : ℕ) : Type 0 where
 abbrev pub MayIdentify : Option (ℕ × ℕ) → Type 0
 MayIdentify identity = ForSome identity (λ pair. IsIdentity pair.0 pair.1)
 
+-- the classes of a stream along a path of so many ports, of those that are given: one stands for each port
+abbrev pub classes_along : ℕ → List ℕ → List ℕ
+classes_along ports (class ∷ []) = replicate ports class
+classes_along ports given = given
+
 -- what each stream keeps
 pub record IsStream (stream : DeclaredStream) : Type 0 where
-  pub class : IsClass stream.class
+  pub classes : All IsClass stream.classes
+  pub each_port : length stream.classes ≡ length stream.path
   pub rules : KeepsRules stream.rate stream.burst_bits stream.min_octets stream.max_octets
   pub path : IsPath stream.path
   pub deadline : IsDeadline stream.deadline_ns
@@ -72,9 +80,19 @@ limit_fault path deadline_ns =
     else if nat_lt deadline_ns 1 || nat_lt MAX_DEADLINE_NS deadline_ns then Some Limit
     else None
 
--- the first rule that a stream breaks, if it breaks one: the class, then rate, sizes and burst, then the limits
-abbrev pub stream_fault : DeclaredStream → Option StreamFault
-stream_fault stream =
-    if nat_lt stream.class 1 || nat_lt MAX_CLASS stream.class then Some BadClass
+-- no stream has this class
+abbrev pub is_bad_class : ℕ → Bool
+is_bad_class class = nat_lt class 1 || nat_lt MAX_CLASS class
+
+-- these are no classes for so many ports: one is bad, or they are neither one nor as many as the ports
+abbrev pub are_bad_classes : ℕ → List ℕ → Bool
+are_bad_classes ports given =
+    list_any is_bad_class given || (not (length given == 1) && not (length given == ports))
+
+-- the first rule that a stream for which these classes are given breaks, if it breaks one: the classes, then rate, sizes
+-- and burst, then the limits
+abbrev pub stream_fault : List ℕ → DeclaredStream → Option StreamFault
+stream_fault given stream =
+    if are_bad_classes (length stream.path) given then Some BadClass
     else option_or (rules_fault stream.rate stream.burst_bits stream.min_octets stream.max_octets)
     (limit_fault stream.path stream.deadline_ns)

@@ -3,7 +3,7 @@ use Rattle.std.specs.Prelude.{take, slice_index_or, count_by, Option, Some, None
 use Rattle.std.specs.List.{list_any, position_from}
 use Rattle.std.specs.Option.{option_map, option_or}
 use Rattle.ats_num.specs.Places.{place_of}
-use Rattle.ats_topology.specs.Node.{is_station, processing_of, residence_of, names_of}
+use Rattle.ats_topology.specs.Node.{is_station, least_processing_of, greatest_processing_of, residence_of, names_of}
 use Rattle.ats_topology.specs.Link.{joins, ends_at, is_self_link}
 use Rattle.ats_topology.specs.Rates.{ps_per_bit_of}
 use Rattle.ats_topology.specs.declared.node.Kind.{Kind}
@@ -13,7 +13,7 @@ use Rattle.ats_topology.specs.declared.node.TheConstants.{MAX_NODES, MAX_PROCESS
 use Rattle.ats_topology.specs.declared.link.TheConstants.{MAX_LINKS, MAX_PROPAGATION_NS}
 use Rattle.ats_topology.specs.declared.fault.TopologyFault.{TopologyFault}
 use Rattle.ats_topology.specs.declared.fault.TopologyFault.TheVariants.{NodeTwice, LinkTwice, SelfLink, UnknownNode}
-use Rattle.ats_topology.specs.declared.fault.TopologyFault.TheVariants.{StationLinks, BadRate, Limit}
+use Rattle.ats_topology.specs.declared.fault.TopologyFault.TheVariants.{StationLinks, BadRate, Limit, BadProcessing}
 
 -- the least number below n that passes a test
 abbrev pub first_below : (ℕ → Bool) → ℕ → Option ℕ
@@ -45,13 +45,18 @@ is_badly_linked links node = is_station node.kind && not (count_by (ends_at node
 abbrev pub has_bad_rate : Link → Bool
 has_bad_rate link = is_none (ps_per_bit_of link.mbps)
 
--- a processing or a residence is over its limit
+-- a greatest processing or a residence is over its limit
 abbrev pub is_kind_over : Kind → Bool
-is_kind_over kind = nat_lt MAX_PROCESSING_NS (processing_of kind) || nat_lt MAX_RESIDENCE_NS (residence_of kind)
+is_kind_over kind =
+    nat_lt MAX_PROCESSING_NS (greatest_processing_of kind) || nat_lt MAX_RESIDENCE_NS (residence_of kind)
 
 -- so is one of this node's
 abbrev pub is_node_over : Node → Bool
 is_node_over node = is_kind_over node.kind
+
+-- a node's least processing is over its greatest
+abbrev pub has_bad_processing : Node → Bool
+has_bad_processing node = nat_lt (greatest_processing_of node.kind) (least_processing_of node.kind)
 
 -- a link's propagation is over its limit
 abbrev pub is_link_over : Link → Bool
@@ -94,6 +99,10 @@ bad_rate links = fault_at BadRate (position_from has_bad_rate 0 links)
 abbrev pub limit : List Node → List Link → Option TopologyFault
 limit nodes links = if is_over nodes links then Some Limit else None
 
+-- the first bridge whose least processing is over its greatest
+abbrev pub bad_processing : List Node → Option TopologyFault
+bad_processing nodes = fault_at BadProcessing (position_from has_bad_processing 0 nodes)
+
 -- the first fault of nodes and links, if they have one: the kinds in this order, and of a kind the earliest entry
 abbrev pub topology_fault : List Node → List Link → Option TopologyFault
 topology_fault nodes links =
@@ -103,4 +112,5 @@ topology_fault nodes links =
     (option_or (unknown_node nodes links)
     (option_or (station_links nodes links)
     (option_or (bad_rate links)
-    (limit nodes links))))))
+    (option_or (limit nodes links)
+    (bad_processing nodes)))))))

@@ -1,6 +1,7 @@
 use Rattle.std.specs.Prelude.{◌≡◌, ℕ, ◌<◌, Bool, true, false, List, Some, None}
 use Rattle.ats_topology.specs.Walks.{IsLeastWalk}
 use Rattle.ats_topology.specs.Faults.{first_below}
+use Rattle.ats_topology.specs.Topology.{DeclaredTopology, IsTopology, KeepsPorts}
 use Rattle.ats_topology.specs.declared.port.Port.{Port}
 
 -- two least walks between the same nodes are the same
@@ -19,3 +20,7 @@ abbrev pub FirstIsLeast : Type 0
 FirstIsLeast = (test : ℕ → Bool) (n : ℕ)
     → ((least : ℕ) → first_below test n ≡ Some least → IsLeastBelow test n least)
     × (first_below test n ≡ None → (k : ℕ) → k < n → test k ≡ false)
+
+-- what the ports of a topology keep follows from its rules
+abbrev pub TopologyTellsPorts : Type 0
+TopologyTellsPorts = (topology : DeclaredTopology) → IsTopology topology → KeepsPorts topology

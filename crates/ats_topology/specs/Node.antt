@@ -7,17 +7,21 @@ use Rattle.ats_topology.specs.declared.node.Node.{Node}
 -- the node is a station
 abbrev pub is_station : Kind → Bool
 is_station Station = true
-is_station (Bridge processing_ns residence_ns) = false
+is_station (Bridge processing_min_ns processing_max_ns residence_ns) = false
 
--- the processing time of a node in nanoseconds; a station has none
-abbrev pub processing_of : Kind → ℕ
-processing_of Station = 0
-processing_of (Bridge processing_ns residence_ns) = processing_ns
+-- the least and the greatest time that a node takes to process a frame, in nanoseconds; a station takes none
+abbrev pub least_processing_of : Kind → ℕ
+least_processing_of Station = 0
+least_processing_of (Bridge processing_min_ns processing_max_ns residence_ns) = processing_min_ns
+
+abbrev pub greatest_processing_of : Kind → ℕ
+greatest_processing_of Station = 0
+greatest_processing_of (Bridge processing_min_ns processing_max_ns residence_ns) = processing_max_ns
 
 -- the maximum residence time of a bridge in nanoseconds
 abbrev pub residence_of : Kind → ℕ
 residence_of Station = 0
-residence_of (Bridge processing_ns residence_ns) = residence_ns
+residence_of (Bridge processing_min_ns processing_max_ns residence_ns) = residence_ns
 
 -- the names of nodes
 abbrev pub names_of : List Node → List (List ℕ)

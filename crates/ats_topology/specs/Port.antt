@@ -1,4 +1,4 @@
-use Rattle.std.specs.Prelude.{◌≡◌, ℕ, ◌+◌, ◌<◌, length, Bool, ◌&&◌, ◌==◌, List, [], ◌∷◌, Option, if◌then◌else◌}
+use Rattle.std.specs.Prelude.{◌≡◌, ℕ, ◌+◌, ◌-◌, ◌<◌, length, Bool, ◌&&◌, ◌==◌, List, [], ◌∷◌, Option, if◌then◌else◌}
 use Rattle.std.specs.Prelude.{slice_index_or}
 use Rattle.std.specs.List.{position_from}
 use Rattle.ats_topology.specs.declared.port.Port.{Port}
@@ -21,11 +21,15 @@ port_between a b ports = position_from (goes a b) 0 ports
 
 -- for numbers past the end of a list of ports
 abbrev pub no_port : Port
-no_port = record { from = 0; to = 0; ps_per_bit = 0; latency = record { 0 = 0 } }
+no_port = record { from = 0; to = 0; ps_per_bit = 0; earliest = record { 0 = 0 }; latency = record { 0 = 0 } }
 
 -- the port with a number
 abbrev pub port_at : List Port → ℕ → Port
 port_at ports p = slice_index_or ports p no_port
+
+-- the port's spread: by how many picoseconds the latest arrival behind it comes after the earliest
+abbrev pub spread_of : Port → ℕ
+spread_of port = port.latency.0 - port.earliest.0
 
 -- the numbers, in ascending order, of the ports that leave a node, where the list begins with port k
 abbrev pub leaving_from : ℕ → ℕ → List Port → List ℕ

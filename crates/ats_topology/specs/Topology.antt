@@ -2,10 +2,12 @@ use Rattle.std.specs.Prelude.{◌≡◌, ℕ, ◌+◌, ◌*◌, ◌<◌, ◌≤�
 use Rattle.std.specs.Prelude.{unwrap_or, count_by, All}
 use Rattle.std.specs.List.{flat_map}
 use Rattle.ats_num.specs.Places.{place_of}
-use Rattle.ats_topology.specs.Node.{names_of, is_station, processing_of, residence_of, AreApart}
+use Rattle.ats_topology.specs.Node.{names_of, is_station, least_processing_of, greatest_processing_of, residence_of}
+use Rattle.ats_topology.specs.Node.{AreApart}
 use Rattle.ats_topology.specs.Port.{port_at, leaves, leads_to, IsBetween, ArePaired}
 use Rattle.ats_topology.specs.Rates.{ps_per_bit_of, IsPsPerBit}
 use Rattle.ats_topology.specs.Faults.{no_link}
+use Rattle.ats_topology.specs.Link.{ends_at}
 use Rattle.ats_topology.specs.declared.node.Node.{Node}
 use Rattle.ats_topology.specs.declared.node.Kind.TheVariants.{Station}
 use Rattle.ats_topology.specs.declared.link.Link.{Link}
@@ -26,13 +28,19 @@ abbrev pub node_at : List Node → ℕ → Node
 node_at nodes n = slice_index_or nodes n no_node
 
 -- the port of a link from the node with the first name to the one with the second; its latency, in picoseconds, is the
--- propagation of the link and the processing of the node that it leads to
+-- propagation of the link and the greatest processing of the node that it leads to, and its earliest latency the same
+-- with the least processing
 abbrev pub port_of : List Node → Link → List ℕ → List ℕ → Port
 port_of nodes link a b = record {
   from = node_number nodes a;
   to = node_number nodes b;
   ps_per_bit = unwrap_or (ps_per_bit_of link.mbps) 0;
-  latency = record { 0 = 1000 * (link.propagation_ns + processing_of (node_at nodes (node_number nodes b)).kind) };
+  earliest = record {
+    0 = 1000 * (link.propagation_ns + least_processing_of (node_at nodes (node_number nodes b)).kind);
+  };
+  latency = record {
+    0 = 1000 * (link.propagation_ns + greatest_processing_of (node_at nodes (node_number nodes b)).kind);
+  };
 }
 
 -- the two ports of a link: from its first end to its second, and back
@@ -57,9 +65,11 @@ topology_of nodes links = record { nodes = nodes; links = links; ports = ports_o
 abbrev pub link_at : List Link → ℕ → Link
 link_at links i = slice_index_or links i no_link
 
--- what each node of a topology keeps: its times are within their limits
+-- what each node of a topology keeps: its times are within their limits, and its least processing is at most its
+-- greatest
 pub record IsNode (node : Node) : Type 0 where
-  pub processing : processing_of node.kind ≤ MAX_PROCESSING_NS
+  pub ordered : least_processing_of node.kind ≤ greatest_processing_of node.kind
+  pub processing : greatest_processing_of node.kind ≤ MAX_PROCESSING_NS
   pub residence : residence_of node.kind ≤ MAX_RESIDENCE_NS
 
 -- what each link keeps: its ends are different names of nodes, a link may have its rate, and its time is within its
@@ -76,6 +86,7 @@ pub record IsPort (nodes : ℕ) (port : Port) : Type 0 where
   pub between : IsBetween nodes port
   pub differ : port.from ≢ port.to
   pub rate : IsPsPerBit port.ps_per_bit
+  pub ordered : port.earliest.0 ≤ port.latency.0
   pub latency : port.latency.0 ≤ 2000000000
 
 -- link i has port 2 * i from its first end to its second, and port 2 * i + 1 back
@@ -90,16 +101,26 @@ pub record HasOnePort (ports : List Port) (node : ℕ) : Type 0 where
   pub leaves : count_by (leaves node) ports ≡ 1
   pub leads : count_by (leads_to node) ports ≡ 1
 
--- what each topology keeps
+-- exactly one link ends at a node that is a station
+abbrev pub IsLinked : List Link → Node → Type 0
+IsLinked links node = IsTrue (is_station node.kind) → count_by (ends_at node.name) links ≡ 1
+
+-- what each topology keeps: its ports are those of its links, no two nodes have one name, there are not too many nodes
+-- and links, each is within its rules, and each station has one link
 pub record IsTopology (topology : DeclaredTopology) : Type 0 where
   pub numbered : topology.ports ≡ ports_of topology.nodes topology.links
   pub names : AreApart (names_of topology.nodes)
   pub few_nodes : length topology.nodes ≤ MAX_NODES
   pub few_links : length topology.links ≤ MAX_LINKS
-  pub two_each : length topology.ports ≡ 2 * length topology.links
   pub each_node : All IsNode topology.nodes
   pub each_link : All (IsLink topology.nodes) topology.links
-  pub each_port : All (IsPort (length topology.nodes)) topology.ports
+  pub stations : All (IsLinked topology.links) topology.nodes
+
+-- what the ports of a topology keep: there are two for each link, in the order of the links, each within its rules and
+-- with one that leads back, and one port leaves each station and one leads to it
+pub record KeepsPorts (topology : DeclaredTopology) : Type 0 where
+  pub two_each : length topology.ports ≡ 2 * length topology.links
+  pub each : All (IsPort (length topology.nodes)) topology.ports
   pub link_ports : (i : ℕ) → i < length topology.links → HasPorts topology i
   pub stations : (n : ℕ) → n < length topology.nodes → IsTrue (is_station (node_at topology.nodes n).kind)
       → HasOnePort topology.ports n

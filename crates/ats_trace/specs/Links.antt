@@ -1,4 +1,5 @@
-use Rattle.std.specs.Prelude.{ℕ, ◌+◌, ◌<◌, ◌≤◌, List, All}
+use Rattle.std.specs.Prelude.{◌≡◌, ℕ, ◌+◌, ◌<◌, ◌≤◌, nat_lt, max, List, map, filter, fold, All}
+use Rattle.ats_topology.specs.Port.{spread_of}
 use Rattle.ats_topology.specs.declared.port.Port.{Port}
 use Rattle.ats_trace.specs.Projections.{Crossing}
 
@@ -13,11 +14,24 @@ pub record KeepsTimes (least most : ℕ) (crossings : List Crossing) : Type 0 wh
   pub order : All
       (λ (x : Crossing). All (λ (y : Crossing). x.sent.end < y.sent.end → x.arrival < y.arrival) crossings) crossings
 
--- the least picoseconds from the end of a transmission to the frame's arrival behind the port; the port's latency is
--- the most of them, and so far they are the same
-abbrev pub earliest_of : Port → ℕ
-earliest_of port = port.latency.0
-
--- what a port's link does, and the node behind it while it takes in what comes
+-- what a port's link does, and the node behind it while it takes in what comes: a frame arrives between the port's
+-- earliest latency and its latency after the end of its transmission, and in the order in which frames were sent
 abbrev pub KeepsLinkRule : Port → List Crossing → Type 0
-KeepsLinkRule port crossings = KeepsTimes (earliest_of port) port.latency.0 crossings
+KeepsLinkRule port crossings = KeepsTimes port.earliest.0 port.latency.0 crossings
+
+-- a picosecond after the last arrival of those frames that were sent to their end before this time, so that a frame
+-- sent until then keeps the order; 0 where there are none
+abbrev pub in_order_from : ℕ → List Crossing → ℕ
+in_order_from end crossings =
+    fold max 0 (map (λ (x : Crossing). x.arrival + 1) (filter (λ (x : Crossing). nat_lt x.sent.end end) crossings))
+
+-- a frame arrives behind the port its wait after the port's earliest latency or, where a frame that was sent before it
+-- has not arrived by then, a picosecond after that one; the wait goes by the frame's number and the port's spread
+abbrev pub ArrivesByPace : (ℕ → ℕ → ℕ) → Port → List Crossing → Crossing → Type 0
+ArrivesByPace wait port crossings x =
+    x.arrival
+    ≡ max (x.sent.end + port.earliest.0 + wait x.sent.frame (spread_of port)) (in_order_from x.sent.end crossings)
+
+-- each frame does
+abbrev pub KeepsPace : (ℕ → ℕ → ℕ) → Port → List Crossing → Type 0
+KeepsPace wait port crossings = All (ArrivesByPace wait port crossings) crossings

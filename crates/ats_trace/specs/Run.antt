@@ -6,7 +6,7 @@ use Rattle.ats_port_rule.specs.PortRule.{KeepsPortRule, KeepsTie}
 use Rattle.ats_trace.specs.Journey.{Travel, IsJourney}
 use Rattle.ats_group_law.specs.Regulator.{Judge, ats_judge}
 use Rattle.ats_trace.specs.Projections.{sent_by, crossings_by, handed_by}
-use Rattle.ats_trace.specs.Links.{KeepsLinkRule}
+use Rattle.ats_trace.specs.Links.{KeepsLinkRule, KeepsPace}
 use Rattle.ats_trace.specs.Eligibility.{IsJudged, IsPassed, residence_behind}
 use Rattle.ats_trace.specs.declared.journey.Release.{Release}
 
@@ -33,9 +33,12 @@ pub record IsLegalBy (judge : Judge) (network : DeclaredNetwork) (run : List Tra
 abbrev pub IsLegal : DeclaredNetwork → List Travel → Type 0
 IsLegal network run = IsLegalBy ats_judge network run
 
--- a run in which each port breaks each tie by this key
-pub record IsRunBy (key : ℕ → ℕ → ℕ) (network : DeclaredNetwork) (run : List Travel) : Type 0 where
+-- a run in which each port breaks each tie by this key, of a sender and a frame, and behind each port frames arrive by
+-- this pace: by this wait, of a frame and a spread
+pub record IsRunBy (key wait : ℕ → ℕ → ℕ) (network : DeclaredNetwork) (run : List Travel) : Type 0 where
   pub legal : IsLegal network run
+  pub pace : (port : ℕ) → port < length network.topology.ports
+      → KeepsPace wait (port_at network.topology.ports port) (crossings_by network run port)
   pub tie : (port : ℕ) → port < length network.topology.ports → KeepsTie key (sent_by network run port)
 
 -- a run has exactly these releases
