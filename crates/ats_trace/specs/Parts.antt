@@ -9,8 +9,8 @@ use Rattle.ats_port_rule.specs.PortRule.{AreApart, IsAhead, StartsAfterGap}
 use Rattle.ats_trace.specs.Journey.{Travel, IsWay, IsReleased}
 use Rattle.ats_trace.specs.Projections.{sent_by, crossings_by, handed_by}
 use Rattle.ats_trace.specs.Links.{KeepsLinkRule}
-use Rattle.ats_group_law.specs.Regulator.{ats_judge}
-use Rattle.ats_trace.specs.Eligibility.{IsJudged, IsPassed, residence_behind}
+use Rattle.ats_group.specs.Judge.{ats_judge}
+use Rattle.ats_trace.specs.Eligibility.{IsJudged, IsPassed, residence_of_groups}
 use Rattle.ats_trace.specs.Run.{releases_of, IsLegal}
 use Rattle.ats_trace.specs.declared.journey.Release.{Release}
 
@@ -58,7 +58,7 @@ Keeps prompt network run =
     (λ (y : Transmission). StartsAfterGap sent x → x.start ≤ y.start → x.start ≤ y.eligible) sent) sent) network run
 Keeps groups network run =
     (port class : ℕ) → port < length network.topology.ports → 1 ≤ class
-    → IsJudged ats_judge network (residence_behind network port) (handed_by network run port class)
+    → IsJudged ats_judge network (residence_of_groups network port) (handed_by network run port class)
 Keeps flows network run = (port : ℕ) → port < length network.topology.ports
     → All (IsPassed network) (handed_by network run port 0)
 
