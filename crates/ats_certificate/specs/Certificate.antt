@@ -67,14 +67,14 @@ pub record Covers (network : DeclaredNetwork) (row : Row) : Type 0 where
   pub wait : IsEnough (port_at network.topology.ports row.port) row
 
 -- how long a frame may have to stay behind a port: the wait at the port, and the port's spread
-abbrev pub need_of : Port → ℕ → ℕ
-need_of port wait = wait + spread_of port
+abbrev pub residence_needed : Port → ℕ → ℕ
+residence_needed port wait = wait + spread_of port
 
 -- where a port leads to a bridge, this need is at most the maximum residence time there
 abbrev pub MayStay : DeclaredNetwork → ℕ → ℕ → Type 0
 MayStay network port wait =
     ForSome (residence_after network.topology port)
-    (λ ns. need_of (port_at network.topology.ports port) wait ≤ PS_PER_NS * ns)
+    (λ ns. residence_needed (port_at network.topology.ports port) wait ≤ PS_PER_NS * ns)
 
 -- what each row of a certificate keeps
 pub record RowHolds (network : DeclaredNetwork) (row : Row) : Type 0 where

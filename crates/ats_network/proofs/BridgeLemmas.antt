@@ -4,9 +4,10 @@ use Rattle.std.proofs.lemmas.Bool.{eq-eqb}
 use Rattle.std.specs.List.{All, AllPairs}
 use Rattle.ats_topology.specs.Node.{is_station}
 use Rattle.ats_topology.specs.Port.{port_at, no_port, leaves, HasBack}
-use Rattle.ats_topology.specs.Topology.{DeclaredTopology, IsTopology, HasOnePort, node_at}
+use Rattle.ats_topology.specs.Topology.{DeclaredTopology, IsTopology, HasLawfulPorts, HasOnePort, node_at}
 use Rattle.ats_topology.specs.Walks.{IsWalk}
 use Rattle.ats_topology.specs.declared.port.Port.{Port}
+use Rattle.ats_topology.proofs.Rules.{ports_are_lawful}
 use Rattle.ats_network.specs.Bridges.{MeetAtBridge}
 use Rattle.ats_network.specs.Senders.{AllNeighbours}
 use Rattle.ats_network.specs.Laws.{PathsMeetAtBridges}
@@ -30,15 +31,18 @@ meet topology p q is in_p in_q next onward = record {
     node : ℕ
     node = (port_at topology.ports p).to
 
+    kept : HasLawfulPorts topology
+    kept = ports_are_lawful topology is
+
     there : node < length topology.nodes
-    there = (is.each_port p no_port in_p).between.to
+    there = (kept.each p no_port in_p).between.to
 
     back : HasBack topology.ports p
-    back = is.paired p in_p
+    back = kept.paired p in_p
 
     never : is_station (node_at topology.nodes node).kind ≡ true → ⊥
     never station =
-        let alone : HasOnePort topology.ports node = is.stations node there station in
+        let alone : HasOnePort topology.ports node = kept.stations node there station in
         let same : q ≡ back.back =
         one_passes (leaves node) topology.ports q back.back no_port alone.leaves in_q back.within
         (eq-eqb (port_at topology.ports q).from node next)

@@ -9,3 +9,4 @@ pub mod SenderLemmas
 pub mod FirstLemmas
 pub mod SimpleWalks
 pub mod RouteLemmas
+pub mod ClassLemmas

@@ -1,21 +1,22 @@
-use Rattle.std.proofs.Common.{◌≡◌, ◌≢◌, ℕ, ◌-◌, ◌<◌, ◌≤◌, List, [], ◌∷◌, map, length, sym, ap, ◌∙◌, arith}
-use Rattle.std.proofs.Common.{length-append}
+use Rattle.std.proofs.Common.{◌≡◌, ◌≢◌, ℕ, ◌<◌, ◌≤◌, List, [], ◌∷◌, map, length, sym, ap, ◌∙◌, arith}
 use Rattle.std.specs.List.{All, AllPairs}
-use Rattle.std.proofs.lemmas.List.{get_or-append_right, get_or-map, length-map}
-use Rattle.std.proofs.lemmas.List.Elements.{All-nil, All-cons, All-head, All-tail, All-append}
+use Rattle.std.proofs.lemmas.List.{get_or-map, length-map}
+use Rattle.std.proofs.lemmas.List.Elements.{All-nil, All-cons, All-head, All-tail, All-append, All-weaker}
 use Rattle.ats_streams.specs.Rules.{AreSizes, KeepsRules}
 use Rattle.ats_streams.specs.Path.{IsPath}
-use Rattle.ats_streams.specs.Stream.{DeclaredStream, IsStream}
+use Rattle.ats_streams.specs.Stream.{DeclaredStream, IsStream, IsClass}
 use Rattle.ats_streams.specs.Flow.{DeclaredFlow, IsFlow}
 use Rattle.ats_streams.specs.declared.stream.TheConstants.{MAX_CLASS}
 use Rattle.ats_topology.specs.Port.{port_at}
 use Rattle.ats_topology.specs.Topology.{DeclaredTopology, IsTopology}
 use Rattle.ats_network.specs.Sender.{Sender, stream_sender, flow_sender}
+use Rattle.ats_network.specs.Class.{class_at}
 use Rattle.ats_network.specs.Path.{IsValidPath}
-use Rattle.ats_network.specs.Network.{DeclaredNetwork, senders_of}
+use Rattle.ats_network.specs.Network.{DeclaredNetwork, IsNetwork, senders_of}
 use Rattle.ats_network.specs.Senders.{IsSender, sender_at, no_sender}
 use Rattle.ats_network.specs.Laws.{EachIsSender}
 use Rattle.ats_network.proofs.Appended.{all_left, all_right, pairs_tail}
+use Rattle.ats_network.proofs.ClassLemmas.{class_at-flow}
 use Rattle.ats_network.proofs.PathLemmas.{nodes_to, walk_ports}
 use Rattle.ats_network.proofs.BridgeLemmas.{meet_at_bridges}
 
@@ -33,15 +34,18 @@ ports_apart topology (p ∷ path) valid =
     (pairs_tail (λ m n. m ≢ n) (port_at topology.ports p).from (nodes_to topology.ports (p ∷ path)) valid.apart)
 
 is_sender : (topology : DeclaredTopology) (s : Sender) → IsTopology topology → IsValidPath topology s.path
-    → IsPath s.path → s.class ≤ MAX_CLASS → AreSizes s.min_octets s.max_octets
-    → (1 ≤ s.class → KeepsRules s.rate s.burst_bits s.min_octets s.max_octets) → IsSender topology s
-is_sender topology s is valid path class sizes shaped = record {
+    → IsPath s.path → length s.classes ≡ length s.path → All (λ class. class ≤ MAX_CLASS) s.classes
+    → AreSizes s.min_octets s.max_octets
+    → ((port : ℕ) → 1 ≤ class_at s port → KeepsRules s.rate s.burst_bits s.min_octets s.max_octets)
+    → IsSender topology s
+is_sender topology s is valid path each_port classes sizes shaped = record {
   path = path;
   valid = valid;
   ports = walk_ports topology.ports valid.talker s.path valid.listener valid.walk;
   apart = ports_apart topology s.path valid;
   bridges = meet_at_bridges topology s.path is valid;
-  class = class;
+  each_port = each_port;
+  classes = classes;
   sizes = sizes;
   shaped = shaped;
 }
@@ -54,9 +58,19 @@ streams_are topology (s ∷ streams) is keep valid =
     let rules : IsStream s = All-head IsStream s streams keep in
     All-cons (IsSender topology) (stream_sender s) (map stream_sender streams)
     (is_sender topology (stream_sender s) is (All-head (λ (s : Sender). IsValidPath topology s.path) (stream_sender s)
-    (map stream_sender streams) valid) rules.path rules.class.most rules.rules.sizes (λ _. rules.rules))
+    (map stream_sender streams) valid) rules.path rules.each_port
+    (All-weaker IsClass (λ class. class ≤ MAX_CLASS) (λ class h. h.most) s.classes rules.classes)
+    rules.rules.sizes (λ port _. rules.rules))
     (streams_are topology streams is (All-tail IsStream s streams keep)
     (All-tail (λ (s : Sender). IsValidPath topology s.path) (stream_sender s) (map stream_sender streams) valid))
+
+no_classes : (path : List ℕ) → All (λ class. class ≤ MAX_CLASS) (map (λ port. 0) path)
+no_classes [] = All-nil (λ class. class ≤ MAX_CLASS)
+no_classes (p ∷ path) =
+    All-cons (λ class. class ≤ MAX_CLASS) 0 (map (λ port. 0) path) (omega arith) (no_classes path)
+
+no_class : (f : DeclaredFlow) (port : ℕ) → 1 ≤ class_at (flow_sender f) port → ⊥
+no_class f port positive = let none : class_at (flow_sender f) port ≡ 0 = class_at-flow f port in omega (arith, none)
 
 flows_are : (topology : DeclaredTopology) (flows : List DeclaredFlow) → IsTopology topology
     → All IsFlow flows → All (λ (s : Sender). IsValidPath topology s.path) (map flow_sender flows)
@@ -67,8 +81,9 @@ flows_are topology (f ∷ flows) is keep valid =
     All-cons (IsSender topology) (flow_sender f) (map flow_sender flows)
     (is_sender topology (flow_sender f) is
     (All-head (λ (s : Sender). IsValidPath topology s.path) (flow_sender f) (map flow_sender flows) valid)
-    rules.path (omega arith) (record { least = omega arith; ordered = rules.size.least; most = rules.size.most })
-    (λ positive. absurd (omega arith)))
+    rules.path (length-map f.path (λ port. 0)) (no_classes f.path)
+    (record { least = omega arith; ordered = rules.size.least; most = rules.size.most })
+    (λ port positive. absurd (no_class f port positive)))
     (flows_are topology flows is (All-tail IsFlow f flows keep)
     (All-tail (λ (s : Sender). IsValidPath topology s.path) (flow_sender f) (map flow_sender flows) valid))
 
@@ -81,18 +96,7 @@ each_is_sender network is =
     (streams_are network.topology network.streams is.topology is.streams (all_left Goes streams flows is.paths))
     (flows_are network.topology network.flows is.topology is.flows (all_right Goes streams flows is.paths))
 
-no_flow : DeclaredFlow
-no_flow = record { name = []; path = []; max_octets = 0 }
-
--- a sender past the streams is of class 0
-pub flow_class : (network : DeclaredNetwork) (n : ℕ) → length network.streams ≤ n → n < length (senders_of network)
-    → (sender_at network n).class ≡ 0
-flow_class network n past within =
-    let streams : List Sender = map stream_sender network.streams in
-    let flows : List Sender = map flow_sender network.flows in
-    let first : length streams ≡ length network.streams = length-map network.streams stream_sender in
-    let second : length flows ≡ length network.flows = length-map network.flows flow_sender in
-    let below : n - length network.streams < length network.flows = omega (arith, length-append streams flows) in
-    ap (λ (s : Sender). s.class)
-    (get_or-append_right streams flows (length network.streams) n no_sender first past
-    ∙ get_or-map flow_sender network.flows (n - length network.streams) no_flow no_sender below)
+-- so each sender that a number tells keeps a sender's rules
+pub sender_keeps : (network : DeclaredNetwork) (n : ℕ) → IsNetwork network → n < length (senders_of network)
+    → IsSender network.topology (sender_at network n)
+sender_keeps network n is within = each_is_sender network is n no_sender within

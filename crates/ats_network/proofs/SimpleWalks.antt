@@ -12,6 +12,7 @@ use Rattle.ats_topology.specs.Port.{port_at, no_port}
 use Rattle.ats_topology.specs.Topology.{DeclaredTopology, IsTopology}
 use Rattle.ats_topology.specs.Walks.{IsWalk}
 use Rattle.ats_topology.specs.declared.port.Port.{Port}
+use Rattle.ats_topology.proofs.Rules.{ports_are_lawful}
 use Rattle.ats_network.specs.PathSteps.{comes_to}
 use Rattle.ats_network.proofs.Appended.{pairs_tail}
 use Rattle.ats_network.proofs.PathLemmas.{nodes_to, away}
@@ -81,7 +82,7 @@ nodes_below : (topology : DeclaredTopology) (a : ℕ) (walk : List ℕ) (b : ℕ
 nodes_below topology a [] b is goes = All-nil (λ n. n < length topology.nodes)
 nodes_below topology a (p ∷ walk) b is goes =
     All-cons (λ n. n < length topology.nodes) (port_at topology.ports p).to (nodes_to topology.ports walk)
-    (is.each_port p no_port goes.0.within).between.to
+    ((ports_are_lawful topology is).each p no_port goes.0.within).between.to
     (nodes_below topology (port_at topology.ports p).to walk b is goes.1)
 
 -- so such a walk has fewer ports than there are nodes

@@ -1,4 +1,4 @@
-use Rattle.std.specs.Prelude.{ℕ, ◌==◌, if◌then◌else◌, List, [], ◌∷◌}
+use Rattle.std.specs.Prelude.{ℕ, ◌==◌, if◌then◌else◌, List, ◌∷◌}
 use Rattle.ats_network.specs.Sender.{Sender}
 
 -- of classes that belong to the ports of a path, one by one, that of this port; 0 where the path does not have it

@@ -1,8 +1,10 @@
-use Rattle.std.specs.Prelude.{◌≡◌, ℕ, ◌<◌, List, length, Some, None, All}
+use Rattle.std.specs.Prelude.{◌≡◌, ℕ, ◌<◌, List, length, slice_index_or, Some, None, All}
 use Rattle.ats_topology.specs.Topology.{DeclaredTopology, IsTopology}
 use Rattle.ats_topology.specs.Walks.{IsLeastWalk, NoWalk}
 use Rattle.ats_network.specs.Path.{IsValidPath}
 use Rattle.ats_network.specs.Bridges.{MeetAtBridge}
+use Rattle.ats_network.specs.Sender.{Sender}
+use Rattle.ats_network.specs.Class.{class_at}
 use Rattle.ats_network.specs.Network.{DeclaredNetwork, IsNetwork, senders_of}
 use Rattle.ats_network.specs.Senders.{AllNeighbours, IsSender}
 use Rattle.ats_network.specs.Shortest.{shortest_of}
@@ -10,6 +12,11 @@ use Rattle.ats_network.specs.Shortest.{shortest_of}
 -- each sender of a network keeps a sender's rules
 abbrev pub EachIsSender : Type 0
 EachIsSender = (network : DeclaredNetwork) → IsNetwork network → All (IsSender network.topology) (senders_of network)
+
+-- a sender's class at a port of its path is the class at the port's place on the path
+abbrev pub ClassIsByHop : Type 0
+ClassIsByHop = (topology : DeclaredTopology) (s : Sender) (hop : ℕ) → IsSender topology s → hop < length s.path
+    → class_at s (slice_index_or s.path hop 0) ≡ slice_index_or s.classes hop 0
 
 -- the ports of a valid path meet at bridges: each but the last leads to one, and each but the first leaves one
 abbrev pub PathsMeetAtBridges : Type 0

@@ -7,6 +7,7 @@ pub mod laws;
 pub mod network;
 pub mod paths;
 pub mod routes;
+mod sender;
 mod stream_table;
 
 pub use fault::PushFault;

@@ -1,12 +1,14 @@
 //! Networks.
 
 ghost use Rattle.std.specs.Prelude.{◌≡◌, ◌↔◌, ◌<◌, ◌≤◌, [], length, None, IsTrue, IsNone, IfSome, IfErr, IsErrOf, OnOk};
-ghost use Rattle.std.specs.Prelude.{OnErr};
+ghost use Rattle.std.specs.Prelude.{OnErr, slice_index_or};
 ghost use Rattle.ats_num.specs.Failure.{IsDue};
 ghost use Rattle.ats_num.specs.Places.{place_of};
 ghost use Rattle.ats_network.specs.Network.{IsNetwork, declared_network, senders_of, names_of};
 ghost use Rattle.ats_network.specs.Path.{IsValidPath};
-ghost use Rattle.ats_network.specs.Senders.{sender_at};
+ghost use Rattle.ats_network.specs.Class.{class_at};
+ghost use Rattle.ats_network.specs.Senders.{IsSender, sender_at};
+ghost use Rattle.ats_network.specs.StreamOrFlow.{sender_of};
 ghost use Rattle.ats_network.specs.Residence.{residence_after, leads_to_station};
 ghost use Rattle.ats_network.specs.Pushes.{with_stream, with_flow, place_identified, is_identity_taken};
 ghost use Rattle.ats_network.specs.Pushes.{stream_push_fault, flow_push_fault};
@@ -14,6 +16,7 @@ ghost use Rattle.ats_network.specs.Pushes.{stream_push_fault, flow_push_fault};
 use crate::fault::PushFault;
 use crate::flow_table::FlowTable;
 use crate::paths::is_valid_path;
+use crate::sender::StreamOrFlow;
 use crate::stream_table::StreamTable;
 use ats_num::{Failure, Name};
 use ats_streams::{Flow, Stream};
@@ -121,26 +124,25 @@ impl Network {
         ensures value { result.now ≡ (sender_at self.now sender).path }
         ensures rules { IsNetwork self.now }
     {
-        let streams = self.stream_table.as_slice();
-        let place = sender as usize;
-        if place < streams.len() {
-            return streams[place].path();
+        match self.sender(sender) {
+            StreamOrFlow::Stream(stream) => stream.path(),
+            StreamOrFlow::Flow(flow) => flow.path(),
         }
-        self.flow_table.as_slice()[place - streams.len()].path()
     }
 
-    /// A sender's class: 1 to 7 for a stream, 0 for a flow.
-    pub fn sender_class(&self, sender: u32) -> u8
-        requires { sender < length (senders_of self.now) }
-        ensures value { result ≡ (sender_at self.now sender).class }
+    /// A sender's class at one hop of its path, counted from 0: 1 to 7 for a stream, 0 for a flow. A
+    /// path has no port twice, so it is the sender's class at the port of this hop.
+    pub fn sender_class(&self, sender: u32, hop: u32) -> u8
+        requires { (sender < length (senders_of self.now)) × (hop < length (sender_at self.now sender).path) }
+        ensures value { result ≡ slice_index_or (sender_at self.now sender).classes hop 0 }
+        ensures port { result ≡ class_at (sender_at self.now sender)
+            (slice_index_or (sender_at self.now sender).path hop 0) }
         ensures rules { IsNetwork self.now }
     {
-        let streams = self.stream_table.as_slice();
-        let place = sender as usize;
-        if place < streams.len() {
-            return streams[place].class();
+        match self.sender(sender) {
+            StreamOrFlow::Stream(stream) => stream.classes()[hop as usize],
+            StreamOrFlow::Flow(_) => 0,
         }
-        0
     }
 
     /// A sender's name.
@@ -149,12 +151,25 @@ impl Network {
         ensures value { result ≡ (sender_at self.now sender).name }
         ensures rules { IsNetwork self.now }
     {
-        let streams = self.stream_table.as_slice();
-        let place = sender as usize;
-        if place < streams.len() {
-            return streams[place].name();
+        match self.sender(sender) {
+            StreamOrFlow::Stream(stream) => stream.name(),
+            StreamOrFlow::Flow(flow) => flow.name(),
         }
-        self.flow_table.as_slice()[place - streams.len()].name()
+    }
+
+    // The stream or the flow with a sender's number.
+    fn sender(&self, number: u32) -> StreamOrFlow<'_>
+        requires { number < length (senders_of self.now) }
+        ensures value { sender_of result ≡ sender_at self.now number }
+        ensures sender { IsSender self.now.topology (sender_at self.now number) }
+        ensures rules { IsNetwork self.now }
+    {
+        let streams = self.stream_table.as_slice();
+        let place = number as usize;
+        if place < streams.len() {
+            return StreamOrFlow::Stream(&streams[place]);
+        }
+        StreamOrFlow::Flow(&self.flow_table.as_slice()[place - streams.len()])
     }
 
     /// Whether a stream or a flow of this network may have these ports as its path: each exists and
@@ -179,10 +194,7 @@ impl Network {
         let node = self.shape.ports()[port as usize].to;
         match self.shape.nodes()[node as usize].kind {
             Kind::Station => None,
-            Kind::Bridge {
-                processing_ns: _,
-                residence_ns,
-            } => Some(residence_ns),
+            Kind::Bridge { residence_ns, .. } => Some(residence_ns),
         }
     }
 

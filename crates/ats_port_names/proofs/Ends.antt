@@ -8,7 +8,7 @@ use Rattle.std.proofs.lemmas.List.{get_or_default, take_more}
 use Rattle.ats_topology.specs.Faults.{topology_fault, node_twice, link_twice, no_link, self_link, unknown_node}
 use Rattle.ats_topology.specs.Node.{names_of}
 use Rattle.ats_topology.specs.Port.{goes, no_port, port_at, port_between}
-use Rattle.ats_topology.specs.Topology.{IsTopology, link_at, port_of, ports_of, topology_of}
+use Rattle.ats_topology.specs.Topology.{IsTopology, HasLawfulPorts, link_at, port_of, ports_of, topology_of}
 use Rattle.ats_topology.specs.declared.node.Node.{Node}
 use Rattle.ats_topology.specs.declared.link.Link.{Link}
 use Rattle.ats_topology.specs.declared.port.Port.{Port}
@@ -16,7 +16,7 @@ use Rattle.ats_topology.specs.declared.fault.TopologyFault.{TopologyFault}
 use Rattle.ats_topology.proofs.Known.{IsOpen, all_open}
 use Rattle.ats_topology.proofs.Numbered.{first_absent, second_absent}
 use Rattle.ats_topology.proofs.PositionLemmas.{position_from-some}
-use Rattle.ats_topology.proofs.Rules.{topology_rules}
+use Rattle.ats_topology.proofs.Rules.{topology_rules, ports_are_lawful}
 use Rattle.std.specs.Prelude.{Option}
 
 some_fault : (fault : TopologyFault) → None ≡ Some fault → ⊥
@@ -82,6 +82,9 @@ before nodes links sound p within = by (halved p)
     rules : IsTopology (topology_of nodes links)
     rules = topology_rules nodes links sound
 
+    kept : HasLawfulPorts (topology_of nodes links)
+    kept = ports_are_lawful (topology_of nodes links) rules
+
     joined : AreJoined nodes links
     joined = are_joined nodes links sound
 
@@ -94,7 +97,7 @@ before nodes links sound p within = by (halved p)
         let link : Link = link_at links i in
         let read : link ≡ get_or links i link = get_or_default links i no_link link small in
         let here : port_at (ports_of nodes links) p ≡ port_of nodes link link.a link.b =
-        ap (port_at (ports_of nodes links)) e ∙ (rules.link_ports i small).there in
+        ap (port_at (ports_of nodes links)) e ∙ (kept.link_ports i small).there in
         rw (here, take_ports nodes links i p e) (first_absent nodes rules.names links joined.opens joined.joined i link
         small read (joined.opens i no_link small))
 
@@ -104,13 +107,13 @@ before nodes links sound p within = by (halved p)
         let link : Link = link_at links i in
         let read : link ≡ get_or links i link = get_or_default links i no_link link small in
         let here : port_at (ports_of nodes links) p ≡ port_of nodes link link.b link.a =
-        ap (port_at (ports_of nodes links)) e ∙ (rules.link_ports i small).back in
+        ap (port_at (ports_of nodes links)) e ∙ (kept.link_ports i small).back in
         let even : 2 * i < length (ports_of nodes links) = omega arith in
         let cut : take p (ports_of nodes links)
         ≡ ports_of nodes (take i links) ++ port_of nodes link link.a link.b ∷ [] =
         ap (λ n. take n (ports_of nodes links)) e ∙ take_more (ports_of nodes links) (2 * i) no_port even
         ∙ ap (λ front. front ++ port_at (ports_of nodes links) (2 * i) ∷ []) (take_ports nodes links i (2 * i) refl)
-        ∙ ap (λ port. ports_of nodes (take i links) ++ port ∷ []) (rules.link_ports i small).there in
+        ∙ ap (λ port. ports_of nodes (take i links) ++ port ∷ []) (kept.link_ports i small).there in
         rw (here, cut) (second_absent nodes rules.names links joined.opens joined.joined i link small read
         (joined.opens i no_link small))
 
@@ -120,8 +123,8 @@ before nodes links sound p within = by (halved p)
       where
         half : (i : ℕ) → (p ≡ 2 * i) ⊎ (p ≡ 2 * i + 1) → position_from (goes (port_at (ports_of nodes links) p).from
             (port_at (ports_of nodes links) p).to) 0 (take p (ports_of nodes links)) ≡ None
-        half i (inl e) = first i (omega (arith, rules.two_each)) e
-        half i (inr e) = second i (omega (arith, rules.two_each)) e
+        half i (inl e) = first i (omega (arith, kept.two_each)) e
+        half i (inr e) = second i (omega (arith, kept.two_each)) e
 
 -- each port is the one between its nodes
 pub between_ends : (nodes : List Node) (links : List Link) → topology_fault nodes links ≡ None → (p : ℕ)

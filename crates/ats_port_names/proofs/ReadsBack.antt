@@ -17,7 +17,7 @@ use Rattle.ats_topology.specs.Topology.{DeclaredTopology, IsPort, IsTopology, no
 use Rattle.ats_topology.specs.declared.node.Node.{Node}
 use Rattle.ats_topology.specs.declared.link.Link.{Link}
 use Rattle.ats_topology.specs.declared.port.Port.{Port}
-use Rattle.ats_topology.proofs.Rules.{topology_rules}
+use Rattle.ats_topology.proofs.Rules.{topology_rules, ports_are_lawful}
 use Rattle.ats_port_names.proofs.Ends.{between_ends}
 use Rattle.ats_port_names.specs.Laws.{AreSound, PortReadsBack}
 use Rattle.ats_port_names.specs.PortName.{name_of}
@@ -105,7 +105,7 @@ port_reads_back nodes links sound p within =
     let ports : List Port = ports_of nodes links in
     let port : Port = port_at ports p in
     let topology : DeclaredTopology = topology_of nodes links in
-    let each = (topology_rules nodes links sound.sound).each_port in
+    let each = (ports_are_lawful topology (topology_rules nodes links sound.sound)).each in
     position_from-same (λ (q : Port). bytes_eq (name_of topology port) (name_of topology q))
     (goes port.from port.to) 0 ports
     (λ k d small. same_ends nodes links sound port (get_or ports k d) (each p no_port within) (each k d small))

@@ -5,12 +5,12 @@ use Rattle.std.specs.List.{All}
 use Rattle.std.proofs.lemmas.List.Elements.{All-weaker}
 use Rattle.ats_topology.specs.Port.{IsBetween, ArePaired, GoesBetween, port_between, port_at, goes, no_port}
 use Rattle.ats_topology.specs.PortTable.{NodePorts}
-use Rattle.ats_topology.specs.Topology.{DeclaredTopology, ports_of, topology_of, IsPort, IsTopology, KeepsPorts}
+use Rattle.ats_topology.specs.Topology.{DeclaredTopology, ports_of, topology_of, IsPort, IsTopology, HasLawfulPorts}
 use Rattle.ats_topology.specs.Kept.{AreKept}
 use Rattle.ats_topology.specs.declared.node.Node.{Node}
 use Rattle.ats_topology.specs.declared.link.Link.{Link}
 use Rattle.ats_topology.specs.declared.port.Port.{Port}
-use Rattle.ats_topology.proofs.Rules.{topology_rules, ports_are_kept}
+use Rattle.ats_topology.proofs.Rules.{topology_rules, ports_are_lawful}
 use Rattle.ats_topology.proofs.PositionLemmas.{IsFound, found}
 
 -- what is kept beside nodes and links makes them a topology
@@ -25,14 +25,14 @@ kept_rules nodes links table between value kept is =
 -- and its ports keep what those of a topology keep
 pub kept_ports : (nodes : List Node) (links : List Link) (table : List (List ℕ))
     (between : NodePorts) (value : DeclaredTopology) → AreKept nodes links table between
-    → record { nodes = nodes; links = links; ports = between.ports } ≡ value → KeepsPorts value
+    → record { nodes = nodes; links = links; ports = between.ports } ≡ value → HasLawfulPorts value
 kept_ports nodes links table between value kept is =
-    ports_are_kept value (kept_rules nodes links table between value kept is)
+    ports_are_lawful value (kept_rules nodes links table between value kept is)
 
 own_ports : (nodes : List Node) (links : List Link) (table : List (List ℕ)) (between : NodePorts)
-    → AreKept nodes links table between → KeepsPorts (topology_of nodes links)
+    → AreKept nodes links table between → HasLawfulPorts (topology_of nodes links)
 own_ports nodes links table between kept =
-    ports_are_kept (topology_of nodes links) (topology_rules nodes links kept.sound)
+    ports_are_lawful (topology_of nodes links) (topology_rules nodes links kept.sound)
 
 -- its ports lie between its nodes
 pub all_between : (nodes : ℕ) (ports : List Port) → All (IsPort nodes) ports → All (IsBetween nodes) ports

@@ -22,7 +22,8 @@ use Rattle.ats_topology.specs.Faults.{topology_fault, node_twice, link_twice, se
 use Rattle.ats_topology.specs.Faults.{bad_rate, is_over, is_node_over, is_link_over, is_badly_linked, bad_processing}
 use Rattle.ats_topology.specs.Faults.{has_bad_processing, limit}
 use Rattle.ats_topology.specs.Topology.{no_node, node_at, node_number, link_at, port_of, ports_of, topology_of, IsNode}
-use Rattle.ats_topology.specs.Topology.{IsLink, IsPort, HasOnePort, DeclaredTopology, IsTopology, IsLinked, KeepsPorts}
+use Rattle.ats_topology.specs.Topology.{IsLink, IsPort, HasOnePort, DeclaredTopology, IsTopology, HasOneLink}
+use Rattle.ats_topology.specs.Topology.{HasLawfulPorts}
 use Rattle.ats_topology.specs.declared.fault.TopologyFault.{TopologyFault}
 use Rattle.ats_topology.specs.declared.fault.TopologyFault.TheVariants.{StationLinks, SelfLink, Limit, BadProcessing}
 use Rattle.ats_topology.specs.declared.node.Node.{Node}
@@ -384,7 +385,9 @@ open_of nodes link l =
 
 -- what the ports of the links of nodes and links keep, where these make a topology
 ports_keep : (nodes : List Node) (links : List Link) → AreApart (names_of nodes) → All IsNode nodes
-    → All (IsLink nodes) links → All (IsLinked links) nodes → KeepsPorts (topology_of nodes links)
+    → All (IsLink nodes) links
+    → All (λ (node : Node). IsTrue (is_station node.kind) → HasOneLink links node) nodes
+    → HasLawfulPorts (topology_of nodes links)
 ports_keep nodes links separate each_node each_link linked = record {
   two_each = length-ports_of nodes links;
   each = ports_are nodes each_node links opens each_link;
@@ -409,9 +412,9 @@ ports_keep nodes links separate each_node each_link linked = record {
         record { leaves = counts.0 ∙ one; leads = counts.1 ∙ one }
 
 -- what the ports of a topology keep follows from its rules
-pub ports_are_kept : (topology : DeclaredTopology) → IsTopology topology → KeepsPorts topology
-ports_are_kept topology t =
+pub ports_are_lawful : (topology : DeclaredTopology) → IsTopology topology → HasLawfulPorts topology
+ports_are_lawful topology t =
     let with_ports : List Port → DeclaredTopology =
     λ ports. record { nodes = topology.nodes; links = topology.links; ports = ports } in
-    subst KeepsPorts (sym (ap with_ports t.numbered))
+    subst HasLawfulPorts (sym (ap with_ports t.numbered))
     (ports_keep topology.nodes topology.links t.names t.each_node t.each_link t.stations)

@@ -1,7 +1,7 @@
 use Rattle.std.specs.Prelude.{◌≡◌, ℕ, ◌<◌, Bool, true, false, List, Some, None}
 use Rattle.ats_topology.specs.Walks.{IsLeastWalk}
 use Rattle.ats_topology.specs.Faults.{first_below}
-use Rattle.ats_topology.specs.Topology.{DeclaredTopology, IsTopology, KeepsPorts}
+use Rattle.ats_topology.specs.Topology.{DeclaredTopology, IsTopology, HasLawfulPorts}
 use Rattle.ats_topology.specs.declared.port.Port.{Port}
 
 -- two least walks between the same nodes are the same
@@ -23,4 +23,4 @@ FirstIsLeast = (test : ℕ → Bool) (n : ℕ)
 
 -- what the ports of a topology keep follows from its rules
 abbrev pub TopologyTellsPorts : Type 0
-TopologyTellsPorts = (topology : DeclaredTopology) → IsTopology topology → KeepsPorts topology
+TopologyTellsPorts = (topology : DeclaredTopology) → IsTopology topology → HasLawfulPorts topology

@@ -27,7 +27,7 @@ no_port = record { from = 0; to = 0; ps_per_bit = 0; earliest = record { 0 = 0 }
 abbrev pub port_at : List Port → ℕ → Port
 port_at ports p = slice_index_or ports p no_port
 
--- the port's spread: by how many picoseconds the latest arrival behind it comes after the earliest
+-- the port's spread: by how many picoseconds a frame may arrive behind it after the earliest moment
 abbrev pub spread_of : Port → ℕ
 spread_of port = port.latency.0 - port.earliest.0
 

@@ -103,9 +103,9 @@ pub record HasOnePort (ports : List Port) (node : ℕ) : Type 0 where
   pub leaves : count_by (leaves node) ports ≡ 1
   pub leads : count_by (leads_to node) ports ≡ 1
 
--- exactly one link ends at a node that is a station
-abbrev pub IsLinked : List Link → Node → Type 0
-IsLinked links node = IsTrue (is_station node.kind) → count_by (ends_at node.name) links ≡ 1
+-- exactly one link ends at the node
+abbrev pub HasOneLink : List Link → Node → Type 0
+HasOneLink links node = count_by (ends_at node.name) links ≡ 1
 
 -- what each topology keeps: its ports are those of its links, no two nodes have one name, there are not too many nodes
 -- and links, each is within its rules, and each station has one link
@@ -116,11 +116,11 @@ pub record IsTopology (topology : DeclaredTopology) : Type 0 where
   pub few_links : length topology.links ≤ MAX_LINKS
   pub each_node : All IsNode topology.nodes
   pub each_link : All (IsLink topology.nodes) topology.links
-  pub stations : All (IsLinked topology.links) topology.nodes
+  pub stations : All (λ (node : Node). IsTrue (is_station node.kind) → HasOneLink topology.links node) topology.nodes
 
 -- what the ports of a topology keep: there are two for each link, in the order of the links, each within its rules and
 -- with one that leads back, and one port leaves each station and one leads to it
-pub record KeepsPorts (topology : DeclaredTopology) : Type 0 where
+pub record HasLawfulPorts (topology : DeclaredTopology) : Type 0 where
   pub two_each : length topology.ports ≡ 2 * length topology.links
   pub each : All (IsPort (length topology.nodes)) topology.ports
   pub link_ports : (i : ℕ) → i < length topology.links → HasPorts topology i

@@ -20,6 +20,7 @@ use std::alloc::Global;
 use std::collections::BTreeSet;
 
 /// The names of the nodes, or the first fault of nodes and links.
+#[tactic(auto, using(crate::proofs::Due::passed_on, crate::proofs::Due::due_first, crate::proofs::Due::due_later))]
 pub(crate) fn check(
     alloc: Global,
     nodes: &[Node],

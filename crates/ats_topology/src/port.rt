@@ -22,8 +22,8 @@ pub struct Port {
 }
 
 impl Port {
-    /// The spread: by how many picoseconds the latest arrival behind the port comes after the
-    /// earliest; 0 where it comes before.
+    /// The spread: by how many picoseconds a frame may arrive behind the port after the earliest
+    /// moment.
     pub fn spread(&self) -> u64
         ensures { result ≡ spread_of self.now }
     {

@@ -6,7 +6,7 @@ ghost use Rattle.ats_num.specs.Places.{place_of};
 ghost use Rattle.ats_topology.specs.Node.{names_of};
 ghost use Rattle.ats_topology.specs.Port.{port_between, GoesBetween};
 ghost use Rattle.ats_topology.specs.Faults.{topology_fault};
-ghost use Rattle.ats_topology.specs.Topology.{topology_of, IsTopology, KeepsPorts};
+ghost use Rattle.ats_topology.specs.Topology.{topology_of, IsTopology, HasLawfulPorts};
 ghost use Rattle.ats_topology.specs.Walks.{IsLeastWalk, NoWalk, ArePorts};
 
 use crate::checks::check;
@@ -74,7 +74,7 @@ impl Topology {
     pub fn nodes(&self) -> &[Node]
         ensures value { result.now ≡ self.now.nodes }
         ensures rules { IsTopology self.now }
-        ensures kept { KeepsPorts self.now }
+        ensures kept { HasLawfulPorts self.now }
     {
         self.node_list.as_slice()
     }
@@ -83,7 +83,7 @@ impl Topology {
     pub fn links(&self) -> &[Link]
         ensures value { result.now ≡ self.now.links }
         ensures rules { IsTopology self.now }
-        ensures kept { KeepsPorts self.now }
+        ensures kept { HasLawfulPorts self.now }
     {
         self.link_list.as_slice()
     }
@@ -92,7 +92,7 @@ impl Topology {
     pub fn ports(&self) -> &[Port]
         ensures value { result.now ≡ self.now.ports }
         ensures rules { IsTopology self.now }
-        ensures kept { KeepsPorts self.now }
+        ensures kept { HasLawfulPorts self.now }
     {
         self.table.ports()
     }

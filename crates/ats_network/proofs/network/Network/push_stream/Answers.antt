@@ -23,7 +23,7 @@ pub invariant_of-self-2 : goal.invariant_of-self-2
 invariant_of-self-2 c =
     let inside : DeclaredNetwork =
     declared_network c.self.inside.shape c.self.inside.stream_table c.self.inside.flow_table in
-    let keeps : IsStream c.args.stream = subst IsStream c.stream.view_is c.stream.invariant in
+    let keeps : IsStream c.args.stream = subst IsStream c.stream.view_is c.stream.invariant.0 in
     let valid : IsValidPath inside.topology c.args.stream.path =
     subst (λ (n : DeclaredNetwork). IsValidPath n.topology c.args.stream.path) (sym c.self.view_is) c.requires in
     let absent : place_of c.args.stream.name (names_of (senders_of inside)) ≡ None =
