@@ -1,9 +1,10 @@
-use Rattle.std.proofs.Common.{sym, ◌∙◌, arith}
+use Rattle.std.proofs.Common.{arith}
 use Rattle.ats_trace.proofs.RowLemmas.{length-run}
 use Rattle.ats_trace.proofs.run.Run.len.Goals as goal
 
 pub returns-clause-value : goal.returns-clause-value
-returns-clause-value c = c.len.ensures ∙ sym (length-run _ _ _ _ c.self.view_is c.self.invariant.spanned)
+returns-clause-value c =
+    omega (arith, c.len.ensures, length-run _ _ _ _ c.self.view_is c.self.invariant.spanned)
 
 pub returns-clause-bounded : goal.returns-clause-bounded
 returns-clause-bounded c =
