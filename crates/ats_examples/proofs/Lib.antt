@@ -10,6 +10,7 @@ pub mod LawsMetProofs
 pub mod LegalProofs
 pub mod LegalTest
 pub mod NetworkProofs
+pub mod NetworkTest
 pub mod PartTest
 pub mod PortProofs
 pub mod PortTest
