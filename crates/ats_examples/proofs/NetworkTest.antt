@@ -46,7 +46,8 @@ abbrev pub keeps_rules : DeclaredStream → Bool
 keeps_rules s =
     is_between 1 MAX_BPS s.rate
     && (nat_le MIN_OCTETS s.min_octets
-    && (is_between s.min_octets MAX_OCTETS s.max_octets && is_between (bits_of s.max_octets) MAX_BURST_BITS s.burst_bits))
+    && (is_between s.min_octets MAX_OCTETS s.max_octets
+    && is_between (bits_of s.max_octets) MAX_BURST_BITS s.burst_bits))
 
 rules_by : (s : DeclaredStream) → keeps_rules s ≡ true → KeepsRules s.rate s.burst_bits s.min_octets s.max_octets
 rules_by s h =
@@ -242,8 +243,8 @@ network_by nodes links streams flows sound h =
           third.0;
       names = λ n within. place_by (place_of (slice_index_or names n []) names) n
           (below_by (is_found names) (length names) fourth.0 n within);
-      identities = pairs_by (λ (s t : DeclaredStream). (identity : ℕ × ℕ) → ¬ Share s t identity) has_none own_by streams
-          fifth.0;
+      identities = pairs_by (λ (s t : DeclaredStream). (identity : ℕ × ℕ) → ¬ Share s t identity) has_none own_by
+          streams fifth.0;
       few_streams = le_of (length streams) MAX_STREAMS sixth.0;
       few_flows = le_of (length flows) MAX_FLOWS sixth.1;
     }

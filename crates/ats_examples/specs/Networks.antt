@@ -66,9 +66,15 @@ abbrev pub fork_links : List Link
 fork_links = line_links ++ link (codes "s3") (codes "b1") ∷ []
 
 -- with two streams to s2, number 0 from s1 and number 1 from s3
+abbrev pub fork_with : DeclaredStream → DeclaredNetwork
+fork_with first = declared_network (topology_of fork_nodes fork_links) (first ∷ stream (codes "z") (4 ∷ 2 ∷ []) ∷ []) []
+
 abbrev pub fork : DeclaredNetwork
-fork = declared_network (topology_of fork_nodes fork_links)
-    (stream (codes "a") (0 ∷ 2 ∷ []) ∷ stream (codes "z") (4 ∷ 2 ∷ []) ∷ []) []
+fork = fork_with (stream (codes "a") (0 ∷ 2 ∷ []))
+
+-- where the first is of class 6 at its station, and of class 5 at the bridge
+abbrev pub fork_of_classes : DeclaredNetwork
+fork_of_classes = fork_with (stream_of (codes "a") (0 ∷ 2 ∷ []) (6 ∷ 5 ∷ []))
 
 -- two bridges between two stations: port 0 leads from s1 to b1, port 2 from b1 to b2, port 4 from b2 to s2
 abbrev pub two_nodes : List Node
@@ -108,6 +114,25 @@ line_of_two residence_ns = line_with residence_ns (stream (codes "b") (0 ∷ 2 �
 abbrev pub line_of_classes : DeclaredNetwork
 line_of_classes = line_with 1000000 (stream_of (codes "c") (0 ∷ 2 ∷ []) (5 ∷ 5 ∷ []))
 
+-- where it is one of class 6 at the station and of class 5 at the bridge, and the other way round
+abbrev pub line_lowered : DeclaredNetwork
+line_lowered = line_with 1000000 (stream_of (codes "b") (0 ∷ 2 ∷ []) (6 ∷ 5 ∷ []))
+
+abbrev pub line_raised : DeclaredNetwork
+line_raised = line_with 1000000 (stream_of (codes "b") (0 ∷ 2 ∷ []) (5 ∷ 6 ∷ []))
+
+-- the line whose bridge takes 200 to 1000 ns to process a frame, and has this maximum residence time in nanoseconds:
+-- port 0 has an earliest latency of 700000 ps, and a latency of 1500000 ps
+abbrev pub ranged_nodes : ℕ → List Node
+ranged_nodes residence_ns =
+    station (codes "s1") ∷ station (codes "s2")
+    ∷ record { name = codes "b1"; kind = Bridge 200 1000 residence_ns }
+    ∷ []
+
+abbrev pub ranged : ℕ → DeclaredNetwork
+ranged residence_ns = declared_network (topology_of (ranged_nodes residence_ns) line_links)
+    (stream (codes "a") (0 ∷ 2 ∷ []) ∷ []) []
+
 -- a stream over the line with a rate of 50 Mb/s and frames of 64 octets, of which one is its burst
 abbrev pub small : List ℕ → ℕ → DeclaredStream
 small name class = declared_stream name (0 ∷ 2 ∷ []) (class ∷ class ∷ []) 50000000 672 64 64 1000000 None
@@ -123,7 +148,9 @@ pair residence_ns = declared_network (topology_of (nodes_with residence_ns) line
 abbrev pub below : DeclaredNetwork
 below =
     declared_network (topology_of line_nodes line_links)
-    (small (codes "a") 5 ∷ declared_stream (codes "b") (0 ∷ 2 ∷ []) (6 ∷ 6 ∷ []) 500000000 12336 64 1522 1000000 None ∷ [])
+    (small (codes "a") 5
+    ∷ declared_stream (codes "b") (0 ∷ 2 ∷ []) (6 ∷ 6 ∷ []) 500000000 12336 64 1522 1000000 None
+    ∷ [])
     []
 
 -- a stream on the line with twice the rate of the links
