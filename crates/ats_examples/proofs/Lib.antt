@@ -2,6 +2,7 @@ pub mod ArrivalTest
 pub mod BrokenProofs
 pub mod BucketTest
 pub mod ChangeProofs
+pub mod ClassBoundProofs
 pub mod ClassProofs
 pub mod CrossingProofs
 pub mod DeviationProofs
@@ -22,5 +23,6 @@ pub mod RuleProofs
 pub mod RuleRuns
 pub mod RuleTest
 pub mod SoundRunProofs
+pub mod SpreadBoundProofs
 pub mod TalkerProofs
 pub mod Tests

@@ -4,7 +4,8 @@ use Rattle.ats_num.specs.Tie.{late_key, mixed_key}
 use Rattle.ats_trace.specs.Parts.{links, Keeps}
 use Rattle.ats_trace.specs.Run.{IsRunBy}
 use Rattle.ats_examples.specs.LegalRuns.{frame_key, least_wait, greatest_wait}
-use Rattle.ats_examples.specs.PacedRuns.{ranged_line, arriving, second_arriving, overtaking}
+use Rattle.ats_examples.specs.PacedRuns.{ranged_line, arriving, second_arriving, overtaking, arriving_next}
+use Rattle.ats_examples.specs.Networks.{over_two_ranged}
 use Rattle.ats_examples.specs.PacedRuns.{ArrivalsAreLegal, ArrivalsBreakLinks, ArrivalsByPace}
 use Rattle.ats_examples.proofs.ChangeProofs.{no_crossing}
 use Rattle.ats_examples.proofs.LegalProofs.{run_by}
@@ -17,6 +18,8 @@ arrivals_legal = record {
   latest = legal_by ranged_line (arriving 13836000) refl;
   behind = legal_by ranged_line (second_arriving 2172001) refl;
   last = legal_by ranged_line (second_arriving 2844000) refl;
+  next_earliest = legal_by over_two_ranged (arriving_next 26072000) refl;
+  next_latest = legal_by over_two_ranged (arriving_next 26872000) refl;
 }
 
 not_so_early : ¬ Keeps links ranged_line (arriving 13035999)
@@ -27,6 +30,16 @@ not_so_early keeps =
 not_so_late : ¬ Keeps links ranged_line (arriving 13836001)
 not_so_late keeps =
     let late : 13836001 ≤ 13836000 = ((keeps 0 (lit< tt)).within 0 no_crossing (lit< tt)).latest in
+    absurd (omega arith)
+
+next_not_so_early : ¬ Keeps links over_two_ranged (arriving_next 26071999)
+next_not_so_early keeps =
+    let early : 26072000 ≤ 26071999 = ((keeps 2 (lit< tt)).within 0 no_crossing (lit< tt)).earliest in
+    absurd (omega arith)
+
+next_not_so_late : ¬ Keeps links over_two_ranged (arriving_next 26872001)
+next_not_so_late keeps =
+    let late : 26872001 ≤ 26872000 = ((keeps 2 (lit< tt)).within 0 no_crossing (lit< tt)).latest in
     absurd (omega arith)
 
 not_together : ¬ Keeps links ranged_line (second_arriving 2172000)
@@ -45,6 +58,14 @@ pub arrivals_break_links : ArrivalsBreakLinks
 arrivals_break_links = record {
   early = record { broken = not_so_early; others = others_by links ranged_line (arriving 13035999) refl };
   late = record { broken = not_so_late; others = others_by links ranged_line (arriving 13836001) refl };
+  next_early = record {
+    broken = next_not_so_early;
+    others = others_by links over_two_ranged (arriving_next 26071999) refl;
+  };
+  next_late = record {
+    broken = next_not_so_late;
+    others = others_by links over_two_ranged (arriving_next 26872001) refl;
+  };
   together = record { broken = not_together; others = others_by links ranged_line (second_arriving 2172000) refl };
   overtaking = record { broken = not_overtaking; others = others_by links ranged_line overtaking refl };
 }

@@ -27,7 +27,7 @@ use Rattle.ats_examples.proofs.RuleRuns.{flow_kept, one_kept}
 use Rattle.ats_examples.proofs.RuleTest.{same_rule, others_pass, others_by, rest_passes, rest_by}
 
 -- where a frame of a legal run, whose talker keeps its buckets, is not served, the rows are not sound
-unsound_by : (network : DeclaredNetwork) (given : List Row) (run : List Travel) (frame : ℕ) → IsLegal network run
+pub unsound_by : (network : DeclaredNetwork) (given : List Row) (run : List Travel) (frame : ℕ) → IsLegal network run
     → Contains run (travel_at run frame)
     → IsOfStream network (travel_at run frame)
     → KeepsBuckets network (releases_of run) (talker_of network (travel_at run frame).release.sender)
@@ -47,7 +47,7 @@ each rule network given others kept other =
     ]
 
 -- what breaks a rule alone
-breaks : (rule : Rule) (network : DeclaredNetwork) (given : List Row) → IsNetwork network
+pub breaks : (rule : Rule) (network : DeclaredNetwork) (given : List Row) → IsNetwork network
     → ((other : Rule) → other ≢ rule → Keeps other network given) → RestHolds network given → ¬ IsSound network given
     → BreaksAlone rule network given
 breaks rule network given is others rest unsound = record {

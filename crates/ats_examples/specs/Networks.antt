@@ -121,17 +121,27 @@ line_lowered = line_with 1000000 (stream_of (codes "b") (0 ∷ 2 ∷ []) (6 ∷ 
 abbrev pub line_raised : DeclaredNetwork
 line_raised = line_with 1000000 (stream_of (codes "b") (0 ∷ 2 ∷ []) (5 ∷ 6 ∷ []))
 
--- the line whose bridge takes 200 to 1000 ns to process a frame, and has this maximum residence time in nanoseconds:
--- port 0 has an earliest latency of 700000 ps, and a latency of 1500000 ps
+-- a bridge that takes 200 to 1000 ns to process a frame, with this maximum residence time in nanoseconds
+abbrev pub ranged_bridge : List ℕ → ℕ → Node
+ranged_bridge name residence_ns = record { name = name; kind = Bridge 200 1000 residence_ns }
+
+-- the line over such a bridge: port 0 has an earliest latency of 700000 ps, and a latency of 1500000 ps
 abbrev pub ranged_nodes : ℕ → List Node
-ranged_nodes residence_ns =
-    station (codes "s1") ∷ station (codes "s2")
-    ∷ record { name = codes "b1"; kind = Bridge 200 1000 residence_ns }
-    ∷ []
+ranged_nodes residence_ns = station (codes "s1") ∷ station (codes "s2") ∷ ranged_bridge (codes "b1") residence_ns ∷ []
 
 abbrev pub ranged : ℕ → DeclaredNetwork
 ranged residence_ns = declared_network (topology_of (ranged_nodes residence_ns) line_links)
     (stream (codes "a") (0 ∷ 2 ∷ []) ∷ []) []
+
+-- and over two of them, where ports 0 and 2 have these latencies
+abbrev pub two_ranged_nodes : List Node
+two_ranged_nodes =
+    station (codes "s1") ∷ station (codes "s2")
+    ∷ ranged_bridge (codes "b1") 12464 ∷ ranged_bridge (codes "b2") 12464 ∷ []
+
+abbrev pub over_two_ranged : DeclaredNetwork
+over_two_ranged = declared_network (topology_of two_ranged_nodes two_links)
+    (stream (codes "a") (0 ∷ 2 ∷ 4 ∷ []) ∷ []) []
 
 -- a stream over the line with a rate of 50 Mb/s and frames of 64 octets, of which one is its burst
 abbrev pub small : List ℕ → ℕ → DeclaredStream

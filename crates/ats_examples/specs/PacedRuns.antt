@@ -5,7 +5,7 @@ use Rattle.ats_network.specs.Network.{DeclaredNetwork}
 use Rattle.ats_trace.specs.Journey.{Travel}
 use Rattle.ats_trace.specs.Parts.{links}
 use Rattle.ats_trace.specs.Run.{IsLegal, IsRunBy}
-use Rattle.ats_examples.specs.Networks.{ranged}
+use Rattle.ats_examples.specs.Networks.{ranged, over_two_ranged}
 use Rattle.ats_examples.specs.Runs.{hop, sunk}
 use Rattle.ats_examples.specs.LegalRuns.{frame_key, least_wait, greatest_wait}
 use Rattle.ats_examples.specs.Deviations.{BreaksAlone}
@@ -36,6 +36,14 @@ overtaking =
     ∷ sunk 0 0 64 (hop 0 0 672000 1344000 ∷ hop 2171999 2171999 2171999 2843999 ∷ []) 3343999
     ∷ []
 
+-- one frame over two bridges: it arrives at the first as early as it may, and at the second, where it may come from
+-- 26072000 to 26872000, at this time
+abbrev pub arriving_next : ℕ → List Travel
+arriving_next at =
+    sunk 0 0 1522
+    (hop 0 0 0 12336000 ∷ hop 13036000 13036000 13036000 25372000 ∷ hop at at at (at + 12336000) ∷ []) (at + 12836000)
+    ∷ []
+
 -- a frame may arrive at both ends of its interval and inside it, and as soon as the frame before it has
 pub record ArrivalsAreLegal : Type 0 where
   pub earliest : IsLegal ranged_line (arriving 13036000)
@@ -43,11 +51,15 @@ pub record ArrivalsAreLegal : Type 0 where
   pub latest : IsLegal ranged_line (arriving 13836000)
   pub behind : IsLegal ranged_line (second_arriving 2172001)
   pub last : IsLegal ranged_line (second_arriving 2844000)
+  pub next_earliest : IsLegal over_two_ranged (arriving_next 26072000)
+  pub next_latest : IsLegal over_two_ranged (arriving_next 26872000)
 
 -- not 1 ps outside the interval, and neither with the frame before it nor before that
 pub record ArrivalsBreakLinks : Type 0 where
   pub early : BreaksAlone links ranged_line (arriving 13035999)
   pub late : BreaksAlone links ranged_line (arriving 13836001)
+  pub next_early : BreaksAlone links over_two_ranged (arriving_next 26071999)
+  pub next_late : BreaksAlone links over_two_ranged (arriving_next 26872001)
   pub together : BreaksAlone links ranged_line (second_arriving 2172000)
   pub overtaking : BreaksAlone links ranged_line overtaking
 

@@ -11,10 +11,10 @@ use Rattle.ats_trace.specs.Talker.{talker_of, KeepsBuckets}
 use Rattle.ats_trace.specs.declared.journey.Ending.TheVariants.{Discard}
 use Rattle.ats_soundness_law.specs.Rules.{frames_may_stay}
 use Rattle.ats_soundness_law.specs.Sound.{IsServed}
-use Rattle.ats_examples.specs.Networks.{ranged}
-use Rattle.ats_examples.specs.Rows.{line_rows}
+use Rattle.ats_examples.specs.Networks.{ranged, over_two_ranged}
+use Rattle.ats_examples.specs.Rows.{line_rows, two_rows}
 use Rattle.ats_examples.specs.Runs.{hop, sunk}
-use Rattle.ats_examples.specs.PacedRuns.{ranged_line, arriving}
+use Rattle.ats_examples.specs.PacedRuns.{ranged_line, arriving, arriving_next}
 use Rattle.ats_examples.specs.Deviations as part
 use Rattle.ats_examples.specs.RuleBreaks as rule
 use Rattle.ats_examples.specs.SoundRuns.{IsCertified, IsServedExactly}
@@ -61,10 +61,13 @@ overtaken =
 
 -- the certificate holds where the residence is the wait and the spread, and not 1 ns below it. At one end of its
 -- interval a frame arrives exactly when the sum of the bounds is over, and at the other one a frame stays as long as it
--- may
+-- may. Over two bridges a frame is served that comes to the first as early as it may, and to the second as late
 pub record PacesAreSound : Type 0 where
   pub certified : IsCertified ranged_line line_rows
   pub latest : IsServedExactly ranged_line line_rows (arriving 13836000) (travel_at (arriving 13836000) 0)
+  pub over_two : IsCertified over_two_ranged two_rows
+  pub next : IsServed two_rows (sender_at over_two_ranged 0) (travel_at (arriving_next 26872000) 0)
+  pub next_late : ¬ IsServed two_rows (sender_at over_two_ranged 0) (travel_at (arriving_next 26872001) 0)
   pub legal : IsLegal ranged_line last_stays
   pub keeps : KeepsBuckets ranged_line (releases_of last_stays) (talker_of ranged_line 0)
   pub served : IsServed line_rows (sender_at ranged_line 0) (travel_at last_stays 2)
