@@ -90,10 +90,16 @@ in_order {X} key a b c (u ∷ v ∷ w ∷ []) ab bc p up =
     let is_w : IsOneOf a b c w = one_of a b c w (Contains-permutation ys xs w back (2, omega arith, refl)) in
     let uv : key u ≤ key v = up 0 1 0 (omega arith) (omega arith) in
     let vw : key v ≤ key w = up 1 2 0 (omega arith) (omega arith) in
-    let first : key u ≡ key a = omega (arith, no_less (key u) (key v) (key w) (key a) uv vw (of_keys key u v w a of_a),
-    no_less (key a) (key b) (key c) (key u) (omega arith) (omega arith) (of_keys key a b c u is_u)) in
-    let last : key w ≡ key c = omega (arith, no_more (key u) (key v) (key w) (key c) uv vw (of_keys key u v w c of_c),
-    no_more (key a) (key b) (key c) (key w) (omega arith) (omega arith) (of_keys key a b c w is_w)) in
+    let first : key u ≡ key a = omega (
+      arith,
+      no_less (key u) (key v) (key w) (key a) uv vw (of_keys key u v w a of_a),
+      no_less (key a) (key b) (key c) (key u) (omega arith) (omega arith) (of_keys key a b c u is_u),
+    ) in
+    let last : key w ≡ key c = omega (
+      arith,
+      no_more (key u) (key v) (key w) (key c) uv vw (of_keys key u v w c of_c),
+      no_more (key a) (key b) (key c) (key w) (omega arith) (omega arith) (of_keys key a b c w is_w),
+    ) in
     let middle : key v ≡ key b = is_middle (key u) (key v) (key w) (key b) (omega (arith, first, ab))
     (omega (arith, last, bc)) (of_keys key u v w b of_b) in
     let eu : u ≡ a = is_first key a b c u ab bc first is_u in

@@ -132,8 +132,7 @@ walk_by ports a [] h = refl
 walk_by ports a (p ∷ path) h =
     let on : Bool = walks ports (port_at ports p).to path in
     let first = and_parts (nat_lt p (length ports)) ((port_at ports p).from == a && on) h in
-    let second = and_parts ((port_at ports p).from == a) on first.1 in
-    (
+    let second = and_parts ((port_at ports p).from == a) on first.1 in (
       record { within = lt_of p (length ports) first.0; from = eq_of (port_at ports p).from a second.0 },
       walk_by ports (port_at ports p).to path second.1,
     )

@@ -4,8 +4,8 @@ use Rattle.ats_num.specs.Tie.{late_key, mixed_key}
 use Rattle.ats_trace.specs.Parts.{links, Keeps}
 use Rattle.ats_trace.specs.Run.{IsRunBy}
 use Rattle.ats_examples.specs.LegalRuns.{frame_key, least_wait, greatest_wait}
-use Rattle.ats_examples.specs.PacedRuns.{ranged_line, arriving, second_arriving, overtaking, arriving_next}
-use Rattle.ats_examples.specs.Networks.{over_two_ranged}
+use Rattle.ats_examples.specs.PacedRuns.{arriving, second_arriving, overtaking, arriving_next}
+use Rattle.ats_examples.specs.Networks.{ranged_line, over_two_ranged}
 use Rattle.ats_examples.specs.PacedRuns.{ArrivalsAreLegal, ArrivalsBreakLinks, ArrivalsByPace}
 use Rattle.ats_examples.proofs.ChangeProofs.{no_crossing}
 use Rattle.ats_examples.proofs.LegalProofs.{run_by}

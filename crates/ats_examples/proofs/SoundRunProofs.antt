@@ -15,7 +15,7 @@ use Rattle.ats_trace.specs.Talker.{talker_of, KeepsBuckets}
 use Rattle.ats_trace.proofs.ExactLinks.{links_are_exact}
 use Rattle.ats_soundness_law.specs.Sound.{IsServed, IsContained}
 use Rattle.ats_soundness_law.proofs.Soundness.{path_law, containment, sound_by_rules}
-use Rattle.ats_examples.specs.Networks.{stream, line, fork, over_two, over_three}
+use Rattle.ats_examples.specs.Networks.{line, fork, over_two, over_three, ranged_line}
 use Rattle.ats_examples.specs.Runs.{one_frame}
 use Rattle.ats_examples.specs.ChangedRuns.{sunk_late}
 use Rattle.ats_examples.specs.BridgedRuns.{eligible_later, one_over_two, one_over_three, two_over_two, two_over_three}
@@ -29,7 +29,7 @@ use Rattle.ats_examples.proofs.BucketTest.{keeps_by}
 use Rattle.ats_examples.specs.Rows.{two_rows, three_rows, fork_rows, turned_rows}
 use Rattle.ats_examples.specs.SoundRuns.{IsCertified, BridgedAreSound, BabblerIsContained, ExactExamples}
 use Rattle.ats_examples.specs.SoundRuns.{ExactnessCounts, OrderDoesNotCount}
-use Rattle.ats_examples.specs.PacedRuns.{ranged_line, arriving}
+use Rattle.ats_examples.specs.PacedRuns.{arriving}
 use Rattle.ats_examples.proofs.PaceProofs.{arrivals_legal}
 use Rattle.ats_examples.proofs.NetworkProofs.{line_is, two_is, three_is, fork_is, ranged_is}
 use Rattle.ats_examples.proofs.RuleTest.{all_kept, holds_by}

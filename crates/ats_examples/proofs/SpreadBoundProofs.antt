@@ -7,9 +7,9 @@ use Rattle.ats_trace.specs.Stored.{travel_at}
 use Rattle.ats_trace.specs.Talker.{talker_of, KeepsBuckets}
 use Rattle.ats_soundness_law.specs.Rules.{frames_may_stay}
 use Rattle.ats_soundness_law.specs.Sound.{IsServed, IsSound}
-use Rattle.ats_examples.specs.Networks.{ranged, over_two_ranged}
+use Rattle.ats_examples.specs.Networks.{ranged, ranged_line, over_two_ranged}
 use Rattle.ats_examples.specs.Rows.{line_rows, two_rows}
-use Rattle.ats_examples.specs.PacedRuns.{ranged_line, arriving, arriving_next}
+use Rattle.ats_examples.specs.PacedRuns.{arriving, arriving_next}
 use Rattle.ats_examples.specs.SoundRuns.{IsCertified}
 use Rattle.ats_examples.specs.SpreadBounds.{last_stays, last_is_late, overtaken, PacesAreSound, IsUnserved}
 use Rattle.ats_examples.specs.SpreadBounds.{LinkRuleCounts}

@@ -133,6 +133,10 @@ abbrev pub ranged : ℕ → DeclaredNetwork
 ranged residence_ns = declared_network (topology_of (ranged_nodes residence_ns) line_links)
     (stream (codes "a") (0 ∷ 2 ∷ []) ∷ []) []
 
+-- where the residence just fits the wait at port 0 and the port's spread
+abbrev pub ranged_line : DeclaredNetwork
+ranged_line = ranged 12464
+
 -- and over two of them, where ports 0 and 2 have these latencies
 abbrev pub two_ranged_nodes : List Node
 two_ranged_nodes =

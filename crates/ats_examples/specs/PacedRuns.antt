@@ -1,19 +1,15 @@
 use Rattle.std.specs.Prelude.{ℕ, ◌+◌, List, [], ◌∷◌}
 use Rattle.ats_num.specs.Pace.{drawn_wait}
 use Rattle.ats_num.specs.Tie.{late_key, mixed_key}
-use Rattle.ats_network.specs.Network.{DeclaredNetwork}
 use Rattle.ats_trace.specs.Journey.{Travel}
 use Rattle.ats_trace.specs.Parts.{links}
 use Rattle.ats_trace.specs.Run.{IsLegal, IsRunBy}
-use Rattle.ats_examples.specs.Networks.{ranged, over_two_ranged}
+use Rattle.ats_examples.specs.Networks.{ranged_line, over_two_ranged}
 use Rattle.ats_examples.specs.Runs.{hop, sunk}
 use Rattle.ats_examples.specs.LegalRuns.{frame_key, least_wait, greatest_wait}
 use Rattle.ats_examples.specs.Deviations.{BreaksAlone}
 
 -- Runs over a bridge that takes 200 to 1000 ns to process a frame.
-
-abbrev pub ranged_line : DeclaredNetwork
-ranged_line = ranged 12464
 
 -- one frame, which arrives at the bridge at this time and is sent on at once; it may come from 13036000 to 13836000
 abbrev pub arriving : ℕ → List Travel

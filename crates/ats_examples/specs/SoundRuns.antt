@@ -10,12 +10,12 @@ use Rattle.ats_trace.specs.Stored.{travel_at}
 use Rattle.ats_trace.specs.Talker.{talker_of, KeepsBuckets}
 use Rattle.ats_trace.specs.declared.journey.Ending.TheVariants.{Sink}
 use Rattle.ats_soundness_law.specs.Sound.{IsServed, IsContained, IsSound, bounds_of}
-use Rattle.ats_examples.specs.Networks.{line, fork, over_two, over_three}
+use Rattle.ats_examples.specs.Networks.{line, fork, over_two, over_three, ranged_line}
 use Rattle.ats_examples.specs.Runs.{one_frame}
 use Rattle.ats_examples.specs.ChangedRuns.{sunk_late}
 use Rattle.ats_examples.specs.BridgedRuns.{eligible_later, one_over_two, one_over_three, two_over_two, two_over_three}
 use Rattle.ats_examples.specs.Babbler.{babbler}
-use Rattle.ats_examples.specs.PacedRuns.{ranged_line, arriving}
+use Rattle.ats_examples.specs.PacedRuns.{arriving}
 use Rattle.ats_examples.specs.Rows.{two_rows, three_rows, fork_rows, turned_rows}
 
 -- What the laws say of runs over more than one bridge, and of one with a babbler.

@@ -11,10 +11,10 @@ use Rattle.ats_trace.specs.Talker.{talker_of, KeepsBuckets}
 use Rattle.ats_trace.specs.declared.journey.Ending.TheVariants.{Discard}
 use Rattle.ats_soundness_law.specs.Rules.{frames_may_stay}
 use Rattle.ats_soundness_law.specs.Sound.{IsServed}
-use Rattle.ats_examples.specs.Networks.{ranged, over_two_ranged}
+use Rattle.ats_examples.specs.Networks.{ranged, ranged_line, over_two_ranged}
 use Rattle.ats_examples.specs.Rows.{line_rows, two_rows}
 use Rattle.ats_examples.specs.Runs.{hop, sunk}
-use Rattle.ats_examples.specs.PacedRuns.{ranged_line, arriving, arriving_next}
+use Rattle.ats_examples.specs.PacedRuns.{arriving, arriving_next}
 use Rattle.ats_examples.specs.Deviations as part
 use Rattle.ats_examples.specs.RuleBreaks as rule
 use Rattle.ats_examples.specs.SoundRuns.{IsCertified, IsServedExactly}
