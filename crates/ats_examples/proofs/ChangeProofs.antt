@@ -16,7 +16,7 @@ use Rattle.ats_trace.specs.Run.{IsLegal, IsRunBy}
 use Rattle.ats_trace.specs.Projections.{Crossing, Handed, sent_by, handed_by}
 use Rattle.ats_examples.specs.Networks.{line, line_and_flow, fork}
 use Rattle.ats_examples.specs.Runs.{first_goes_first, second_goes_first}
-use Rattle.ats_examples.specs.LegalRuns.{frame_key}
+use Rattle.ats_examples.specs.LegalRuns.{frame_key, least_wait, greatest_wait}
 use Rattle.ats_examples.specs.ChangedRuns.{released_later, of_no_sender, of_63_octets, sunk_late, not_received}
 use Rattle.ats_examples.specs.ChangedRuns.{comes_late, held_at_station, started_early, sent_slowly, overlapped}
 use Rattle.ats_examples.specs.ChangedRuns.{passed_over, started_late, eligible_early, flow_eligible_early}
@@ -147,14 +147,14 @@ not_passed h =
     absurd (omega arith)
 
 -- the second sender has the lesser key
-not_by_sender : ¬ IsRunBy late_key fork first_goes_first
+not_by_sender : ¬ IsRunBy late_key greatest_wait fork first_goes_first
 not_by_sender h =
     let less : 4294967295 * 2 ^ 32 + 0 < 4294967294 * 2 ^ 32 + 1 =
     (h.tie 2 (lit< tt)) 0 no_transmission (lit< tt) 1 no_transmission (lit< tt) refl refl (lit< tt) in
     absurd (omega arith)
 
 -- the first frame has the lesser key
-not_by_frame : ¬ IsRunBy frame_key fork second_goes_first
+not_by_frame : ¬ IsRunBy frame_key least_wait fork second_goes_first
 not_by_frame h =
     let less : 1 < 0 =
     (h.tie 2 (lit< tt)) 1 no_transmission (lit< tt) 0 no_transmission (lit< tt) refl refl (lit< tt) in

@@ -21,7 +21,7 @@ use Rattle.ats_examples.proofs.PartTest.{kept_by}
 use Rattle.ats_examples.proofs.BucketTest.{keeps_by}
 use Rattle.ats_examples.specs.Rows.{line_rows}
 use Rattle.ats_examples.specs.Judges.{discards, discarded, RegulatorCounts}
-use Rattle.ats_examples.proofs.NetworkProofs.{is_network}
+use Rattle.ats_examples.proofs.NetworkProofs.{line_is}
 use Rattle.ats_examples.proofs.LawsMetProofs.{laws_are_met}
 
 abbrev run : List Travel
@@ -80,5 +80,5 @@ regulator_counts = record {
   not_served = not_served;
   unsound = unsound;
   no_regulator = λ regulator. unsound
-      (sound_by_rules discards line line_rows regulator is_network (rule_of_holding line line_rows laws_are_met.holds));
+      (sound_by_rules discards line line_rows regulator line_is (rule_of_holding line line_rows laws_are_met.holds));
 }

@@ -9,7 +9,7 @@ use Rattle.ats_examples.specs.Rows.{line_rows}
 use Rattle.ats_examples.specs.Runs.{regulated}
 use Rattle.ats_examples.specs.LawsMet.{held_back, LawsAreMet}
 use Rattle.ats_examples.proofs.LegalProofs.{examples_legal, regulated_legal}
-use Rattle.ats_examples.proofs.NetworkProofs.{is_network}
+use Rattle.ats_examples.proofs.NetworkProofs.{line_is}
 use Rattle.ats_examples.proofs.RuleTest.{holds_by}
 use Rattle.ats_examples.proofs.TalkerProofs.{talkers_of_examples}
 
@@ -37,7 +37,7 @@ not_prompt prompt =
 
 pub laws_are_met : LawsAreMet
 laws_are_met = record {
-  network = is_network;
+  network = line_is;
   holds = holds;
   legal = examples_legal.one_frame;
   among = (0, lit< tt, refl);

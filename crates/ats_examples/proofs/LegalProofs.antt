@@ -8,15 +8,20 @@ use Rattle.ats_examples.specs.Runs.{one_frame, long_frame, behind_a_flow, first_
 use Rattle.ats_examples.specs.Runs.{regulated, late, late_moves_nothing, held_by_group, group_by_class}
 use Rattle.ats_examples.specs.BridgedRuns.{one_over_two, one_over_three, two_over_two, two_over_three}
 use Rattle.ats_examples.specs.Babbler.{babbler}
-use Rattle.ats_examples.specs.LegalRuns.{frame_key, ExamplesAreLegal, RegulatedAreLegal, BridgedAreLegal}
-use Rattle.ats_examples.specs.LegalRuns.{BabblerIsLegal}
-use Rattle.ats_examples.proofs.LegalTest.{ties_pass, ties_by}
+use Rattle.ats_examples.specs.LegalRuns.{frame_key, least_wait, greatest_wait, ExamplesAreLegal}
+use Rattle.ats_examples.specs.LegalRuns.{RegulatedAreLegal, BridgedAreLegal, BabblerIsLegal}
+use Rattle.ats_examples.proofs.LegalTest.{paces_pass, paces_by, ties_pass, ties_by}
 use Rattle.ats_examples.proofs.PartTest.{all_pass, legal_by}
 
--- a legal run whose ties a key breaks
-run_by : (key : ℕ → ℕ → ℕ) (network : DeclaredNetwork) (run : List Travel) → all_pass network run ≡ true
-    → ties_pass key network run ≡ true → IsRunBy key network run
-run_by key network run kept agreed = record { legal = legal_by network run kept; tie = ties_by key network run agreed }
+-- a legal run by a key and a pace
+pub run_by : (key wait : ℕ → ℕ → ℕ) (network : DeclaredNetwork) (run : List Travel) → all_pass network run ≡ true
+    → paces_pass wait network run ≡ true → ties_pass key network run ≡ true → IsRunBy key wait network run
+run_by key wait network run kept paced agreed =
+    record {
+      legal = legal_by network run kept;
+      pace = paces_by wait network run paced;
+      tie = ties_by key network run agreed;
+    }
 
 pub examples_legal : ExamplesAreLegal
 examples_legal =
@@ -24,8 +29,8 @@ examples_legal =
       one_frame = legal_by line one_frame refl;
       long_frame = legal_by line long_frame refl;
       behind_a_flow = legal_by line_and_flow behind_a_flow refl;
-      first_goes_first = run_by frame_key fork first_goes_first refl refl;
-      second_goes_first = run_by late_key fork second_goes_first refl refl;
+      first_goes_first = run_by frame_key least_wait fork first_goes_first refl refl refl;
+      second_goes_first = run_by late_key greatest_wait fork second_goes_first refl refl refl;
     }
 
 pub regulated_legal : RegulatedAreLegal

@@ -1,11 +1,11 @@
 use Rattle.std.proofs.Common.{◌≡◌, ◌≢◌, ℕ, ◌+◌, ◌<◌, ◌≤◌, Bool, true, false, ◌&&◌, ◌||◌, List, [], ◌∷◌, length, map}
 use Rattle.std.proofs.Common.{filter, get_or, All, refl, sym, ap, subst, ◌∙◌, arith, inl, inr}
-use Rattle.std.specs.Prelude.{not, nat_le, nat_lt, ◌==◌, if◌then◌else◌, AllPairs}
+use Rattle.std.specs.Prelude.{max, not, nat_le, nat_lt, ◌==◌, if◌then◌else◌, AllPairs}
 use Rattle.std.specs.List.{list_all}
 use Rattle.std.specs.List.Sorted.{IsNonDecreasing}
 use Rattle.std.proofs.lemmas.Bool.{and_parts, false≢true, cases_eq}
 use Rattle.std.proofs.lemmas.Bool.Decides.{nat_tests}
-use Rattle.ats_topology.specs.Port.{port_at}
+use Rattle.ats_topology.specs.Port.{port_at, spread_of}
 use Rattle.ats_topology.specs.declared.port.Port.{Port}
 use Rattle.ats_network.specs.Network.{DeclaredNetwork}
 use Rattle.ats_port_rule.specs.Transmission.{Transmission}
@@ -15,7 +15,7 @@ use Rattle.ats_group.specs.declared.verdict.Verdict.{Verdict}
 use Rattle.ats_group.specs.declared.verdict.Verdict.TheVariants.{Eligible, Late, Size}
 use Rattle.ats_group_law.specs.Regulator.{ats_judge}
 use Rattle.ats_trace.specs.Journey.{Travel}
-use Rattle.ats_trace.specs.Links.{earliest_of, ArrivesWithin, KeepsTimes, KeepsLinkRule}
+use Rattle.ats_trace.specs.Links.{ArrivesWithin, KeepsTimes, KeepsLinkRule, in_order_from, ArrivesByPace, KeepsPace}
 use Rattle.ats_trace.specs.Parts.{EachPort}
 use Rattle.ats_trace.specs.Projections.{Crossing, Handed, crossings_by, sent_by, handed_by, handed_from}
 use Rattle.ats_trace.specs.Eligibility.{declared_by, offer_of, residence_behind, IsJudged, IsPassed}
@@ -91,7 +91,7 @@ times_by least most crossings h =
 
 -- each link keeps the link rule
 abbrev pub keeps_link_rule : Port → List Crossing → Bool
-keeps_link_rule port crossings = keeps_times (earliest_of port) port.latency.0 crossings
+keeps_link_rule port crossings = keeps_times port.earliest.0 port.latency.0 crossings
 
 abbrev pub links_pass : DeclaredNetwork → List Travel → Bool
 links_pass network run =
@@ -102,9 +102,38 @@ pub links_by : (network : DeclaredNetwork) (run : List Travel) → links_pass ne
     → port < length network.topology.ports
     → KeepsLinkRule (port_at network.topology.ports port) (crossings_by network run port)
 links_by network run passed port within =
-    times_by (earliest_of (port_at network.topology.ports port)) (port_at network.topology.ports port).latency.0
+    times_by (port_at network.topology.ports port).earliest.0 (port_at network.topology.ports port).latency.0
     (crossings_by network run port)
     (below_by (λ p. keeps_link_rule (port_at network.topology.ports p) (crossings_by network run p))
+    (length network.topology.ports) passed port within)
+
+-- the frames behind each port arrive by a pace
+abbrev pub arrives_by_pace : (ℕ → ℕ → ℕ) → Port → List Crossing → Crossing → Bool
+arrives_by_pace wait port crossings x =
+    x.arrival
+    == max (x.sent.end + port.earliest.0 + wait x.sent.frame (spread_of port)) (in_order_from x.sent.end crossings)
+
+abbrev pub keeps_pace : (ℕ → ℕ → ℕ) → Port → List Crossing → Bool
+keeps_pace wait port crossings = list_all (arrives_by_pace wait port crossings) crossings
+
+pace_by : (wait : ℕ → ℕ → ℕ) (port : Port) (crossings : List Crossing) → keeps_pace wait port crossings ≡ true
+    → KeepsPace wait port crossings
+pace_by wait port crossings h =
+    all_by (ArrivesByPace wait port crossings) (arrives_by_pace wait port crossings) (λ x. eq_of x.arrival
+    (max (x.sent.end + port.earliest.0 + wait x.sent.frame (spread_of port)) (in_order_from x.sent.end crossings)))
+    crossings h
+
+abbrev pub paces_pass : (ℕ → ℕ → ℕ) → DeclaredNetwork → List Travel → Bool
+paces_pass wait network run =
+    each_below (λ p. keeps_pace wait (port_at network.topology.ports p) (crossings_by network run p))
+    (length network.topology.ports)
+
+pub paces_by : (wait : ℕ → ℕ → ℕ) (network : DeclaredNetwork) (run : List Travel) → paces_pass wait network run ≡ true
+    → (port : ℕ) → port < length network.topology.ports
+    → KeepsPace wait (port_at network.topology.ports port) (crossings_by network run port)
+paces_by wait network run passed port within =
+    pace_by wait (port_at network.topology.ports port) (crossings_by network run port)
+    (below_by (λ p. keeps_pace wait (port_at network.topology.ports p) (crossings_by network run p))
     (length network.topology.ports) passed port within)
 
 -- each port breaks its ties by the key

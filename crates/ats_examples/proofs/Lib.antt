@@ -2,14 +2,19 @@ pub mod ArrivalTest
 pub mod BrokenProofs
 pub mod BucketTest
 pub mod ChangeProofs
+pub mod ClassBoundProofs
+pub mod ClassProofs
 pub mod CrossingProofs
 pub mod DeviationProofs
 pub mod GroupProofs
+pub mod InOrder
 pub mod JudgeProofs
 pub mod LawsMetProofs
 pub mod LegalProofs
 pub mod LegalTest
 pub mod NetworkProofs
+pub mod NetworkTest
+pub mod PaceProofs
 pub mod PartTest
 pub mod PortProofs
 pub mod PortTest
@@ -18,5 +23,6 @@ pub mod RuleProofs
 pub mod RuleRuns
 pub mod RuleTest
 pub mod SoundRunProofs
+pub mod SpreadBoundProofs
 pub mod TalkerProofs
 pub mod Tests

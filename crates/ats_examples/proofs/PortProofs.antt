@@ -1,4 +1,4 @@
-use Rattle.std.proofs.Common.{ℕ, zero, suc, ◌+◌, ◌*◌, ◌<◌, ◌≤◌, [], ◌∷◌, All, refl, arith}
+use Rattle.std.proofs.Common.{◌≡◌, ℕ, zero, suc, ◌+◌, ◌*◌, ◌<◌, ◌≤◌, [], ◌∷◌, All, refl, arith}
 use Rattle.std.specs.List.Sorted.{IsNonDecreasing}
 use Rattle.std.proofs.lemmas.List.Elements.{All-nil, All-cons}
 use Rattle.std.proofs.lemmas.List.Sorted.{IsPermutation-refl}
@@ -7,11 +7,11 @@ use Rattle.ats_bucket.specs.Conforming.{Frame, times_of, bits_between, time_betw
 use Rattle.ats_port_law.specs.PortLaw.{IsDeclared, IsWithinBound, ConformsInOrder}
 use Rattle.ats_examples.specs.Premises.{StreamsConform}
 use Rattle.ats_examples.proofs.PortTest.{port_rule_by}
-use Rattle.ats_examples.specs.Networks.{line_and_flow, fork}
-use Rattle.ats_examples.specs.Rows.{row_with_flow, next_row_with_flow, row_of_line, row_with_two}
+use Rattle.ats_examples.specs.Networks.{line_and_flow, fork, fork_of_classes}
+use Rattle.ats_examples.specs.Rows.{row_with_flow, next_row_with_flow, row_of_line, row_with_two, row_of_lowered}
 use Rattle.ats_examples.specs.Ports.{sent_behind_flow, sent_on_behind_flow, IsWorked, BehindFlow, sent_at_once, AtOnce}
-use Rattle.ats_examples.specs.Ports.{sent_in_turn, InTurn}
-use Rattle.ats_examples.proofs.NetworkProofs.{with_flow_is, fork_is}
+use Rattle.ats_examples.specs.Ports.{sent_in_turn, InTurn, lowered_frame, sent_by_class, InClasses}
+use Rattle.ats_examples.proofs.NetworkProofs.{with_flow_is, fork_is, classes_is}
 
 -- of two elements
 pub all_two : {X : Type 0} (P : X → Type 0) (a b : X) → P a → P b → All P (a ∷ b ∷ [])
@@ -179,3 +179,36 @@ at_s3 = record {
 
 pub at_once : AtOnce
 at_once = record { at_s1 = at_s1; at_s3 = at_s3; whole_at_s1 = refl; whole_at_s3 = refl }
+
+class_streams : StreamsConform fork_of_classes sent_by_class
+class_streams zero h = one_in_order 100000000 12336 (record { at = 13836000; bits = 12336 }) (omega arith)
+class_streams (suc zero) h = one_in_order 100000000 12336 (record { at = 13836000; bits = 12336 }) (omega arith)
+class_streams (suc (suc i)) h = absurd (omega arith)
+
+not_of_first_class : ¬ IsDeclared fork_of_classes 2 (lowered_frame 6)
+not_of_first_class declared =
+    let class : ◌≡◌ {A = ℕ} 6 5 = declared.class in
+    absurd (omega arith)
+
+pub in_classes : InClasses
+in_classes = record {
+  worked = record {
+    valid = classes_is;
+    used = refl;
+    covers = record {
+      sums = record { higher = refl; equal = refl; bursts = refl; lower = refl; least = refl };
+      bound = refl;
+      load = omega arith;
+      wait = omega arith;
+    };
+    rule = port_rule_by 1000 sent_by_class refl;
+    offered = record {
+      each = all_two (IsDeclared fork_of_classes 2) _ _
+          (record { exists = omega arith; uses = refl; class = refl; least = omega arith; most = omega arith })
+          (record { exists = omega arith; uses = refl; class = refl; least = omega arith; most = omega arith });
+      streams = class_streams;
+    };
+    within = all_two (IsWithinBound fork_of_classes row_of_lowered) _ _ (λ class. absurd (cc)) (λ class. omega arith);
+  };
+  of_first_class = not_of_first_class;
+}

@@ -20,14 +20,14 @@ use Rattle.ats_examples.specs.Runs.{one_frame, behind_a_flow}
 use Rattle.ats_examples.proofs.LegalProofs.{examples_legal}
 use Rattle.ats_examples.specs.Rows.{fast_rows}
 use Rattle.ats_examples.specs.RuleBreaks.{network_for, rows_for, BreaksAlone, EachRuleCounts}
-use Rattle.ats_examples.proofs.NetworkProofs.{is_network, pair_is, below_is, fast_is, with_flow_is}
+use Rattle.ats_examples.proofs.NetworkProofs.{line_is, pair_is, below_is, fast_is, with_flow_is}
 use Rattle.ats_examples.proofs.RuleRuns.{of_two, of_three, of_classes, of_fast, two_legal, two_kept, three_legal}
 use Rattle.ats_examples.proofs.RuleRuns.{three_kept, classes_legal, classes_kept, fast_legal, fast_kept, flow_legal}
 use Rattle.ats_examples.proofs.RuleRuns.{flow_kept, one_kept}
 use Rattle.ats_examples.proofs.RuleTest.{same_rule, others_pass, others_by, rest_passes, rest_by}
 
 -- where a frame of a legal run, whose talker keeps its buckets, is not served, the rows are not sound
-unsound_by : (network : DeclaredNetwork) (given : List Row) (run : List Travel) (frame : ℕ) → IsLegal network run
+pub unsound_by : (network : DeclaredNetwork) (given : List Row) (run : List Travel) (frame : ℕ) → IsLegal network run
     → Contains run (travel_at run frame)
     → IsOfStream network (travel_at run frame)
     → KeepsBuckets network (releases_of run) (talker_of network (travel_at run frame).release.sender)
@@ -47,7 +47,7 @@ each rule network given others kept other =
     ]
 
 -- what breaks a rule alone
-breaks : (rule : Rule) (network : DeclaredNetwork) (given : List Row) → IsNetwork network
+pub breaks : (rule : Rule) (network : DeclaredNetwork) (given : List Row) → IsNetwork network
     → ((other : Rule) → other ≢ rule → Keeps other network given) → RestHolds network given → ¬ IsSound network given
     → BreaksAlone rule network given
 breaks rule network given is others rest unsound = record {
@@ -108,21 +108,21 @@ at_rule rule is kept rest unsound =
     (rest_by (network_for rule) (rows_for rule) rest) unsound
 
 pub each_rule_counts : EachRuleCounts
-each_rule_counts rows_are_there = at_rule rows_are_there is_network refl refl (unsound_by line (rows_for rows_are_there)
+each_rule_counts rows_are_there = at_rule rows_are_there line_is refl refl (unsound_by line (rows_for rows_are_there)
     one_frame 0 examples_legal.one_frame (0, lit< tt, refl) (lit< tt) one_kept missing_unserved)
 each_rule_counts higher_is_right = at_rule higher_is_right below_is refl refl (unsound_by below
     (rows_for higher_is_right) of_classes 1 classes_legal (1, lit< tt, refl) (lit< tt) classes_kept higher_unserved)
 each_rule_counts equal_is_right = at_rule equal_is_right fast_is refl refl (fast_unsound 1000000000000)
 each_rule_counts bursts_are_right =
-    at_rule bursts_are_right (pair_is 1000000 refl) refl refl (two_unsound (rows_for bursts_are_right) (lit< tt))
+    at_rule bursts_are_right (pair_is 1000000 refl refl) refl refl (two_unsound (rows_for bursts_are_right) (lit< tt))
 each_rule_counts lower_is_right = at_rule lower_is_right with_flow_is refl refl (unsound_by line_and_flow
     (rows_for lower_is_right) behind_a_flow 1 flow_legal (1, lit< tt, refl) (lit< tt) flow_kept flow_unserved)
 each_rule_counts least_is_right =
-    at_rule least_is_right (pair_is 12335 refl) refl refl (three_unsound (rows_for least_is_right))
+    at_rule least_is_right (pair_is 12335 refl refl) refl refl (three_unsound (rows_for least_is_right))
 each_rule_counts bound_follows =
-    at_rule bound_follows (pair_is 1000000 refl) refl refl (two_unsound (rows_for bound_follows) (lit< tt))
+    at_rule bound_follows (pair_is 1000000 refl refl) refl refl (two_unsound (rows_for bound_follows) (lit< tt))
 each_rule_counts load_fits = at_rule load_fits fast_is refl refl (fast_unsound 2000000000000)
 each_rule_counts wait_is_enough =
-    at_rule wait_is_enough (pair_is 1000000 refl) refl refl (two_unsound (rows_for wait_is_enough) (lit< tt))
+    at_rule wait_is_enough (pair_is 1000000 refl refl) refl refl (two_unsound (rows_for wait_is_enough) (lit< tt))
 each_rule_counts frames_may_stay =
-    at_rule frames_may_stay (pair_is 12335 refl) refl refl (three_unsound (rows_for frames_may_stay))
+    at_rule frames_may_stay (pair_is 12335 refl refl) refl refl (three_unsound (rows_for frames_may_stay))

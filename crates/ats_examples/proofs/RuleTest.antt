@@ -1,7 +1,7 @@
 use Rattle.std.proofs.Common.{◌≡◌, ◌≢◌, ℕ, ◌+◌, ◌-◌, ◌*◌, ◌<◌, ◌≤◌, Bool, true, false, cond, ◌&&◌, ◌||◌, List, [], ◌∷◌}
 use Rattle.std.proofs.Common.{length, map, get_or, All, Option, Some, None, refl, sym, ap, subst, ◌∙◌, inl, inr, ◌⊎◌}
 use Rattle.std.proofs.Common.{lit<}
-use Rattle.std.specs.Prelude.{nat_le, nat_lt, ◌==◌, is_some, IsSome}
+use Rattle.std.specs.Prelude.{nat_le, nat_lt, ◌==◌, is_some, IsSome, filter}
 use Rattle.std.specs.List.{list_all, list_any}
 use Rattle.std.proofs.lemmas.Bool.{and_parts, or_cases, cases_eq, eqb-true, false≢true}
 use Rattle.std.proofs.lemmas.Option.{none-some, same_Some}
@@ -10,57 +10,59 @@ use Rattle.ats_num.specs.declared.time.TheConstants.{PS_PER_SECOND, PS_PER_NS}
 use Rattle.ats_topology.specs.Port.{port_at}
 use Rattle.ats_streams.specs.Stream.{DeclaredStream}
 use Rattle.ats_network.specs.Sender.{Sender, stream_sender}
+use Rattle.ats_network.specs.Class.{class_at, seen_at}
 use Rattle.ats_network.specs.Network.{DeclaredNetwork}
 use Rattle.ats_network.specs.Residence.{residence_after}
 use Rattle.ats_certificate.specs.PortSums.{PortSums, port_sums, uses, is_of, is_used, senders_at}
-use Rattle.ats_certificate.specs.Certificate.{row_of, IsBefore, FitsLink, bound_of, bound_along, IsInTime, Holds}
+use Rattle.ats_certificate.specs.Certificate.{row_of, IsBefore, FitsLink, bound_of, need_of, bound_along, IsInTime}
+use Rattle.ats_certificate.specs.Certificate.{Holds}
 use Rattle.ats_certificate.specs.declared.row.Row.{Row}
 use Rattle.ats_soundness_law.specs.Rules.{Rule, rows_are_there, higher_is_right, equal_is_right, bursts_are_right}
 use Rattle.ats_soundness_law.specs.Rules.{lower_is_right, least_is_right, bound_follows, load_fits, wait_is_enough}
 use Rattle.ats_soundness_law.specs.Rules.{frames_may_stay, Keeps, RestHolds}
 use Rattle.ats_soundness_law.proofs.EachRule.{holds_of_rules}
 use Rattle.ats_examples.proofs.Tests.{le_of, lt_of, eq_of, either, all_by, pairs_pass, pairs_by}
-use Rattle.ats_examples.proofs.NetworkProofs.{differ}
-use Rattle.ats_examples.specs.Networks.{stream}
 
 -- Tests of the rules of a certificate on closed networks and rows.
 
--- each port of the path has a row of the class
-abbrev has_rows_along : List Row → ℕ → List ℕ → Bool
-has_rows_along given class path = list_all (λ port. is_some (row_of given port class)) path
+-- each port of a path has a row of the class that the sender has there
+abbrev has_rows_along : List Row → Sender → List ℕ → Bool
+has_rows_along given s path = list_all (λ port. is_some (row_of given port (class_at s port))) path
 
-along_by : (given : List Row) (port class : ℕ) (path : List ℕ) → has_rows_along given class path ≡ true
-    → list_any (λ p. p == port) path ≡ true → IsSome (row_of given port class)
-along_by given port class [] passed goes = absurd (false≢true goes)
-along_by given port class (p ∷ path) passed goes =
-    let parts : (is_some (row_of given p class) ≡ true) × (has_rows_along given class path ≡ true) =
-    and_parts (is_some (row_of given p class)) (has_rows_along given class path) passed in
+along_by : (given : List Row) (port : ℕ) (s : Sender) (path : List ℕ) → has_rows_along given s path ≡ true
+    → list_any (λ p. p == port) path ≡ true → IsSome (row_of given port (class_at s port))
+along_by given port s [] passed goes = absurd (false≢true goes)
+along_by given port s (p ∷ path) passed goes =
+    let parts : (is_some (row_of given p (class_at s p)) ≡ true) × (has_rows_along given s path ≡ true) =
+    and_parts (is_some (row_of given p (class_at s p))) (has_rows_along given s path) passed in
     elim (or_cases (p == port) (list_any (λ q. q == port) path) goes) [
-      | inl here ↦ subst (λ (q : ℕ). IsSome (row_of given q class)) (eqb-true p port here) parts.0
-      | inr there ↦ along_by given port class path parts.1 there
+      | inl here ↦ subst (λ (q : ℕ). IsSome (row_of given q (class_at s q))) (eqb-true p port here) parts.0
+      | inr there ↦ along_by given port s path parts.1 there
     ]
 
 -- each sender has its rows
 abbrev are_covered : List Row → List Sender → Bool
-are_covered given senders = list_all (λ (s : Sender). has_rows_along given s.class s.path) senders
+are_covered given senders = list_all (λ (s : Sender). has_rows_along given s s.path) senders
 
 covered_by : (given : List Row) (port class : ℕ) (senders : List Sender) → are_covered given senders ≡ true
     → list_any (is_of class) (senders_at port senders) ≡ true → IsSome (row_of given port class)
 covered_by given port class [] passed used = absurd (false≢true used)
 covered_by given port class (s ∷ senders) passed used = by (uses port s) refl (covered_by given port class senders) used
   where
-    parts : (has_rows_along given s.class s.path ≡ true) × (are_covered given senders ≡ true)
-    parts = and_parts (has_rows_along given s.class s.path) (are_covered given senders) passed
+    parts : (has_rows_along given s s.path ≡ true) × (are_covered given senders ≡ true)
+    parts = and_parts (has_rows_along given s s.path) (are_covered given senders) passed
 
     by : (b : Bool) → uses port s ≡ b → (are_covered given senders ≡ true
         → list_any (is_of class) (senders_at port senders) ≡ true → IsSome (row_of given port class))
-        → list_any (is_of class) (cond b (s ∷ senders_at port senders) (senders_at port senders)) ≡ true
+        → list_any (is_of class) (map (seen_at port) (cond b (s ∷ filter (uses port) senders)
+        (filter (uses port) senders))) ≡ true
         → IsSome (row_of given port class)
-    by true on rest h = elim (or_cases (is_of class s) (list_any (is_of class) (senders_at port senders)) h) [
-      | inl same ↦ subst (λ (c : ℕ). IsSome (row_of given port c)) (eqb-true s.class class same)
-          (along_by given port s.class s.path parts.0 on)
-      | inr later ↦ rest parts.1 later
-    ]
+    by true on rest h =
+        elim (or_cases (is_of class (seen_at port s)) (list_any (is_of class) (senders_at port senders)) h) [
+          | inl same ↦ subst (λ (c : ℕ). IsSome (row_of given port c)) (eqb-true (class_at s port) class same)
+              (along_by given port s s.path parts.0 on)
+          | inr later ↦ rest parts.1 later
+        ]
     by false off rest h = rest parts.1 h
 
 abbrev is_before : Row → Row → Bool
@@ -100,19 +102,20 @@ is_enough network row = nat_le
     (PS_PER_SECOND * ((port_at network.topology.ports row.port).ps_per_bit * (row.lower + row.bursts - row.least)))
     (row.wait * (PS_PER_SECOND - row.higher))
 
--- a wait is within a residence, if there is one
+-- so long a stay is within a residence, if there is one
 abbrev stays : ℕ → Option ℕ → Bool
-stays wait None = true
-stays wait (Some ns) = nat_le wait (PS_PER_NS * ns)
+stays need None = true
+stays need (Some ns) = nat_le need (PS_PER_NS * ns)
 
-stays_by : (wait : ℕ) (residence : Option ℕ) → stays wait residence ≡ true → (ns : ℕ) → residence ≡ Some ns
-    → wait ≤ PS_PER_NS * ns
-stays_by wait None h ns given = absurd (none-some ns given)
-stays_by wait (Some limit) h ns given =
-    subst (λ (n : ℕ). wait ≤ PS_PER_NS * n) (same_Some limit ns given) (le_of wait (PS_PER_NS * limit) h)
+stays_by : (need : ℕ) (residence : Option ℕ) → stays need residence ≡ true → (ns : ℕ) → residence ≡ Some ns
+    → need ≤ PS_PER_NS * ns
+stays_by need None h ns given = absurd (none-some ns given)
+stays_by need (Some limit) h ns given =
+    subst (λ (n : ℕ). need ≤ PS_PER_NS * n) (same_Some limit ns given) (le_of need (PS_PER_NS * limit) h)
 
 abbrev may_stay : DeclaredNetwork → Row → Bool
-may_stay network row = stays row.wait (residence_after network.topology row.port)
+may_stay network row =
+    stays (need_of (port_at network.topology.ports row.port) row.wait) (residence_after network.topology row.port)
 
 -- the rows keep a rule
 abbrev pub passes : Rule → DeclaredNetwork → List Row → Bool
@@ -144,7 +147,8 @@ kept_by wait_is_enough network given h =
     (PS_PER_SECOND * ((port_at network.topology.ports row.port).ps_per_bit * (row.lower + row.bursts - row.least)))
     (row.wait * (PS_PER_SECOND - row.higher))) given h
 kept_by frames_may_stay network given h =
-    all_by _ (may_stay network) (λ row. stays_by row.wait (residence_after network.topology row.port)) given h
+    all_by _ (may_stay network) (λ row. stays_by (need_of (port_at network.topology.ports row.port) row.wait)
+    (residence_after network.topology row.port)) given h
 
 -- the rows are of used ports and classes and in order, and the streams are in time
 abbrev is_in_time : List Row → DeclaredStream → Bool

@@ -1,6 +1,6 @@
-use Rattle.std.proofs.Common.{◌≡◌, ℕ, ◌+◌, ◌*◌, ◌<◌, ◌≤◌, List, [], ◌∷◌, length, get_or, All, refl, inl, inr, ◌⊎◌}
+use Rattle.std.proofs.Common.{◌≡◌, ℕ, ◌+◌, ◌*◌, ◌<◌, ◌≤◌, Bool, List, [], ◌∷◌, length, get_or, All, refl, inl, inr, ◌⊎◌}
 use Rattle.std.proofs.Common.{arith, lit<, lit≤}
-use Rattle.std.specs.Prelude.{nat_lt, AllPairs, Contains}
+use Rattle.std.specs.Prelude.{nat_lt, ◌==◌, AllPairs, Contains}
 use Rattle.std.proofs.lemmas.List.Elements.{All-contains_itself}
 use Rattle.ats_network.specs.Network.{DeclaredNetwork}
 use Rattle.ats_network.specs.Senders.{sender_at}
@@ -10,24 +10,28 @@ use Rattle.ats_group_law.specs.Regulator.{ats_judge}
 use Rattle.ats_group_law.proofs.Regulator.{ats_is_regulator}
 use Rattle.ats_trace.specs.Journey.{Travel, IsOfStream}
 use Rattle.ats_trace.specs.Run.{IsLegal, releases_of}
-use Rattle.ats_trace.specs.Stored.{travel_at}
+use Rattle.ats_trace.specs.Stored.{no_travel, travel_at}
 use Rattle.ats_trace.specs.Talker.{talker_of, KeepsBuckets}
 use Rattle.ats_trace.proofs.ExactLinks.{links_are_exact}
 use Rattle.ats_soundness_law.specs.Sound.{IsServed, IsContained}
 use Rattle.ats_soundness_law.proofs.Soundness.{path_law, containment, sound_by_rules}
-use Rattle.ats_examples.specs.Networks.{stream, line, fork, over_two, over_three}
+use Rattle.ats_examples.specs.Networks.{line, fork, over_two, over_three, ranged_line}
 use Rattle.ats_examples.specs.Runs.{one_frame}
 use Rattle.ats_examples.specs.ChangedRuns.{sunk_late}
 use Rattle.ats_examples.specs.BridgedRuns.{eligible_later, one_over_two, one_over_three, two_over_two, two_over_three}
 use Rattle.ats_examples.specs.Babbler.{babbler}
-use Rattle.ats_examples.proofs.Tests.{lt_of, all_by}
+use Rattle.ats_topology.specs.Port.{port_at}
+use Rattle.ats_trace.specs.ExactLinks.{AreExact, IsLegalAt}
+use Rattle.ats_examples.proofs.Tests.{lt_of, eq_of, all_by, below_by}
 use Rattle.ats_examples.proofs.LegalProofs.{examples_legal, bridged_legal, babbler_legal}
 use Rattle.ats_examples.proofs.ChangeProofs.{changed_are_not}
 use Rattle.ats_examples.proofs.BucketTest.{keeps_by}
 use Rattle.ats_examples.specs.Rows.{two_rows, three_rows, fork_rows, turned_rows}
 use Rattle.ats_examples.specs.SoundRuns.{IsCertified, BridgedAreSound, BabblerIsContained, ExactExamples}
-use Rattle.ats_examples.specs.SoundRuns.{OrderDoesNotCount}
-use Rattle.ats_examples.proofs.NetworkProofs.{is_network, two_is, three_is, fork_is}
+use Rattle.ats_examples.specs.SoundRuns.{ExactnessCounts, OrderDoesNotCount}
+use Rattle.ats_examples.specs.PacedRuns.{arriving}
+use Rattle.ats_examples.proofs.PaceProofs.{arrivals_legal}
+use Rattle.ats_examples.proofs.NetworkProofs.{line_is, two_is, three_is, fork_is, ranged_is}
 use Rattle.ats_examples.proofs.RuleTest.{all_kept, holds_by}
 
 two_certified : IsCertified over_two two_rows
@@ -40,8 +44,8 @@ fork_certified : IsCertified fork fork_rows
 fork_certified = record { rules = fork_is; holds = holds_by fork fork_rows refl refl }
 
 -- by the path law
-served_in : (network : DeclaredNetwork) (rows : List Row) (run : List Travel) (j : Travel) → IsCertified network rows
-    → IsLegal network run → Contains run j → IsOfStream network j
+pub served_in : (network : DeclaredNetwork) (rows : List Row) (run : List Travel) (j : Travel)
+    → IsCertified network rows → IsLegal network run → Contains run j → IsOfStream network j
     → KeepsBuckets network (releases_of run) (talker_of network j.release.sender)
     → IsServed rows (sender_at network j.release.sender) j
 served_in network rows run j c legal there stream keeps =
@@ -177,11 +181,38 @@ babbler_contained = record {
       (All-contains_itself babbler k d h) (of_streams k d h);
 }
 
+-- each port of the line has one latency
+abbrev is_exact : ℕ → Bool
+is_exact port = (port_at line.topology.ports port).earliest.0 == (port_at line.topology.ports port).latency.0
+
+line_exact : AreExact line.topology.ports
+line_exact port within =
+    eq_of (port_at line.topology.ports port).earliest.0 (port_at line.topology.ports port).latency.0
+    (below_by is_exact (length line.topology.ports) refl port within)
+
 pub exact_examples : ExactExamples
 exact_examples = record {
-  exact = (links_are_exact line one_frame is_network (λ port within. refl)).0 examples_legal.one_frame;
+  exact = (links_are_exact line one_frame line_is line_exact).0 examples_legal.one_frame;
   not_exact =
-      λ exact. changed_are_not.links ((links_are_exact line sunk_late is_network (λ port within. refl)).1 exact);
+      λ exact. changed_are_not.links ((links_are_exact line sunk_late line_is line_exact).1 exact);
+}
+
+not_one : ¬ AreExact ranged_line.topology.ports
+not_one exact =
+    let same : ◌≡◌ {A = ℕ} 700000 1500000 = exact 0 (lit< tt) in
+    absurd (omega arith)
+
+not_at_latency : ¬ IsLegalAt ranged_line (arriving 13036000)
+not_at_latency h =
+    let due : ◌≡◌ {A = ℕ} 13036000 13836000 = (h.journeys 0 no_travel (lit< tt)).way.1.0 in
+    absurd (omega arith)
+
+pub exactness_counts : ExactnessCounts
+exactness_counts = record {
+  network = ranged_is 12464 refl refl;
+  not_one = not_one;
+  legal = arrivals_legal.earliest;
+  not_exact = not_at_latency;
 }
 
 not_before : ¬ AllPairs IsBefore turned_rows
@@ -196,6 +227,6 @@ not_before ordered =
 pub order_does_not_count : OrderDoesNotCount
 order_does_not_count = record {
   not_held = λ holds. not_before holds.rows_of.ordered;
-  sound = sound_by_rules ats_judge line turned_rows ats_is_regulator.regulator is_network
+  sound = sound_by_rules ats_judge line turned_rows ats_is_regulator.regulator line_is
       (all_kept line turned_rows refl);
 }

@@ -5,7 +5,7 @@ use Rattle.ats_trace.specs.Run.{IsLegal, IsRunBy}
 use Rattle.ats_trace.specs.declared.journey.Ending.TheVariants.{Discard}
 use Rattle.ats_examples.specs.Networks.{line, line_and_flow, fork}
 use Rattle.ats_examples.specs.Runs.{hop, sunk, first_goes_first, second_goes_first}
-use Rattle.ats_examples.specs.LegalRuns.{frame_key}
+use Rattle.ats_examples.specs.LegalRuns.{frame_key, least_wait, greatest_wait}
 
 -- Each of these runs is one of the legal examples with one number changed.
 
@@ -108,5 +108,5 @@ pub record ChangedExamplesAreNot : Type 0 where
   pub prompt : ¬ IsLegal line started_late
   pub groups : ¬ IsLegal line_and_flow eligible_early
   pub flows : ¬ IsLegal line_and_flow flow_eligible_early
-  pub tie_by_frame : ¬ IsRunBy late_key fork first_goes_first
-  pub tie_by_sender : ¬ IsRunBy frame_key fork second_goes_first
+  pub tie_by_frame : ¬ IsRunBy late_key greatest_wait fork first_goes_first
+  pub tie_by_sender : ¬ IsRunBy frame_key least_wait fork second_goes_first

@@ -13,13 +13,20 @@ use Rattle.ats_examples.specs.Babbler.{babbler}
 abbrev pub frame_key : ℕ → ℕ → ℕ
 frame_key sender frame = frame
 
+-- no frame waits behind a port, and each waits for all of the port's spread
+abbrev pub least_wait : ℕ → ℕ → ℕ
+least_wait frame spread = 0
+
+abbrev pub greatest_wait : ℕ → ℕ → ℕ
+greatest_wait frame spread = spread
+
 -- these runs are legal; the order of a tie follows the key
 pub record ExamplesAreLegal : Type 0 where
   pub one_frame : IsLegal line one_frame
   pub long_frame : IsLegal line long_frame
   pub behind_a_flow : IsLegal line_and_flow behind_a_flow
-  pub first_goes_first : IsRunBy frame_key fork first_goes_first
-  pub second_goes_first : IsRunBy late_key fork second_goes_first
+  pub first_goes_first : IsRunBy frame_key least_wait fork first_goes_first
+  pub second_goes_first : IsRunBy late_key greatest_wait fork second_goes_first
 
 -- these runs are legal
 pub record RegulatedAreLegal : Type 0 where

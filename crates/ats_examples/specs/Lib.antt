@@ -7,6 +7,8 @@ pub mod LegalRuns
 pub mod ChangedRuns
 pub mod Deviations
 pub mod BrokenRuns
+pub mod ClassRuns
+pub mod PacedRuns
 pub mod Crossings
 pub mod Talkers
 pub mod Ports
@@ -15,4 +17,6 @@ pub mod LawsMet
 pub mod Judges
 pub mod RuleBreaks
 pub mod SoundRuns
+pub mod ClassBounds
+pub mod SpreadBounds
 pub mod Groups

@@ -1,9 +1,9 @@
-use Rattle.std.specs.Prelude.{ℕ, List, [], ◌∷◌, ◌++◌, codes, None}
+use Rattle.std.specs.Prelude.{ℕ, List, [], ◌∷◌, ◌++◌, length, codes, None}
 use Rattle.ats_topology.specs.Topology.{topology_of}
 use Rattle.ats_topology.specs.declared.node.Node.{Node}
 use Rattle.ats_topology.specs.declared.node.Kind.TheVariants.{Station, Bridge}
 use Rattle.ats_topology.specs.declared.link.Link.{Link}
-use Rattle.ats_streams.specs.Stream.{DeclaredStream, declared_stream}
+use Rattle.ats_streams.specs.Stream.{DeclaredStream, declared_stream, classes_along}
 use Rattle.ats_streams.specs.Flow.{DeclaredFlow, declared_flow}
 use Rattle.ats_network.specs.Network.{DeclaredNetwork, declared_network}
 
@@ -14,16 +14,20 @@ station name = record { name = name; kind = Station }
 
 -- a bridge with a processing time of 1000 ns and this maximum residence time in nanoseconds
 abbrev pub bridge : List ℕ → ℕ → Node
-bridge name residence_ns = record { name = name; kind = Bridge 1000 residence_ns }
+bridge name residence_ns = record { name = name; kind = Bridge 1000 1000 residence_ns }
 
 -- a link of 1000 Mb/s, on which a bit takes 1000 ps, with a propagation of 500 ns
 abbrev pub link : List ℕ → List ℕ → Link
 link a b = record { a = a; b = b; mbps = 1000; propagation_ns = 500 }
 
--- a stream of class 6 with a rate of 100 Mb/s, a burst of one frame of 1522 octets, 64 to 1522 octets, and a deadline
--- of 1 ms
+-- a stream with these classes along its path, a rate of 100 Mb/s, a burst of one frame of 1522 octets, 64 to 1522
+-- octets, and a deadline of 1 ms
+abbrev pub stream_of : List ℕ → List ℕ → List ℕ → DeclaredStream
+stream_of name path classes = declared_stream name path classes 100000000 12336 64 1522 1000000 None
+
+-- of class 6 at each port
 abbrev pub stream : List ℕ → List ℕ → DeclaredStream
-stream name path = declared_stream name path 6 100000000 12336 64 1522 1000000 None
+stream name path = stream_of name path (classes_along (length path) (6 ∷ []))
 
 -- a flow of frames of 64 to 1522 octets
 abbrev pub flow : List ℕ → List ℕ → DeclaredFlow
@@ -62,9 +66,15 @@ abbrev pub fork_links : List Link
 fork_links = line_links ++ link (codes "s3") (codes "b1") ∷ []
 
 -- with two streams to s2, number 0 from s1 and number 1 from s3
+abbrev pub fork_with : DeclaredStream → DeclaredNetwork
+fork_with first = declared_network (topology_of fork_nodes fork_links) (first ∷ stream (codes "z") (4 ∷ 2 ∷ []) ∷ []) []
+
 abbrev pub fork : DeclaredNetwork
-fork = declared_network (topology_of fork_nodes fork_links)
-    (stream (codes "a") (0 ∷ 2 ∷ []) ∷ stream (codes "z") (4 ∷ 2 ∷ []) ∷ []) []
+fork = fork_with (stream (codes "a") (0 ∷ 2 ∷ []))
+
+-- where the first is of class 6 at its station, and of class 5 at the bridge
+abbrev pub fork_of_classes : DeclaredNetwork
+fork_of_classes = fork_with (stream_of (codes "a") (0 ∷ 2 ∷ []) (6 ∷ 5 ∷ []))
 
 -- two bridges between two stations: port 0 leads from s1 to b1, port 2 from b1 to b2, port 4 from b2 to s2
 abbrev pub two_nodes : List Node
@@ -102,11 +112,44 @@ line_of_two residence_ns = line_with residence_ns (stream (codes "b") (0 ∷ 2 �
 
 -- and where it is one of class 5
 abbrev pub line_of_classes : DeclaredNetwork
-line_of_classes = line_with 1000000 (declared_stream (codes "c") (0 ∷ 2 ∷ []) 5 100000000 12336 64 1522 1000000 None)
+line_of_classes = line_with 1000000 (stream_of (codes "c") (0 ∷ 2 ∷ []) (5 ∷ 5 ∷ []))
+
+-- where it is one of class 6 at the station and of class 5 at the bridge, and the other way round
+abbrev pub line_lowered : DeclaredNetwork
+line_lowered = line_with 1000000 (stream_of (codes "b") (0 ∷ 2 ∷ []) (6 ∷ 5 ∷ []))
+
+abbrev pub line_raised : DeclaredNetwork
+line_raised = line_with 1000000 (stream_of (codes "b") (0 ∷ 2 ∷ []) (5 ∷ 6 ∷ []))
+
+-- a bridge that takes 200 to 1000 ns to process a frame, with this maximum residence time in nanoseconds
+abbrev pub ranged_bridge : List ℕ → ℕ → Node
+ranged_bridge name residence_ns = record { name = name; kind = Bridge 200 1000 residence_ns }
+
+-- the line over such a bridge: port 0 has an earliest latency of 700000 ps, and a latency of 1500000 ps
+abbrev pub ranged_nodes : ℕ → List Node
+ranged_nodes residence_ns = station (codes "s1") ∷ station (codes "s2") ∷ ranged_bridge (codes "b1") residence_ns ∷ []
+
+abbrev pub ranged : ℕ → DeclaredNetwork
+ranged residence_ns = declared_network (topology_of (ranged_nodes residence_ns) line_links)
+    (stream (codes "a") (0 ∷ 2 ∷ []) ∷ []) []
+
+-- where the residence just fits the wait at port 0 and the port's spread
+abbrev pub ranged_line : DeclaredNetwork
+ranged_line = ranged 12464
+
+-- and over two of them, where ports 0 and 2 have these latencies
+abbrev pub two_ranged_nodes : List Node
+two_ranged_nodes =
+    station (codes "s1") ∷ station (codes "s2")
+    ∷ ranged_bridge (codes "b1") 12464 ∷ ranged_bridge (codes "b2") 12464 ∷ []
+
+abbrev pub over_two_ranged : DeclaredNetwork
+over_two_ranged = declared_network (topology_of two_ranged_nodes two_links)
+    (stream (codes "a") (0 ∷ 2 ∷ 4 ∷ []) ∷ []) []
 
 -- a stream over the line with a rate of 50 Mb/s and frames of 64 octets, of which one is its burst
 abbrev pub small : List ℕ → ℕ → DeclaredStream
-small name class = declared_stream name (0 ∷ 2 ∷ []) class 50000000 672 64 64 1000000 None
+small name class = declared_stream name (0 ∷ 2 ∷ []) (class ∷ class ∷ []) 50000000 672 64 64 1000000 None
 
 -- on the line, whose bridge has this maximum residence time in nanoseconds, with another of the same class. Behind a
 -- frame of 1522 octets of the other a small one waits for 12336000 ps, so its next one may have to stay in the bridge
@@ -119,9 +162,12 @@ pair residence_ns = declared_network (topology_of (nodes_with residence_ns) line
 abbrev pub below : DeclaredNetwork
 below =
     declared_network (topology_of line_nodes line_links)
-    (small (codes "a") 5 ∷ declared_stream (codes "b") (0 ∷ 2 ∷ []) 6 500000000 12336 64 1522 1000000 None ∷ []) []
+    (small (codes "a") 5
+    ∷ declared_stream (codes "b") (0 ∷ 2 ∷ []) (6 ∷ 6 ∷ []) 500000000 12336 64 1522 1000000 None
+    ∷ [])
+    []
 
 -- a stream on the line with twice the rate of the links
 abbrev pub fast : DeclaredNetwork
 fast = declared_network (topology_of line_nodes line_links)
-    (declared_stream (codes "a") (0 ∷ 2 ∷ []) 6 2000000000 12336 64 1522 1000000 None ∷ []) []
+    (declared_stream (codes "a") (0 ∷ 2 ∷ []) (6 ∷ 6 ∷ []) 2000000000 12336 64 1522 1000000 None ∷ []) []

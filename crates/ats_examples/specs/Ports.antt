@@ -6,9 +6,9 @@ use Rattle.ats_certificate.specs.Certificate.{Covers}
 use Rattle.ats_certificate.specs.declared.row.Row.{Row}
 use Rattle.ats_port_rule.specs.Transmission.{Transmission}
 use Rattle.ats_port_rule.specs.PortRule.{KeepsPortRule}
-use Rattle.ats_port_law.specs.PortLaw.{IsOffered, IsWithinBound}
-use Rattle.ats_examples.specs.Networks.{line_and_flow, fork}
-use Rattle.ats_examples.specs.Rows.{row_with_flow, next_row_with_flow, row_of_line, row_with_two}
+use Rattle.ats_port_law.specs.PortLaw.{IsDeclared, IsOffered, IsWithinBound}
+use Rattle.ats_examples.specs.Networks.{line_and_flow, fork, fork_of_classes}
+use Rattle.ats_examples.specs.Rows.{row_with_flow, next_row_with_flow, row_of_line, row_with_two, row_of_lowered}
 
 -- Transmissions of one port for which all that the port law asks holds.
 
@@ -38,6 +38,24 @@ sent_in_turn =
     ∷ record { frame = 1; sender = 1; class = 6; bits = 12336; eligible = 13836000; start = 26172000; end = 38508000 }
     ∷ []
 
+-- both are, and the first is of class 5 there
+abbrev pub lowered_frame : ℕ → Transmission
+lowered_frame class = record {
+  frame = 0;
+  sender = 0;
+  class = class;
+  bits = 12336;
+  eligible = 13836000;
+  start = 26172000;
+  end = 38508000;
+}
+
+abbrev pub sent_by_class : List Transmission
+sent_by_class =
+    record { frame = 1; sender = 1; class = 6; bits = 12336; eligible = 13836000; start = 13836000; end = 26172000 }
+    ∷ lowered_frame 5
+    ∷ []
+
 -- of a network, some stream uses the row's port and class, the row covers them, the port keeps its rule with what it
 -- may be asked to send, and each frame is within the bound
 pub record IsWorked (network : DeclaredNetwork) (row : Row) (sent : List Transmission) : Type 0 where
@@ -64,3 +82,8 @@ pub record AtOnce : Type 0 where
 pub record InTurn : Type 0 where
   pub worked : IsWorked fork row_with_two sent_in_turn
   pub whole : 38508000 + (port_at fork.topology.ports 2).latency.0 ≡ 13836000 + row_with_two.bound
+
+-- a frame goes by its class at the port, which is another one at its station
+pub record InClasses : Type 0 where
+  pub worked : IsWorked fork_of_classes row_of_lowered sent_by_class
+  pub of_first_class : ¬ IsDeclared fork_of_classes 2 (lowered_frame 6)

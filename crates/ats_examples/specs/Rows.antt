@@ -46,6 +46,18 @@ row_with_two = row_with 2 6 0 200000000000 24672 0 672 24000000 25172000
 abbrev pub fork_rows : List Row
 fork_rows = row_of_line 0 13836000 ∷ row_with_two ∷ row_of_line 4 13836000 ∷ []
 
+-- where the first stream is of class 5 at the bridge: its row there, and the certificate
+abbrev pub row_of_lowered : Row
+row_of_lowered = row_with 2 5 100000000000 100000000000 24672 0 672 26666667 27838667
+
+abbrev pub hop_rows : List Row
+hop_rows =
+    row_of_line 0 13836000
+    ∷ row_of_lowered
+    ∷ row_with 2 6 0 100000000000 12336 12336 672 24000000 25172000
+    ∷ row_of_line 4 13836000
+    ∷ []
+
 -- the rows of the line with a flow, at the station's port and at the bridge's
 abbrev pub row_with_flow : Row
 row_with_flow = row_with 0 6 0 100000000000 12336 12336 672 24000000 26172000

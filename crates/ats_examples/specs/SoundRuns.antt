@@ -5,16 +5,17 @@ use Rattle.ats_certificate.specs.Certificate.{Holds}
 use Rattle.ats_certificate.specs.declared.row.Row.{Row}
 use Rattle.ats_trace.specs.Journey.{Travel}
 use Rattle.ats_trace.specs.Run.{IsLegal, releases_of}
-use Rattle.ats_trace.specs.ExactLinks.{IsLegalAt}
+use Rattle.ats_trace.specs.ExactLinks.{AreExact, IsLegalAt}
 use Rattle.ats_trace.specs.Stored.{travel_at}
 use Rattle.ats_trace.specs.Talker.{talker_of, KeepsBuckets}
 use Rattle.ats_trace.specs.declared.journey.Ending.TheVariants.{Sink}
 use Rattle.ats_soundness_law.specs.Sound.{IsServed, IsContained, IsSound, bounds_of}
-use Rattle.ats_examples.specs.Networks.{line, fork, over_two, over_three}
+use Rattle.ats_examples.specs.Networks.{line, fork, over_two, over_three, ranged_line}
 use Rattle.ats_examples.specs.Runs.{one_frame}
 use Rattle.ats_examples.specs.ChangedRuns.{sunk_late}
 use Rattle.ats_examples.specs.BridgedRuns.{eligible_later, one_over_two, one_over_three, two_over_two, two_over_three}
 use Rattle.ats_examples.specs.Babbler.{babbler}
+use Rattle.ats_examples.specs.PacedRuns.{arriving}
 use Rattle.ats_examples.specs.Rows.{two_rows, three_rows, fork_rows, turned_rows}
 
 -- What the laws say of runs over more than one bridge, and of one with a babbler.
@@ -83,6 +84,13 @@ pub record BabblerIsContained : Type 0 where
 pub record ExactExamples : Type 0 where
   pub exact : IsLegalAt line one_frame
   pub not_exact : ¬ IsLegalAt line sunk_late
+
+-- that each port has one latency counts: where one has not, a run is legal whose frame takes less than the latency
+pub record ExactnessCounts : Type 0 where
+  pub network : IsNetwork ranged_line
+  pub not_one : ¬ AreExact ranged_line.topology.ports
+  pub legal : IsLegal ranged_line (arriving 13036000)
+  pub not_exact : ¬ IsLegalAt ranged_line (arriving 13036000)
 
 -- the rows of the line in another order are no certificate, and sound
 pub record OrderDoesNotCount : Type 0 where

@@ -2,9 +2,11 @@
 
 ghost use Rattle.ats_examples.specs.BrokenRuns.{EachBreaksAlone};
 ghost use Rattle.ats_examples.specs.ChangedRuns.{ChangedExamplesAreNot};
+ghost use Rattle.ats_examples.specs.ClassRuns.{ClassesOfGroups, ClassesOfPorts};
 ghost use Rattle.ats_examples.specs.Crossings.{LinkExamples};
 ghost use Rattle.ats_examples.specs.Deviations.{EachPartCounts};
 ghost use Rattle.ats_examples.specs.LegalRuns.{BabblerIsLegal, BridgedAreLegal, ExamplesAreLegal, RegulatedAreLegal};
+ghost use Rattle.ats_examples.specs.PacedRuns.{ArrivalsAreLegal, ArrivalsBreakLinks, ArrivalsByPace};
 ghost use Rattle.ats_examples.specs.Talkers.{TalkersOfExamples};
 
 /// One frame over one bridge, a frame that is discarded for its size, a frame behind one of a flow,
@@ -47,4 +49,21 @@ pub fn talkers_of_examples()
 /// its own time, and neither with it nor before.
 pub fn link_examples()
     ensures { LinkExamples }
+{}
+
+/// Streams whose class changes from one port to the next: a frame goes by its class at the port that sends it, and
+/// behind a port by its class at this port. Each legal run has a companion that goes by the class of another port, and
+/// breaks one part alone.
+pub fn classes_of_runs()
+    ensures ports { ClassesOfPorts }
+    ensures groups { ClassesOfGroups }
+{}
+
+/// A bridge that takes 200 to 1000 ns to process a frame: frames may arrive at both ends of their interval and inside
+/// it. A picosecond outside it, and with the frame before or before that, they break the link rule alone. And which of
+/// these runs are those of a tie and a pace; no other arrival is.
+pub fn paced_runs()
+    ensures legal { ArrivalsAreLegal }
+    ensures broken { ArrivalsBreakLinks }
+    ensures by_pace { ArrivalsByPace }
 {}
