@@ -1,5 +1,5 @@
-use Rattle.std.proofs.Common.{◌≡◌, ℕ, ◌+◌, ◌<◌, Bool, true, false, cond, List, [], ◌∷◌, ◌++◌, length, Option, Some}
-use Rattle.std.proofs.Common.{None, Result, Ok, refl, subst, arith}
+use Rattle.std.proofs.Common.{◌≡◌, ℕ, ◌<◌, Bool, List, [], ◌∷◌, ◌++◌, length, Option, Some}
+use Rattle.std.proofs.Common.{None, Result, Ok, refl, arith}
 use Rattle.std.specs.Prelude.{IfOk, IfSome}
 use Rattle.ats_facts.proofs.Lists.{position_from-lt}
 use Rattle.ats_num.specs.declared.wire.TheConstants.{MAX_WIRE_BITS}
