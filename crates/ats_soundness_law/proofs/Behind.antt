@@ -16,7 +16,8 @@ use Rattle.ats_soundness_law.proofs.Along.{handed_on, no_hops}
 -- behind the first port: the rest of the way, where there is one
 pub way_on : (Z : Type 0) (path : List ℕ) (verdict : Verdict) (sent : Option (Ps × Ps)) (hops : List HopRecord)
     (ending : Ending)
-    → (IsWay path hops ending → Z) → (hops ≡ [] → Z) → IsSentOrEnds (IsWay path hops ending) verdict sent hops ending → Z
+    → (IsWay path hops ending → Z) → (hops ≡ [] → Z) → IsSentOrEnds (IsWay path hops ending) verdict sent hops ending
+    → Z
 way_on Z path (Eligible e) (Some times) hops ending on none way = on way
 way_on Z path (Eligible e) None hops ending on none way = absurd way
 way_on Z path (Late e) (Some times) hops ending on none way = absurd way
@@ -29,7 +30,8 @@ sent_later : (Z : Type 0) (frame : ℕ) (release : Release) (sender : Sender) (p
     (sent : Option (Ps × Ps)) (hops : List HopRecord) (ending : Ending)
     → IsSentOrEnds (IsWay path hops ending) verdict sent hops ending → OnEligible verdict (λ e. Z)
     → All (λ (g : Hop). Z)
-    (hop_at p (transmission_by frame release (class_at sender p) verdict sent) ++ hops_along frame release sender path hops)
+    (hop_at p (transmission_by frame release (class_at sender p) verdict sent)
+    ++ hops_along frame release sender path hops)
 sent_later Z frame release sender p path (Eligible e) sent hops ending way z = λ k d h. z
 sent_later Z frame release sender p path (Late e) (Some times) hops ending way z = absurd way
 sent_later Z frame release sender p path (Late e) None hops ending way z =

@@ -83,7 +83,8 @@ fed {judge} {rule} network run port c declared kept =
               order = o.order;
               same = o.same;
               conforms = c.rules.conforms d o.order (stream_ruled network c.net i h)
-                  (All-permutation (λ (f : Frame). f.bits ≤ bits_of (sender_at network i).max_octets) frames o.order o.same
+                  (All-permutation (λ (f : Frame). f.bits ≤ bits_of (sender_at network i).max_octets)
+                  frames o.order o.same
                   (own_sizes network run port i each)) keeps;
             });
       };

@@ -71,7 +71,8 @@ stays (Bridge processing_min_ns processing_max_ns residence_ns) need bridge may 
 -- what is known of one frame of the class that the port hands on: when it came, and that it may stay until its bound
 record OnTime (network : DeclaredNetwork) (row : Row) (h : Handed) : Type 0 where
   arrives : h.crossing.arrival ≤ h.crossing.sent.eligible + row.bound
-  may_stay : h.crossing.sent.eligible + row.bound ≤ h.crossing.arrival + PS_PER_NS * residence_of_groups network row.port
+  may_stay : h.crossing.sent.eligible + row.bound
+      ≤ h.crossing.arrival + PS_PER_NS * residence_of_groups network row.port
   size : is_declared_size (declared_by network h.crossing.sent.sender) h.crossing.octets ≡ true
   shaped : 1 ≤ class_at (sender_at network h.crossing.sent.sender) row.port
 
@@ -98,10 +99,12 @@ on_time network run row a h came =
     let takes = All-contains (λ (y : Transmission). y.end ≡ y.start + ps * y.bits) sent x rule.takes came.sent in
     let class : class_at (sender_at network x.sender) row.port ≡ row.class = sym declared.class ∙ came.class_is in
     let reaches = least_reaches row.port (is_of row.class) shortest (senders_of network)
-    x.sender no_sender declared.exists declared.uses (eq-eqb (class_at (sender_at network x.sender) row.port) row.class class) in
+    x.sender no_sender declared.exists declared.uses
+    (eq-eqb (class_at (sender_at network x.sender) row.port) row.class class) in
     let least : row.least ≤ x.bits = omega (arith, reaches, a.holds.covers.sums.least, declared.least) in
     let product : ps * row.least ≤ ps * x.bits = mul-le-mul_left ps least in
-    let stay = stays (node_at network.topology.nodes port.to).kind (residence_needed port row.wait) a.bridge.bridge a.holds.residence in
+    let stay = stays (node_at network.topology.nodes port.to).kind (residence_needed port row.wait)
+    a.bridge.bridge a.holds.residence in
     record {
       arrives = omega (arith, in_time.latest, within came.class_is);
       may_stay = omega (arith, in_time.earliest, waits, takes, product, stay, a.holds.covers.bound);
@@ -168,7 +171,8 @@ in_order network run row a arrivals came ascends i j d le within =
 delayed : {judge : Judge} {rule : Declared → List Frame → Type 0} (network : DeclaredNetwork) (run : List Travel)
     (row : Row) → AtRow judge rule network run row
     → (j : IsJudged judge network (residence_of_groups network row.port) (handed_by network run row.port row.class))
-    → IsDelayedBy rule (declared_by network) (residence_of_groups network row.port) row.bound (map passage_of j.arrivals)
+    → IsDelayedBy rule (declared_by network) (residence_of_groups network row.port) row.bound
+    (map passage_of j.arrivals)
 delayed {judge} {rule} network run row a j =
     let handed : List Handed = handed_by network run row.port row.class in
     let passages : List Passage = map passage_of j.arrivals in

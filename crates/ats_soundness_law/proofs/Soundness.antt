@@ -104,7 +104,8 @@ arrive_within network run rows n r s path hops ending all there k d h =
     let c : Crossing = get_or (crossings_along n r s path hops ending) k d in
     let at : IsServing network run rows s (hop_of c) =
     serving network run rows n r s path hops ending all k d h in
-    All-contains (λ (x : Crossing). x.sent.class ≡ class_at s c.port → x.arrival ≤ x.sent.eligible + bounds_of rows s c.port)
+    All-contains (λ (x : Crossing). x.sent.class ≡ class_at s c.port
+    → x.arrival ≤ x.sent.eligible + bounds_of rows s c.port)
     (crossings_by network run c.port) c
     at.serves.arrives (there k d h) at.ranked
 
@@ -120,7 +121,8 @@ eligible_within network run rows n r s path hops ending all given k d h =
     let is : IsGiven network run one = given k d h in
     let among : Contains (handed_by network run one.crossing.port (class_at s one.crossing.port)) one =
     subst (λ (class : ℕ). Contains (handed_by network run one.crossing.port class) one) at.ranked is.among in
-    All-contains (EligibleBehind rows s one.crossing.port) (handed_by network run one.crossing.port (class_at s one.crossing.port)) one
+    All-contains (EligibleBehind rows s one.crossing.port)
+    (handed_by network run one.crossing.port (class_at s one.crossing.port)) one
     (at.serves.free is.told.bridge) among
   where
     EligibleBehind : List Row → Sender → ℕ → Handed → Type 0
@@ -227,7 +229,8 @@ contained_behind : {judge : Judge} {rule : Declared → List Frame → Type 0} (
     → All (λ q. q < length network.topology.ports) path
     → All (IsThere network run) (crossings_along n j.release (sender_at network j.release.sender) path hops ending)
     → All (IsGiven network run) (handed_along n j.release (sender_at network j.release.sender) path hops)
-    → IsPromptIfEligible (bounds_of rows (sender_at network j.release.sender)) (after_first path) (after_first hops) ending
+    → IsPromptIfEligible (bounds_of rows (sender_at network j.release.sender)) (after_first path)
+    (after_first hops) ending
 contained_behind network run rows j o n [] hops ending way meet used within there given = tt
 contained_behind network run rows j o n (p ∷ path) [] ending way meet used within there given =
     none_once (bounds_of rows (sender_at network j.release.sender)) path ending
@@ -235,7 +238,8 @@ contained_behind network run rows j o n (p ∷ path) (hop ∷ hops) ending way m
     let r : Release = j.release in
     let s : Sender = sender_at network r.sender in
     let sent : Option Transmission = transmission_of n r (class_at s p) hop in
-    let Once : List HopRecord → Type 0 = λ (hs : List HopRecord). IsPromptIfEligible (bounds_of rows s) path hs ending in
+    let Once : List HopRecord → Type 0 =
+    λ (hs : List HopRecord). IsPromptIfEligible (bounds_of rows s) path hs ending in
     let serve = all_serve network run rows j o path (All-tail (λ q. uses q s ≡ true) p path used)
     (All-tail (λ q. q < length network.topology.ports) p path within)
     (later_offered network run o.case p path meet) in

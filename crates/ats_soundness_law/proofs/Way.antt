@@ -49,7 +49,8 @@ comes_next bound frame release sender came p [] e times [] Discard way all hande
 comes_next bound frame release sender came p [] e times (hop ∷ hops) ending way all handed = absurd way
 comes_next bound frame release sender came p (q ∷ path) e times [] ending way all handed = tt
 comes_next bound frame release sender came p (q ∷ path) e times (next ∷ hops) ending way all handed =
-    All-head (EligibleWithin bound) (handed_on frame release (class_at sender p) p came e times next.arrival.0 next.verdict)
+    All-head (EligibleWithin bound)
+    (handed_on frame release (class_at sender p) p came e times next.arrival.0 next.verdict)
     (handed_along frame release sender (q ∷ path) (next ∷ hops)) handed
 
 -- one step of the way
@@ -63,7 +64,8 @@ prompt_here : (bound : ℕ → ℕ) (frame : ℕ) (release : Release) (sender : 
     (crossing_at release.octets came p (transmission_by frame release (class_at sender p) verdict sent) hops ending
     ++ crossings_along frame release sender path hops ending)
     → All (EligibleWithin bound) (handed_at release.octets came p
-    (transmission_by frame release (class_at sender p) verdict sent) hops ++ handed_along frame release sender path hops)
+    (transmission_by frame release (class_at sender p) verdict sent) hops
+    ++ handed_along frame release sender path hops)
     → IsEligibleBy limit (λ e. Unit {0}) verdict
     → IsEligibleBy limit (λ e. IsPrompt bound (e + bound p) path hops ending) verdict
 prompt_here bound frame release sender came p path (Eligible e) (Some times)
