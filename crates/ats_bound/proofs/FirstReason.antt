@@ -1,8 +1,10 @@
 -- A reason is found exactly where it is the first, so no more than one is.
-use Rattle.std.proofs.Common.{◌≡◌, ℕ, ◌*◌, ◌≤◌, true, List, Option, Some, None, refl, sym, ap, subst, ◌∙◌, inl, inr}
+use Rattle.std.proofs.Common.{◌≡◌, ℕ, ◌*◌, ◌≤◌, true, List, Some, None, sym, ap, subst, ◌∙◌, inl, inr}
 use Rattle.std.proofs.Common.{get_or, arith}
 use Rattle.std.specs.Prelude.{nat_lt}
 use Rattle.std.specs.List.{All}
+use Rattle.std.proofs.lemmas.Option.{same_Some}
+use Rattle.ats_bound.proofs.Reasons.{stays_over}
 use Rattle.ats_num.specs.declared.time.TheConstants.{PS_PER_SECOND, PS_PER_NS}
 use Rattle.ats_network.specs.Network.{DeclaredNetwork, IsNetwork}
 use Rattle.ats_network.specs.Residence.{residence_after}
@@ -11,10 +13,9 @@ use Rattle.ats_certificate.specs.Certificate.{IsInTime, bound_along, is_row_of, 
 use Rattle.ats_certificate.specs.Least.{IsLeastRow, IsLeastCertificate}
 use Rattle.ats_certificate.specs.Used.{places_of}
 use Rattle.ats_certificate.specs.declared.row.Row.{Row}
-use Rattle.ats_tally.specs.Reason.{first_some, overstay_by, overstay, row_need, late}
+use Rattle.ats_tally.specs.Reason.{first_some, overstay, row_need, late}
 use Rattle.ats_tally.specs.declared.reason.Reason.{Reason}
 use Rattle.ats_tally.specs.declared.reason.Reason.TheVariants.{Overloaded, Residence, Deadline}
-use Rattle.ats_tally.proofs.Firsts.{some_is}
 use Rattle.ats_tally.proofs.Lists.{All-found, IsFound, found_is, option_cases}
 use Rattle.ats_tally.proofs.Places.{Precedes, places_used}
 use Rattle.ats_bound.specs.First.{IsFirstOverload, IsFirstOverstay, IsFirstLate, IsFirstReason, RowMayStay}
@@ -89,12 +90,6 @@ module _ (network : DeclaredNetwork) (is : IsNetwork network) where
       fits_least rows least at.0 at.1 (places_used network k d h)))
 
   -- what is found in the least certificate is found in the one that is computed
-  stays_over : (row : Row) (need : ℕ) (residence : Option ℕ) → (overstay_by row need residence ≡ None → ⊥)
-      → overstay_by row need residence ≡ Some (Residence row.port row.class need)
-  stays_over row need None some = absurd (some refl)
-  stays_over row need (Some residence_ns) some =
-      true_if (nat_lt (PS_PER_NS * residence_ns) need) (Residence row.port row.class need) some
-
   by_stay : (port class need : ℕ) → IsFirstOverstay network port class need
       → first_some (overstay network) (least_certificate network) ≡ Some (Residence port class need)
   by_stay port class need o =
@@ -139,4 +134,4 @@ each_reason_is_the_first network reason is =
 
 pub first_reason_is_one : FirstReasonIsOne
 first_reason_is_one network a b is first second =
-    some_is a b (sym (first_is_found network is a first) ∙ first_is_found network is b second)
+    same_Some a b (sym (first_is_found network is a first) ∙ first_is_found network is b second)

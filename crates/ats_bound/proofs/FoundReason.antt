@@ -6,10 +6,11 @@ use Rattle.std.specs.List.{All, AllPairs, list_any}
 use Rattle.std.proofs.lemmas.Bool.{and_parts, eqb-true, ltb-true, or_cases}
 use Rattle.std.proofs.lemmas.List.Elements.{All-cons}
 use Rattle.std.proofs.lemmas.List.Folds.{list_any-append}
+use Rattle.std.proofs.lemmas.Option.{none-some}
+use Rattle.ats_facts.proofs.Lists.{pairs_head}
 use Rattle.ats_num.specs.declared.time.TheConstants.{PS_PER_SECOND, PS_PER_NS}
 use Rattle.ats_network.specs.Network.{DeclaredNetwork, IsNetwork}
 use Rattle.ats_network.specs.Residence.{residence_after}
-use Rattle.ats_network.proofs.Appended.{pairs_head}
 use Rattle.ats_certificate.specs.PortSums.{is_used}
 use Rattle.ats_certificate.specs.Certificate.{IsInTime, bound_along}
 use Rattle.ats_certificate.specs.Least.{IsLeastCertificate}
@@ -18,7 +19,6 @@ use Rattle.ats_certificate.specs.declared.row.Row.{Row}
 use Rattle.ats_tally.specs.Reason.{first_some, overstay_by, overstay, row_need, late}
 use Rattle.ats_tally.specs.declared.reason.Reason.{Reason}
 use Rattle.ats_tally.specs.declared.reason.Reason.TheVariants.{Overloaded, Residence, Deadline}
-use Rattle.ats_tally.proofs.Firsts.{none_some}
 use Rattle.ats_tally.proofs.Lists.{any_gives}
 use Rattle.ats_tally.proofs.Places.{IsUsedAt, Precedes, is_at, places_have, places_ordered, places_used}
 use Rattle.ats_tally.proofs.Reasons.{stays_by, by_stay, in_time_from, by_time}
@@ -147,7 +147,7 @@ module _ (network : DeclaredNetwork) (is : IsNetwork network) where
   stays_over : (row : Row) (need : ℕ) (residence : Option ℕ) (found : Reason)
       → IsFirstReason network (Residence row.port row.class need)
       → overstay_by row need residence ≡ Some found → IsFirstReason network found
-  stays_over row need None found first h = absurd (none_some found h)
+  stays_over row need None found first h = absurd (none-some found h)
   stays_over row need (Some residence_ns) found first h = if_true (IsFirstReason network)
       (nat_lt (PS_PER_NS * residence_ns) need) (Residence row.port row.class need) found (λ _. first) h
 

@@ -6,6 +6,7 @@ use Rattle.std.specs.Option.{option_or, option_map}
 use Rattle.std.proofs.lemmas.Bool.{and_parts, eqb-true, true≢false}
 use Rattle.std.proofs.lemmas.List.Elements.{All-map}
 use Rattle.std.proofs.lemmas.List.Sums.{sum_by-le-sum_by}
+use Rattle.std.proofs.lemmas.Option.{none-some}
 use Rattle.ats_streams.specs.Stream.{DeclaredStream}
 use Rattle.ats_network.specs.Sender.{Sender, stream_sender}
 use Rattle.ats_network.specs.Class.{class_at}
@@ -172,8 +173,5 @@ no_reason_held network rows is h =
     (in_time_held network rows (get_or network.streams k d) is h (h.deadlines k d within))) in
     reason_of-none network loads stays times
 
-none_some : {X : Type 0} (x : X) → None ≡ Some x → ⊥
-none_some x h = cc
-
 pub reason_leaves_none : ReasonLeavesNone
-reason_leaves_none network reason rows is some h = none_some reason (sym (no_reason_held network rows is h) ∙ some)
+reason_leaves_none network reason rows is some h = none-some reason (sym (no_reason_held network rows is h) ∙ some)

@@ -13,7 +13,7 @@ use Rattle.ats_certificate.specs.declared.row.Row.{Row}
 use Rattle.ats_tally.specs.Waits.{least_wait}
 use Rattle.ats_bound.specs.Least.{least_row}
 use Rattle.ats_bound.specs.Reason.{load_at}
-use Rattle.ats_tally.proofs.Ceiling.{ceiling-is}
+use Rattle.ats_num.proofs.Ceiling.{ceiling-is}
 use Rattle.ats_tally.proofs.Places.{IsPlace}
 
 -- the load of a place is within its link

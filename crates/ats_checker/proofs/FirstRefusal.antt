@@ -1,8 +1,9 @@
 -- A refusal is given exactly where it is the first that is due.
-use Rattle.std.proofs.Common.{◌≡◌, ℕ, ◌+◌, ◌*◌, ◌≤◌, true, false, List, Option, Some, None, refl, sym, ap, ◌∙◌, inl}
+use Rattle.std.proofs.Common.{◌≡◌, ℕ, ◌+◌, ◌*◌, ◌≤◌, true, false, List, Option, Some, None, sym, ap, ◌∙◌, inl}
 use Rattle.std.proofs.Common.{inr, eqb, arith}
 use Rattle.std.specs.Prelude.{nat_lt, is_some}
 use Rattle.std.specs.List.{All}
+use Rattle.ats_bound.proofs.Reasons.{stays_over}
 use Rattle.ats_num.specs.declared.time.TheConstants.{PS_PER_SECOND, PS_PER_NS}
 use Rattle.ats_topology.specs.Port.{port_at}
 use Rattle.ats_network.specs.Network.{DeclaredNetwork, IsNetwork}
@@ -13,7 +14,7 @@ use Rattle.ats_certificate.specs.Certificate.{HasRows, FitsLink, Covers, RowHold
 use Rattle.ats_certificate.specs.Certificate.{bound_along}
 use Rattle.ats_certificate.specs.declared.row.Row.{Row}
 use Rattle.ats_tally.specs.Waits.{least_wait}
-use Rattle.ats_tally.specs.Reason.{first_some, overload_in, overstay_by, overstay, late}
+use Rattle.ats_tally.specs.Reason.{first_some, overload_in, overstay, late}
 use Rattle.ats_tally.specs.declared.reason.Reason.TheVariants.{Overloaded, Residence, Deadline}
 use Rattle.ats_tally.proofs.Lists.{option_cases}
 use Rattle.ats_tally.proofs.Places.{Precedes, is_place}
@@ -112,12 +113,6 @@ module _ (network : DeclaredNetwork) (rows : List Row) (is : IsNetwork network) 
       (λ some. true_if (nat_lt row.wait least) (WaitTooSmall row.port row.class least) some
       ∙ place_is (λ p c. Some (WaitTooSmall p c least)) port class row s.fault.place
       ∙ ap (λ (n : ℕ). Some (WaitTooSmall port class n)) (sym same))
-
-  stays_over : (row : Row) (residence : Option ℕ) → (overstay_by row residence ≡ None → ⊥)
-      → overstay_by row residence ≡ Some (Residence row.port row.class row.wait)
-  stays_over row None some = absurd (some refl)
-  stays_over row (Some residence_ns) some =
-      true_if (nat_lt (PS_PER_NS * residence_ns) row.wait) (Residence row.port row.class row.wait) some
 
   by_overstay : (port class wait : ℕ) → IsOverstay network rows port class wait
       → first_some (overstay network) rows ≡ Some (Residence port class wait)

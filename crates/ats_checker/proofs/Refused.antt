@@ -6,6 +6,7 @@ use Rattle.std.specs.List.{All, AllPairs, list_any}
 use Rattle.std.specs.Option.{option_or}
 use Rattle.std.proofs.Math.Nat.{mul-le-mul_right}
 use Rattle.std.proofs.lemmas.Bool.{and_parts, eqb-true, eq-eqb, ltb-false, le-ltb}
+use Rattle.ats_facts.proofs.Options.{option_or-none, cond-none}
 use Rattle.ats_num.specs.declared.time.TheConstants.{PS_PER_SECOND}
 use Rattle.ats_topology.specs.Port.{port_at}
 use Rattle.ats_topology.specs.declared.port.Port.{Port}
@@ -19,9 +20,9 @@ use Rattle.ats_tally.specs.Waits.{least_wait}
 use Rattle.ats_bound.specs.Least.{least_row, least_certificate}
 use Rattle.ats_tally.specs.Reason.{first_some, overload_in, overstay, late}
 use Rattle.ats_tally.specs.declared.reason.Reason.{Reason}
-use Rattle.ats_tally.proofs.Reasons.{some_none, fails, by_fail, fits_by, by_fit, stays_by, by_stay, in_time_from}
+use Rattle.ats_tally.proofs.Reasons.{some_none, by_fail, fits_by, by_fit, stays_by, by_stay, in_time_from}
 use Rattle.ats_tally.proofs.Reasons.{by_time}
-use Rattle.ats_tally.proofs.Lists.{any_gives, option_or-none, none_first, first_some-none}
+use Rattle.ats_tally.proofs.Lists.{any_gives, none_first, first_some-none}
 use Rattle.ats_tally.proofs.Places.{IsPlace, is_at, is_place, places_used, places_have}
 use Rattle.ats_bound.proofs.Waits.{Fits, work, work-is, least_wait-is, least_wait-le}
 use Rattle.ats_bound.proofs.LeastHolds.{least_certificate_holds}
@@ -133,7 +134,7 @@ pub long_from : (network : DeclaredNetwork) (row : Row) → short network row �
     → (least_row network (row.port, row.class)).wait ≤ row.wait
 long_from network row h =
     let least : ℕ = least_wait (port_at network.topology.ports row.port) (port_sums network row.port row.class) in
-    ltb-false row.wait least (fails (nat_lt row.wait least) (WaitTooSmall row.port row.class least) h)
+    ltb-false row.wait least (cond-none (nat_lt row.wait least) (WaitTooSmall row.port row.class least) h)
 
 pub by_long : (network : DeclaredNetwork) (row : Row) → (least_row network (row.port, row.class)).wait ≤ row.wait
     → short network row ≡ None

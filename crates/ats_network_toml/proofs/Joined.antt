@@ -15,6 +15,7 @@ use Rattle.std.specs.Result.{IsErrAnd}
 use Rattle.std.proofs.lemmas.Bool.{lt-ltb, le-ltb}
 use Rattle.std.proofs.lemmas.List.{drop_all}
 use Rattle.ats_network_toml.specs.Reading.{entries_from, entries_in}
+use Rattle.ats_network_toml.specs.declared.format.Format.{Format}
 use Rattle.ats_network_toml.specs.declared.table.Table.{Table}
 use Rattle.ats_network_toml.specs.declared.fault.DocumentFault.{DocumentFault}
 use Rattle.ats_network_toml.specs.declared.fault.DocumentFault.TheVariants.{Limit}
@@ -49,19 +50,22 @@ joined_result before x (Ok ys) = ap Ok (append_assoc before (x ∷ []) ys)
 joined_result before x (Err e) = refl
 
 -- an entry read joins those before it
-pub entry_joins : {A : Type 0} (read : Entry → Result A DocumentFault) (table : Table) (n : ℕ) (before : List A) (x : A)
+pub entry_joins : {A : Type 0} (read : Entry → Result A DocumentFault) (format : Format) (table : Table)
+    (n : ℕ) (before : List A) (x : A)
     (ms : Members) (rest : List Members)
-    → read (record { table = table; number = n; members = ms }) ≡ Ok x
-    → behind (before ++ x ∷ []) (entries_from read table (n + 1) rest)
-    ≡ behind before (entries_from read table n (ms ∷ rest))
-entry_joins read table n before x ms rest h = rw h (joined_result before x (entries_from read table (n + 1) rest))
+    → read (record { format = format; table = table; number = n; members = ms }) ≡ Ok x
+    → behind (before ++ x ∷ []) (entries_from read format table (n + 1) rest)
+    ≡ behind before (entries_from read format table n (ms ∷ rest))
+entry_joins read format table n before x ms rest h =
+    rw h (joined_result before x (entries_from read format table (n + 1) rest))
 
 -- an entry with a fault ends the reading
-pub entry_fails : {A : Type 0} (read : Entry → Result A DocumentFault) (table : Table) (n : ℕ) (before : List A)
+pub entry_fails : {A : Type 0} (read : Entry → Result A DocumentFault) (format : Format) (table : Table)
+    (n : ℕ) (before : List A)
     (e : DocumentFault) (ms : Members) (rest : List Members)
-    → read (record { table = table; number = n; members = ms }) ≡ Err e
-    → behind before (entries_from read table n (ms ∷ rest)) ≡ Err e
-entry_fails read table n before e ms rest h = rw h
+    → read (record { format = format; table = table; number = n; members = ms }) ≡ Err e
+    → behind before (entries_from read format table n (ms ∷ rest)) ≡ Err e
+entry_fails read format table n before e ms rest h = rw h
 
 front_parts : (o : Option Members) (rest : Option (List Members)) → is_some (in_front o rest) ≡ true
     → (is_some o ≡ true) × (is_some rest ≡ true)
@@ -101,33 +105,35 @@ tables_of_length (v ∷ vs) h =
     front_length (as_table (view v)) (all_in as_table (items_view vs)) (length vs) h (tables_of_length vs) ∙ omega arith
 
 -- an array past its limit
-pub entries_past : {A : Type 0} (read : Entry → Result A DocumentFault) (table : Table) (most : ℕ)
-    (tables : List Members) → most < length tables → entries_in read table most tables ≡ Err (Limit table)
-entries_past read table most tables h = rw (lt-ltb most (length tables) h)
+pub entries_past : {A : Type 0} (read : Entry → Result A DocumentFault) (format : Format) (table : Table) (most : ℕ)
+    (tables : List Members) → most < length tables → entries_in read format table most tables ≡ Err (Limit table)
+entries_past read format table most tables h = rw (lt-ltb most (length tables) h)
 
 -- an array within its limit
 pub entries_within :
-    {A : Type 0} (read : Entry → Result A DocumentFault) (table : Table) (most : ℕ) (tables : List Members)
-    → length tables ≤ most → entries_in read table most tables ≡ entries_from read table 1 tables
-entries_within read table most tables h = rw (le-ltb most (length tables) h)
+    {A : Type 0} (read : Entry → Result A DocumentFault) (format : Format) (table : Table)
+    (most : ℕ) (tables : List Members)
+    → length tables ≤ most → entries_in read format table most tables ≡ entries_from read format table 1 tables
+entries_within read format table most tables h = rw (le-ltb most (length tables) h)
 
 -- a fault of the next entry is the fault of the array
-pub entry_stops : {A : Type 0} (read : Entry → Result A DocumentFault) (table : Table) (most n : ℕ) (before : List A)
-    (e : Failure DocumentFault) (entry : Entry) (ms : Members) (rest left all : List Members)
-    → entry ≡ record { table = table; number = n; members = ms } → left ≡ ms ∷ rest → length all ≤ most
-    → behind before (entries_from read table n left) ≡ entries_from read table 1 all → Fails e (read entry)
-    → Fails e (entries_in read table most all)
-entry_stops read table most n before e entry ms rest left all is next few so_far failed =
-    fails_along e (read entry) (entries_in read table most all)
-    (λ f part. entries_within read table most all few ∙ sym so_far
-    ∙ ap (λ ts. behind before (entries_from read table n ts)) next
-    ∙ entry_fails read table n before f ms rest (ap read (sym is) ∙ part)) failed
+pub entry_stops : {A : Type 0} (read : Entry → Result A DocumentFault) (format : Format) (table : Table)
+    (most n : ℕ) (before : List A) (e : Failure DocumentFault) (entry : Entry) (ms : Members)
+    (rest left all : List Members)
+    → entry ≡ record { format = format; table = table; number = n; members = ms } → left ≡ ms ∷ rest → length all ≤ most
+    → behind before (entries_from read format table n left) ≡ entries_from read format table 1 all
+    → Fails e (read entry) → Fails e (entries_in read format table most all)
+entry_stops read format table most n before e entry ms rest left all is next few so_far failed =
+    fails_along e (read entry) (entries_in read format table most all)
+    (λ f part. entries_within read format table most all few ∙ sym so_far
+    ∙ ap (λ ts. behind before (entries_from read format table n ts)) next
+    ∙ entry_fails read format table n before f ms rest (ap read (sym is) ∙ part)) failed
 
 -- after the last entry
-pub entries_end : {A : Type 0} (read : Entry → Result A DocumentFault) (table : Table) (n : ℕ) (before : List A)
-    (vs : List Value) (i : ℕ) → length vs ≤ i
-    → behind before (entries_from read table n (tables_of (drop i vs))) ≡ Ok before
-entries_end read table n before vs i past = rw (drop_all i vs past) (ap Ok (append-nil before))
+pub entries_end : {A : Type 0} (read : Entry → Result A DocumentFault) (format : Format) (table : Table)
+    (n : ℕ) (before : List A) (vs : List Value) (i : ℕ) → length vs ≤ i
+    → behind before (entries_from read format table n (tables_of (drop i vs))) ≡ Ok before
+entries_end read format table n before vs i past = rw (drop_all i vs past) (ap Ok (append-nil before))
 
 -- a fault that is passed on
 pub fault_passed : {A B : Type 0} (seen : A → B) (result : Result A (Failure DocumentFault)) (e : Failure DocumentFault)
@@ -136,9 +142,11 @@ fault_passed seen (Ok x) e due h failed = absurd h
 fault_passed seen (Err f) e due h failed = rw h failed
 
 -- the array is read once no value is left
-pub entries_done : {A : Type 0} (read : Entry → Result A DocumentFault) (table : Table) (most n : ℕ) (before : List A)
-    (vs : List Value) (i : ℕ) → length (tables_of vs) ≤ most → length vs ≤ i
-    → behind before (entries_from read table n (tables_of (drop i vs))) ≡ entries_from read table 1 (tables_of vs)
-    → entries_in read table most (tables_of vs) ≡ Ok before
-entries_done read table most n before vs i few past so_far =
-    entries_within read table most (tables_of vs) few ∙ sym so_far ∙ entries_end read table n before vs i past
+pub entries_done : {A : Type 0} (read : Entry → Result A DocumentFault) (format : Format) (table : Table)
+    (most n : ℕ) (before : List A) (vs : List Value) (i : ℕ) → length (tables_of vs) ≤ most → length vs ≤ i
+    → behind before (entries_from read format table n (tables_of (drop i vs)))
+    ≡ entries_from read format table 1 (tables_of vs)
+    → entries_in read format table most (tables_of vs) ≡ Ok before
+entries_done read format table most n before vs i few past so_far =
+    entries_within read format table most (tables_of vs) few ∙ sym so_far
+    ∙ entries_end read format table n before vs i past

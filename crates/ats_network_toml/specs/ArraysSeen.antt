@@ -3,9 +3,10 @@ use Rattle.ats_network_toml.specs.Reading as due
 use Rattle.ats_network_toml.specs.Seen.{are_tables, tables_of}
 use Rattle.ats_network_toml.specs.declared.arrays.Arrays.{Arrays}
 
--- the tables that the arrays hold
+-- the format, and the tables that the arrays hold
 abbrev pub arrays_seen : Arrays → due.Arrays
 arrays_seen a = record {
+  format = a.format;
   stations = tables_of a.stations.now;
   bridges = tables_of a.bridges.now;
   links = tables_of a.links.now;

@@ -9,11 +9,11 @@ pub data DeclaredRoute : Type 0 where
   path : List (List ℕ) → DeclaredRoute
   ends : List ℕ → List ℕ → DeclaredRoute
 
--- what a file declares of a stream
+-- what a file declares of a stream; its classes are those that stand there
 pub record DeclaredStream : Type 0 where
   pub name : List ℕ
   pub route : DeclaredRoute
-  pub class : ℕ
+  pub classes : List ℕ
   pub rate_bps : ℕ
   pub burst_bits : ℕ
   pub min_octets : ℕ

@@ -1,6 +1,8 @@
 use Rattle.std.specs.Prelude.{ℕ, Result, Ok, if◌then◌else◌}
 use Rattle.ats_num.specs.Failure.{◌>>=◌}
-use Rattle.ats_network_toml.specs.Walk.{Entry, has, formed, name_at, whole_at, path_at, deadline_at, identity_at}
+use Rattle.ats_network_toml.specs.Walk.{Entry, has, formed, name_at, whole_at, path_at, classes_at, deadline_at}
+use Rattle.ats_network_toml.specs.Walk.{identity_at}
+use Rattle.ats_network_toml.specs.Words.{least_processing_key, greatest_processing_key}
 use Rattle.ats_network_toml.specs.Document.{DeclaredRoute, path, ends, DeclaredStream, DeclaredFlow}
 use Rattle.ats_network_toml.specs.declared.entries.StationEntry.{StationEntry}
 use Rattle.ats_network_toml.specs.declared.entries.BridgeEntry.{BridgeEntry}
@@ -32,9 +34,10 @@ abbrev pub bridge_in : Entry → Result BridgeEntry DocumentFault
 bridge_in e = do
   well ← formed e
   name ← name_at e key.Name
-  processing ← short_at e key.ProcessingNs
+  least ← short_at e (least_processing_key e.format)
+  most ← short_at e (greatest_processing_key e.format)
   residence ← short_at e key.ResidenceNs
-  Ok (record { name = name; processing_ns = processing; residence_ns = residence })
+  Ok (record { name = name; processing_min_ns = least; processing_max_ns = most; residence_ns = residence })
 
 abbrev pub link_in : Entry → Result LinkEntry DocumentFault
 link_in e = do
@@ -50,7 +53,7 @@ stream_in e = do
   well ← formed e
   name ← name_at e key.Name
   route ← route_at e
-  class ← long_at e key.Class
+  classes ← classes_at e
   rate ← long_at e key.RateBps
   burst ← long_at e key.BurstBits
   least ← long_at e key.MinOctets
@@ -60,7 +63,7 @@ stream_in e = do
   Ok (record {
     name = name;
     route = route;
-    class = class;
+    classes = classes;
     rate_bps = rate;
     burst_bits = burst;
     min_octets = least;

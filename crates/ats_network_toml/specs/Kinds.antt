@@ -24,6 +24,10 @@ ranged least most (negsuc n) = None
 abbrev pub whole_in : ℕ → ℕ → Data → Option ℕ
 whole_in least most d = as_integer d >>= ranged least most
 
+-- a whole number that is as great as TOML allows
+abbrev pub long_in : Data → Option ℕ
+long_in = whole_in 0 9223372036854775807
+
 -- the hexadecimal digit at a place of a text
 abbrev pub digit_at : List ℕ → ℕ → Option ℕ
 digit_at text k = some_where (is_digit (slice_index text k) 16) (digit_value (slice_index text k))
@@ -59,18 +63,15 @@ in_front None xs = None
 in_front (Some x) None = None
 in_front (Some x) (Some xs) = Some (x ∷ xs)
 
--- an array whose items are all of one kind
+-- items that are all of one kind
 abbrev pub all_in : {A : Type 0} → (Data → Option A) → Items → Option (List A)
 all_in kind no_items = Some []
 all_in kind (item d ds) = in_front (kind d) (all_in kind ds)
 
--- an array of at least two strings that are names
-abbrev pub path_in : Data → Option (List (List ℕ))
-path_in d = do
-  items ← as_array d
-  names ← all_in name_in items
-  some_where (nat_le 2 (length names)) names
+-- an array whose items are all of one kind, as a list
+abbrev pub list_in : {A : Type 0} → (Data → Option A) → Data → Option (List A)
+list_in kind d = as_array d >>= all_in kind
 
 -- an array of tables
 abbrev pub tables_in : Data → Option (List Members)
-tables_in d = as_array d >>= all_in as_table
+tables_in = list_in as_table

@@ -3,9 +3,11 @@ use Rattle.std.specs.Str.{is_utf8}
 use Rattle.toml.specs.Data.{Members}
 use Rattle.toml.specs.Parse.{parse_document}
 use Rattle.ats_num.specs.Failure.{◌>>=◌, or_fault}
-use Rattle.ats_network_toml.specs.Walk.{Entry, formed, whole_at, tables_at}
+use Rattle.ats_network_toml.specs.Walk.{Entry, formed, format_at, tables_at}
 use Rattle.ats_network_toml.specs.Document.{DeclaredDocument}
 use Rattle.ats_network_toml.specs.Entries.{station_in, bridge_in, link_in, stream_in, flow_in}
+use Rattle.ats_network_toml.specs.declared.format.Format.{Format}
+use Rattle.ats_network_toml.specs.declared.format.Format.TheVariants.{One}
 use Rattle.ats_network_toml.specs.declared.table.Table.{Table}
 use Rattle.ats_network_toml.specs.declared.table.Table.TheVariants.{Top, Station, Bridge, Link, Stream, Flow}
 use Rattle.ats_network_toml.specs.declared.key.Key.TheVariants as key
@@ -13,53 +15,61 @@ use Rattle.ats_network_toml.specs.declared.fault.DocumentFault.{DocumentFault}
 use Rattle.ats_network_toml.specs.declared.fault.DocumentFault.TheVariants.{NotToml, Limit}
 
 -- the entries of an array from the one with this number on, or the first fault in them
-abbrev pub entries_from : {A : Type 0} → (Entry → Result A DocumentFault) → Table → ℕ → List Members
+abbrev pub entries_from : {A : Type 0} → (Entry → Result A DocumentFault) → Format → Table → ℕ → List Members
     → Result (List A) DocumentFault
-entries_from read table n [] = Ok []
-entries_from read table n (ms ∷ rest) = do
-  entry ← read (record { table = table; number = n; members = ms })
-  more ← entries_from read table (n + 1) rest
+entries_from read format table n [] = Ok []
+entries_from read format table n (ms ∷ rest) = do
+  entry ← read (record { format = format; table = table; number = n; members = ms })
+  more ← entries_from read format table (n + 1) rest
   Ok (entry ∷ more)
 
 -- the entries of an array, of at most so many
-abbrev pub entries_in : {A : Type 0} → (Entry → Result A DocumentFault) → Table → ℕ → List Members
+abbrev pub entries_in : {A : Type 0} → (Entry → Result A DocumentFault) → Format → Table → ℕ → List Members
     → Result (List A) DocumentFault
-entries_in read table most tables = if nat_lt most (length tables) then Err (Limit table)
-    else entries_from read table 1 tables
+entries_in read format table most tables = if nat_lt most (length tables) then Err (Limit table)
+    else entries_from read format table 1 tables
 
--- the arrays of the top table
+-- the format and the arrays of the top table
 pub record Arrays : Type 0 where
+  pub format : Format
   pub stations : List Members
   pub bridges : List Members
   pub links : List Members
   pub streams : List Members
   pub flows : List Members
 
--- the top table has format 1, and its arrays are arrays of tables
+-- the format that the top table gives, and its arrays, which are arrays of tables
 abbrev pub arrays_in : Entry → Result Arrays DocumentFault
 arrays_in top = do
   well ← formed top
-  format ← whole_at top key.Format 1 1
+  format ← format_at top
   stations ← tables_at top key.Station
   bridges ← tables_at top key.Bridge
   links ← tables_at top key.Link
   streams ← tables_at top key.Stream
   flows ← tables_at top key.Flow
-  Ok (record { stations = stations; bridges = bridges; links = links; streams = streams; flows = flows })
+  Ok (record {
+    format = format;
+    stations = stations;
+    bridges = bridges;
+    links = links;
+    streams = streams;
+    flows = flows;
+  })
 
 -- the entries of all arrays: at most 1024 stations and bridges together, 2048 links, 4096 streams and 1024 flows
 abbrev pub arrays_read : Arrays → Result DeclaredDocument DocumentFault
 arrays_read arrays = do
-  stations ← entries_in station_in Station 1024 arrays.stations
-  bridges ← entries_in bridge_in Bridge (1024 - length stations) arrays.bridges
-  links ← entries_in link_in Link 2048 arrays.links
-  streams ← entries_in stream_in Stream 4096 arrays.streams
-  flows ← entries_in flow_in Flow 1024 arrays.flows
+  stations ← entries_in station_in arrays.format Station 1024 arrays.stations
+  bridges ← entries_in bridge_in arrays.format Bridge (1024 - length stations) arrays.bridges
+  links ← entries_in link_in arrays.format Link 2048 arrays.links
+  streams ← entries_in stream_in arrays.format Stream 4096 arrays.streams
+  flows ← entries_in flow_in arrays.format Flow 1024 arrays.flows
   Ok (record { stations = stations; bridges = bridges; links = links; streams = streams; flows = flows })
 
--- what a TOML document declares, or its first fault
+-- what a TOML document declares, or its first fault; the top table's keys are the same in each format
 abbrev pub document_in : Members → Result DeclaredDocument DocumentFault
-document_in tree = arrays_in (record { table = Top; number = 0; members = tree }) >>= arrays_read
+document_in tree = arrays_in (record { format = One; table = Top; number = 0; members = tree }) >>= arrays_read
 
 -- the document that a text is, if it is UTF-8 and TOML
 abbrev pub tree_of : List ℕ → Option Members

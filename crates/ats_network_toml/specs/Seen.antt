@@ -11,7 +11,7 @@ use Rattle.ats_network_toml.specs.declared.entries.Route.TheVariants.{Path, Ends
 
 -- the table that a section stands for
 abbrev pub entry_of : Section → Entry
-entry_of s = record { table = s.table; number = s.number; members = table_view s.members.now }
+entry_of s = record { format = s.format; table = s.table; number = s.number; members = table_view s.members.now }
 
 -- these values are tables
 abbrev pub are_tables : List Value → Bool

@@ -1,20 +1,23 @@
 use Rattle.std.specs.Prelude.{ℕ, Bool, true, false, not, ◌&&◌, ◌||◌, List, [], Option, Some, None, is_some}
-use Rattle.std.specs.Prelude.{option_and_then, Result, Ok, Err, if◌then◌else◌}
+use Rattle.std.specs.Prelude.{◌==◌, nat_le, length, ◌∷◌, option_and_then, Result, Ok, Err, if◌then◌else◌}
 use Rattle.std.specs.List.{list_any, find}
 use Rattle.std.specs.Str.{bytes_eq}
 use Rattle.toml.specs.Data.{Data, Members, no_members, member, get_member}
 use Rattle.ats_network_toml.specs.Words.{key_text, keys_of}
 use Rattle.ats_num.specs.Failure.{◌>>=◌, or_fault, ok_where}
-use Rattle.ats_network_toml.specs.Kinds.{name_in, whole_in, address_in, path_in, tables_in}
+use Rattle.ats_network_toml.specs.Kinds.{name_in, whole_in, long_in, address_in, list_in, tables_in}
+use Rattle.ats_network_toml.specs.declared.format.Format.{Format}
+use Rattle.ats_network_toml.specs.declared.format.Format.TheVariants.{One, Two}
 use Rattle.ats_network_toml.specs.declared.table.Table.{Table}
 use Rattle.ats_network_toml.specs.declared.key.Key.{Key}
 use Rattle.ats_network_toml.specs.declared.key.Key.TheVariants as key
 use Rattle.ats_network_toml.specs.declared.fault.DocumentFault.{DocumentFault}
 use Rattle.ats_network_toml.specs.declared.fault.DocumentFault.TheVariants.{Missing, Unknown, WrongKind}
 
--- one table of a file: which it is, its number among those of its array, counted from 1 (0 for the top table), and what
--- stands in it
+-- one table of a file: the file's format, which table it is, its number among those of its array, counted from 1 (0 for
+-- the top table), and what stands in it
 pub record Entry : Type 0 where
+  pub format : Format
   pub table : Table
   pub number : ℕ
   pub members : Members
@@ -24,7 +27,7 @@ abbrev pub has : Entry → Key → Bool
 has e k = is_some (get_member (key_text k) e.members)
 
 -- a key of the table's list has to stand there: all but the arrays at the top, the deadline, and these: a path, or both
--- its ends; address and VLAN, or neither
+-- its ends; a class, or classes; address and VLAN, or neither
 abbrev pub is_due : Entry → Key → Bool
 is_due e key.Station = false
 is_due e key.Bridge = false
@@ -34,6 +37,8 @@ is_due e key.Flow = false
 is_due e key.Path = not (has e key.From || has e key.To)
 is_due e key.From = has e key.To
 is_due e key.To = has e key.From
+is_due e key.Class = not (has e key.Classes)
+is_due e key.Classes = false
 is_due e key.DeadlineNs = false
 is_due e key.Address = has e key.Vlan
 is_due e key.Vlan = has e key.Address
@@ -45,7 +50,7 @@ is_missing e k = is_due e k && not (has e k)
 
 -- the first missing key in the order of the table's list
 abbrev pub missing_key : Entry → Option Key
-missing_key e = find (is_missing e) (keys_of e.table)
+missing_key e = find (is_missing e) (keys_of e.format e.table)
 
 -- one of these keys is written so
 abbrev pub is_known : List Key → List ℕ → Bool
@@ -64,11 +69,15 @@ none_missing e (Some k) = Err (Missing e.table e.number k)
 abbrev pub formed : Entry → Result (Unit {0}) DocumentFault
 formed e = do
   complete ← none_missing e (missing_key e)
-  ok_where (not (has_unknown (keys_of e.table) e.members)) (Unknown e.table e.number) complete
+  ok_where (not (has_unknown (keys_of e.format e.table) e.members)) (Unknown e.table e.number) complete
+
+-- the fault of a key whose value is of the wrong kind
+abbrev pub wrong_kind : Entry → Key → DocumentFault
+wrong_kind e k = WrongKind e.table e.number k
 
 -- what stands with a key, where it is of the right kind
 abbrev pub at : {A : Type 0} → Entry → Key → (Data → Option A) → Result A DocumentFault
-at e k kind = or_fault (WrongKind e.table e.number k) (option_and_then kind (get_member (key_text k) e.members))
+at e k kind = or_fault (wrong_kind e k) (option_and_then kind (get_member (key_text k) e.members))
 
 abbrev pub name_at : Entry → Key → Result (List ℕ) DocumentFault
 name_at e k = at e k name_in
@@ -80,9 +89,27 @@ whole_at e k least most = at e k (whole_in least most)
 abbrev pub tables_at : Entry → Key → Result (List Members) DocumentFault
 tables_at e k = if has e k then at e k tables_in else Ok []
 
--- the names of a path, which has none of its ends beside it
+-- the names of a path, at least two, which has none of its ends beside it
 abbrev pub path_at : Entry → Result (List (List ℕ)) DocumentFault
-path_at e = if has e key.From || has e key.To then Err (WrongKind e.table e.number key.Path) else at e key.Path path_in
+path_at e =
+    if has e key.From || has e key.To then Err (wrong_kind e key.Path)
+    else (at e key.Path (list_in name_in)
+    >>= λ names. ok_where (nat_le 2 (length names)) (wrong_kind e key.Path) names)
+
+-- the classes of a stream: one, or a list in its place
+abbrev pub classes_at : Entry → Result (List ℕ) DocumentFault
+classes_at e =
+    if has e key.Class
+    then (at e key.Class long_in
+    >>= λ class. ok_where (not (has e key.Classes)) (wrong_kind e key.Classes) (class ∷ []))
+    else at e key.Classes (list_in long_in)
+
+-- the format of the file, 1 or 2
+abbrev pub format_of : ℕ → Format
+format_of n = if n == 1 then One else Two
+
+abbrev pub format_at : Entry → Result Format DocumentFault
+format_at top = whole_at top key.Format 1 2 >>= λ n. Ok (format_of n)
 
 -- the deadline; an absent one is a second
 abbrev pub deadline_at : Entry → Result ℕ DocumentFault

@@ -9,6 +9,7 @@ ghost use Rattle.ats_network_toml.specs.Reading.{entries_in, arrays_in};
 
 use crate::entries::FromSection;
 use crate::fault::DocumentFault;
+use crate::format::Format;
 use crate::key::Key;
 use crate::section::Section;
 use crate::table::Table;
@@ -20,21 +21,22 @@ use toml::Value;
 /// fault of the first entry with one.
 pub(crate) fn read_entries<E: FromSection>(
     alloc: Global,
+    format: Format,
     table: Table,
     most: usize,
     values: &[Value],
 ) -> Result<Vec<E>, Failure<DocumentFault>>
     requires tables { IsTrue (are_tables values.now) }
     requires few { most < 2 ^ 31 }
-    ensures value { GivesSeen (λ entries. entries.items) result (entries_in E.reads table most (tables_of values.now)) }
-    ensures few { IfOk result (λ entries. length entries.items ≤ most) }
+    ensures value { GivesSeen (λ es. es.items) result (entries_in E.reads format table most (tables_of values.now)) }
+    ensures few { IfOk result (λ es. length es.items ≤ most) }
 {
     if values.len() > most {
         return Err(Failure::Fault(DocumentFault::Limit { table }));
     }
     let mut entries = Vec::new(alloc);
     for (place, value) in values.iter().enumerate() {
-        let section = Section::new(table, place as u32 + 1, table_in(value));
+        let section = Section::new(format, table, place as u32 + 1, table_in(value));
         let entry = E::read(alloc, &section)?;
         entries.push(entry)?;
     }
@@ -49,9 +51,10 @@ fn table_in(value: &Value) -> &toml::Table
     value.as_table().unwrap()
 }
 
-/// The arrays of the top table.
+/// The format and the arrays of the top table.
 #[derive(Clone, Copy)]
 pub(crate) struct Arrays<'a> {
+    pub format: Format,
     pub stations: &'a [Value],
     pub bridges: &'a [Value],
     pub links: &'a [Value],
@@ -63,20 +66,21 @@ impl<'a> Arrays<'a> {
     ghost use Rattle.ats_network_toml.specs.Seen.{entry_of};
     ghost use Rattle.ats_network_toml.specs.ArraysSeen.{arrays_seen, AreArrays};
 
-    /// The arrays of a top table, or its first fault.
+    /// The format and the arrays of a top table, or its first fault.
     pub(crate) fn read(top: &Section<'a>) -> Result<Self, DocumentFault>
         ensures ok { IfOk result
             (λ arrays. (arrays_in (entry_of top.now) ≡ Ok (arrays_seen arrays)) × AreArrays arrays) }
         ensures err { IfErr result (λ e. arrays_in (entry_of top.now) ≡ Err e) }
     {
         top.formed()?;
-        top.whole(Key::Format, 1, 1)?;
+        let format = top.format_given()?;
         let stations = top.tables(Key::Station)?;
         let bridges = top.tables(Key::Bridge)?;
         let links = top.tables(Key::Link)?;
         let streams = top.tables(Key::Stream)?;
         let flows = top.tables(Key::Flow)?;
         Ok(Arrays {
+            format,
             stations,
             bridges,
             links,

@@ -19,7 +19,7 @@ pub const MAX_FLOWS: usize = 1024;
 
 /// What a network file declares: the entries of its arrays, each in file order and within its
 /// limit. Contracts see the lists.
-#[derive(Debug, Drop)]
+#[derive(Drop)]
 pub struct Document {
     pub(crate) station_list: Vec<StationEntry>,
     pub(crate) bridge_list: Vec<BridgeEntry>,
@@ -51,7 +51,7 @@ impl Model for Document {
 }
 
 /// The lists of a document, each in file order.
-#[derive(Debug, Drop)]
+#[derive(Drop)]
 pub struct Parts {
     /// The stations.
     pub stations: Vec<StationEntry>,

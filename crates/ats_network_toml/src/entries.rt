@@ -25,7 +25,7 @@ pub(crate) trait FromSection: Drop {
 }
 
 /// A station.
-#[derive(Clone, Copy, Debug)]
+#[derive(Clone, Copy)]
 pub struct StationEntry {
     /// Its name.
     pub name: Name,
@@ -44,12 +44,14 @@ impl FromSection for StationEntry {
 }
 
 /// A bridge.
-#[derive(Clone, Copy, Debug)]
+#[derive(Clone, Copy)]
 pub struct BridgeEntry {
     /// Its name.
     pub name: Name,
-    /// How long it processes a frame, in nanoseconds.
-    pub processing_ns: u32,
+    /// How long it processes a frame at least, in nanoseconds.
+    pub processing_min_ns: u32,
+    /// How long it processes a frame at most, in nanoseconds: whether it is at least the least time is not judged here.
+    pub processing_max_ns: u32,
     /// The maximum residence time of its groups of schedulers, in nanoseconds.
     pub residence_ns: u32,
 }
@@ -62,18 +64,20 @@ impl FromSection for BridgeEntry {
     fn read(_alloc: Global, section: &Section) -> Result<Self, Failure<DocumentFault>> {
         section.formed()?;
         let name = section.name(Key::Name)?;
-        let processing_ns = section.short(Key::ProcessingNs)?;
+        let processing_min_ns = section.short(section.format().least_processing_key())?;
+        let processing_max_ns = section.short(section.format().greatest_processing_key())?;
         let residence_ns = section.short(Key::ResidenceNs)?;
         Ok(BridgeEntry {
             name,
-            processing_ns,
+            processing_min_ns,
+            processing_max_ns,
             residence_ns,
         })
     }
 }
 
 /// A link between two nodes.
-#[derive(Clone, Copy, Debug)]
+#[derive(Clone, Copy)]
 pub struct LinkEntry {
     /// The name of the node at one end.
     pub a: Name,
@@ -106,7 +110,7 @@ impl FromSection for LinkEntry {
 }
 
 /// How a stream or a flow goes through the network.
-#[derive(Debug, Drop)]
+#[derive(Drop)]
 pub enum Route {
     /// By these nodes, at least two, from talker to listener.
     Path(Vec<Name>),
@@ -114,15 +118,16 @@ pub enum Route {
     Ends(Name, Name),
 }
 
-/// A stream. Contracts see its path as a list.
-#[derive(Debug, Drop)]
+/// A stream. Contracts see its path and its classes as lists.
+#[derive(Drop)]
 pub struct StreamEntry {
     /// Its name.
     pub name: Name,
     /// Its way through the network.
     pub route: Route,
-    /// Its traffic class, 0 to 2^63 - 1: whether it is a class is not judged here, nor the range of the other numbers.
-    pub class: u64,
+    /// Its traffic class, or its classes along its path, each 0 to 2^63 - 1: whether they are classes, one or as many
+    /// as the path has ports, is not judged here, nor the range of the other numbers.
+    pub classes: Vec<u64>,
     /// Its committed rate in bits per second.
     pub rate_bps: u64,
     /// Its burst in bits.
@@ -147,7 +152,7 @@ impl Model for StreamEntry {
     ghost view = { λ s. record {
       name = s.name;
       route = route_seen s.route;
-      class = s.class;
+      classes = s.classes.items;
       rate_bps = s.rate_bps;
       burst_bits = s.burst_bits;
       min_octets = s.min_octets;
@@ -159,7 +164,7 @@ impl Model for StreamEntry {
     ghost invariant = { λ s. IsStreamEntry (record {
       name = s.name;
       route = route_seen s.route;
-      class = s.class;
+      classes = s.classes.items;
       rate_bps = s.rate_bps;
       burst_bits = s.burst_bits;
       min_octets = s.min_octets;
@@ -178,7 +183,7 @@ impl FromSection for StreamEntry {
         section.formed()?;
         let name = section.name(Key::Name)?;
         let route = section.route(alloc)?;
-        let class = section.long(Key::Class)?;
+        let classes = section.classes(alloc)?;
         let rate_bps = section.long(Key::RateBps)?;
         let burst_bits = section.long(Key::BurstBits)?;
         let min_octets = section.long(Key::MinOctets)?;
@@ -188,7 +193,7 @@ impl FromSection for StreamEntry {
         Ok(StreamEntry {
             name,
             route,
-            class,
+            classes,
             rate_bps,
             burst_bits,
             min_octets,
@@ -200,7 +205,7 @@ impl FromSection for StreamEntry {
 }
 
 /// A best-effort flow. Contracts see its path as a list.
-#[derive(Debug, Drop)]
+#[derive(Drop)]
 pub struct FlowEntry {
     /// Its name.
     pub name: Name,

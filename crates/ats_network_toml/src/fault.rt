@@ -11,7 +11,7 @@ use std::fmt;
 /// The first fault of form of a text that is no network file. The entries of an array are counted
 /// from 1; the top table's entry is 0. It is displayed as `not-toml`, `missing TABLE ENTRY KEY`,
 /// `unknown TABLE ENTRY`, `kind TABLE ENTRY KEY` or `limit TABLE`.
-#[derive(Clone, Copy, Debug, PartialEq, Eq, Hash)]
+#[derive(Clone, Copy, Debug, PartialEq, Eq)]
 pub enum DocumentFault {
     /// The text is no TOML document, or no UTF-8.
     NotToml,

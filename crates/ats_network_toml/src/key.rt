@@ -3,7 +3,7 @@
 ghost use Rattle.std.specs.Prelude.{◌≡◌};
 
 /// A key of a network file, in any of its tables.
-#[derive(Clone, Copy, Debug, PartialEq, Eq, Hash)]
+#[derive(Clone, Copy, Debug, PartialEq, Eq)]
 pub enum Key {
     /// The format's number, in the top table.
     Format,
@@ -19,8 +19,12 @@ pub enum Key {
     Flow,
     /// The name of a node, a stream or a flow.
     Name,
-    /// How long a bridge processes a frame, in nanoseconds.
+    /// How long a bridge processes each frame, in nanoseconds, in format 1.
     ProcessingNs,
+    /// How long a bridge processes a frame at least, in nanoseconds, in format 2.
+    ProcessingMinNs,
+    /// How long a bridge processes a frame at most, in nanoseconds, in format 2.
+    ProcessingMaxNs,
     /// The maximum residence time of a bridge's groups, in nanoseconds.
     ResidenceNs,
     /// One end of a link.
@@ -37,8 +41,10 @@ pub enum Key {
     From,
     /// The listener, where the path is to be found.
     To,
-    /// A stream's traffic class.
+    /// A stream's traffic class, where it has one at all ports of its path.
     Class,
+    /// A stream's traffic classes, one for each port of its path.
+    Classes,
     /// A stream's committed rate, in bits per second.
     RateBps,
     /// A stream's burst, in bits.
@@ -71,6 +77,8 @@ impl Key {
             Key::Flow => "flow",
             Key::Name => "name",
             Key::ProcessingNs => "processing_ns",
+            Key::ProcessingMinNs => "processing_min_ns",
+            Key::ProcessingMaxNs => "processing_max_ns",
             Key::ResidenceNs => "residence_ns",
             Key::A => "a",
             Key::B => "b",
@@ -80,6 +88,7 @@ impl Key {
             Key::From => "from",
             Key::To => "to",
             Key::Class => "class",
+            Key::Classes => "classes",
             Key::RateBps => "rate_bps",
             Key::BurstBits => "burst_bits",
             Key::MinOctets => "min_octets",

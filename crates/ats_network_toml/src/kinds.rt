@@ -1,12 +1,44 @@
 //! The kinds of values that a key may hold.
 
-ghost use Rattle.std.specs.Prelude.{◌≡◌, ◌≤◌, ◌<◌, ◌^◌, ◌&&◌, nat_le, slice_index, IfSome};
+ghost use Rattle.std.specs.Prelude.{◌≡◌, ◌≤◌, ◌<◌, ◌^◌, ◌&&◌, nat_le, slice_index, IfSome, Option};
+ghost use Rattle.toml.specs.Data.{Data};
 ghost use Rattle.toml.specs.View.{view};
 ghost use Rattle.ats_network_toml.specs.Kinds.{some_where, name_in, whole_in, digit_at, pair_at, joined_at, address_of};
 ghost use Rattle.ats_network_toml.specs.Kinds.{address_in};
 
 use ats_num::Name;
 use toml::Value;
+
+/// The greatest whole number of a TOML text.
+pub(crate) const MAX_WHOLE: u64 = 9_223_372_036_854_775_807;
+
+/// What an item of an array can be.
+pub(crate) trait FromValue: Drop {
+    // What a value stands for, where it is of this kind.
+    ghost kind: { Data → Option Self };
+
+    /// What a value stands for, where it is of this kind.
+    fn from_value(value: &Value) -> Option<Self>
+        ensures { result ≡ kind (view value.now) };
+}
+
+impl FromValue for Name {
+    ghost kind = { name_in };
+
+    fn from_value(value: &Value) -> Option<Self> {
+        name_in(value)
+    }
+}
+
+impl FromValue for u64 {
+    ghost use Rattle.ats_network_toml.specs.Kinds.{long_in};
+
+    ghost kind = { long_in };
+
+    fn from_value(value: &Value) -> Option<Self> {
+        whole_in(value, 0, MAX_WHOLE)
+    }
+}
 
 /// The name that a value writes, where it is a string that is a name.
 pub(crate) fn name_in(value: &Value) -> Option<Name>

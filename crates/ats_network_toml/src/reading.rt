@@ -9,6 +9,7 @@ ghost use Rattle.ats_network_toml.specs.Reading.{tree_of, document_in, document_
 use crate::arrays::{Arrays, read_entries};
 use crate::document::{Document, MAX_FLOWS, MAX_LINKS, MAX_NODES, MAX_STREAMS};
 use crate::fault::DocumentFault;
+use crate::format::Format;
 use crate::section::Section;
 use crate::table::Table;
 use ats_num::Failure;
@@ -28,7 +29,8 @@ pub fn read_document(alloc: Global, bytes: &[u8]) -> Result<Document, Failure<Do
     ensures { Gives result (document_of bytes.now) }
 {
     let tree = tree_of(alloc, bytes)?;
-    let top = Section::new(Table::Top, 0, &tree);
+    // The top table has the same keys in each format.
+    let top = Section::new(Format::One, Table::Top, 0, &tree);
     let arrays = Arrays::read(&top)?;
     arrays_read(alloc, &arrays)
 }
@@ -58,12 +60,24 @@ fn arrays_read(alloc: Global, arrays: &Arrays) -> Result<Document, Failure<Docum
     requires { AreArrays arrays.now }
     ensures { Gives result (arrays_read (arrays_seen arrays.now)) }
 {
-    let station_list = read_entries(alloc, Table::Station, MAX_NODES, arrays.stations)?;
+    let station_list = read_entries(
+        alloc,
+        arrays.format,
+        Table::Station,
+        MAX_NODES,
+        arrays.stations,
+    )?;
     let places = MAX_NODES - station_list.len();
-    let bridge_list = read_entries(alloc, Table::Bridge, places, arrays.bridges)?;
-    let link_list = read_entries(alloc, Table::Link, MAX_LINKS, arrays.links)?;
-    let stream_list = read_entries(alloc, Table::Stream, MAX_STREAMS, arrays.streams)?;
-    let flow_list = read_entries(alloc, Table::Flow, MAX_FLOWS, arrays.flows)?;
+    let bridge_list = read_entries(alloc, arrays.format, Table::Bridge, places, arrays.bridges)?;
+    let link_list = read_entries(alloc, arrays.format, Table::Link, MAX_LINKS, arrays.links)?;
+    let stream_list = read_entries(
+        alloc,
+        arrays.format,
+        Table::Stream,
+        MAX_STREAMS,
+        arrays.streams,
+    )?;
+    let flow_list = read_entries(alloc, arrays.format, Table::Flow, MAX_FLOWS, arrays.flows)?;
     Ok(Document {
         station_list,
         bridge_list,

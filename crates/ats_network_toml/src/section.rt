@@ -7,31 +7,31 @@ ghost use Rattle.toml.specs.View.{view, items_view, table_view};
 ghost use Rattle.ats_network_toml.specs.Words.{key_text};
 ghost use Rattle.ats_network_toml.specs.Walk.{has, is_due, is_missing, missing_key, is_known, has_unknown, formed, at};
 ghost use Rattle.ats_network_toml.specs.Walk.{name_at, whole_at, tables_at, path_at, identity_at, deadline_at};
+ghost use Rattle.ats_network_toml.specs.Walk.{format_at, classes_at};
 ghost use Rattle.ats_num.specs.Failure.{or_fault, GivesSeen};
-ghost use Rattle.ats_network_toml.specs.Kinds.{name_in, address_in, all_in};
+ghost use Rattle.ats_network_toml.specs.Kinds.{address_in, all_in, list_in};
 ghost use Rattle.ats_network_toml.specs.Entries.{route_at};
 ghost use Rattle.ats_network_toml.specs.Document.{IsRoute, IsIdentity};
 ghost use Rattle.ats_network_toml.specs.Seen.{are_tables, tables_of, route_seen};
 
 use crate::entries::Route;
 use crate::fault::DocumentFault;
+use crate::format::Format;
 use crate::key::Key;
-use crate::kinds::{address_in, name_in, whole_in};
+use crate::kinds::{FromValue, MAX_WHOLE, address_in, name_in, whole_in};
 use crate::table::Table;
 use ats_num::{Failure, Name};
 use std::alloc::Global;
 use toml::Value;
 
-/// The greatest whole number of a TOML text.
-pub(crate) const MAX_WHOLE: u64 = 9_223_372_036_854_775_807;
-
 /// The deadline of a stream that declares none, in nanoseconds.
 pub(crate) const DEFAULT_DEADLINE_NS: u64 = 1_000_000_000;
 
-/// One table of a file: which it is, its number among those of its array, counted from 1 (0 for the
-/// top table), and what stands in it.
+/// One table of a file: the file's format, which table it is, its number among those of its array,
+/// counted from 1 (0 for the top table), and what stands in it.
 #[derive(Clone, Copy)]
 pub(crate) struct Section<'a> {
+    format: Format,
     table: Table,
     number: u32,
     members: &'a toml::Table,
@@ -40,15 +40,24 @@ pub(crate) struct Section<'a> {
 impl<'a> Section<'a> {
     ghost use Rattle.ats_network_toml.specs.Seen.{entry_of};
 
-    /// The table with this number.
-    pub(crate) fn new(table: Table, number: u32, members: &'a toml::Table) -> Self
-        ensures { entry_of result ≡ record { table = table; number = number; members = table_view members.now } }
+    /// The table with this number, of a file of this format.
+    pub(crate) fn new(format: Format, table: Table, number: u32, members: &'a toml::Table) -> Self
+        ensures { entry_of result
+            ≡ record { format = format; table = table; number = number; members = table_view members.now } }
     {
         Section {
+            format,
             table,
             number,
             members,
         }
+    }
+
+    /// The file's format.
+    pub(crate) fn format(&self) -> Format
+        ensures { result ≡ (entry_of self.now).format }
+    {
+        self.format
     }
 
     /// What stands with a key.
@@ -70,30 +79,20 @@ impl<'a> Section<'a> {
         ensures { result ≡ is_due (entry_of self.now) key }
     {
         match key {
-            Key::Format => true,
             Key::Station => false,
             Key::Bridge => false,
             Key::Link => false,
             Key::Stream => false,
             Key::Flow => false,
-            Key::Name => true,
-            Key::ProcessingNs => true,
-            Key::ResidenceNs => true,
-            Key::A => true,
-            Key::B => true,
-            Key::Mbps => true,
-            Key::PropagationNs => true,
             Key::Path => !(self.has(Key::From) || self.has(Key::To)),
             Key::From => self.has(Key::To),
             Key::To => self.has(Key::From),
-            Key::Class => true,
-            Key::RateBps => true,
-            Key::BurstBits => true,
-            Key::MinOctets => true,
-            Key::MaxOctets => true,
+            Key::Class => !self.has(Key::Classes),
+            Key::Classes => false,
             Key::DeadlineNs => false,
             Key::Address => self.has(Key::Vlan),
             Key::Vlan => self.has(Key::Address),
+            _ => true,
         }
     }
 
@@ -108,7 +107,7 @@ impl<'a> Section<'a> {
     fn missing_key(&self) -> Option<Key>
         ensures { result ≡ missing_key (entry_of self.now) }
     {
-        for key in self.table.keys() {
+        for key in self.table.keys(self.format) {
             if self.is_missing(*key) {
                 return Some(*key);
             }
@@ -127,7 +126,7 @@ impl<'a> Section<'a> {
                 key,
             });
         }
-        if has_unknown(self.table.keys(), self.members) {
+        if has_unknown(self.table.keys(self.format), self.members) {
             return Err(DocumentFault::Unknown {
                 table: self.table,
                 entry: self.number,
@@ -182,6 +181,16 @@ impl<'a> Section<'a> {
         self.whole(key, 0, MAX_WHOLE)
     }
 
+    /// The format that the top table gives.
+    pub(crate) fn format_given(&self) -> Result<Format, DocumentFault>
+        ensures { result ≡ format_at (entry_of self.now) }
+    {
+        match self.whole(Key::Format, 1, 2)? {
+            1 => Ok(Format::One),
+            _ => Ok(Format::Two),
+        }
+    }
+
     /// The tables of the array that stands with a key; none where nothing stands there.
     pub(crate) fn tables(&self, key: Key) -> Result<&'a [Value], DocumentFault>
         ensures ok { IfOk result
@@ -215,7 +224,7 @@ impl<'a> Section<'a> {
         Ok(Route::Ends(from, to))
     }
 
-    // The names of a path, which has none of its ends beside it.
+    // The names of a path, at least two, which has none of its ends beside it.
     fn path(&self, alloc: Global) -> Result<Vec<Name>, Failure<DocumentFault>>
         ensures value { GivesSeen (λ names. names.items) result (path_at (entry_of self.now)) }
         ensures long { IfOk result (λ names. 2 ≤ length names.items) }
@@ -223,19 +232,41 @@ impl<'a> Section<'a> {
         if self.has(Key::From) || self.has(Key::To) {
             return Err(Failure::Fault(self.wrong_kind(Key::Path)));
         }
-        let value = match self.value(Key::Path) {
-            Some(value) => value,
-            None => return Err(Failure::Fault(self.wrong_kind(Key::Path))),
-        };
-        let values = match value.as_array() {
-            Some(values) => values.as_slice(),
-            None => return Err(Failure::Fault(self.wrong_kind(Key::Path))),
-        };
-        let names = names_in(alloc, values, self.wrong_kind(Key::Path))?;
+        let names = self.list(alloc, Key::Path)?;
         if names.len() < 2 {
             return Err(Failure::Fault(self.wrong_kind(Key::Path)));
         }
         Ok(names)
+    }
+
+    /// The classes of a stream: one, or a list in its place.
+    pub(crate) fn classes(&self, alloc: Global) -> Result<Vec<u64>, Failure<DocumentFault>>
+        ensures { GivesSeen (λ classes. classes.items) result (classes_at (entry_of self.now)) }
+    {
+        if !self.has(Key::Class) {
+            return self.list(alloc, Key::Classes);
+        }
+        let class = self.long(Key::Class)?;
+        if self.has(Key::Classes) {
+            return Err(Failure::Fault(self.wrong_kind(Key::Classes)));
+        }
+        let mut classes = Vec::new(alloc);
+        classes.push(class)?;
+        Ok(classes)
+    }
+
+    // The items of the array that stands with a key.
+    fn list<T: FromValue>(&self, alloc: Global, key: Key) -> Result<Vec<T>, Failure<DocumentFault>>
+        ensures { GivesSeen (λ items. items.items) result (at (entry_of self.now) key (list_in T.kind)) }
+    {
+        let value = match self.value(key) {
+            Some(value) => value,
+            None => return Err(Failure::Fault(self.wrong_kind(key))),
+        };
+        match value.as_array() {
+            Some(values) => items_in(alloc, values.as_slice(), self.wrong_kind(key)),
+            None => Err(Failure::Fault(self.wrong_kind(key))),
+        }
     }
 
     /// Destination address and VLAN identifier, where they stand there.
@@ -280,23 +311,23 @@ fn member<'a>(members: &'a toml::Table, key: &str) -> Option<&'a Value>
     members.get(key)
 }
 
-// The names that the items of an array are, or this fault where one is none.
-fn names_in(
+// What the items of an array are, or this fault where one is of another kind.
+fn items_in<T: FromValue>(
     alloc: Global,
     values: &[Value],
     fault: DocumentFault,
-) -> Result<Vec<Name>, Failure<DocumentFault>>
-    ensures { GivesSeen (λ names. names.items) result (or_fault fault (all_in name_in (items_view values.now))) }
+) -> Result<Vec<T>, Failure<DocumentFault>>
+    ensures { GivesSeen (λ items. items.items) result (or_fault fault (all_in T.kind (items_view values.now))) }
 {
-    let mut names = Vec::new(alloc);
+    let mut items = Vec::new(alloc);
     for value in values {
-        let name = match name_in(value) {
-            Some(name) => name,
+        let item = match T::from_value(value) {
+            Some(item) => item,
             None => return Err(Failure::Fault(fault)),
         };
-        names.push(name)?;
+        items.push(item)?;
     }
-    Ok(names)
+    Ok(items)
 }
 
 #[tactic(auto, using(crate::proofs::Joined::all_in_drop))]

@@ -1,11 +1,13 @@
 //! The tables of a network file.
 
 ghost use Rattle.std.specs.Prelude.{◌≡◌};
+ghost use Rattle.ats_network_toml.specs.Words.{bridge_keys};
 
+use crate::format::Format;
 use crate::key::Key;
 
 /// A table of a network file.
-#[derive(Clone, Copy, Debug, PartialEq, Eq, Hash)]
+#[derive(Clone, Copy, Debug, PartialEq, Eq)]
 pub enum Table {
     /// The outermost table, with the format and the arrays of all others.
     Top,
@@ -38,9 +40,9 @@ impl Table {
         }
     }
 
-    /// The keys that the table may have, in the order in which its faults are looked for.
-    pub fn keys(&self) -> &'static [Key]
-        ensures { result.now ≡ keys_of self.now }
+    /// The keys that the table may have in files of a format, in the order in which its faults are looked for.
+    pub fn keys(&self, format: Format) -> &'static [Key]
+        ensures { result.now ≡ keys_of format self.now }
     {
         match self {
             Table::Top => &[
@@ -52,7 +54,7 @@ impl Table {
                 Key::Flow,
             ],
             Table::Station => &[Key::Name],
-            Table::Bridge => &[Key::Name, Key::ProcessingNs, Key::ResidenceNs],
+            Table::Bridge => bridge_keys(format),
             Table::Link => &[Key::A, Key::B, Key::Mbps, Key::PropagationNs],
             Table::Stream => &[
                 Key::Name,
@@ -60,6 +62,7 @@ impl Table {
                 Key::From,
                 Key::To,
                 Key::Class,
+                Key::Classes,
                 Key::RateBps,
                 Key::BurstBits,
                 Key::MinOctets,
@@ -70,5 +73,20 @@ impl Table {
             ],
             Table::Flow => &[Key::Name, Key::Path, Key::From, Key::To, Key::MaxOctets],
         }
+    }
+}
+
+// The keys of a bridge in files of a format.
+fn bridge_keys(format: Format) -> &'static [Key]
+    ensures { result.now ≡ bridge_keys format }
+{
+    match format {
+        Format::One => &[Key::Name, Key::ProcessingNs, Key::ResidenceNs],
+        Format::Two => &[
+            Key::Name,
+            Key::ProcessingMinNs,
+            Key::ProcessingMaxNs,
+            Key::ResidenceNs,
+        ],
     }
 }

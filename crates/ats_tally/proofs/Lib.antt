@@ -1,6 +1,5 @@
 pub mod Lists
 pub mod Firsts
-pub mod Ceiling
 pub mod Places
 pub mod SeenLemmas
 pub mod Tallied

@@ -6,7 +6,7 @@ use Rattle.ats_streams.specs.Stream.{DeclaredStream, IsStream}
 use Rattle.ats_network.specs.Network.{DeclaredNetwork, IsNetwork}
 use Rattle.ats_network.specs.Sender.{Sender, stream_sender, flow_sender}
 use Rattle.ats_network.specs.Senders.{IsSender, no_sender}
-use Rattle.ats_network.proofs.Appended.{all_left}
+use Rattle.ats_facts.proofs.Lists.{all_left}
 use Rattle.ats_network.proofs.ClassLemmas.{class_along-at}
 use Rattle.ats_network.proofs.SenderLemmas.{each_is_sender}
 use Rattle.ats_certificate.specs.Certificate.{bound_at, bound_of_hop}

@@ -9,7 +9,7 @@ use Rattle.ats_network_toml.proofs.arrays.read_entries.Goals as goal
 
 pub returns-then-values-most-clause-value : goal.returns-then-values-most-clause-value
 returns-then-values-most-clause-value g c =
-    entries_past g.E.FromSection.reads c.args.table c.args.most (tables_of c.args.values.now)
+    entries_past g.E.FromSection.reads c.args.format c.args.table c.args.most (tables_of c.args.values.now)
     (omega (arith, tables_of_length c.args.values.now c.requires.tables))
 
 pub returns-in_err-entry-clause-value : goal.returns-in_err-entry-clause-value
@@ -23,7 +23,7 @@ returns-in_err-entry-clause-value g c =
     let next =
     tables_of_drop vs i value (table_view c.table_in.result.now) (omega arith) c.loop-place.invariant.tables is in
     fault_passed _ c.from_residual.result c.in_err-entry.field-0.0 _ c.from_residual.ensures.1
-    (entry_stops g.E.FromSection.reads c.args.table c.args.most (i + 1) c.loop-place.entries.items _
+    (entry_stops g.E.FromSection.reads c.args.format c.args.table c.args.most (i + 1) c.loop-place.entries.items _
     (entry_of c.new-section.result) (table_view c.table_in.result.now) (tables_of (drop (i + 1) vs))
     (tables_of (drop i vs)) (tables_of vs)
     c.new-section.ensures next few c.loop-place.invariant.read c.in_err-entry.ensures)
@@ -32,5 +32,6 @@ pub returns-clause-value : goal.returns-clause-value
 returns-clause-value g c =
     let few : length (tables_of c.args.values.now) ≤ c.args.most =
     omega (arith, tables_of_length c.args.values.now c.requires.tables) in
-    entries_done g.E.FromSection.reads c.args.table c.args.most (c.loop-place.place + 1) c.loop-place.entries.items
-    c.args.values.now c.loop-place.place few c.loop-place-test.false c.loop-place.invariant.read
+    entries_done g.E.FromSection.reads c.args.format c.args.table c.args.most (c.loop-place.place + 1)
+    c.loop-place.entries.items c.args.values.now c.loop-place.place few c.loop-place-test.false
+    c.loop-place.invariant.read

@@ -10,6 +10,6 @@ abbrev pub invariant-loop-place : goal.invariant-loop-place
 invariant-loop-place g l = record {
   tables : are_tables (drop l.place l.values) ≡ true;
   few : length l.entries.items ≡ l.place;
-  read : behind l.entries.items (entries_from g.E.FromSection.reads l.table (l.place + 1)
-      (tables_of (drop l.place l.values))) ≡ entries_from g.E.FromSection.reads l.table 1 (tables_of l.values);
+  read : behind l.entries.items (entries_from g.E.FromSection.reads l.format l.table (l.place + 1)
+      (tables_of (drop l.place l.values))) ≡ entries_from g.E.FromSection.reads l.format l.table 1 (tables_of l.values);
 }

@@ -8,6 +8,6 @@ use Rattle.ats_network_toml.proofs.section.Section.missing_key.Given as goal
 -- the first missing key among those left is the first of all
 abbrev pub invariant-loop-key : goal.invariant-loop-key
 invariant-loop-key l = record {
-  keys : l.key-items ≡ keys_of l.self.table;
+  keys : l.key-items ≡ keys_of l.self.format l.self.table;
   first : find (is_missing (entry_of l.self)) (drop l.key-index l.key-items) ≡ missing_key (entry_of l.self);
 }
