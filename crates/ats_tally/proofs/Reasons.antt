@@ -40,29 +40,28 @@ pub overload_inside : (topology : DeclaredTopology) (port class load : ℕ) (fou
 overload_inside topology port class load found inside =
     where_failed (ReasonInside topology) (nat_lt PS_PER_SECOND load) (Overloaded port class load) found inside
 
--- waits
-pub stays_by : (row : Row) (residence : Option ℕ) → overstay_by row residence ≡ None
-    → ForSome residence (λ ns. row.wait ≤ PS_PER_NS * ns)
-stays_by row None h ns is = absurd (let no : None ≡ Some ns = is in cc)
-stays_by row (Some residence_ns) h ns is =
+-- needs of residence
+pub stays_by : (row : Row) (need : ℕ) (residence : Option ℕ) → overstay_by row need residence ≡ None
+    → ForSome residence (λ ns. need ≤ PS_PER_NS * ns)
+stays_by row need None h ns is = absurd (let no : None ≡ Some ns = is in cc)
+stays_by row need (Some residence_ns) h ns is =
     let same : residence_ns ≡ ns = cc is in
-    let test : Bool = nat_lt (PS_PER_NS * residence_ns) row.wait in
-    let le = ltb-false (PS_PER_NS * residence_ns) row.wait (fails test (Residence row.port row.class row.wait) h) in
+    let test : Bool = nat_lt (PS_PER_NS * residence_ns) need in
+    let le = ltb-false (PS_PER_NS * residence_ns) need (fails test (Residence row.port row.class need) h) in
     omega (arith, le, same)
 
-pub by_stay : (row : Row) (residence : Option ℕ) → ForSome residence (λ ns. row.wait ≤ PS_PER_NS * ns)
-    → overstay_by row residence ≡ None
-by_stay row None h = refl
-by_stay row (Some residence_ns) h =
-    by_fail (nat_lt (PS_PER_NS * residence_ns) row.wait) (Residence row.port row.class row.wait)
-    (le-ltb (PS_PER_NS * residence_ns) row.wait (h residence_ns refl))
+pub by_stay : (row : Row) (need : ℕ) (residence : Option ℕ) → ForSome residence (λ ns. need ≤ PS_PER_NS * ns)
+    → overstay_by row need residence ≡ None
+by_stay row need None h = refl
+by_stay row need (Some residence_ns) h =
+    by_fail (nat_lt (PS_PER_NS * residence_ns) need) (Residence row.port row.class need)
+    (le-ltb (PS_PER_NS * residence_ns) need (h residence_ns refl))
 
-pub overstay_inside : (topology : DeclaredTopology) (row : Row) (residence : Option ℕ) (found : Reason)
-    → row.port < length topology.ports → overstay_by row residence ≡ Some found → ReasonInside topology found
-overstay_inside topology row None found inside h = absurd (none_some found h)
-overstay_inside topology row (Some residence_ns) found inside h =
-    where_failed (ReasonInside topology) (nat_lt (PS_PER_NS * residence_ns) row.wait)
-    (Residence row.port row.class row.wait)
+pub overstay_inside : (topology : DeclaredTopology) (row : Row) (need : ℕ) (residence : Option ℕ) (found : Reason)
+    → row.port < length topology.ports → overstay_by row need residence ≡ Some found → ReasonInside topology found
+overstay_inside topology row need None found inside h = absurd (none_some found h)
+overstay_inside topology row need (Some residence_ns) found inside h =
+    where_failed (ReasonInside topology) (nat_lt (PS_PER_NS * residence_ns) need) (Residence row.port row.class need)
     found inside h
 
 -- sums
