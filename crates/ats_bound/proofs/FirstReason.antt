@@ -11,7 +11,7 @@ use Rattle.ats_certificate.specs.Certificate.{IsInTime, bound_along, is_row_of, 
 use Rattle.ats_certificate.specs.Least.{IsLeastRow, IsLeastCertificate}
 use Rattle.ats_certificate.specs.Used.{places_of}
 use Rattle.ats_certificate.specs.declared.row.Row.{Row}
-use Rattle.ats_tally.specs.Reason.{first_some, overstay_by, overstay, late}
+use Rattle.ats_tally.specs.Reason.{first_some, overstay_by, overstay, row_need, late}
 use Rattle.ats_tally.specs.declared.reason.Reason.{Reason}
 use Rattle.ats_tally.specs.declared.reason.Reason.TheVariants.{Overloaded, Residence, Deadline}
 use Rattle.ats_tally.proofs.Firsts.{some_is}
@@ -89,23 +89,23 @@ module _ (network : DeclaredNetwork) (is : IsNetwork network) where
       fits_least rows least at.0 at.1 (places_used network k d h)))
 
   -- what is found in the least certificate is found in the one that is computed
-  stays_over : (row : Row) (residence : Option ℕ) → (overstay_by row residence ≡ None → ⊥)
-      → overstay_by row residence ≡ Some (Residence row.port row.class row.wait)
-  stays_over row None some = absurd (some refl)
-  stays_over row (Some residence_ns) some =
-      true_if (nat_lt (PS_PER_NS * residence_ns) row.wait) (Residence row.port row.class row.wait) some
+  stays_over : (row : Row) (need : ℕ) (residence : Option ℕ) → (overstay_by row need residence ≡ None → ⊥)
+      → overstay_by row need residence ≡ Some (Residence row.port row.class need)
+  stays_over row need None some = absurd (some refl)
+  stays_over row need (Some residence_ns) some =
+      true_if (nat_lt (PS_PER_NS * residence_ns) need) (Residence row.port row.class need) some
 
-  by_stay : (port class wait : ℕ) → IsFirstOverstay network port class wait
-      → first_some (overstay network) (least_certificate network) ≡ Some (Residence port class wait)
-  by_stay port class wait o =
+  by_stay : (port class need : ℕ) → IsFirstOverstay network port class need
+      → first_some (overstay network) (least_certificate network) ≡ Some (Residence port class need)
+  by_stay port class need o =
       ap (λ (rows : List Row). first_some (overstay network) rows)
       (sym (least_certificate_is_one network o.rows is o.least))
-      ∙ given_at (overstay network) (RowMayStay network) o.rows o.row (Residence port class wait)
+      ∙ given_at (overstay network) (RowMayStay network) o.rows o.row (Residence port class need)
       (stay_tests network o.rows) o.first
-      (λ some. stays_over o.row (residence_after network.topology o.row.port) some
-      ∙ ap (λ (n : ℕ). Some (Residence n o.row.class o.row.wait)) o.port_is
-      ∙ ap (λ (n : ℕ). Some (Residence port n o.row.wait)) o.class_is
-      ∙ ap (λ (n : ℕ). Some (Residence port class n)) o.wait_is)
+      (λ some. stays_over o.row (row_need network o.row) (residence_after network.topology o.row.port) some
+      ∙ ap (λ (n : ℕ). Some (Residence n o.row.class (row_need network o.row))) o.port_is
+      ∙ ap (λ (n : ℕ). Some (Residence port n (row_need network o.row))) o.class_is
+      ∙ ap (λ (n : ℕ). Some (Residence port class n)) o.need_is)
 
   no_stay : (rows : List Row) → IsLeastCertificate network rows → All (RowMayStay network) rows
       → first_some (overstay network) (least_certificate network) ≡ None
@@ -127,8 +127,8 @@ module _ (network : DeclaredNetwork) (is : IsNetwork network) where
 
   first_is_found : (reason : Reason) → IsFirstReason network reason → reason_of network ≡ Some reason
   first_is_found (Overloaded port class load) o = at_some _ _ _ (by_load port class load o)
-  first_is_found (Residence port class wait) o =
-      or_past _ _ _ (no_load o.rows o.least) (at_some _ _ _ (by_stay port class wait o))
+  first_is_found (Residence port class need) o =
+      or_past _ _ _ (no_load o.rows o.least) (at_some _ _ _ (by_stay port class need o))
   first_is_found (Deadline name along) l =
       or_past _ _ _ (no_load l.rows l.least)
       (or_past _ _ _ (no_stay l.rows l.least l.stay) (by_late name along l))
