@@ -9,7 +9,7 @@ use Rattle.ats_network.proofs.Appended.{all_left, all_right}
 use Rattle.ats_group.specs.declared.verdict.Verdict.{Verdict}
 use Rattle.ats_group.specs.declared.verdict.Verdict.TheVariants.{Eligible, Late, Size}
 use Rattle.ats_port_rule.specs.Transmission.{Transmission}
-use Rattle.ats_trace.specs.Journey.{class_at, GoesOn, IsWay}
+use Rattle.ats_trace.specs.Journey.{class_at, IsSentOrEnds, IsWay}
 use Rattle.ats_trace.specs.Projections.{Hop, Crossing, Handed, transmission_by, transmission_of, hop_at, crossing_at}
 use Rattle.ats_trace.specs.Projections.{handed_at, hops_along, crossings_along, handed_along}
 use Rattle.ats_trace.specs.declared.journey.Release.{Release}
@@ -153,7 +153,7 @@ handed_here : (P : Handed → Type 0) (frame : ℕ) (release : Release) (sender 
     (verdict : Verdict) (sent : Option (Ps × Ps)) (hops : List HopRecord) (ending : Ending)
     → AllNeighbours (AtPorts P frame release sender.class) (p ∷ path)
     → (IsWay path hops ending → All P (handed_along frame release sender path hops))
-    → GoesOn (IsWay path hops ending) verdict sent hops ending
+    → IsSentOrEnds (IsWay path hops ending) verdict sent hops ending
     → All P (handed_at release.octets came p (transmission_by frame release sender.class verdict sent) hops
     ++ handed_along frame release sender path hops)
 handed_here P frame release sender came p [] (Eligible e) (Some times) [] ending each rest way = All-nil P

@@ -23,7 +23,7 @@ use Rattle.ats_group_law.proofs.AcceptedParts.{sum_by-accepted_of}
 use Rattle.ats_trace.specs.Journey.{Travel, IsJourney, IsReleased, IsWay, class_at}
 use Rattle.ats_trace.specs.Projections.{Hop, Handed, hops_along, handed_along, journey_hops, journey_handed}
 use Rattle.ats_trace.specs.Projections.{handed_by, hop_at, transmission_of}
-use Rattle.ats_trace.specs.Eligibility.{declared_by, offer_of, IsJudged, residence_behind}
+use Rattle.ats_trace.specs.Eligibility.{declared_by, offer_of, IsJudged, residence_of_groups}
 use Rattle.ats_trace.specs.declared.journey.Release.{Release}
 use Rattle.ats_trace.specs.declared.journey.HopRecord.{HopRecord}
 use Rattle.ats_trace.specs.declared.journey.Ending.{Ending}
@@ -191,12 +191,12 @@ stream_kept {judge} {rule} network run port a i h =
     let q : ℕ = port_before port s.path in
     let within : q < length network.topology.ports =
     port_before-within (λ p. p < length network.topology.ports) port s.path keeps.path.least keeps.ports in
-    let j : IsJudged judge network (residence_behind network q) (handed_by network run q s.class) =
+    let j : IsJudged judge network (residence_of_groups network q) (handed_by network run q s.class) =
     a.known.legal.groups q s.class within shaped in
     let offers : List Offer = map offer_of j.arrivals in
     record {
-      others = passed_by judge (declared_by network) (residence_behind network q) offers i;
-      keeps = a.known.regulator.keeps (declared_by network) (residence_behind network q) offers i ruled;
+      others = passed_by judge (declared_by network) (residence_of_groups network q) offers i;
+      keeps = a.known.regulator.keeps (declared_by network) (residence_of_groups network q) offers i ruled;
       no_more = λ weight. (
           let le = run_hops-le (IsJourney network) (hop_weight i port weight) (handed_weight i q s.class weight)
           network 0 run (journey_weight network run i port weight a) a.known.legal.journeys in

@@ -40,7 +40,7 @@ use Rattle.ats_group.specs.declared.member.Declared.{Declared}
 use Rattle.ats_trace.specs.Journey.{Travel}
 use Rattle.ats_trace.specs.Projections.{Crossing, Handed, sent_by, crossings_by, handed_by}
 use Rattle.ats_trace.specs.Links.{earliest_of, ArrivesWithin, KeepsLinkRule}
-use Rattle.ats_trace.specs.Eligibility.{declared_by, IsJudged, residence_behind}
+use Rattle.ats_trace.specs.Eligibility.{declared_by, IsJudged, residence_of_groups}
 use Rattle.ats_soundness_law.specs.Laws.{ShapingForFree, IsHandedOn}
 use Rattle.ats_soundness_law.specs.Sound.{IsEligibleBy}
 use Rattle.ats_soundness_law.proofs.Arrivals.{HasArrived, arrived, takes_time, leave_in_order}
@@ -70,7 +70,7 @@ stays (Bridge processing_ns residence_ns) wait bridge may = may residence_ns ref
 -- what is known of one frame of the class that the port hands on: when it came, and that it may stay until its bound
 record OnTime (network : DeclaredNetwork) (row : Row) (h : Handed) : Type 0 where
   arrives : h.crossing.arrival ≤ h.crossing.sent.eligible + row.bound
-  may_stay : h.crossing.sent.eligible + row.bound ≤ h.crossing.arrival + PS_PER_NS * residence_behind network row.port
+  may_stay : h.crossing.sent.eligible + row.bound ≤ h.crossing.arrival + PS_PER_NS * residence_of_groups network row.port
   size : is_declared_size (declared_by network h.crossing.sent.sender) h.crossing.octets ≡ true
   shaped : 1 ≤ (sender_at network h.crossing.sent.sender).class
 
@@ -167,8 +167,8 @@ in_order network run row a arrivals came ascends i j d le within =
 -- so a group delays none of them
 delayed : {judge : Judge} {rule : Declared → List Frame → Type 0} (network : DeclaredNetwork) (run : List Travel)
     (row : Row) → AtRow judge rule network run row
-    → (j : IsJudged judge network (residence_behind network row.port) (handed_by network run row.port row.class))
-    → IsDelayedBy rule (declared_by network) (residence_behind network row.port) row.bound (map passage_of j.arrivals)
+    → (j : IsJudged judge network (residence_of_groups network row.port) (handed_by network run row.port row.class))
+    → IsDelayedBy rule (declared_by network) (residence_of_groups network row.port) row.bound (map passage_of j.arrivals)
 delayed {judge} {rule} network run row a j =
     let handed : List Handed = handed_by network run row.port row.class in
     let passages : List Passage = map passage_of j.arrivals in
@@ -196,7 +196,7 @@ delayed {judge} {rule} network run row a j =
       arrives = All-map (λ (p : Passage). p.offer.arrival ≤ p.since + row.bound) passage_of j.arrivals
           (λ k d h. (timely k d h).arrives);
       may_stay = All-map
-          (λ (p : Passage). p.since + row.bound ≤ p.offer.arrival + PS_PER_NS * residence_behind network row.port)
+          (λ (p : Passage). p.since + row.bound ≤ p.offer.arrival + PS_PER_NS * residence_of_groups network row.port)
           passage_of j.arrivals (λ k d h. (timely k d h).may_stay);
     }
 
@@ -225,7 +225,7 @@ shaping_for_free_by {judge} {rule} network run row known used bridge holds fed =
       fed = fed;
     } in
     let handed : List Handed = handed_by network run row.port row.class in
-    let residence_ns : ℕ = residence_behind network row.port in
+    let residence_ns : ℕ = residence_of_groups network row.port in
     let j : IsJudged judge network residence_ns handed =
     known.legal.groups row.port row.class place.within place.ranked in
     let Again : Passage → Verdict → Type 0 = IsEligibleAgain row.bound in

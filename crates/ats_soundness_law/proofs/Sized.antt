@@ -12,7 +12,7 @@ use Rattle.ats_bucket.specs.Conforming.{Frame}
 use Rattle.ats_group.specs.declared.member.Declared.{Declared}
 use Rattle.ats_trace.specs.Journey.{Travel}
 use Rattle.ats_trace.specs.Projections.{Handed, handed_by, handed_from}
-use Rattle.ats_trace.specs.Eligibility.{declared_by, offer_of, IsJudged, IsPassed, residence_behind}
+use Rattle.ats_trace.specs.Eligibility.{declared_by, offer_of, IsJudged, IsPassed, residence_of_groups}
 use Rattle.std.specs.List.{AllZip}
 use Rattle.ats_group_law.specs.Regulator.{OnEligible, Judge, IsEligibleSized, IsRegulator}
 use Rattle.ats_group_law.proofs.Regulator.{by_size}
@@ -50,11 +50,11 @@ place_sized : {judge : Judge} {rule : Declared → List Frame → Type 0} (netwo
 place_sized {judge} network run c port class within =
     elim (cases_lt 0 class) as (λ _. All (IsSized network) (handed_by network run port class)) [
       | inl shaped ↦ (
-          let j : IsJudged judge network (residence_behind network port) (handed_by network run port class) =
+          let j : IsJudged judge network (residence_of_groups network port) (handed_by network run port class) =
           c.legal.groups port class within shaped in
           All-permutation (IsSized network) j.arrivals (handed_by network run port class)
           (IsPermutation-sym (handed_by network run port class) j.arrivals j.same)
-          (group_sized network (residence_behind network port) c.regulator j.arrivals j.verdicts))
+          (group_sized network (residence_of_groups network port) c.regulator j.arrivals j.verdicts))
       | inr none ↦ (
           let zero_class : class ≡ 0 = omega arith in
           let Goal : ℕ → Type 0 = λ (n : ℕ). All (IsSized network) (handed_by network run port n) in

@@ -28,7 +28,7 @@ use Rattle.ats_trace.specs.declared.journey.HopRecord.{HopRecord}
 use Rattle.ats_trace.specs.declared.journey.Ending.{Ending}
 use Rattle.ats_soundness_law.specs.Laws.{PathLaw, Containment, SoundByRules, CertificateIsSound}
 use Rattle.ats_soundness_law.specs.Rules.{Rule, rows_are_there, Keeps}
-use Rattle.ats_soundness_law.specs.Sound.{IsSoundBy, IsEligibleBy, IsPrompt, IsServed, IsPromptOnce, IsContained}
+use Rattle.ats_soundness_law.specs.Sound.{IsSoundBy, IsEligibleBy, IsPrompt, IsServed, IsPromptIfEligible, IsContained}
 use Rattle.ats_soundness_law.specs.Sound.{bounds_of}
 use Rattle.ats_soundness_law.specs.Sound.{later_ports, later_hops}
 use Rattle.ats_soundness_law.proofs.Along.{hop_of, all_hops, all_were_sent, all_have_crossed}
@@ -209,7 +209,7 @@ served {judge} {rule} network rows run c holds j there stream keeps =
     (comes_first r s.path j.hops j.ending o.keeps.path.least o.is.released) in
     record { prompt = is_prompt; arrives = within_sum (bounds_of rows s) s.path j.hops j.ending r.at.0 is_prompt }
 
-none_once : (bound : ℕ → ℕ) (path : List ℕ) (ending : Ending) → IsPromptOnce bound path [] ending
+none_once : (bound : ℕ → ℕ) (path : List ℕ) (ending : Ending) → IsPromptIfEligible bound path [] ending
 none_once bound [] ending = tt
 none_once bound (p ∷ path) ending = tt
 
@@ -222,7 +222,7 @@ contained_behind : {judge : Judge} {rule : Declared → List Frame → Type 0} (
     → All (λ q. q < length network.topology.ports) path
     → All (IsThere network run) (crossings_along n j.release (sender_at network j.release.sender) path hops ending)
     → All (IsGiven network run) (handed_along n j.release (sender_at network j.release.sender) path hops)
-    → IsPromptOnce (bounds_of rows (sender_at network j.release.sender)) (later_ports path) (later_hops hops) ending
+    → IsPromptIfEligible (bounds_of rows (sender_at network j.release.sender)) (later_ports path) (later_hops hops) ending
 contained_behind network run rows j o n [] hops ending way meet used within there given = tt
 contained_behind network run rows j o n (p ∷ path) [] ending way meet used within there given =
     none_once (bounds_of rows (sender_at network j.release.sender)) path ending
@@ -230,7 +230,7 @@ contained_behind network run rows j o n (p ∷ path) (hop ∷ hops) ending way m
     let r : Release = j.release in
     let s : Sender = sender_at network r.sender in
     let sent : Option Transmission = transmission_of n r (class_at s p) hop in
-    let Once : List HopRecord → Type 0 = λ (hs : List HopRecord). IsPromptOnce (bounds_of rows s) path hs ending in
+    let Once : List HopRecord → Type 0 = λ (hs : List HopRecord). IsPromptIfEligible (bounds_of rows s) path hs ending in
     let serve = all_serve network run rows j o path (All-tail (λ q. uses q s ≡ true) p path used)
     (All-tail (λ q. q < length network.topology.ports) p path within)
     (later_offered network run o.case p path meet) in

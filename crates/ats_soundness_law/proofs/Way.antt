@@ -8,14 +8,14 @@ use Rattle.ats_network.proofs.Appended.{all_left, all_right}
 use Rattle.ats_group.specs.declared.verdict.Verdict.{Verdict}
 use Rattle.ats_group.specs.declared.verdict.Verdict.TheVariants.{Eligible, Late, Size}
 use Rattle.ats_port_rule.specs.Transmission.{Transmission}
-use Rattle.ats_trace.specs.Journey.{GoesOn, IsWay}
+use Rattle.ats_trace.specs.Journey.{IsSentOrEnds, IsWay}
 use Rattle.ats_trace.specs.Projections.{Crossing, Handed, transmission_by, crossing_at, handed_at, crossings_along}
 use Rattle.ats_trace.specs.Projections.{handed_along}
 use Rattle.ats_trace.specs.declared.journey.Release.{Release}
 use Rattle.ats_trace.specs.declared.journey.HopRecord.{HopRecord}
 use Rattle.ats_trace.specs.declared.journey.Ending.{Ending}
 use Rattle.ats_trace.specs.declared.journey.Ending.TheVariants.{Sink, Discard}
-use Rattle.ats_soundness_law.specs.Sound.{IsEligibleBy, IsPrompt, ArrivesBy, IsPromptOnce}
+use Rattle.ats_soundness_law.specs.Sound.{IsEligibleBy, IsPrompt, ArrivesBy, IsPromptIfEligible}
 use Rattle.ats_group_law.specs.Regulator.{OnEligible}
 use Rattle.ats_soundness_law.proofs.Along.{crossing_by, handed_on}
 
@@ -58,7 +58,7 @@ prompt_here : (bound : ℕ → ℕ) (frame : ℕ) (release : Release) (sender : 
     → ((limit : ℕ) → IsWay path hops ending → All (ArrivesWithin bound) (crossings_along frame release
     sender path hops ending) → All (EligibleWithin bound) (handed_along frame release sender path hops)
     → ComesBy limit path hops ending → IsPrompt bound limit path hops ending)
-    → GoesOn (IsWay path hops ending) verdict sent hops ending
+    → IsSentOrEnds (IsWay path hops ending) verdict sent hops ending
     → All (ArrivesWithin bound)
     (crossing_at release.octets came p (transmission_by frame release sender.class verdict sent) hops ending
     ++ crossings_along frame release sender path hops ending)
@@ -137,7 +137,7 @@ pub prompt_once : (bound : ℕ → ℕ) (frame : ℕ) (release : Release) (sende
     (hops : List HopRecord) (ending : Ending)
     → IsWay path hops ending → All (ArrivesWithin bound) (crossings_along frame release sender path hops ending)
     → All (EligibleWithin bound) (handed_along frame release sender path hops)
-    → IsPromptOnce bound path hops ending
+    → IsPromptIfEligible bound path hops ending
 prompt_once bound frame release sender [] hops ending way all handed = tt
 prompt_once bound frame release sender (p ∷ path) [] ending way all handed = tt
 prompt_once bound frame release sender (p ∷ path) (hop ∷ hops) ending way all handed =

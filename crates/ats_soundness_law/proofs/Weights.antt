@@ -7,7 +7,7 @@ use Rattle.ats_network.specs.Senders.{AllNeighbours}
 use Rattle.ats_group.specs.declared.verdict.Verdict.{Verdict}
 use Rattle.ats_group.specs.declared.verdict.Verdict.TheVariants.{Eligible, Late, Size}
 use Rattle.ats_port_rule.specs.Transmission.{Transmission}
-use Rattle.ats_trace.specs.Journey.{class_at, GoesOn, IsWay}
+use Rattle.ats_trace.specs.Journey.{class_at, IsSentOrEnds, IsWay}
 use Rattle.ats_trace.specs.Projections.{Hop, Handed, transmission_by, transmission_of, hop_at, handed_at, hops_along}
 use Rattle.ats_trace.specs.Projections.{handed_along}
 use Rattle.ats_trace.specs.declared.journey.Release.{Release}
@@ -61,7 +61,7 @@ later_here : (f : Hop → ℕ) (g : Handed → ℕ) (frame : ℕ) (release : Rel
     → IsPassedOn f g frame release sender.class p q
     → (IsWay (q ∷ path) (next ∷ hops) ending → sum_by f (hops_along frame release sender path hops)
     ≤ sum_by g (handed_along frame release sender (q ∷ path) (next ∷ hops)))
-    → GoesOn (IsWay (q ∷ path) (next ∷ hops) ending) verdict sent (next ∷ hops) ending
+    → IsSentOrEnds (IsWay (q ∷ path) (next ∷ hops) ending) verdict sent (next ∷ hops) ending
     → sum_by f (hops_along frame release sender (q ∷ path) (next ∷ hops))
     ≤ sum_by g (handed_at release.octets came p (transmission_by frame release sender.class verdict sent)
     (next ∷ hops) ++ handed_along frame release sender (q ∷ path) (next ∷ hops))

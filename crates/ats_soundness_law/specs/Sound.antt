@@ -48,10 +48,10 @@ pub record IsServed (rows : List Row) (sender : Sender) (journey : Travel) : Typ
   pub arrives : ArrivesBy (journey.release.at.0 + sum_by (bounds_of rows sender) sender.path) journey.ending
 
 -- behind a port where it is eligible a frame is prompt
-abbrev pub IsPromptOnce : (ℕ → ℕ) → List ℕ → List HopRecord → Ending → Type 0
-IsPromptOnce bound [] hops ending = Unit {0}
-IsPromptOnce bound (p ∷ path) [] ending = Unit {0}
-IsPromptOnce bound (p ∷ path) (hop ∷ hops) ending =
+abbrev pub IsPromptIfEligible : (ℕ → ℕ) → List ℕ → List HopRecord → Ending → Type 0
+IsPromptIfEligible bound [] hops ending = Unit {0}
+IsPromptIfEligible bound (p ∷ path) [] ending = Unit {0}
+IsPromptIfEligible bound (p ∷ path) (hop ∷ hops) ending =
     OnEligible hop.verdict (λ e. IsPrompt bound (e + bound p) path hops ending)
 
 -- the ports after the first
@@ -67,7 +67,7 @@ later_hops (hop ∷ hops) = hops
 -- whatever its own talker does, a frame that the first bridge lets through is prompt from there on
 abbrev pub IsContained : List Row → Sender → Travel → Type 0
 IsContained rows sender journey =
-    IsPromptOnce (bounds_of rows sender) (later_ports sender.path) (later_hops journey.hops) journey.ending
+    IsPromptIfEligible (bounds_of rows sender) (later_ports sender.path) (later_hops journey.hops) journey.ending
 
 -- the bounds of these rows are sound, where groups judge so and talkers keep this rule: in each legal run, each frame
 -- of a stream whose talker keeps the rule is served, and each frame of any stream is contained

@@ -1,0 +1,50 @@
+//! Runs of small networks, written out in full, that are legal or not.
+
+ghost use Rattle.ats_examples.specs.BrokenRuns.{EachBreaksAlone};
+ghost use Rattle.ats_examples.specs.ChangedRuns.{ChangedExamplesAreNot};
+ghost use Rattle.ats_examples.specs.Crossings.{LinkExamples};
+ghost use Rattle.ats_examples.specs.Deviations.{EachPartCounts};
+ghost use Rattle.ats_examples.specs.LegalRuns.{BabblerIsLegal, BridgedAreLegal, ExamplesAreLegal, RegulatedAreLegal};
+ghost use Rattle.ats_examples.specs.Talkers.{TalkersOfExamples};
+
+/// One frame over one bridge, a frame that is discarded for its size, a frame behind one of a flow,
+/// and two frames that become eligible at the same time, in either order. And a frame that the
+/// bridge holds back, one that is late, and what becomes of another stream's frame behind each: it
+/// waits for one of its group that is held back, and for no late one and none of another class.
+pub fn examples_are_legal()
+    ensures plain { ExamplesAreLegal }
+    ensures regulated { RegulatedAreLegal }
+{}
+
+/// One frame over two bridges and over three, and behind it one more of its talker at once, which
+/// the first bridge holds back and no later one. And a station that babbles: of 23 small frames at
+/// once the bridge sends most on as they come, holds some back and discards the last; another
+/// station's frame goes between them.
+pub fn bridged_are_legal()
+    ensures bridged { BridgedAreLegal }
+    ensures babbler { BabblerIsLegal }
+{}
+
+/// Runs that are not legal: for each field of a legal run, of a journey and of the port rule one of
+/// the legal examples with one number changed, and runs that break one part alone.
+pub fn changed_examples_are_not()
+    ensures changed { ChangedExamplesAreNot }
+    ensures alone { EachBreaksAlone }
+{}
+
+/// No part follows from the others: for each there is a run that breaks it alone.
+pub fn each_part_counts()
+    ensures { EachPartCounts }
+{}
+
+/// A talker that sends its burst, and again as soon as its rate allows, keeps its bucket; 1 ps
+/// sooner it breaks it, as does one with a frame that is too long.
+pub fn talkers_of_examples()
+    ensures { TalkersOfExamples }
+{}
+
+/// A link that takes no fixed time: a frame may arrive as soon as the one sent before it has, in
+/// its own time, and neither with it nor before.
+pub fn link_examples()
+    ensures { LinkExamples }
+{}
