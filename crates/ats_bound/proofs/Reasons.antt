@@ -19,9 +19,9 @@ pub overload-none : (network : DeclaredNetwork) (port class : ℕ) → Fits netw
     → overload network (port, class) ≡ None
 overload-none network port class = by_fit port class (load_at network (port, class))
 
--- a row whose frames may not stay is told with its wait
-pub stays_over : (row : Row) (residence : Option ℕ) → (overstay_by row residence ≡ None → ⊥)
-    → overstay_by row residence ≡ Some (Residence row.port row.class row.wait)
-stays_over row None some = absurd (some refl)
-stays_over row (Some residence_ns) some =
-    true_if (nat_lt (PS_PER_NS * residence_ns) row.wait) (Residence row.port row.class row.wait) some
+-- a row whose frames may not stay is told with what they need
+pub stays_over : (row : Row) (need : ℕ) (residence : Option ℕ) → (overstay_by row need residence ≡ None → ⊥)
+    → overstay_by row need residence ≡ Some (Residence row.port row.class need)
+stays_over row need None some = absurd (some refl)
+stays_over row need (Some residence_ns) some =
+    true_if (nat_lt (PS_PER_NS * residence_ns) need) (Residence row.port row.class need) some

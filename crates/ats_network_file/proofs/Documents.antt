@@ -1,9 +1,8 @@
 use Rattle.std.proofs.Common.{◌≡◌, ℕ, ◌+◌, ◌-◌, ◌^◌, ◌<◌, ◌≤◌, Bool, true, false, cond, List, [], ◌∷◌, length, Option}
-use Rattle.std.proofs.Common.{Some, None, Result, Ok, Err, refl, subst, arith}
+use Rattle.std.proofs.Common.{Some, None, Result, Ok, Err, refl, subst}
 use Rattle.std.specs.Prelude.{nat_lt}
 use Rattle.std.specs.List.{All}
 use Rattle.std.specs.Option.{ForSome}
-use Rattle.std.proofs.lemmas.Bool.{ltb-false}
 use Rattle.std.proofs.lemmas.List.Elements.{All-nil, All-cons}
 use Rattle.toml.specs.Data.{Members, get_member}
 use Rattle.ats_network_toml.specs.Document.{DeclaredDocument, DeclaredRoute, DeclaredStream, DeclaredFlow, IsIdentity}
@@ -12,20 +11,23 @@ use Rattle.ats_network_toml.specs.Kinds.{address_in}
 use Rattle.ats_network_toml.specs.Reading.{Arrays, entries_from, entries_in, arrays_in, arrays_read, document_in}
 use Rattle.ats_network_toml.specs.Reading.{document_of, tree_of}
 use Rattle.ats_num.specs.Failure.{◌>>=◌, or_fault}
-use Rattle.ats_network_toml.specs.Walk.{Entry, has, formed, name_at, whole_at, deadline_at, identity_at, at}
+use Rattle.ats_network_toml.specs.Walk.{Entry, has, formed, name_at, whole_at, classes_at, deadline_at, identity_at}
+use Rattle.ats_network_toml.specs.Walk.{at}
 use Rattle.ats_network_toml.specs.Words.{key_text}
 use Rattle.ats_network_toml.specs.declared.entries.StationEntry.{StationEntry}
 use Rattle.ats_network_toml.specs.declared.entries.BridgeEntry.{BridgeEntry}
 use Rattle.ats_network_toml.specs.declared.entries.LinkEntry.{LinkEntry}
 use Rattle.ats_network_toml.specs.declared.fault.DocumentFault.{DocumentFault}
 use Rattle.ats_network_toml.specs.declared.fault.DocumentFault.TheVariants as fault
+use Rattle.ats_network_toml.specs.declared.format.Format.{Format}
+use Rattle.ats_network_toml.specs.declared.format.Format.TheVariants.{One}
 use Rattle.ats_network_toml.specs.declared.key.Key.TheVariants as key
 use Rattle.ats_network_toml.specs.declared.table.Table.{Table}
 use Rattle.ats_network_toml.specs.declared.table.Table.TheVariants as table
 use Rattle.ats_network_file.proofs.Steps.{both, or_fault_ok}
 use Rattle.ats_network_file.proofs.Identities.{address_kept, whole_kept}
 
--- What a document that is read keeps: its streams' identities, and the limits on its streams and flows.
+-- What a document that is read keeps: its streams' identities.
 
 -- the identity of an entry, where it has one, is one
 abbrev pub Identified : DeclaredStream → Type 0
@@ -56,14 +58,15 @@ identity_kept e o h =
 -- the identity of a stream entry is what its table gives
 stream_identity : (well : Result (Unit {0}) DocumentFault) (name : Result (List ℕ) DocumentFault)
     (route : Result DeclaredRoute DocumentFault)
-    (class rate burst least most deadline : Result ℕ DocumentFault) (identity : Result (Option (ℕ × ℕ)) DocumentFault)
+    (classes : Result (List ℕ) DocumentFault)
+    (rate burst least most deadline : Result ℕ DocumentFault) (identity : Result (Option (ℕ × ℕ)) DocumentFault)
     (s : DeclaredStream)
-    → (well >>= λ _. name >>= λ name. route >>= λ route. class >>= λ class. rate >>= λ rate. burst >>= λ burst. least
-    >>= λ least. most >>= λ most. deadline >>= λ deadline. identity >>= λ identity.
+    → (well >>= λ _. name >>= λ name. route >>= λ route. classes >>= λ classes. rate >>= λ rate. burst >>= λ burst.
+    least >>= λ least. most >>= λ most. deadline >>= λ deadline. identity >>= λ identity.
     Ok (record {
       name = name;
       route = route;
-      class = class;
+      classes = classes;
       rate_bps = rate;
       burst_bits = burst;
       min_octets = least;
@@ -87,90 +90,66 @@ stream_identity (Ok w) (Ok n) (Ok r) (Ok c) (Ok ra) (Ok b) (Ok l) (Ok m) (Ok d) 
 stream_kept : (e : Entry) (s : DeclaredStream) → stream_in e ≡ Ok s → Identified s
 stream_kept e s h =
     identity_kept e s.identity
-    (stream_identity (formed e) (name_at e key.Name) (route_at e) (long_at e key.Class) (long_at e key.RateBps)
+    (stream_identity (formed e) (name_at e key.Name) (route_at e) (classes_at e) (long_at e key.RateBps)
     (long_at e key.BurstBits) (long_at e key.MinOctets) (long_at e key.MaxOctets) (deadline_at e) (identity_at e) s h)
 
--- entries that are read are as many as the tables, and each keeps what an entry keeps
-record Entries {A : Type 0} (P : A → Type 0) (most : ℕ) (xs : List A) : Type 0 where
-  each : All P xs
-  few : length xs ≤ most
-
+-- each entry that is read keeps what an entry keeps
 entries_kept : {A : Type 0} (P : A → Type 0) (read : Entry → Result A DocumentFault)
     → ((e : Entry) (x : A) → read e ≡ Ok x → P x)
-    → (t : Table) (n : ℕ) (tables : List Members) (xs : List A) → entries_from read t n tables ≡ Ok xs
-    → Entries P (length tables) xs
-entries_kept P read keeps t n [] xs h =
+    → (f : Format) (t : Table) (n : ℕ) (tables : List Members) (xs : List A) → entries_from read f t n tables ≡ Ok xs
+    → All P xs
+entries_kept P read keeps f t n [] xs h =
     let none : [] ≡ xs = cc in
-    subst (λ (ys : List _). Entries P 0 ys) none (record { each = All-nil P; few = omega arith })
-entries_kept P read keeps t n (ms ∷ tables) xs h =
-    let entry : Entry = record { table = t; number = n; members = ms } in
-    let one = both (read entry) (λ x. entries_from read t (n + 1) tables >>= λ more. Ok (x ∷ more)) xs h in
-    let rest = both (entries_from read t (n + 1) tables) (λ more. Ok (one.first ∷ more)) xs one.then in
-    let kept : Entries P (length tables) rest.first = entries_kept P read keeps t (n + 1) tables rest.first rest.is in
+    subst (All P) none (All-nil P)
+entries_kept P read keeps f t n (ms ∷ tables) xs h =
+    let entry : Entry = record { format = f; table = t; number = n; members = ms } in
+    let one = both (read entry) (λ x. entries_from read f t (n + 1) tables >>= λ more. Ok (x ∷ more)) xs h in
+    let rest = both (entries_from read f t (n + 1) tables) (λ more. Ok (one.first ∷ more)) xs one.then in
+    let kept : All P rest.first = entries_kept P read keeps f t (n + 1) tables rest.first rest.is in
     let same : one.first ∷ rest.first ≡ xs = cc (rest.then) in
-    subst (λ (ys : List _). Entries P (length (ms ∷ tables)) ys) same
-    (record {
-      each = All-cons P one.first rest.first (keeps entry one.first one.is) kept.each;
-      few = omega (arith, kept.few);
-    })
+    subst (All P) same (All-cons P one.first rest.first (keeps entry one.first one.is) kept)
 
-array_kept : {A : Type 0} (P : A → Type 0) (read : Entry → Result A DocumentFault)
-    → ((e : Entry) (x : A) → read e ≡ Ok x → P x)
-    → (t : Table) (most : ℕ) (tables : List Members) (xs : List A) → entries_in read t most tables ≡ Ok xs
-    → Entries P most xs
-array_kept P read keeps t most tables xs h = by (nat_lt most (length tables)) refl h
+streams_kept : (f : Format) (tables : List Members) (xs : List DeclaredStream)
+    → entries_in stream_in f table.Stream 4096 tables ≡ Ok xs → All Identified xs
+streams_kept f tables xs h = by (nat_lt 4096 (length tables)) h
   where
-    by : (over : Bool) → nat_lt most (length tables) ≡ over
-        → cond over (Err (fault.Limit t)) (entries_from read t 1 tables) ≡ Ok xs → Entries P most xs
-    by true is h = cc
-    by false is h =
-        let kept : Entries P (length tables) xs = entries_kept P read keeps t 1 tables xs h in
-        let within : length tables ≤ most = ltb-false most (length tables) is in
-        record { each = kept.each; few = omega (arith, kept.few) }
-
--- what the law needs of a document
-pub record Kept (d : DeclaredDocument) : Type 0 where
-  pub identified : All Identified d.streams
-  pub few_streams : length d.streams ≤ 4096
-  pub few_flows : length d.flows ≤ 1024
+    by : (over : Bool)
+        → cond over (Err (fault.Limit table.Stream)) (entries_from stream_in f table.Stream 1 tables) ≡ Ok xs
+        → All Identified xs
+    by true h = cc
+    by false h = entries_kept Identified stream_in stream_kept f table.Stream 1 tables xs h
 
 arrays_from : (stations : Result (List StationEntry) DocumentFault) (bridges : List StationEntry
     → Result (List BridgeEntry) DocumentFault) (links : Result (List LinkEntry) DocumentFault)
     (streams : Result (List DeclaredStream) DocumentFault) (flows : Result (List DeclaredFlow) DocumentFault)
-    → ((xs : List DeclaredStream) → streams ≡ Ok xs → Entries Identified 4096 xs)
-    → ((xs : List DeclaredFlow) → flows ≡ Ok xs → Entries (λ _. Unit {0}) 1024 xs)
+    → ((xs : List DeclaredStream) → streams ≡ Ok xs → All Identified xs)
     → (d : DeclaredDocument)
     → (stations >>= λ stations. bridges stations >>= λ bridges. links >>= λ links. streams
     >>= λ streams. flows >>= λ flows.
     Ok (record { stations = stations; bridges = bridges; links = links; streams = streams; flows = flows })) ≡ Ok d
-    → Kept d
-arrays_from stations bridges links streams flows f g d h =
+    → All Identified d.streams
+arrays_from stations bridges links streams flows kept d h =
     let a = both stations _ d h in
     let b = both (bridges a.first) _ d a.then in
     let c = both links _ d b.then in
     let s = both streams _ d c.then in
     let l = both flows _ d s.then in
-    let streams_kept : Entries Identified 4096 s.first = f s.first s.is in
-    let flows_kept : Entries (λ _. Unit {0}) 1024 l.first = g l.first l.is in
-    let document : DeclaredDocument =
-    record { stations = a.first; bridges = b.first; links = c.first; streams = s.first; flows = l.first } in
-    let same : document ≡ d = cc (l.then) in
-    subst Kept same
-    (record { identified = streams_kept.each; few_streams = streams_kept.few; few_flows = flows_kept.few })
+    let same : s.first ≡ d.streams = cc (l.then) in
+    subst (All Identified) same (kept s.first s.is)
 
-arrays_kept : (arrays : Arrays) (d : DeclaredDocument) → arrays_read arrays ≡ Ok d → Kept d
+arrays_kept : (arrays : Arrays) (d : DeclaredDocument) → arrays_read arrays ≡ Ok d → All Identified d.streams
 arrays_kept arrays d h =
-    arrays_from (entries_in station_in table.Station 1024 arrays.stations)
-    (λ stations. entries_in bridge_in table.Bridge (1024 - length stations) arrays.bridges)
-    (entries_in link_in table.Link 2048 arrays.links)
-    (entries_in stream_in table.Stream 4096 arrays.streams) (entries_in flow_in table.Flow 1024 arrays.flows)
-    (array_kept Identified stream_in stream_kept table.Stream 4096 arrays.streams)
-    (array_kept (λ _. Unit {0}) flow_in (λ e x is. tt) table.Flow 1024 arrays.flows) d h
+    let f = arrays.format in
+    arrays_from (entries_in station_in f table.Station 1024 arrays.stations)
+    (λ stations. entries_in bridge_in f table.Bridge (1024 - length stations) arrays.bridges)
+    (entries_in link_in f table.Link 2048 arrays.links) (entries_in stream_in f table.Stream 4096 arrays.streams)
+    (entries_in flow_in f table.Flow 1024 arrays.flows) (streams_kept f arrays.streams) d h
 
--- what a text declares keeps it
-pub document_kept : (text : List ℕ) (d : DeclaredDocument) → document_of text ≡ Ok d → Kept d
+-- each stream of a document that is read keeps it
+pub document_kept : (text : List ℕ) (d : DeclaredDocument) → document_of text ≡ Ok d → All Identified d.streams
 document_kept text d h =
     let tree = both (or_fault fault.NotToml (tree_of text)) document_in d h in
     let arrays =
-    both (arrays_in (record { table = table.Top; number = 0; members = tree.first })) arrays_read d tree.then in
+    both (arrays_in (record { format = One; table = table.Top; number = 0; members = tree.first })) arrays_read d
+    tree.then in
     arrays_kept arrays.first d arrays.then

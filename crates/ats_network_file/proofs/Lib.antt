@@ -2,5 +2,5 @@ pub mod Steps
 pub mod ValidPaths
 pub mod Identities
 pub mod Documents
-pub mod Senders
+pub mod SenderLemmas
 pub mod Networks

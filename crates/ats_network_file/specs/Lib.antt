@@ -1,4 +1,5 @@
 pub mod Routes
+pub mod Senders
 pub mod Reading
 pub mod FaultText
 pub mod Laws

@@ -3,7 +3,8 @@
 ghost use Rattle.std.specs.Prelude.{◌≡◌, Some};
 ghost use Rattle.ats_network_file.specs.FaultText.{fault_text};
 
-use ats_network_toml::{DocumentFault, Table};
+use crate::senders::SenderTable;
+use ats_network_toml::DocumentFault;
 use ats_num::Fault;
 use ats_streams::StreamFault;
 use ats_topology::TopologyFault;
@@ -22,15 +23,15 @@ pub enum NetFault {
     /// The route of a stream or flow has an unknown node, no link between neighbours, no walk
     /// between its ends, or is no valid path.
     BadPath {
-        /// `Stream` or `Flow`.
-        table: Table,
+        /// Whether it is a stream or a flow.
+        table: SenderTable,
         /// Its number.
         entry: u32,
     },
     /// A stream or flow breaks a rule.
     Sender {
-        /// `Stream` or `Flow`.
-        table: Table,
+        /// Whether it is a stream or a flow.
+        table: SenderTable,
         /// Its number.
         entry: u32,
         /// The first rule that it breaks.
@@ -38,8 +39,8 @@ pub enum NetFault {
     },
     /// An earlier stream or flow has the name.
     SenderTwice {
-        /// `Stream` or `Flow`.
-        table: Table,
+        /// Whether it is a stream or a flow.
+        table: SenderTable,
         /// Its number.
         entry: u32,
     },
@@ -79,14 +80,18 @@ impl fmt::Display for NetFault {
         match self {
             NetFault::Form(fault) => write!(f, "{fault}"),
             NetFault::Topology(fault) => write!(f, "{fault}"),
-            NetFault::BadPath { table, entry } => write!(f, "bad-path {} {entry}", table.text()),
+            NetFault::BadPath { table, entry } => write!(
+                f,
+                "bad-path {} {entry}",
+                table.table().text()
+            ),
             NetFault::Sender {
                 table,
                 entry,
                 fault,
-            } => write!(f, "{} {entry} {fault}", table.text()),
+            } => write!(f, "{} {entry} {fault}", table.table().text()),
             NetFault::SenderTwice { table, entry } => {
-                write!(f, "sender-twice {} {entry}", table.text())
+                write!(f, "sender-twice {} {entry}", table.table().text())
             }
             NetFault::IdentityTwice { entry } => write!(f, "identity-twice {entry}"),
         }

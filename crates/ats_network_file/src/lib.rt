@@ -7,7 +7,9 @@ pub mod laws;
 mod nodes;
 pub mod reading;
 mod routes;
+pub mod senders;
 mod streams;
 
 pub use fault::NetFault;
 pub use reading::read_network;
+pub use senders::SenderTable;

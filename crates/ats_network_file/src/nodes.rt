@@ -57,7 +57,8 @@ fn bridge_of(bridge: &BridgeEntry) -> Node
     Node {
         name: bridge.name,
         kind: Kind::Bridge {
-            processing_ns: bridge.processing_ns,
+            processing_min_ns: bridge.processing_min_ns,
+            processing_max_ns: bridge.processing_max_ns,
             residence_ns: bridge.residence_ns,
         },
     }

@@ -4,9 +4,8 @@ ghost use Rattle.ats_num.specs.Failure.{Gives};
 ghost use Rattle.ats_network_file.specs.Reading.{network_in, network_of};
 
 use crate::fault::NetFault;
-use crate::flows::add_flows;
 use crate::nodes::topology_in;
-use crate::streams::add_streams;
+use crate::senders::add_all;
 use ats_network::Network;
 use ats_network_toml::{Document, read_document};
 use ats_num::Failure;
@@ -34,7 +33,7 @@ fn network_in(alloc: Global, document: &Document) -> Result<Network, Failure<Net
 {
     let topology = topology_in(alloc, document)?;
     let mut network = Network::new(alloc, topology);
-    add_streams(alloc, &mut network, document.streams())?;
-    add_flows(alloc, &mut network, document.flows())?;
+    add_all(alloc, &mut network, document.streams())?;
+    add_all(alloc, &mut network, document.flows())?;
     Ok(network)
 }

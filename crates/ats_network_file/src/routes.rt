@@ -8,11 +8,12 @@ ghost use Rattle.ats_network_toml.specs.Seen.{route_seen};
 ghost use Rattle.ats_network_toml.specs.Document as file;
 ghost use Rattle.ats_num.specs.Failure.{GivesSeen};
 ghost use Rattle.ats_network_file.specs.Routes.{nodes_named, ports_along, ports_of, is_valid};
-ghost use Rattle.ats_network_file.specs.Reading.{path_in};
+ghost use Rattle.ats_network_file.specs.Senders.{path_in};
 
 use crate::fault::NetFault;
+use crate::senders::SenderTable;
 use ats_network::{is_valid_path, shortest};
-use ats_network_toml::{Route, Table};
+use ats_network_toml::Route;
 use ats_num::{Failure, Name};
 use ats_topology::Topology;
 use std::alloc::{AllocError, Global};
@@ -21,7 +22,7 @@ use std::alloc::{AllocError, Global};
 pub(crate) fn path_in(
     alloc: Global,
     topology: &Topology,
-    table: Table,
+    table: SenderTable,
     entry: u32,
     route: &Route,
 ) -> Result<Vec<u32>, Failure<NetFault>>

@@ -78,8 +78,10 @@ equal_rate network row sent c k d h class =
     let s : Sender = sender_at network x.sender in
     let declared = c.offered.each k d h in
     let ranked : class_at s row.port ≡ row.class = sym declared.class ∙ class in
-    let rates : ℕ = sum_where (is_of row.class) (λ (s : PortSender). s.rate) (senders_at row.port (senders_of network)) in
-    let reaches : s.rate ≤ rates = sum_reaches row.port (is_of row.class) (λ (s : PortSender). s.rate) (senders_of network)
+    let rates : ℕ =
+    sum_where (is_of row.class) (λ (s : PortSender). s.rate) (senders_at row.port (senders_of network)) in
+    let reaches : s.rate ≤ rates = sum_reaches row.port (is_of row.class) (λ (s : PortSender). s.rate)
+    (senders_of network)
     x.sender no_sender declared.exists declared.uses (eq-eqb (class_at s row.port) row.class ranked) in
     let rate : 1 ≤ s.rate = has_rate network row.port x.sender c.net declared.exists (omega (arith, ranked, c.some)) in
     let fast : 10 ≤ ps = ((ports_are_lawful network.topology c.net.topology).each row.port _ c.port).rate.least in

@@ -36,17 +36,20 @@ greatest_bounds amount start [] = (omega arith, All-nil (λ (s : PortSender). am
 greatest_bounds amount start (s ∷ ss) =
     let rest = greatest_bounds amount (max start (amount s)) ss in (
       omega (arith, rest.0),
-      All-cons (λ (t : PortSender). amount t ≤ fold max start (map amount (s ∷ ss))) s ss (omega (arith, rest.0)) rest.1,
+      All-cons (λ (t : PortSender). amount t ≤ fold max start (map amount (s ∷ ss))) s ss
+          (omega (arith, rest.0)) rest.1,
     )
 
 -- the least of numbers and a start is at most the start and each
-least_bounds : (amount : PortSender → ℕ) (start : ℕ) (senders : List PortSender) → (fold min start (map amount senders) ≤ start)
+least_bounds : (amount : PortSender → ℕ) (start : ℕ) (senders : List PortSender)
+    → (fold min start (map amount senders) ≤ start)
     × All (λ (s : PortSender). fold min start (map amount senders) ≤ amount s) senders
 least_bounds amount start [] = (omega arith, All-nil (λ (s : PortSender). start ≤ amount s))
 least_bounds amount start (s ∷ ss) =
     let rest = least_bounds amount (min start (amount s)) ss in (
       omega (arith, rest.0),
-      All-cons (λ (t : PortSender). fold min start (map amount (s ∷ ss)) ≤ amount t) s ss (omega (arith, rest.0)) rest.1,
+      All-cons (λ (t : PortSender). fold min start (map amount (s ∷ ss)) ≤ amount t) s ss
+          (omega (arith, rest.0)) rest.1,
     )
 
 least_of_each : (amount : PortSender → ℕ) (senders : List PortSender)

@@ -14,7 +14,8 @@ use Rattle.ats_trace.specs.Journey.{Travel}
 use Rattle.ats_trace.specs.Projections.{Handed, handed_by, handed_from}
 use Rattle.ats_trace.specs.Eligibility.{declared_by, offer_of, IsJudged, IsPassed, residence_of_groups}
 use Rattle.std.specs.List.{AllZip}
-use Rattle.ats_group_law.specs.Regulator.{OnEligible, Judge, IsEligibleSized, IsRegulator}
+use Rattle.ats_group.specs.Judge.{OnEligible, Judge}
+use Rattle.ats_group_law.specs.Regulator.{IsEligibleSized, IsRegulator}
 use Rattle.ats_group_law.proofs.Regulator.{by_size}
 use Rattle.ats_group_law.proofs.ShapingUse.{All-from_all_zip}
 use Rattle.ats_soundness_law.proofs.Known.{Case, IsTold, told}

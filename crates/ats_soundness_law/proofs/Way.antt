@@ -8,7 +8,7 @@ use Rattle.ats_network.specs.Sender.{Sender}
 use Rattle.ats_group.specs.declared.verdict.Verdict.{Verdict}
 use Rattle.ats_group.specs.declared.verdict.Verdict.TheVariants.{Eligible, Late, Size}
 use Rattle.ats_port_rule.specs.Transmission.{Transmission}
-use Rattle.ats_trace.specs.Journey.{IsSentOrEnds, IsWay}
+use Rattle.ats_trace.specs.Journey.{class_at, IsSentOrEnds, IsWay}
 use Rattle.ats_trace.specs.Projections.{Crossing, Handed, transmission_by, crossing_at, handed_at, crossings_along}
 use Rattle.ats_trace.specs.Projections.{handed_along}
 use Rattle.ats_trace.specs.declared.journey.Release.{Release}
@@ -16,7 +16,7 @@ use Rattle.ats_trace.specs.declared.journey.HopRecord.{HopRecord}
 use Rattle.ats_trace.specs.declared.journey.Ending.{Ending}
 use Rattle.ats_trace.specs.declared.journey.Ending.TheVariants.{Sink, Discard}
 use Rattle.ats_soundness_law.specs.Sound.{IsEligibleBy, IsPrompt, ArrivesBy, IsPromptIfEligible}
-use Rattle.ats_group_law.specs.Regulator.{OnEligible}
+use Rattle.ats_group.specs.Judge.{OnEligible}
 use Rattle.ats_soundness_law.proofs.Along.{crossing_by, handed_on}
 
 -- a frame arrives behind its port within the bound of its eligibility
@@ -38,18 +38,19 @@ comes_next : (bound : ℕ → ℕ) (frame : ℕ) (release : Release) (sender : S
     (times : Ps × Ps) (hops : List HopRecord) (ending : Ending)
     → IsWay path hops ending
     → All (ArrivesWithin bound) (crossing_at release.octets came p
-    (transmission_by frame release sender.class (Eligible e) (Some times)) hops ending)
+    (transmission_by frame release (class_at sender p) (Eligible e) (Some times)) hops ending)
     → All (EligibleWithin bound)
-    (handed_at release.octets came p (transmission_by frame release sender.class (Eligible e) (Some times)) hops
+    (handed_at release.octets came p (transmission_by frame release (class_at sender p) (Eligible e) (Some times)) hops
     ++ handed_along frame release sender path hops)
     → ComesBy (e.0 + bound p) path hops ending
 comes_next bound frame release sender came p [] e times [] (Sink at) way all handed =
-    All-head (ArrivesWithin bound) (crossing_by frame release sender.class p came e times at.0) [] all
+    All-head (ArrivesWithin bound) (crossing_by frame release (class_at sender p) p came e times at.0) [] all
 comes_next bound frame release sender came p [] e times [] Discard way all handed = absurd way
 comes_next bound frame release sender came p [] e times (hop ∷ hops) ending way all handed = absurd way
 comes_next bound frame release sender came p (q ∷ path) e times [] ending way all handed = tt
 comes_next bound frame release sender came p (q ∷ path) e times (next ∷ hops) ending way all handed =
-    All-head (EligibleWithin bound) (handed_on frame release sender.class p came e times next.arrival.0 next.verdict)
+    All-head (EligibleWithin bound)
+    (handed_on frame release (class_at sender p) p came e times next.arrival.0 next.verdict)
     (handed_along frame release sender (q ∷ path) (next ∷ hops)) handed
 
 -- one step of the way
@@ -60,15 +61,16 @@ prompt_here : (bound : ℕ → ℕ) (frame : ℕ) (release : Release) (sender : 
     → ComesBy limit path hops ending → IsPrompt bound limit path hops ending)
     → IsSentOrEnds (IsWay path hops ending) verdict sent hops ending
     → All (ArrivesWithin bound)
-    (crossing_at release.octets came p (transmission_by frame release sender.class verdict sent) hops ending
+    (crossing_at release.octets came p (transmission_by frame release (class_at sender p) verdict sent) hops ending
     ++ crossings_along frame release sender path hops ending)
     → All (EligibleWithin bound) (handed_at release.octets came p
-    (transmission_by frame release sender.class verdict sent) hops ++ handed_along frame release sender path hops)
+    (transmission_by frame release (class_at sender p) verdict sent) hops
+    ++ handed_along frame release sender path hops)
     → IsEligibleBy limit (λ e. Unit {0}) verdict
     → IsEligibleBy limit (λ e. IsPrompt bound (e + bound p) path hops ending) verdict
 prompt_here bound frame release sender came p path (Eligible e) (Some times)
     hops ending limit rest way all handed first =
-    let sent : Option Transmission = transmission_by frame release sender.class (Eligible e) (Some times) in
+    let sent : Option Transmission = transmission_by frame release (class_at sender p) (Eligible e) (Some times) in
     let here : List Crossing = crossing_at release.octets came p sent hops ending in
     let later : List Crossing = crossings_along frame release sender path hops ending in (
       first.0,

@@ -1,5 +1,5 @@
-use Rattle.std.proofs.Common.{◌≡◌, ℕ, ◌+◌, ◌<◌, ◌≤◌, Bool, true, false, cond, List, [], ◌∷◌, ◌++◌, length, map, take}
-use Rattle.std.proofs.Common.{sym, ap, subst, ◌∙◌, arith, length-append}
+use Rattle.std.proofs.Common.{ℕ, ◌+◌, ◌<◌, ◌≤◌, Bool, true, false, cond, List, [], ◌∷◌, ◌++◌, length, map, take}
+use Rattle.std.proofs.Common.{sym, subst, arith, length-append}
 use Rattle.std.proofs.lemmas.List.{append-nil, length-map, length-take}
 use Rattle.std.proofs.lemmas.List.Elements.{All-take}
 use Rattle.ats_network.specs.Sender.{Sender, stream_sender, flow_sender}
@@ -47,31 +47,19 @@ all_within network port class tally is shaped h =
     (omega (arith, few_at port (senders_of network), few_senders network is)) h
 
 -- a sender that uses the port is counted next, and one that does not is left out
-pub count_next : (network : DeclaredNetwork) (port class i : ℕ) (tally next : Tally) → i < length (senders_of network)
-    → uses port (sender_at network i) ≡ true → next ≡ tally_with class (seen_at port (sender_at network i)) tally
+pub count_more : (network : DeclaredNetwork) (port class i : ℕ) (tally : Tally) → i < length (senders_of network)
     → IsTally class (senders_at port (take i (senders_of network))) tally
-    → IsTally class (senders_at port (take (i + 1) (senders_of network))) next
-count_next network port class i tally next within used is h =
-    let senders : List Sender = senders_of network in
+    → IsTally class (senders_at port (take (i + 1) (senders_of network)))
+    (cond (uses port (sender_at network i)) (tally_with class (seen_at port (sender_at network i)) tally) tally)
+count_more network port class i tally within h =
+    let senders : List PortSender = senders_at port (take i (senders_of network)) in
     let seen : PortSender = seen_at port (sender_at network i) in
-    let more : senders_at port (take (i + 1) senders) ≡ senders_at port (take i senders) ++ seen ∷ [] =
-    senders_at-more port senders i no_sender within
-    ∙ ap (λ (b : Bool). senders_at port (take i senders) ++ cond b (seen ∷ []) []) used in
-    let same : tally_with class seen tally ≡ next = sym is in
-    subst (λ (t : Tally). IsTally class (senders_at port (take (i + 1) senders)) t) same
-    (subst (λ (ss : List PortSender). IsTally class ss (tally_with class seen tally)) (sym more)
-    (tally_more class (senders_at port (take i senders)) tally seen h))
-
-pub count_not : (network : DeclaredNetwork) (port class i : ℕ) (tally next : Tally) → i < length (senders_of network)
-    → uses port (sender_at network i) ≡ false → next ≡ tally
-    → IsTally class (senders_at port (take i (senders_of network))) tally
-    → IsTally class (senders_at port (take (i + 1) (senders_of network))) next
-count_not network port class i tally next within unused is h =
-    let senders : List Sender = senders_of network in
-    let same_list : senders_at port (take (i + 1) senders) ≡ senders_at port (take i senders) =
-    senders_at-more port senders i no_sender within
-    ∙ ap (λ (b : Bool). senders_at port (take i senders) ++ cond b (seen_at port (sender_at network i) ∷ []) []) unused
-    ∙ append-nil (senders_at port (take i senders)) in
-    let same : tally ≡ next = sym is in
-    subst (λ (t : Tally). IsTally class (senders_at port (take (i + 1) senders)) t) same
-    (subst (λ (ss : List PortSender). IsTally class ss tally) (sym same_list) h)
+    let used : Bool = uses port (sender_at network i) in
+    subst (λ (ss : List PortSender). IsTally class ss (cond used (tally_with class seen tally) tally))
+    (sym (senders_at-more port (senders_of network) i no_sender within)) (by senders seen used h)
+  where
+    by : (senders : List PortSender) (seen : PortSender) (b : Bool) → IsTally class senders tally
+        → IsTally class (senders ++ cond b (seen ∷ []) []) (cond b (tally_with class seen tally) tally)
+    by senders seen true h = tally_more class senders tally seen h
+    by senders seen false h =
+        subst (λ (ss : List PortSender). IsTally class ss tally) (sym (append-nil senders)) h

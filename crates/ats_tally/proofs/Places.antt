@@ -118,8 +118,8 @@ has_class network port class least most used =
     (and_from (eqb port port) (eqb class class) (eq-eqb port port refl) (eq-eqb class class refl)) in
     list_any-map (is_at port class) (place port) (filter (λ c. is_used network port c) stream_classes)
     ∙ list_any-filter (λ c. is_at port class (place port c)) (λ c. is_used network port c) stream_classes
-    ∙ list_any_at (λ c. is_used network port c && is_at port class (place port c)) stream_classes (class - 1) 0 (omega arith)
-    (ap (λ (c : ℕ). is_used network port c && is_at port class (place port c)) there ∙ passes)
+    ∙ list_any_at (λ c. is_used network port c && is_at port class (place port c)) stream_classes (class - 1) 0
+    (omega arith) (ap (λ (c : ℕ). is_used network port c && is_at port class (place port c)) there ∙ passes)
 
 has_from : (network : DeclaredNetwork) (k : ℕ) (ports : List Port) (port class : ℕ) → k ≤ port → port < k + length ports
     → 1 ≤ class → class ≤ 7 → is_used network port class ≡ true

@@ -18,7 +18,8 @@ use Rattle.ats_trace.specs.Projections.{Crossing, transmission_by, transmission_
 use Rattle.ats_trace.specs.Projections.{journey_crossings, crossings_from, crossings_by}
 use Rattle.ats_trace.specs.Links.{ArrivesWithin, KeepsLinkRule}
 use Rattle.ats_trace.specs.Run.{IsLegal}
-use Rattle.ats_trace.specs.ExactLinks.{HaveOneLatency, arrival_after, IsSentOrEndsAt, IsWayAt, IsEligibleAtRelease, IsJourneyAt}
+use Rattle.ats_trace.specs.ExactLinks.{HaveOneLatency, arrival_after, IsSentOrEndsAt, IsWayAt, IsEligibleAtRelease}
+use Rattle.ats_trace.specs.ExactLinks.{IsJourneyAt}
 use Rattle.ats_trace.specs.ExactLinks.{IsLegalAt}
 use Rattle.ats_trace.specs.ExactLinks.{LinksAreExact}
 use Rattle.ats_trace.specs.declared.journey.Release.{Release}
@@ -115,7 +116,8 @@ exact_journeys network net n (j ∷ run) all exact =
     (exact_journeys network net (n + 1) run (All-tail (IsJourney network) j run all)
     (all_right Exact (journey_crossings network n j) (crossings_from network (n + 1) run) exact))
 
-all_exact : (network : DeclaredNetwork) (run : List Travel) → HaveOneLatency network.topology.ports → IsLegal network run
+all_exact : (network : DeclaredNetwork) (run : List Travel) → HaveOneLatency network.topology.ports
+    → IsLegal network run
     → All (IsExact network.topology.ports) (crossings_from network 0 run)
 all_exact network run exact legal k d h within =
     let crossings : List Crossing = crossings_from network 0 run in
@@ -126,7 +128,8 @@ all_exact network run exact legal k d h within =
     (legal.links one.port within).within k d h (eq-eqb one.port one.port refl) in
     omega (arith, in_time.earliest, in_time.latest, ap (λ (t : Ps). t.0) (exact one.port no_port within))
 
-at_from_legal : (network : DeclaredNetwork) (run : List Travel) → IsNetwork network → HaveOneLatency network.topology.ports
+at_from_legal : (network : DeclaredNetwork) (run : List Travel) → IsNetwork network
+    → HaveOneLatency network.topology.ports
     → IsLegal network run
     → IsLegalAt network run
 at_from_legal network run net exact legal = record {
@@ -260,7 +263,10 @@ exact_links network run one all port within =
     (All-filter (λ (c : Crossing). c.port == port) (IsExact ports) crossings all k d h) within) in
     record {
       within = λ k d h.
-          (let e = exact k d h in record { earliest = omega (arith, e, ap (λ (t : Ps). t.0) (one port no_port within)); latest = omega (arith, e) });
+          (let e = exact k d h in
+          let same : (port_at ports port).earliest.0 ≡ (port_at ports port).latency.0 =
+          ap (λ (t : Ps). t.0) (one port no_port within) in
+          record { earliest = omega (arith, e, same); latest = omega (arith, e) });
       order = λ k d h l b i before. (let e = exact k d h in let f = exact l b i in omega (arith, e, f, before));
     }
 

@@ -1,0 +1,77 @@
+//! The entries of a file that declare senders: its streams and its flows.
+
+ghost use Rattle.std.specs.Prelude.{◌≡◌, ◌<◌, ◌^◌, ℕ, length, Result};
+ghost use Rattle.ats_num.specs.Failure.{GivesSeen};
+ghost use Rattle.ats_network.specs.Network.{DeclaredNetwork};
+ghost use Rattle.ats_network_file.specs.Senders.{table_of, refusal_of, all_added};
+ghost use Rattle.ats_network_file.specs.declared.fault.NetFault.{NetFault};
+
+use crate::fault::NetFault;
+use ats_network::{Network, PushFault};
+use ats_network_toml::{DocumentFault, Table};
+use ats_num::Failure;
+use std::alloc::Global;
+
+/// A table of a file that declares senders.
+#[derive(Clone, Copy, Debug, PartialEq, Eq)]
+pub enum SenderTable {
+    /// That of a stream.
+    Stream,
+    /// That of a best-effort flow.
+    Flow,
+}
+
+impl SenderTable {
+    /// The same among all tables of a file.
+    pub fn table(self) -> Table
+        ensures { result ≡ table_of self }
+    {
+        match self {
+            SenderTable::Stream => Table::Stream,
+            SenderTable::Flow => Table::Flow,
+        }
+    }
+}
+
+/// Why a network does not take the sender of an entry, as a fault of the file.
+pub(crate) fn refusal_of(table: SenderTable, entry: u32, fault: PushFault) -> NetFault
+    ensures { result ≡ refusal_of table entry fault }
+{
+    match fault {
+        PushFault::NameTaken => NetFault::SenderTwice { table, entry },
+        PushFault::IdentityTaken => NetFault::IdentityTwice { entry },
+        PushFault::Limit => NetFault::Form(DocumentFault::Limit {
+            table: table.table(),
+        }),
+    }
+}
+
+/// An entry that declares a sender.
+pub(crate) trait SenderEntry: Drop {
+    // The network with the sender of an entry, which has this number, or the first fault of that entry.
+    ghost added: { DeclaredNetwork → ℕ → Self → Result DeclaredNetwork NetFault };
+
+    /// Adds the sender of an entry, which has this number, or gives the entry's first fault.
+    fn add(
+        &self,
+        alloc: Global,
+        network: &mut Network,
+        number: u32,
+    ) -> Result<(), Failure<NetFault>>
+        ensures { GivesSeen (λ _. network.new) result (added network.old number self.now) };
+}
+
+/// Adds the senders of these entries, one after another, as far as the first fault.
+pub(crate) fn add_all<E: SenderEntry>(
+    alloc: Global,
+    network: &mut Network,
+    entries: &[E],
+) -> Result<(), Failure<NetFault>>
+    requires { length entries.now < 2 ^ 31 }
+    ensures { GivesSeen (λ _. network.new) result (all_added E.added network.old 1 entries.now) }
+{
+    for (place, entry) in entries.iter().enumerate() {
+        entry.add(alloc, network, place as u32 + 1)?;
+    }
+    Ok(())
+}
