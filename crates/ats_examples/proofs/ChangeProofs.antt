@@ -4,11 +4,11 @@ use Rattle.std.specs.Prelude.{◌^◌, IsPermutation, Contains}
 use Rattle.std.proofs.lemmas.List.Sorted.{length_permutation, Contains-permutation}
 use Rattle.ats_num.specs.Tie.{late_key}
 use Rattle.ats_num.specs.declared.time.Ps.{Ps}
-use Rattle.ats_group_law.specs.Regulator.{ats_judge}
+use Rattle.ats_group.specs.Judge.{ats_judge}
 use Rattle.ats_port_rule.specs.Transmission.{Transmission}
 use Rattle.ats_port_rule.specs.PortRule.{StartsAfterGap, IsAhead}
 use Rattle.ats_group.specs.Group.{first, verdicts_of}
-use Rattle.ats_trace.specs.Eligibility.{declared_by, offer_of, residence_behind, IsJudged}
+use Rattle.ats_trace.specs.Eligibility.{declared_by, offer_of, residence_of_groups, IsJudged}
 use Rattle.ats_group.specs.declared.verdict.Verdict.{Verdict}
 use Rattle.ats_group.specs.declared.verdict.Verdict.TheVariants.{Eligible, Late, Size}
 use Rattle.ats_trace.specs.Stored.{no_travel}
@@ -130,13 +130,13 @@ early_frame = handed_by line_and_flow eligible_early 0 6
 
 not_judged : ¬ IsLegal line_and_flow eligible_early
 not_judged h =
-    let judged : IsJudged ats_judge line_and_flow (residence_behind line_and_flow 0) early_frame =
+    let judged : IsJudged ats_judge line_and_flow (residence_of_groups line_and_flow 0) early_frame =
     h.groups 0 6 (lit< tt) (lit≤ tt) in
     let same : judged.arrivals ≡ early_frame = only (get_or early_frame 0 no_frame) judged.arrivals judged.same in
     let told : map (λ (f : Handed). f.verdict) early_frame ≡ verdicts_of (declared_by line_and_flow)
-    (residence_behind line_and_flow 0) (first (declared_by line_and_flow)) (map offer_of early_frame)
+    (residence_of_groups line_and_flow 0) (first (declared_by line_and_flow)) (map offer_of early_frame)
     = subst (λ (frames : List Handed). map (λ (f : Handed). f.verdict) frames ≡ verdicts_of (declared_by line_and_flow)
-    (residence_behind line_and_flow 0) (first (declared_by line_and_flow)) (map offer_of frames))
+    (residence_of_groups line_and_flow 0) (first (declared_by line_and_flow)) (map offer_of frames))
     same judged.verdicts in
     let early : ◌≡◌ {A = ℕ} 26171999 26172000 = ap first_time told in
     absurd (omega arith)

@@ -2,9 +2,9 @@ use Rattle.std.proofs.Common.{◌≡◌, ℕ, zero, suc, ◌≤◌, List, get_or
 use Rattle.std.proofs.Common.{lit≤}
 use Rattle.ats_port_rule.specs.PortRule.{IsAhead, StartsAfterGap}
 use Rattle.ats_group.specs.Group.{first, verdicts_of}
-use Rattle.ats_group_law.specs.Regulator.{ats_judge}
+use Rattle.ats_group.specs.Judge.{ats_judge}
 use Rattle.ats_trace.specs.Projections.{Handed, sent_by, handed_by}
-use Rattle.ats_trace.specs.Eligibility.{declared_by, offer_of, residence_behind, IsJudged}
+use Rattle.ats_trace.specs.Eligibility.{declared_by, offer_of, residence_of_groups, IsJudged}
 use Rattle.ats_trace.specs.Stored.{no_travel}
 use Rattle.ats_trace.specs.Parts.{Part, in_order, octets, way, released, links, waits, takes, apart, chosen, prompt}
 use Rattle.ats_trace.specs.Parts.{groups, flows, Keeps}
@@ -24,13 +24,13 @@ early_frame = handed_by line_and_flow (deviation groups) 0 6
 
 not_judged : ¬ Keeps groups line_and_flow (deviation groups)
 not_judged keeps =
-    let judged : IsJudged ats_judge line_and_flow (residence_behind line_and_flow 0) early_frame =
+    let judged : IsJudged ats_judge line_and_flow (residence_of_groups line_and_flow 0) early_frame =
     keeps 0 6 (lit< tt) (lit≤ tt) in
     let same : judged.arrivals ≡ early_frame = only (get_or early_frame 0 no_frame) judged.arrivals judged.same in
     let told : map (λ (f : Handed). f.verdict) early_frame ≡ verdicts_of (declared_by line_and_flow)
-    (residence_behind line_and_flow 0) (first (declared_by line_and_flow)) (map offer_of early_frame)
+    (residence_of_groups line_and_flow 0) (first (declared_by line_and_flow)) (map offer_of early_frame)
     = subst (λ (frames : List Handed). map (λ (f : Handed). f.verdict) frames ≡ verdicts_of (declared_by line_and_flow)
-    (residence_behind line_and_flow 0) (first (declared_by line_and_flow)) (map offer_of frames))
+    (residence_of_groups line_and_flow 0) (first (declared_by line_and_flow)) (map offer_of frames))
     same judged.verdicts in
     let early : ◌≡◌ {A = ℕ} 26171999 26172000 = ap first_time told in
     absurd (omega arith)

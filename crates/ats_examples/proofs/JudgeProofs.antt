@@ -5,10 +5,10 @@ use Rattle.ats_network.specs.Network.{DeclaredNetwork}
 use Rattle.ats_network.specs.Senders.{sender_at}
 use Rattle.ats_group.specs.declared.verdict.Verdict.{Verdict}
 use Rattle.ats_group.specs.declared.verdict.Verdict.TheVariants.{Size}
-use Rattle.ats_group_law.specs.Regulator.{bucket_rule}
+use Rattle.ats_group.specs.Judge.{bucket_rule}
 use Rattle.ats_trace.specs.Journey.{Travel}
 use Rattle.ats_trace.specs.Projections.{Handed, handed_by}
-use Rattle.ats_trace.specs.Eligibility.{IsJudged, residence_behind}
+use Rattle.ats_trace.specs.Eligibility.{IsJudged, residence_of_groups}
 use Rattle.ats_trace.specs.Run.{IsLegalBy, releases_of}
 use Rattle.ats_trace.specs.Talker.{talker_of, KeepsBuckets}
 use Rattle.ats_trace.specs.Parts.{in_order, octets, way, released, links, waits, takes, apart, chosen, prompt, flows}
@@ -40,8 +40,8 @@ one_judged network residence_ns h size false =
     record { arrivals = []; same = IsPermutation-refl []; in_order = ascending_by [] refl; verdicts = refl }
 
 groups : (port class : ℕ) → port < length line.topology.ports → 1 ≤ class
-    → IsJudged discards line (residence_behind line port) (handed_by line run port class)
-groups port class within least = one_judged line (residence_behind line port) _ refl (0 == port && 6 == class)
+    → IsJudged discards line (residence_of_groups line port) (handed_by line run port class)
+groups port class within least = one_judged line (residence_of_groups line port) _ refl (0 == port && 6 == class)
 
 legal : IsLegalBy discards line run
 legal = record {

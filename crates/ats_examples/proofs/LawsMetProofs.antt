@@ -3,7 +3,7 @@ use Rattle.ats_network.specs.Senders.{sender_at}
 use Rattle.ats_certificate.specs.Certificate.{Holds}
 use Rattle.ats_trace.specs.Run.{releases_of}
 use Rattle.ats_trace.specs.Talker.{talker_of, KeepsBuckets}
-use Rattle.ats_soundness_law.specs.Sound.{IsPromptOnce, IsServed, bounds_of}
+use Rattle.ats_soundness_law.specs.Sound.{IsPromptIfEligible, IsServed, bounds_of}
 use Rattle.ats_examples.specs.Networks.{line}
 use Rattle.ats_examples.specs.Rows.{line_rows}
 use Rattle.ats_examples.specs.Runs.{regulated}
@@ -29,7 +29,7 @@ not_served served =
     let over : 137196000 ≤ 0 + 13836000 = served.prompt.1.0 in
     absurd (omega arith)
 
-not_prompt : ¬ IsPromptOnce (bounds_of line_rows (sender_at line 0)) (sender_at line 0).path held_back.hops
+not_prompt : ¬ IsPromptIfEligible (bounds_of line_rows (sender_at line 0)) (sender_at line 0).path held_back.hops
     held_back.ending
 not_prompt prompt =
     let over : 137196000 ≤ 0 + 13836000 = prompt.0 in

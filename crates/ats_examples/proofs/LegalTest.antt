@@ -13,12 +13,12 @@ use Rattle.ats_port_rule.specs.PortRule.{KeepsTie}
 use Rattle.ats_group.specs.Group.{first, verdicts_of, is_declared_size}
 use Rattle.ats_group.specs.declared.verdict.Verdict.{Verdict}
 use Rattle.ats_group.specs.declared.verdict.Verdict.TheVariants.{Eligible, Late, Size}
-use Rattle.ats_group_law.specs.Regulator.{ats_judge}
+use Rattle.ats_group.specs.Judge.{ats_judge}
 use Rattle.ats_trace.specs.Journey.{Travel}
 use Rattle.ats_trace.specs.Links.{ArrivesWithin, KeepsTimes, KeepsLinkRule, in_order_from, ArrivesByPace, KeepsPace}
 use Rattle.ats_trace.specs.Parts.{EachPort}
 use Rattle.ats_trace.specs.Projections.{Crossing, Handed, crossings_by, sent_by, handed_by, handed_from}
-use Rattle.ats_trace.specs.Eligibility.{declared_by, offer_of, residence_behind, IsJudged, IsPassed}
+use Rattle.ats_trace.specs.Eligibility.{declared_by, offer_of, residence_of_groups, IsJudged, IsPassed}
 use Rattle.ats_examples.proofs.Tests.{le_of, lt_of, eq_of, implied, either, all_by, pairs_pass, pairs_by, each_below}
 use Rattle.ats_examples.proofs.Tests.{below_by}
 use Rattle.ats_examples.proofs.ArrivalTest.{by_arrival, same_frames}
@@ -240,7 +240,7 @@ no_others port class least six five (h ∷ handed) passed =
 
 -- each port's group of a class judges its frames
 abbrev pub group_passes : DeclaredNetwork → List Travel → ℕ → ℕ → Bool
-group_passes network run class p = judged_pass network (residence_behind network p) (handed_by network run p class)
+group_passes network run class p = judged_pass network (residence_of_groups network p) (handed_by network run p class)
 
 -- of each class
 abbrev pub groups_pass : DeclaredNetwork → List Travel → Bool
@@ -251,7 +251,7 @@ groups_pass network run =
 
 pub groups_by : (network : DeclaredNetwork) (run : List Travel) → groups_pass network run ≡ true
     → (port class : ℕ) → port < length network.topology.ports → 1 ≤ class
-    → IsJudged ats_judge network (residence_behind network port) (handed_by network run port class)
+    → IsJudged ats_judge network (residence_of_groups network port) (handed_by network run port class)
 groups_by network run passed port class within least =
     let ports : ℕ = length network.topology.ports in
     let of_class : ℕ → Bool = λ c. each_below (group_passes network run c) ports in
@@ -259,15 +259,15 @@ groups_by network run passed port class within least =
     and_parts (list_all is_of_known (handed_from network 0 run)) (of_class 6 && of_class 5) passed in
     let each : (of_class 6 ≡ true) × (of_class 5 ≡ true) = and_parts (of_class 6) (of_class 5) parts.1 in
     let judged : (c : ℕ) → of_class c ≡ true
-    → IsJudged ats_judge network (residence_behind network port) (handed_by network run port c) =
-    λ c h. judged_by network (residence_behind network port) (handed_by network run port c)
+    → IsJudged ats_judge network (residence_of_groups network port) (handed_by network run port c) =
+    λ c h. judged_by network (residence_of_groups network port) (handed_by network run port c)
     (below_by (group_passes network run c) ports h port within) in
     elim (cases_eq class 6) [
       | inl same ↦ rw same (judged 6 each.0)
       | inr six ↦ elim (cases_eq class 5) [
         | inl same ↦ rw same (judged 5 each.1)
         | inr five ↦ rw (no_others port class least six five (handed_from network 0 run) parts.0)
-            (judged_by network (residence_behind network port) [] refl)
+            (judged_by network (residence_of_groups network port) [] refl)
       ]
     ]
 

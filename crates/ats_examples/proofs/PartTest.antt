@@ -11,7 +11,7 @@ use Rattle.ats_network.specs.Senders.{sender_at}
 use Rattle.ats_port_rule.specs.Transmission.{Transmission}
 use Rattle.ats_group.specs.declared.verdict.Verdict.{Verdict}
 use Rattle.ats_group.specs.declared.verdict.Verdict.TheVariants.{Eligible, Late, Size}
-use Rattle.ats_trace.specs.Journey.{Travel, IsWay, GoesOn, IsReleased}
+use Rattle.ats_trace.specs.Journey.{Travel, IsWay, IsSentOrEnds, IsReleased}
 use Rattle.ats_trace.specs.Run.{releases_of, IsLegal}
 use Rattle.ats_trace.specs.declared.journey.Release.{Release}
 use Rattle.ats_trace.specs.declared.journey.HopRecord.{HopRecord}
@@ -44,7 +44,7 @@ goes_way (p ∷ path) (hop ∷ hops) ending = goes_on (goes_way path hops ending
 
 goes_on_by : (Onward : Type 0) (onward : Bool) → (onward ≡ true → Onward)
     → (verdict : Verdict) (sent : Option (Ps × Ps)) (hops : List HopRecord) (ending : Ending)
-    → goes_on onward verdict sent hops ending ≡ true → GoesOn Onward verdict sent hops ending
+    → goes_on onward verdict sent hops ending ≡ true → IsSentOrEnds Onward verdict sent hops ending
 goes_on_by Onward onward shows (Eligible e) (Some times) hops ending h = shows h
 goes_on_by Onward onward shows (Eligible e) None hops ending h = absurd (false≢true h)
 goes_on_by Onward onward shows (Late e) (Some times) hops ending h = absurd (false≢true h)

@@ -4,7 +4,7 @@ use Rattle.ats_network.specs.Network.{DeclaredNetwork, IsNetwork}
 use Rattle.ats_network.specs.Senders.{sender_at}
 use Rattle.ats_certificate.specs.Certificate.{bound_at}
 use Rattle.ats_certificate.specs.declared.row.Row.{Row}
-use Rattle.ats_group_law.specs.Regulator.{ats_judge}
+use Rattle.ats_group.specs.Judge.{ats_judge}
 use Rattle.ats_group_law.proofs.Regulator.{ats_is_regulator}
 use Rattle.ats_trace.specs.Journey.{Travel, IsOfStream}
 use Rattle.ats_trace.specs.Run.{IsLegal, releases_of}

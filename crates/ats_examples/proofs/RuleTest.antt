@@ -14,7 +14,7 @@ use Rattle.ats_network.specs.Class.{class_at, seen_at}
 use Rattle.ats_network.specs.Network.{DeclaredNetwork}
 use Rattle.ats_network.specs.Residence.{residence_after}
 use Rattle.ats_certificate.specs.PortSums.{PortSums, port_sums, uses, is_of, is_used, senders_at}
-use Rattle.ats_certificate.specs.Certificate.{row_of, IsBefore, FitsLink, bound_of, need_of, bound_along, IsInTime}
+use Rattle.ats_certificate.specs.Certificate.{row_of, IsBefore, FitsLink, bound_of, residence_needed, bound_along, IsInTime}
 use Rattle.ats_certificate.specs.Certificate.{Holds}
 use Rattle.ats_certificate.specs.declared.row.Row.{Row}
 use Rattle.ats_soundness_law.specs.Rules.{Rule, rows_are_there, higher_is_right, equal_is_right, bursts_are_right}
@@ -115,7 +115,7 @@ stays_by need (Some limit) h ns given =
 
 abbrev may_stay : DeclaredNetwork → Row → Bool
 may_stay network row =
-    stays (need_of (port_at network.topology.ports row.port) row.wait) (residence_after network.topology row.port)
+    stays (residence_needed (port_at network.topology.ports row.port) row.wait) (residence_after network.topology row.port)
 
 -- the rows keep a rule
 abbrev pub passes : Rule → DeclaredNetwork → List Row → Bool
@@ -147,7 +147,7 @@ kept_by wait_is_enough network given h =
     (PS_PER_SECOND * ((port_at network.topology.ports row.port).ps_per_bit * (row.lower + row.bursts - row.least)))
     (row.wait * (PS_PER_SECOND - row.higher))) given h
 kept_by frames_may_stay network given h =
-    all_by _ (may_stay network) (λ row. stays_by (need_of (port_at network.topology.ports row.port) row.wait)
+    all_by _ (may_stay network) (λ row. stays_by (residence_needed (port_at network.topology.ports row.port) row.wait)
     (residence_after network.topology row.port)) given h
 
 -- the rows are of used ports and classes and in order, and the streams are in time

@@ -1,4 +1,4 @@
-use Rattle.std.proofs.Common.{◌≡◌, ℕ, ◌+◌, ◌*◌, ◌<◌, ◌≤◌, Bool, List, [], ◌∷◌, length, get_or, All, refl, inl, inr, ◌⊎◌}
+use Rattle.std.proofs.Common.{◌≡◌, ℕ, ◌+◌, ◌*◌, ◌<◌, ◌≤◌, Bool, List, [], ◌∷◌, length, get_or, All, refl, ap, inl, inr, ◌⊎◌}
 use Rattle.std.proofs.Common.{arith, lit<, lit≤}
 use Rattle.std.specs.Prelude.{nat_lt, ◌==◌, AllPairs, Contains}
 use Rattle.std.proofs.lemmas.List.Elements.{All-contains_itself}
@@ -6,7 +6,7 @@ use Rattle.ats_network.specs.Network.{DeclaredNetwork}
 use Rattle.ats_network.specs.Senders.{sender_at}
 use Rattle.ats_certificate.specs.Certificate.{IsBefore}
 use Rattle.ats_certificate.specs.declared.row.Row.{Row}
-use Rattle.ats_group_law.specs.Regulator.{ats_judge}
+use Rattle.ats_group.specs.Judge.{ats_judge}
 use Rattle.ats_group_law.proofs.Regulator.{ats_is_regulator}
 use Rattle.ats_trace.specs.Journey.{Travel, IsOfStream}
 use Rattle.ats_trace.specs.Run.{IsLegal, releases_of}
@@ -20,9 +20,11 @@ use Rattle.ats_examples.specs.Runs.{one_frame}
 use Rattle.ats_examples.specs.ChangedRuns.{sunk_late}
 use Rattle.ats_examples.specs.BridgedRuns.{eligible_later, one_over_two, one_over_three, two_over_two, two_over_three}
 use Rattle.ats_examples.specs.Babbler.{babbler}
-use Rattle.ats_topology.specs.Port.{port_at}
-use Rattle.ats_trace.specs.ExactLinks.{AreExact, IsLegalAt}
-use Rattle.ats_examples.proofs.Tests.{lt_of, eq_of, all_by, below_by}
+use Rattle.ats_num.specs.declared.time.Ps.{Ps}
+use Rattle.ats_topology.specs.Port.{no_port}
+use Rattle.ats_topology.specs.declared.port.Port.{Port}
+use Rattle.ats_trace.specs.ExactLinks.{HaveOneLatency, IsLegalAt}
+use Rattle.ats_examples.proofs.Tests.{lt_of, eq_of, all_by}
 use Rattle.ats_examples.proofs.LegalProofs.{examples_legal, bridged_legal, babbler_legal}
 use Rattle.ats_examples.proofs.ChangeProofs.{changed_are_not}
 use Rattle.ats_examples.proofs.BucketTest.{keeps_by}
@@ -182,13 +184,10 @@ babbler_contained = record {
 }
 
 -- each port of the line has one latency
-abbrev is_exact : ℕ → Bool
-is_exact port = (port_at line.topology.ports port).earliest.0 == (port_at line.topology.ports port).latency.0
-
-line_exact : AreExact line.topology.ports
-line_exact port within =
-    eq_of (port_at line.topology.ports port).earliest.0 (port_at line.topology.ports port).latency.0
-    (below_by is_exact (length line.topology.ports) refl port within)
+line_exact : HaveOneLatency line.topology.ports
+line_exact = all_by (λ (port : Port). port.earliest ≡ port.latency)
+    (λ (port : Port). port.earliest.0 == port.latency.0)
+    (λ port h. ap (λ (n : ℕ). record { 0 = n }) (eq_of port.earliest.0 port.latency.0 h)) line.topology.ports refl
 
 pub exact_examples : ExactExamples
 exact_examples = record {
@@ -197,9 +196,9 @@ exact_examples = record {
       λ exact. changed_are_not.links ((links_are_exact line sunk_late line_is line_exact).1 exact);
 }
 
-not_one : ¬ AreExact ranged_line.topology.ports
+not_one : ¬ HaveOneLatency ranged_line.topology.ports
 not_one exact =
-    let same : ◌≡◌ {A = ℕ} 700000 1500000 = exact 0 (lit< tt) in
+    let same : ◌≡◌ {A = ℕ} 700000 1500000 = ap (λ (t : Ps). t.0) (exact 0 no_port (lit< tt)) in
     absurd (omega arith)
 
 not_at_latency : ¬ IsLegalAt ranged_line (arriving 13036000)

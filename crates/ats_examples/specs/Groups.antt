@@ -9,7 +9,7 @@ use Rattle.ats_group.specs.Group.{Offer, IsRuled, is_declared_size, first, verdi
 use Rattle.ats_group_law.specs.Laws.{passed_of}
 use Rattle.ats_group_law.specs.Shaping.{Passage, offers_of, frames_before, IsEligibleAgain}
 use Rattle.ats_group_law.specs.Windows.{KeepsWindows}
-use Rattle.ats_group_law.specs.Regulator.{ats_judge}
+use Rattle.ats_group.specs.Judge.{ats_judge}
 use Rattle.ats_group_law.specs.Renaming.{IsRenaming, renamed_offer}
 
 -- Frames that come to one group.

@@ -2,7 +2,8 @@ use Rattle.std.specs.Prelude.{[], ◌∷◌, map, None}
 use Rattle.ats_network.specs.Senders.{sender_at}
 use Rattle.ats_group.specs.Group.{Offer}
 use Rattle.ats_group.specs.declared.verdict.Verdict.TheVariants.{Size}
-use Rattle.ats_group_law.specs.Regulator.{Judge, IsRegulator, bucket_rule}
+use Rattle.ats_group.specs.Judge.{Judge, bucket_rule}
+use Rattle.ats_group_law.specs.Regulator.{IsRegulator}
 use Rattle.ats_trace.specs.Journey.{Travel}
 use Rattle.ats_trace.specs.Run.{IsLegalBy, releases_of}
 use Rattle.ats_trace.specs.Talker.{talker_of, KeepsBuckets}

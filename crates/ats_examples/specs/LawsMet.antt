@@ -10,7 +10,7 @@ use Rattle.ats_trace.specs.Run.{IsLegal, releases_of}
 use Rattle.ats_trace.specs.Stored.{travel_at}
 use Rattle.ats_trace.specs.Talker.{talker_of, KeepsBuckets}
 use Rattle.ats_trace.specs.declared.journey.Ending.TheVariants.{Sink}
-use Rattle.ats_soundness_law.specs.Sound.{IsPromptOnce, IsServed, bounds_of}
+use Rattle.ats_soundness_law.specs.Sound.{IsPromptIfEligible, IsServed, bounds_of}
 use Rattle.ats_examples.specs.Networks.{line}
 use Rattle.ats_examples.specs.Runs.{one_frame, regulated}
 use Rattle.ats_examples.specs.Rows.{line_rows}
@@ -50,5 +50,5 @@ pub record LawsAreMet : Type 0 where
   pub beyond : IsLegal line regulated
   pub not_kept : ¬ KeepsBuckets line (releases_of regulated) (talker_of line 0)
   pub not_served : ¬ IsServed line_rows (sender_at line 0) held_back
-  pub not_prompt : ¬ IsPromptOnce (bounds_of line_rows (sender_at line 0)) (sender_at line 0).path held_back.hops
+  pub not_prompt : ¬ IsPromptIfEligible (bounds_of line_rows (sender_at line 0)) (sender_at line 0).path held_back.hops
       held_back.ending

@@ -3,7 +3,7 @@ use Rattle.ats_topology.specs.Topology.{topology_of}
 use Rattle.ats_topology.specs.declared.node.Node.{Node}
 use Rattle.ats_topology.specs.declared.node.Kind.TheVariants.{Station, Bridge}
 use Rattle.ats_topology.specs.declared.link.Link.{Link}
-use Rattle.ats_streams.specs.Stream.{DeclaredStream, declared_stream, classes_along}
+use Rattle.ats_streams.specs.Stream.{DeclaredStream, declared_stream, classes_for}
 use Rattle.ats_streams.specs.Flow.{DeclaredFlow, declared_flow}
 use Rattle.ats_network.specs.Network.{DeclaredNetwork, declared_network}
 
@@ -27,7 +27,7 @@ stream_of name path classes = declared_stream name path classes 100000000 12336 
 
 -- of class 6 at each port
 abbrev pub stream : List ℕ → List ℕ → DeclaredStream
-stream name path = stream_of name path (classes_along (length path) (6 ∷ []))
+stream name path = stream_of name path (classes_for (length path) (6 ∷ []))
 
 -- a flow of frames of 64 to 1522 octets
 abbrev pub flow : List ℕ → List ℕ → DeclaredFlow

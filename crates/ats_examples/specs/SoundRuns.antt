@@ -5,7 +5,7 @@ use Rattle.ats_certificate.specs.Certificate.{Holds}
 use Rattle.ats_certificate.specs.declared.row.Row.{Row}
 use Rattle.ats_trace.specs.Journey.{Travel}
 use Rattle.ats_trace.specs.Run.{IsLegal, releases_of}
-use Rattle.ats_trace.specs.ExactLinks.{AreExact, IsLegalAt}
+use Rattle.ats_trace.specs.ExactLinks.{HaveOneLatency, IsLegalAt}
 use Rattle.ats_trace.specs.Stored.{travel_at}
 use Rattle.ats_trace.specs.Talker.{talker_of, KeepsBuckets}
 use Rattle.ats_trace.specs.declared.journey.Ending.TheVariants.{Sink}
@@ -88,7 +88,7 @@ pub record ExactExamples : Type 0 where
 -- that each port has one latency counts: where one has not, a run is legal whose frame takes less than the latency
 pub record ExactnessCounts : Type 0 where
   pub network : IsNetwork ranged_line
-  pub not_one : ¬ AreExact ranged_line.topology.ports
+  pub not_one : ¬ HaveOneLatency ranged_line.topology.ports
   pub legal : IsLegal ranged_line (arriving 13036000)
   pub not_exact : ¬ IsLegalAt ranged_line (arriving 13036000)
 
