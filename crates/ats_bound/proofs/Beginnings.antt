@@ -10,7 +10,7 @@ use Rattle.ats_num.specs.declared.time.TheConstants.{PS_PER_SECOND}
 use Rattle.ats_topology.specs.Port.{no_port}
 use Rattle.ats_network.specs.Network.{DeclaredNetwork, IsNetwork}
 use Rattle.ats_certificate.specs.PortSums.{is_used}
-use Rattle.ats_certificate.specs.Used.{classes, place, places_from, places_of}
+use Rattle.ats_certificate.specs.Used.{stream_classes, place, places_from, places_of}
 use Rattle.ats_certificate.specs.Certificate.{IsBefore}
 use Rattle.ats_certificate.specs.Form.{ComesAfter}
 use Rattle.ats_certificate.specs.declared.row.Row.{Row}
@@ -129,7 +129,7 @@ begun_after network at rows left is begun used last last_is =
 -- the places of a port and those behind it, from a class on
 abbrev pub places_left : DeclaredNetwork → ℕ → ℕ → List (ℕ × ℕ)
 places_left network port i =
-    map (place port) (filter (λ class. is_used network port class) (drop i classes))
+    map (place port) (filter (λ class. is_used network port class) (drop i stream_classes))
     ++ places_from network (port + 1) (drop (port + 1) network.topology.ports)
 
 pub places_left-first : (network : DeclaredNetwork) (port : ℕ) → port < length network.topology.ports
@@ -138,17 +138,18 @@ places_left-first network port within =
     ap (places_from network port) (drop_more network.topology.ports port no_port within)
 
 pub places_left-more : (network : DeclaredNetwork) (port i class d : ℕ)
-    → i < length classes → class ≡ get_or classes i d
+    → i < length stream_classes → class ≡ get_or stream_classes i d
     → places_left network port i ≡ with_place network (port, class) (places_left network port (i + 1))
 places_left-more network port i class d within is =
     let behind : List (ℕ × ℕ) = places_from network (port + 1) (drop (port + 1) network.topology.ports) in
-    let more : drop i classes ≡ class ∷ drop (i + 1) classes =
-    drop_more classes i d within ∙ ap (λ (n : ℕ). n ∷ drop (i + 1) classes) (sym is) in
+    let more : drop i stream_classes ≡ class ∷ drop (i + 1) stream_classes =
+    drop_more stream_classes i d within ∙ ap (λ (n : ℕ). n ∷ drop (i + 1) stream_classes) (sym is) in
     ap (λ (t : List ℕ). map (place port) (filter (λ c. is_used network port c) t) ++ behind) more
     ∙ by (is_used network port class)
   where
-    by : (b : Bool) → map (place port) (cond b (class ∷ filter (λ c. is_used network port c) (drop (i + 1) classes))
-        (filter (λ c. is_used network port c) (drop (i + 1) classes)))
+    by : (b : Bool) → map (place port)
+        (cond b (class ∷ filter (λ c. is_used network port c) (drop (i + 1) stream_classes))
+        (filter (λ c. is_used network port c) (drop (i + 1) stream_classes)))
         ++ places_from network (port + 1) (drop (port + 1) network.topology.ports)
         ≡ cond b ((port, class) ∷ places_left network port (i + 1)) (places_left network port (i + 1))
     by true = refl

@@ -5,9 +5,10 @@ use Rattle.std.specs.List.{All, AllPairs}
 use Rattle.std.specs.Option.{option_or}
 use Rattle.std.proofs.lemmas.Bool.{cases_lt}
 use Rattle.std.proofs.lemmas.List.Elements.{All-nil, All-cons, All-head}
-use Rattle.ats_network.proofs.Appended.{all_left, all_right, pairs_tail}
+use Rattle.std.proofs.lemmas.Option.{none-some, same_Some}
+use Rattle.ats_facts.proofs.Lists.{all_left, all_right, pairs_tail}
 use Rattle.ats_tally.specs.Reason.{first_some}
-use Rattle.ats_tally.proofs.Firsts.{first_append, none_some, some_is}
+use Rattle.ats_tally.proofs.Firsts.{first_append}
 use Rattle.ats_tally.proofs.Lists.{first_some-none, none_first}
 use Rattle.ats_bound.specs.First.{IsFirstBreach}
 
@@ -22,7 +23,7 @@ pub record StandsAt {A B : Type 0} (given : A → Option B) (xs : List A) (found
 
 pub stands_at : {A B : Type 0} (given : A → Option B) (xs : List A) (found : B) → first_some given xs ≡ Some found
     → StandsAt given xs found
-stands_at given [] found h = absurd (none_some found h)
+stands_at given [] found h = absurd (none-some found h)
 stands_at {A} {B} given (x ∷ xs) found h = by (given x) refl (stands_at given xs found) h
   where
     by : (o : Option B) → given x ≡ o → (first_some given xs ≡ Some found → StandsAt given xs found)
@@ -82,7 +83,7 @@ breach_at {A} given Rule xs found tests at =
       after = at.after;
       cut = at.cut;
       kept = λ k d h. (left k d h).0 (at.none k d h);
-      breaks = λ rule. none_some found (sym (here.1 rule) ∙ at.gives);
+      breaks = λ rule. none-some found (sym (here.1 rule) ∙ at.gives);
     }
 
 -- and the first breach gives the first value
@@ -118,8 +119,8 @@ or_past {B} a b found e h = ap (λ (o : Option B). option_or o b) e ∙ h
 -- a value that a test gives
 pub if_true : {B : Type 0} (P : B → Type 0) (t : Bool) (x found : B) → (t ≡ true → P x)
     → cond t (Some x) None ≡ Some found → P found
-if_true P true x found p h = subst P (some_is x found h) (p refl)
-if_true P false x found p h = absurd (none_some found h)
+if_true P true x found p h = subst P (same_Some x found h) (p refl)
+if_true P false x found p h = absurd (none-some found h)
 
 pub true_if : {B : Type 0} (t : Bool) (x : B) → (cond t (Some x) None ≡ None → ⊥) → cond t (Some x) None ≡ Some x
 true_if true x h = refl

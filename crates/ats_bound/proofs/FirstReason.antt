@@ -1,8 +1,10 @@
 -- A reason is found exactly where it is the first, so no more than one is.
-use Rattle.std.proofs.Common.{◌≡◌, ℕ, ◌*◌, ◌≤◌, true, List, Option, Some, None, refl, sym, ap, subst, ◌∙◌, inl, inr}
+use Rattle.std.proofs.Common.{◌≡◌, ℕ, ◌*◌, ◌≤◌, true, List, Some, None, sym, ap, subst, ◌∙◌, inl, inr}
 use Rattle.std.proofs.Common.{get_or, arith}
 use Rattle.std.specs.Prelude.{nat_lt}
 use Rattle.std.specs.List.{All}
+use Rattle.std.proofs.lemmas.Option.{same_Some}
+use Rattle.ats_bound.proofs.Reasons.{stays_over}
 use Rattle.ats_num.specs.declared.time.TheConstants.{PS_PER_SECOND, PS_PER_NS}
 use Rattle.ats_network.specs.Network.{DeclaredNetwork, IsNetwork}
 use Rattle.ats_network.specs.Residence.{residence_after}
@@ -11,10 +13,9 @@ use Rattle.ats_certificate.specs.Certificate.{IsInTime, bound_along, is_row_of, 
 use Rattle.ats_certificate.specs.Least.{IsLeastRow, IsLeastCertificate}
 use Rattle.ats_certificate.specs.Used.{places_of}
 use Rattle.ats_certificate.specs.declared.row.Row.{Row}
-use Rattle.ats_tally.specs.Reason.{first_some, overstay_by, overstay, late}
+use Rattle.ats_tally.specs.Reason.{first_some, overstay, row_need, late}
 use Rattle.ats_tally.specs.declared.reason.Reason.{Reason}
 use Rattle.ats_tally.specs.declared.reason.Reason.TheVariants.{Overloaded, Residence, Deadline}
-use Rattle.ats_tally.proofs.Firsts.{some_is}
 use Rattle.ats_tally.proofs.Lists.{All-found, IsFound, found_is, option_cases}
 use Rattle.ats_tally.proofs.Places.{Precedes, places_used}
 use Rattle.ats_bound.specs.First.{IsFirstOverload, IsFirstOverstay, IsFirstLate, IsFirstReason, RowMayStay}
@@ -89,23 +90,17 @@ module _ (network : DeclaredNetwork) (is : IsNetwork network) where
       fits_least rows least at.0 at.1 (places_used network k d h)))
 
   -- what is found in the least certificate is found in the one that is computed
-  stays_over : (row : Row) (residence : Option ℕ) → (overstay_by row residence ≡ None → ⊥)
-      → overstay_by row residence ≡ Some (Residence row.port row.class row.wait)
-  stays_over row None some = absurd (some refl)
-  stays_over row (Some residence_ns) some =
-      true_if (nat_lt (PS_PER_NS * residence_ns) row.wait) (Residence row.port row.class row.wait) some
-
-  by_stay : (port class wait : ℕ) → IsFirstOverstay network port class wait
-      → first_some (overstay network) (least_certificate network) ≡ Some (Residence port class wait)
-  by_stay port class wait o =
+  by_stay : (port class need : ℕ) → IsFirstOverstay network port class need
+      → first_some (overstay network) (least_certificate network) ≡ Some (Residence port class need)
+  by_stay port class need o =
       ap (λ (rows : List Row). first_some (overstay network) rows)
       (sym (least_certificate_is_one network o.rows is o.least))
-      ∙ given_at (overstay network) (RowMayStay network) o.rows o.row (Residence port class wait)
+      ∙ given_at (overstay network) (RowMayStay network) o.rows o.row (Residence port class need)
       (stay_tests network o.rows) o.first
-      (λ some. stays_over o.row (residence_after network.topology o.row.port) some
-      ∙ ap (λ (n : ℕ). Some (Residence n o.row.class o.row.wait)) o.port_is
-      ∙ ap (λ (n : ℕ). Some (Residence port n o.row.wait)) o.class_is
-      ∙ ap (λ (n : ℕ). Some (Residence port class n)) o.wait_is)
+      (λ some. stays_over o.row (row_need network o.row) (residence_after network.topology o.row.port) some
+      ∙ ap (λ (n : ℕ). Some (Residence n o.row.class (row_need network o.row))) o.port_is
+      ∙ ap (λ (n : ℕ). Some (Residence port n (row_need network o.row))) o.class_is
+      ∙ ap (λ (n : ℕ). Some (Residence port class n)) o.need_is)
 
   no_stay : (rows : List Row) → IsLeastCertificate network rows → All (RowMayStay network) rows
       → first_some (overstay network) (least_certificate network) ≡ None
@@ -127,8 +122,8 @@ module _ (network : DeclaredNetwork) (is : IsNetwork network) where
 
   first_is_found : (reason : Reason) → IsFirstReason network reason → reason_of network ≡ Some reason
   first_is_found (Overloaded port class load) o = at_some _ _ _ (by_load port class load o)
-  first_is_found (Residence port class wait) o =
-      or_past _ _ _ (no_load o.rows o.least) (at_some _ _ _ (by_stay port class wait o))
+  first_is_found (Residence port class need) o =
+      or_past _ _ _ (no_load o.rows o.least) (at_some _ _ _ (by_stay port class need o))
   first_is_found (Deadline name along) l =
       or_past _ _ _ (no_load l.rows l.least)
       (or_past _ _ _ (no_stay l.rows l.least l.stay) (by_late name along l))
@@ -139,4 +134,4 @@ each_reason_is_the_first network reason is =
 
 pub first_reason_is_one : FirstReasonIsOne
 first_reason_is_one network a b is first second =
-    some_is a b (sym (first_is_found network is a first) ∙ first_is_found network is b second)
+    same_Some a b (sym (first_is_found network is a first) ∙ first_is_found network is b second)

@@ -6,19 +6,19 @@ use Rattle.std.specs.List.{All, AllPairs, list_any}
 use Rattle.std.proofs.lemmas.Bool.{and_parts, eqb-true, ltb-true, or_cases}
 use Rattle.std.proofs.lemmas.List.Elements.{All-cons}
 use Rattle.std.proofs.lemmas.List.Folds.{list_any-append}
+use Rattle.std.proofs.lemmas.Option.{none-some}
+use Rattle.ats_facts.proofs.Lists.{pairs_head}
 use Rattle.ats_num.specs.declared.time.TheConstants.{PS_PER_SECOND, PS_PER_NS}
 use Rattle.ats_network.specs.Network.{DeclaredNetwork, IsNetwork}
 use Rattle.ats_network.specs.Residence.{residence_after}
-use Rattle.ats_network.proofs.Appended.{pairs_head}
 use Rattle.ats_certificate.specs.PortSums.{is_used}
 use Rattle.ats_certificate.specs.Certificate.{IsInTime, bound_along}
 use Rattle.ats_certificate.specs.Least.{IsLeastCertificate}
 use Rattle.ats_certificate.specs.Used.{places_of}
 use Rattle.ats_certificate.specs.declared.row.Row.{Row}
-use Rattle.ats_tally.specs.Reason.{first_some, overstay_by, overstay, late}
+use Rattle.ats_tally.specs.Reason.{first_some, overstay_by, overstay, row_need, late}
 use Rattle.ats_tally.specs.declared.reason.Reason.{Reason}
 use Rattle.ats_tally.specs.declared.reason.Reason.TheVariants.{Overloaded, Residence, Deadline}
-use Rattle.ats_tally.proofs.Firsts.{none_some}
 use Rattle.ats_tally.proofs.Lists.{any_gives}
 use Rattle.ats_tally.proofs.Places.{IsUsedAt, Precedes, is_at, places_have, places_ordered, places_used}
 use Rattle.ats_tally.proofs.Reasons.{stays_by, by_stay, in_time_from, by_time}
@@ -85,8 +85,8 @@ module _ (network : DeclaredNetwork) where
   pub stay_tests : (rows : List Row) → Tests (overstay network) (RowMayStay network) rows
   stay_tests rows = λ k d h. (
       let row : Row = get_or rows k d in (
-        λ none. stays_by row (residence_after network.topology row.port) none,
-        λ stays. by_stay row (residence_after network.topology row.port) stays,
+        λ none. stays_by row (row_need network row) (residence_after network.topology row.port) none,
+        λ stays. by_stay row (row_need network row) (residence_after network.topology row.port) stays,
       ))
 
   pub time_tests : (rows : List Row) → Tests (late rows) (IsInTime rows) network.streams
@@ -144,26 +144,26 @@ module _ (network : DeclaredNetwork) (is : IsNetwork network) where
         (load_tests network (places_of network)) none);
   }
 
-  stays_over : (row : Row) (residence : Option ℕ) (found : Reason)
-      → IsFirstReason network (Residence row.port row.class row.wait)
-      → overstay_by row residence ≡ Some found → IsFirstReason network found
-  stays_over row None found first h = absurd (none_some found h)
-  stays_over row (Some residence_ns) found first h = if_true (IsFirstReason network)
-      (nat_lt (PS_PER_NS * residence_ns) row.wait) (Residence row.port row.class row.wait) found (λ _. first) h
+  stays_over : (row : Row) (need : ℕ) (residence : Option ℕ) (found : Reason)
+      → IsFirstReason network (Residence row.port row.class need)
+      → overstay_by row need residence ≡ Some found → IsFirstReason network found
+  stays_over row need None found first h = absurd (none-some found h)
+  stays_over row need (Some residence_ns) found first h = if_true (IsFirstReason network)
+      (nat_lt (PS_PER_NS * residence_ns) need) (Residence row.port row.class need) found (λ _. first) h
 
   of_stay : (found : Reason) → IsLeastCertificate network (least_certificate network)
       → first_some (overstay network) (least_certificate network) ≡ Some found → IsFirstReason network found
   of_stay found least e =
       let rows : List Row = least_certificate network in
       let at = stands_at (overstay network) rows found e in
-      stays_over at.it (residence_after network.topology at.it.port) found
+      stays_over at.it (row_need network at.it) (residence_after network.topology at.it.port) found
       (record {
         rows = rows;
         least = least;
         row = at.it;
         port_is = refl;
         class_is = refl;
-        wait_is = refl;
+        need_is = refl;
         first = breach_at (overstay network) (RowMayStay network) rows found (stay_tests network rows) at;
       })
       at.gives

@@ -1,6 +1,7 @@
 use Rattle.std.proofs.Common.{◌≡◌, ◌<◌, ℕ, true, length, get_or, ◌∙◌}
 use Rattle.std.specs.List.{All}
 use Rattle.std.proofs.lemmas.List.Elements.{All-map}
+use Rattle.ats_facts.proofs.Options.{option_or-none}
 use Rattle.ats_network.specs.Network.{DeclaredNetwork, IsNetwork}
 use Rattle.ats_certificate.specs.PortSums.{is_used}
 use Rattle.ats_certificate.specs.Used.{places_of}
@@ -8,10 +9,10 @@ use Rattle.ats_certificate.specs.Certificate.{HasRows, IsBefore, is_row_of}
 use Rattle.ats_certificate.specs.Least.{IsLeastRow}
 use Rattle.ats_certificate.specs.declared.row.Row.{Row}
 use Rattle.ats_bound.specs.Least.{least_row, least_certificate}
-use Rattle.ats_tally.specs.Reason.{first_some, overstay, late}
+use Rattle.ats_tally.specs.Reason.{first_some, overstay, row_need, late}
 use Rattle.ats_bound.specs.Reason.{overload}
 use Rattle.ats_bound.specs.Laws.{LeastCertificateHolds}
-use Rattle.ats_tally.proofs.Lists.{list_any-map, is_some-find, AllPairs-map, none_first, option_or-none}
+use Rattle.ats_tally.proofs.Lists.{list_any-map, is_some-find, AllPairs-map, none_first}
 use Rattle.ats_tally.proofs.Places.{is_place, places_used, places_ordered, places_have}
 use Rattle.ats_bound.proofs.Waits.{Fits, least_row-is}
 use Rattle.ats_tally.proofs.Reasons.{stays_by, in_time_from}
@@ -61,7 +62,7 @@ least_certificate_holds network is none =
           covers = (each k d h).covers;
           residence = (
               let row : Row = get_or (least_certificate network) k d in
-              stays_by row (residence_after network.topology row.port) (stays k d h));
+              stays_by row (row_need network row) (residence_after network.topology row.port) (stays k d h));
         };
         deadlines = λ k d h. in_time_from (least_certificate network) (get_or network.streams k d) (times k d h);
       };

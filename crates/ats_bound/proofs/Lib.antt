@@ -7,3 +7,4 @@ pub mod Beginnings
 pub mod Breaches
 pub mod FoundReason
 pub mod FirstReason
+pub mod Hops

@@ -6,14 +6,18 @@ use Rattle.std.specs.Option.{option_or, option_map}
 use Rattle.std.proofs.lemmas.Bool.{and_parts, eqb-true, true≢false}
 use Rattle.std.proofs.lemmas.List.Elements.{All-map}
 use Rattle.std.proofs.lemmas.List.Sums.{sum_by-le-sum_by}
+use Rattle.std.proofs.lemmas.Option.{none-some}
 use Rattle.ats_streams.specs.Stream.{DeclaredStream}
+use Rattle.ats_network.specs.Sender.{Sender, stream_sender}
+use Rattle.ats_network.specs.Class.{class_at}
 use Rattle.ats_network.specs.Network.{DeclaredNetwork, IsNetwork}
 use Rattle.ats_certificate.specs.PortSums.{is_used}
 use Rattle.ats_certificate.specs.Used.{places_of}
 use Rattle.ats_certificate.specs.Certificate.{Holds, RowHolds, MayStay, IsInTime, is_row_of, row_of, bound_at}
+use Rattle.ats_certificate.specs.Certificate.{bound_of_hop}
 use Rattle.ats_certificate.specs.declared.row.Row.{Row}
 use Rattle.ats_bound.specs.Least.{least_row, least_certificate}
-use Rattle.ats_tally.specs.Reason.{first_some, overstay, late}
+use Rattle.ats_tally.specs.Reason.{first_some, overstay, row_need, late}
 use Rattle.ats_bound.specs.Reason.{reason_of, overload}
 use Rattle.ats_bound.specs.Laws.{ReasonLeavesNone}
 use Rattle.ats_tally.specs.declared.reason.Reason.{Reason}
@@ -132,8 +136,9 @@ bound_at-le network rows port class is h = elim (option_cases (row_of (least_cer
 in_time_held : (network : DeclaredNetwork) (rows : List Row) (stream : DeclaredStream) → IsNetwork network
     → Holds network rows → IsInTime rows stream → IsInTime (least_certificate network) stream
 in_time_held network rows stream is h late =
-    let le = sum_by-le-sum_by (λ port. bound_at (least_certificate network) port stream.class) (λ port.
-    bound_at rows port stream.class) stream.path (λ port. bound_at-le network rows port stream.class is h) in
+    let sender : Sender = stream_sender stream in
+    let le = sum_by-le-sum_by (bound_of_hop (least_certificate network) sender) (bound_of_hop rows sender) stream.path
+    (λ port. bound_at-le network rows port (class_at sender port) is h) in
     omega (arith, le, late)
 
 -- no overload, no overstay and no late stream leave no reason
@@ -160,7 +165,7 @@ no_reason_held network rows is h =
     (All-map (λ (row : Row). overstay network row ≡ None) (least_row network) (places_of network)
     (λ k d within. (
     let at = get_or (places_of network) k d in
-    by_stay (least_row network at) (residence_after network.topology at.0)
+    by_stay (least_row network at) (row_need network (least_row network at)) (residence_after network.topology at.0)
     (stays_held network rows at.0 at.1 is h (places_used network k d within))))) in
     let times : first_some (late (least_certificate network)) network.streams ≡ None =
     first_some-none (late (least_certificate network)) network.streams
@@ -168,8 +173,5 @@ no_reason_held network rows is h =
     (in_time_held network rows (get_or network.streams k d) is h (h.deadlines k d within))) in
     reason_of-none network loads stays times
 
-none_some : {X : Type 0} (x : X) → None ≡ Some x → ⊥
-none_some x h = cc
-
 pub reason_leaves_none : ReasonLeavesNone
-reason_leaves_none network reason rows is some h = none_some reason (sym (no_reason_held network rows is h) ∙ some)
+reason_leaves_none network reason rows is some h = none-some reason (sym (no_reason_held network rows is h) ∙ some)

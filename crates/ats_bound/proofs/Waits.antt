@@ -5,7 +5,7 @@ use Rattle.ats_num.specs.declared.time.TheConstants.{PS_PER_SECOND}
 use Rattle.ats_topology.specs.Port.{port_at}
 use Rattle.ats_topology.specs.declared.port.Port.{Port}
 use Rattle.ats_network.specs.Network.{DeclaredNetwork, senders_of}
-use Rattle.ats_network.specs.Sender.{Sender}
+use Rattle.ats_network.specs.Class.{PortSender}
 use Rattle.ats_certificate.specs.PortSums.{PortSums, port_sums, is_of, sum_where, senders_at}
 use Rattle.ats_certificate.specs.Certificate.{Covers, HasSums, bound_of}
 use Rattle.ats_certificate.specs.Least.{IsLeastRow}
@@ -13,7 +13,7 @@ use Rattle.ats_certificate.specs.declared.row.Row.{Row}
 use Rattle.ats_tally.specs.Waits.{least_wait}
 use Rattle.ats_bound.specs.Least.{least_row}
 use Rattle.ats_bound.specs.Reason.{load_at}
-use Rattle.ats_tally.proofs.Ceiling.{ceiling-is}
+use Rattle.ats_num.proofs.Ceiling.{ceiling-is}
 use Rattle.ats_tally.proofs.Places.{IsPlace}
 
 -- the load of a place is within its link
@@ -28,7 +28,7 @@ work port sums = PS_PER_SECOND * (port.ps_per_bit * (sums.lower + sums.bursts - 
 pub remains : (network : DeclaredNetwork) (port class : ℕ) → IsPlace network port class → Fits network port class
     → 1 ≤ PS_PER_SECOND - (port_sums network port class).higher
 remains network port class at fits =
-    let rate : ℕ = sum_where (is_of class) (λ (s : Sender). s.rate) (senders_at port (senders_of network)) in
+    let rate : ℕ = sum_where (is_of class) (λ (s : PortSender). s.rate) (senders_at port (senders_of network)) in
     let ps : ℕ = (port_at network.topology.ports port).ps_per_bit in
     let some : ps * 1 ≤ ps * rate = mul-le-mul_left ps at.rate in
     omega (arith, some, at.is_port.rate.least, fits)

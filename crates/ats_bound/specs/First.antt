@@ -6,6 +6,7 @@ use Rattle.ats_certificate.specs.PortSums.{is_used}
 use Rattle.ats_certificate.specs.Certificate.{MayStay, IsInTime, bound_along}
 use Rattle.ats_certificate.specs.Least.{IsLeastCertificate}
 use Rattle.ats_certificate.specs.declared.row.Row.{Row}
+use Rattle.ats_tally.specs.Reason.{row_need}
 use Rattle.ats_tally.specs.declared.reason.Reason.{Reason}
 use Rattle.ats_tally.specs.declared.reason.Reason.TheVariants.{Overloaded, Residence, Deadline}
 use Rattle.ats_bound.specs.Reason.{load_at}
@@ -18,7 +19,7 @@ pub record IsFirstBreach {A : Type 0} (Rule : A → Type 0) (xs : List A) (x : A
   pub kept : All Rule before
   pub breaks : ¬ Rule x
 
--- a frame may stay behind a row's port for the row's wait
+-- a frame may stay behind a row's port as long as the row's wait and the port's spread make it
 abbrev pub RowMayStay : DeclaredNetwork → Row → Type 0
 RowMayStay network row = MayStay network row.port row.wait
 
@@ -32,17 +33,18 @@ pub record IsFirstOverload (network : DeclaredNetwork) (port class load : ℕ) :
       → load_at network (p, c) ≤ PS_PER_SECOND
 
 -- there is the least certificate, whose rows cover all ports and classes that are used, so none is overloaded; its row
--- of this port and class, with this wait, is the first that waits longer than a frame may stay behind its port
-pub record IsFirstOverstay (network : DeclaredNetwork) (port class wait : ℕ) : Type 0 where
+-- of this port and class is the first by which a frame may have to stay behind the row's port longer than it may, and
+-- needs this long
+pub record IsFirstOverstay (network : DeclaredNetwork) (port class need : ℕ) : Type 0 where
   pub rows : List Row
   pub least : IsLeastCertificate network rows
   pub row : Row
   pub port_is : row.port ≡ port
   pub class_is : row.class ≡ class
-  pub wait_is : row.wait ≡ wait
+  pub need_is : row_need network row ≡ need
   pub first : IsFirstBreach (RowMayStay network) rows row
 
--- there is the least certificate, and a frame may stay behind each row's port for its wait; the stream of this name is
+-- there is the least certificate, and a frame may stay behind each row's port; the stream of this name is
 -- the first whose bounds are together over its deadline, and this is their sum
 pub record IsFirstLate (network : DeclaredNetwork) (name : List ℕ) (along : ℕ) : Type 0 where
   pub rows : List Row

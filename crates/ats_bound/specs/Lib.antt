@@ -3,4 +3,5 @@ pub mod Reason
 pub mod First
 pub mod Laws
 pub mod Row
+pub mod Users
 pub mod Begun

@@ -16,8 +16,8 @@ abbrev pub overload : DeclaredNetwork → ℕ × ℕ → Option Reason
 overload network place = overload_by place.0 place.1 (load_at network place)
 
 -- why no certificate holds for a network, if none does: the first overloaded port and class; where there is none, the
--- first row with the least wait that is over the residence time behind its port; where there is none either, the first
--- stream that is late by the least bounds
+-- first row with the least wait whose need of residence is over the residence time behind its port; where there is none
+-- either, the first stream that is late by the least bounds
 abbrev pub reason_of : DeclaredNetwork → Option Reason
 reason_of network =
     option_or (first_some (overload network) (places_of network))

@@ -21,8 +21,8 @@ use std::alloc::{AllocError, Global};
 ///
 /// A reason exactly where no certificate holds for the network: the first port and class, in the
 /// order of a certificate's rows, whose rates are more than the link can carry; where there is
-/// none, the first row with the least wait that is longer than the maximum residence time behind
-/// its port; where there is none either, the first stream whose least bounds are together over its
+/// none, the first row whose least wait and port's spread are longer than the maximum residence time
+/// behind its port; where there is none either, the first stream whose least bounds are together over its
 /// deadline. `Failure::NoMemory` where memory runs out.
 pub fn make(alloc: Global, network: &Network) -> Result<Certificate, Failure<Reason>>
     ensures value { IfOk result (λ certificate. certificate ≡ least_certificate network.now) }

@@ -1,21 +1,23 @@
 //! Rows with the least waits.
 
-ghost use Rattle.std.specs.Prelude.{◌≡◌, ◌&&◌, ◌≤◌, IfOk, IsTrue};
-ghost use Rattle.std.specs.List.{list_any};
+ghost use Rattle.std.specs.Prelude.{◌≡◌, ◌==◌, ◌<◌, ◌≤◌, length, IfOk, IfSome, IsTrue};
+ghost use Rattle.std.specs.List.{list_any, position_from};
 ghost use Rattle.ats_topology.specs.Rates.{IsPsPerBit};
 ghost use Rattle.ats_network.specs.Network.{senders_of};
 ghost use Rattle.ats_network.specs.Sender.{stream_sender};
 ghost use Rattle.ats_certificate.specs.Form.{IsRow};
-ghost use Rattle.ats_certificate.specs.PortSums.{is_of, is_used, senders_at, uses};
+ghost use Rattle.ats_network.specs.Senders.{sender_at};
+ghost use Rattle.ats_certificate.specs.PortSums.{is_used, senders_at};
 ghost use Rattle.ats_tally.specs.Tally.{IsTally, IsWithin, sums_of};
 ghost use Rattle.ats_bound.specs.Row.{row_from, row_or_load};
+ghost use Rattle.ats_bound.specs.Users.{is_user, with_user};
 
 use ats_certificate::Row;
 use ats_network::Network;
 use ats_num::time::PS_PER_SECOND;
 use ats_streams::Stream;
 use ats_tally::tally::MAX_SENDERS;
-use ats_tally::{ClassSums, Tally, least_wait};
+use ats_tally::{ClassSums, SeenSender, Tally, least_wait};
 use ats_topology::Port;
 
 /// Whether some stream of the class uses the port. It takes no memory.
@@ -40,11 +42,29 @@ pub fn row(network: &Network, port: u32, class: u8) -> Result<Row, u128>
     row_of(network, port, class, tally_at(network, port, class))
 }
 
-// Whether one of these streams uses the port and is of the class.
+// Whether one of these streams uses the port and is of the class there.
 fn is_used_by(streams: &[Stream], port: u32, class: u8) -> bool
-    ensures { result ≡ list_any (λ s. uses port (stream_sender s) && is_of class (stream_sender s)) streams.now }
+    ensures { result ≡ list_any (λ s. is_user port class (stream_sender s)) streams.now }
 {
-    streams.iter().any(|stream| stream.path().contains(&port) && stream.class() == class)
+    streams.iter().any(|stream| is_user(stream, port, class))
+}
+
+// Whether a stream uses the port and is of the class there.
+fn is_user(stream: &Stream, port: u32, class: u8) -> bool
+    ensures { result ≡ is_user port class (stream_sender stream.now) }
+{
+    match hop_of(stream.path(), port) {
+        Some(hop) => stream.classes()[hop] == class,
+        None => false,
+    }
+}
+
+// The place of a port on a path, if it is there.
+fn hop_of(path: &[u32], port: u32) -> Option<usize>
+    ensures place { result ≡ position_from (λ p. p == port) 0 path.now }
+    ensures within { IfSome result (λ hop. hop < length path.now) }
+{
+    path.iter().position(|p| *p == port)
 }
 
 /// The row of a port and a class, from what the senders at the port make of the class.
@@ -65,11 +85,21 @@ fn tally_at(network: &Network, port: u32, class: u8) -> Tally
 {
     let mut tally = Tally::new();
     for sender in 0..network.senders() {
-        if network.sender_path(sender).contains(&port) {
-            tally = tally.with_sender(network, class, sender);
-        }
+        tally = with_user(tally, network, sender, port, class);
     }
     tally
+}
+
+// A tally with one sender more, where it uses the port.
+fn with_user(tally: Tally, network: &Network, sender: u32, port: u32, class: u8) -> Tally
+    requires sender { sender < length (senders_of network.now) }
+    requires room { IsWithin MAX_SENDERS tally }
+    ensures { result ≡ with_user port class (sender_at network.now sender) tally }
+{
+    match hop_of(network.sender_path(sender), port) {
+        Some(hop) => tally.with_sender(class, &SeenSender::at(network, sender, hop as u32)),
+        None => tally,
+    }
 }
 
 // The row of a port with this number, where the senders there make so much of a class.

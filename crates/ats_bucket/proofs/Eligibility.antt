@@ -2,11 +2,11 @@ use Rattle.std.proofs.Common.{◌≡◌, ℕ, ◌+◌, ◌-◌, ◌*◌, ◌≤�
 use Rattle.std.specs.Prelude.{ℤ, pos, negsuc, ◌-ℤ◌, ◌≤ℤ◌}
 use Rattle.std.proofs.lemmas.Int.{ints}
 use Rattle.std.proofs.Math.Nat.{mul-le-mul_right}
-use Rattle.ats_num.specs.Division.{IsCeiling}
+use Rattle.ats_num.specs.Division.{IsCeiling, ceiling}
 use Rattle.ats_num.specs.declared.time.TheConstants.{PS_PER_SECOND}
-use Rattle.ats_bucket.specs.Integers.{nonnegative, nonnegative-is, ceiling}
+use Rattle.ats_bucket.specs.Integers.{nonnegative, nonnegative-is}
 use Rattle.ats_bucket.specs.Scheduler.{holds_at, IsEligibility, eligibility_time}
-use Rattle.ats_bucket.proofs.Ceiling.{ceiling-is, ceiling-only}
+use Rattle.ats_num.proofs.Ceiling.{ceiling-is, ceiling-only}
 
 -- a number reaches an integer where it reaches its part from 0 on
 pub up_to_nonnegative : (z : ℤ) (n : ℕ) → nonnegative z ≤ n → z ≤ℤ pos n

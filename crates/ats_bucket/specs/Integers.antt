@@ -1,4 +1,4 @@
-use Rattle.std.specs.Prelude.{◌≡◌, ℕ, ◌+◌, ◌-◌, ◌/◌, ℤ, pos, negsuc, ◌-ℤ◌}
+use Rattle.std.specs.Prelude.{◌≡◌, ℕ, ◌-◌, ℤ, pos, negsuc, ◌-ℤ◌}
 use Rattle.std.proofs.Common.{arith}
 use Rattle.std.proofs.lemmas.Int.{ints}
 
@@ -6,10 +6,6 @@ use Rattle.std.proofs.lemmas.Int.{ints}
 abbrev pub nonnegative : ℤ → ℕ
 nonnegative (pos n) = n
 nonnegative (negsuc n) = 0
-
--- n divided by d, rounded up
-abbrev pub ceiling : ℕ → ℕ → ℕ
-ceiling n d = (n + (d - 1)) / d
 
 -- a difference, cut off at 0
 pub nonnegative-is : (z : ℤ) (a b : ℕ) → z ≡ pos a -ℤ pos b → nonnegative z ≡ a - b

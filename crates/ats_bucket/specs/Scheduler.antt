@@ -2,7 +2,8 @@ use Rattle.std.specs.Prelude.{ℕ, ◌+◌, ◌*◌, ◌≤◌, max, ℤ, pos, n
 use Rattle.ats_num.specs.declared.time.TheConstants.{PS_PER_SECOND, END}
 use Rattle.ats_num.specs.declared.rate.TheConstants.{MAX_BURST_BITS}
 use Rattle.ats_num.specs.Rate.{IsRate}
-use Rattle.ats_bucket.specs.Integers.{nonnegative, ceiling}
+use Rattle.ats_num.specs.Division.{ceiling}
+use Rattle.ats_bucket.specs.Integers.{nonnegative}
 
 -- what a scheduler keeps: a committed rate in bits per second, a burst in bits, and the bucket-empty time in
 -- picoseconds, multiplied by the rate

@@ -3,8 +3,8 @@ use Rattle.std.proofs.Common.{◌≡◌, Bool, true, false, cond, List, ◌∷�
 use Rattle.std.specs.List.{All}
 use Rattle.std.specs.Option.{option_or}
 use Rattle.std.proofs.lemmas.List.Elements.{All-head}
-use Rattle.ats_network.proofs.Appended.{all_right}
-use Rattle.ats_tally.proofs.Firsts.{none_some, some_is}
+use Rattle.std.proofs.lemmas.Option.{none-some, same_Some}
+use Rattle.ats_facts.proofs.Lists.{all_right}
 use Rattle.ats_bound.specs.First.{IsFirstBreach}
 
 -- what is so of each is so of the first that breaks a rule
@@ -21,8 +21,8 @@ or_none (Some x) = refl
 -- a value that a test gives where it fails
 pub if_false : {B : Type 0} (P : B → Type 0) (t : Bool) (x found : B) → (t ≡ false → P x)
     → cond t None (Some x) ≡ Some found → P found
-if_false P true x found p h = absurd (none_some found h)
-if_false P false x found p h = subst P (some_is x found h) (p refl)
+if_false P true x found p h = absurd (none-some found h)
+if_false P false x found p h = subst P (same_Some x found h) (p refl)
 
 pub false_if : {B : Type 0} (t : Bool) (x : B) → (cond t None (Some x) ≡ None → ⊥) → cond t None (Some x) ≡ Some x
 false_if true x h = absurd (h refl)

@@ -1,5 +1,5 @@
 -- The refusal that is found is the first that is due.
-use Rattle.std.proofs.Common.{◌≡◌, ℕ, ◌+◌, ◌-◌, ◌*◌, true, false, List, ◌∷◌, ◌++◌, get_or, Option, Some, None, refl}
+use Rattle.std.proofs.Common.{◌≡◌, ℕ, ◌+◌, ◌-◌, ◌*◌, true, List, ◌∷◌, ◌++◌, get_or, Option, Some, None, refl}
 use Rattle.std.proofs.Common.{sym, ap, subst, ◌∙◌, inl, inr, eqb, arith}
 use Rattle.std.specs.Prelude.{nat_lt, is_some}
 use Rattle.std.specs.List.{All, AllPairs, list_any}
@@ -7,11 +7,13 @@ use Rattle.std.specs.Option.{option_or}
 use Rattle.std.proofs.lemmas.Bool.{and_from, and_parts, eqb-true, eq-eqb, or_cases}
 use Rattle.std.proofs.lemmas.List.Elements.{All-head}
 use Rattle.std.proofs.lemmas.List.Folds.{list_any-append}
+use Rattle.std.proofs.lemmas.Option.{none-some}
+use Rattle.ats_facts.proofs.Options.{is_some-false}
+use Rattle.ats_facts.proofs.Lists.{all_right}
 use Rattle.ats_num.specs.declared.time.TheConstants.{PS_PER_SECOND, PS_PER_NS}
 use Rattle.ats_topology.specs.Port.{port_at}
 use Rattle.ats_network.specs.Network.{DeclaredNetwork, IsNetwork}
 use Rattle.ats_network.specs.Residence.{residence_after}
-use Rattle.ats_network.proofs.Appended.{all_right}
 use Rattle.ats_certificate.specs.PortSums.{PortSums, port_sums, is_used}
 use Rattle.ats_certificate.specs.Used.{places_of}
 use Rattle.ats_certificate.specs.Certificate.{HasRows, HasSums, FitsLink, IsEnough, MayStay, Covers, RowHolds, IsInTime}
@@ -19,7 +21,7 @@ use Rattle.ats_certificate.specs.Certificate.{IsBefore, is_row_of, row_of, bound
 use Rattle.ats_certificate.specs.Least.{IsLeastRow}
 use Rattle.ats_certificate.specs.declared.row.Row.{Row}
 use Rattle.ats_tally.specs.Waits.{least_wait}
-use Rattle.ats_tally.specs.Reason.{first_some, overload_in, overstay_by, overstay, late}
+use Rattle.ats_tally.specs.Reason.{first_some, overload_in, overstay_by, overstay, row_need, late}
 use Rattle.ats_tally.specs.declared.reason.Reason.{Reason}
 use Rattle.ats_tally.specs.declared.reason.Reason.TheVariants.{Overloaded, Residence, Deadline}
 use Rattle.ats_tally.proofs.Places.{IsPlace, IsUsedAt, Precedes, is_at, is_place, places_used, places_ordered}
@@ -34,7 +36,6 @@ use Rattle.ats_checker.specs.declared.refusal.Field.{Field}
 use Rattle.ats_checker.specs.declared.refusal.Field.TheVariants as field
 use Rattle.ats_checker.specs.declared.refusal.Refusal.{Refusal}
 use Rattle.ats_checker.specs.declared.refusal.Refusal.TheVariants.{RowMissing, RowStray, FieldWrong, WaitTooSmall}
-use Rattle.ats_tally.proofs.Firsts.{none_some}
 use Rattle.ats_checker.proofs.Refused.{is_given, by_given, passes, by_pass, has_row_among, complete_from, right_from}
 use Rattle.ats_checker.proofs.Refused.{by_right, fits_from, by_fits, no_reason, place_fits, long_from, by_long}
 use Rattle.ats_checker.proofs.Refused.{enough_from}
@@ -127,11 +128,6 @@ field_tests network row = λ k d h. (
       λ same. by_given row f (said row f) (due network row f) same,
     ))
 
--- an option that holds nothing
-pub not_some : {X : Type 0} (o : Option X) → is_some o ≡ false → o ≡ None
-not_some None h = refl
-not_some (Some x) h = cc
-
 -- the refusal that is found is the first
 module _ (network : DeclaredNetwork) (rows : List Row) (is : IsNetwork network) where
   pub of_stray : (found : Refusal) → ((p c : ℕ) → is_used network p c ≡ true → is_some (row_of rows p c) ≡ true)
@@ -161,19 +157,19 @@ module _ (network : DeclaredNetwork) (rows : List Row) (is : IsNetwork network) 
       })
       at.gives
 
-  pub over_by : (row : Row) (residence : Option ℕ) (found : Reason)
-      → IsFirstReasonOfRows network rows (Residence row.port row.class row.wait)
-      → overstay_by row residence ≡ Some found → IsFirstReasonOfRows network rows found
-  over_by row None found first h = absurd (none_some found h)
-  over_by row (Some residence_ns) found first h = if_true (IsFirstReasonOfRows network rows)
-      (nat_lt (PS_PER_NS * residence_ns) row.wait) (Residence row.port row.class row.wait) found (λ _. first) h
+  pub over_by : (row : Row) (need : ℕ) (residence : Option ℕ) (found : Reason)
+      → IsFirstReasonOfRows network rows (Residence row.port row.class need)
+      → overstay_by row need residence ≡ Some found → IsFirstReasonOfRows network rows found
+  over_by row need None found first h = absurd (none-some found h)
+  over_by row need (Some residence_ns) found first h = if_true (IsFirstReasonOfRows network rows)
+      (nat_lt (PS_PER_NS * residence_ns) need) (Residence row.port row.class need) found (λ _. first) h
 
   pub of_stay : (found : Reason) → HasRows network rows → All (Covers network) rows
       → first_some (overstay network) rows ≡ Some found
       → IsFirstReasonOfRows network rows found
   of_stay found rows_of covers e =
       let at = stands_at (overstay network) rows found e in
-      over_by at.it (residence_after network.topology at.it.port) found
+      over_by at.it (row_need network at.it) (residence_after network.topology at.it.port) found
       (record {
         row = at.it;
         fault = at_fault network rows is (overstay network) found rows_of covers (stay_tests network rows) at;
@@ -209,7 +205,7 @@ module _ (network : DeclaredNetwork) (rows : List Row) (is : IsNetwork network) 
       (λ f. so at.it.0 at.it.1 (record {
         used =
             All-head (IsUsedAt network) at.it at.after (all_right (IsUsedAt network) at.before (at.it ∷ at.after) used);
-        none = not_some (row_of rows at.it.0 at.it.1) f;
+        none = is_some-false (row_of rows at.it.0 at.it.1) f;
         before = λ p c u less. (
             let any : list_any (is_at p c) (at.before ++ at.it ∷ at.after) ≡ true = subst
             (λ (ps : List (ℕ × ℕ)). list_any (is_at p c) ps ≡ true) (sym at.cut) (places_have network p c is u) in

@@ -1,6 +1,7 @@
 -- The ports that refusals name.
 use Rattle.std.proofs.Common.{◌≡◌, ℕ, ◌+◌, ◌<◌, List, length, get_or, Option, Some, None, refl, subst}
 use Rattle.std.specs.Prelude.{is_some, ◌==◌}
+use Rattle.std.proofs.lemmas.Option.{none-some, same_Some}
 use Rattle.ats_streams.specs.Stream.{DeclaredStream}
 use Rattle.ats_network.specs.Network.{DeclaredNetwork, IsNetwork}
 use Rattle.ats_network.specs.Residence.{residence_after}
@@ -8,9 +9,9 @@ use Rattle.ats_certificate.specs.PortSums.{PortSums, is_used}
 use Rattle.ats_certificate.specs.Certificate.{row_of, bound_along}
 use Rattle.ats_certificate.specs.Used.{places_of}
 use Rattle.ats_certificate.specs.declared.row.Row.{Row}
-use Rattle.ats_tally.specs.Reason.{first_some, overload_in, overstay, late, ReasonInside}
+use Rattle.ats_tally.specs.Reason.{first_some, overload_in, overstay, row_need, late, ReasonInside}
 use Rattle.ats_tally.specs.declared.reason.Reason.{Reason}
-use Rattle.ats_tally.proofs.Firsts.{none_some, some_is, first_where, or_where, where_passed, where_failed}
+use Rattle.ats_tally.proofs.Firsts.{first_where, or_where, where_passed, where_failed}
 use Rattle.ats_tally.proofs.Reasons.{overload_inside, overstay_inside, late_inside}
 use Rattle.ats_tally.proofs.Places.{is_place, places_used}
 use Rattle.ats_checker.specs.Ports.{RefusalInside, RowsInside}
@@ -23,8 +24,8 @@ use Rattle.ats_checker.specs.declared.refusal.Refusal.TheVariants.{RowMissing, R
 -- a reason of the network, as a refusal
 pub by_network : (P : Refusal → Type 0) (o : Option Reason) (found : Refusal)
     → ((reason : Reason) → o ≡ Some reason → P (Network reason)) → of_network o ≡ Some found → P found
-by_network P None found so h = absurd (none_some found h)
-by_network P (Some reason) found so h = subst P (some_is (Network reason) found h) (so reason refl)
+by_network P None found so h = absurd (none-some found h)
+by_network P (Some reason) found so h = subst P (same_Some (Network reason) found h) (so reason refl)
 
 module _ (network : DeclaredNetwork) (rows : List Row) (is : IsNetwork network) where
   abbrev pub Inside : Refusal → Type 0
@@ -64,7 +65,8 @@ module _ (network : DeclaredNetwork) (rows : List Row) (is : IsNetwork network) 
   of_stay reason all = first_where (overstay network) (ReasonInside network.topology) rows reason
       (λ k d h b. (
       let row : Row = get_or rows k d in
-      overstay_inside network.topology row (residence_after network.topology row.port) b (all k d h)))
+      overstay_inside network.topology row (row_need network row) (residence_after network.topology row.port) b
+      (all k d h)))
 
   of_late : (reason : Reason) → first_some (late rows) network.streams ≡ Some reason → Inside (Network reason)
   of_late reason = first_where (late rows) (ReasonInside network.topology) network.streams reason

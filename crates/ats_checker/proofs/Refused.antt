@@ -6,6 +6,7 @@ use Rattle.std.specs.List.{All, AllPairs, list_any}
 use Rattle.std.specs.Option.{option_or}
 use Rattle.std.proofs.Math.Nat.{mul-le-mul_right}
 use Rattle.std.proofs.lemmas.Bool.{and_parts, eqb-true, eq-eqb, ltb-false, le-ltb}
+use Rattle.ats_facts.proofs.Options.{option_or-none, cond-none}
 use Rattle.ats_num.specs.declared.time.TheConstants.{PS_PER_SECOND}
 use Rattle.ats_topology.specs.Port.{port_at}
 use Rattle.ats_topology.specs.declared.port.Port.{Port}
@@ -17,11 +18,11 @@ use Rattle.ats_certificate.specs.Certificate.{Holds, FitsLink, IsEnough, IsBefor
 use Rattle.ats_certificate.specs.declared.row.Row.{Row}
 use Rattle.ats_tally.specs.Waits.{least_wait}
 use Rattle.ats_bound.specs.Least.{least_row, least_certificate}
-use Rattle.ats_tally.specs.Reason.{first_some, overload_in, overstay, late}
+use Rattle.ats_tally.specs.Reason.{first_some, overload_in, overstay, row_need, late}
 use Rattle.ats_tally.specs.declared.reason.Reason.{Reason}
-use Rattle.ats_tally.proofs.Reasons.{some_none, fails, by_fail, fits_by, by_fit, stays_by, by_stay, in_time_from}
+use Rattle.ats_tally.proofs.Reasons.{some_none, by_fail, fits_by, by_fit, stays_by, by_stay, in_time_from}
 use Rattle.ats_tally.proofs.Reasons.{by_time}
-use Rattle.ats_tally.proofs.Lists.{any_gives, option_or-none, none_first, first_some-none}
+use Rattle.ats_tally.proofs.Lists.{any_gives, none_first, first_some-none}
 use Rattle.ats_tally.proofs.Places.{IsPlace, is_at, is_place, places_used, places_have}
 use Rattle.ats_bound.proofs.Waits.{Fits, work, work-is, least_wait-is, least_wait-le}
 use Rattle.ats_bound.proofs.LeastHolds.{least_certificate_holds}
@@ -133,7 +134,7 @@ pub long_from : (network : DeclaredNetwork) (row : Row) → short network row �
     → (least_row network (row.port, row.class)).wait ≤ row.wait
 long_from network row h =
     let least : ℕ = least_wait (port_at network.topology.ports row.port) (port_sums network row.port row.class) in
-    ltb-false row.wait least (fails (nat_lt row.wait least) (WaitTooSmall row.port row.class least) h)
+    ltb-false row.wait least (cond-none (nat_lt row.wait least) (WaitTooSmall row.port row.class least) h)
 
 pub by_long : (network : DeclaredNetwork) (row : Row) → (least_row network (row.port, row.class)).wait ≤ row.wait
     → short network row ≡ None
@@ -226,7 +227,7 @@ clear_holds network rows is ordered clear =
               wait = enough_from network row (is_place network row.port row.class is (used k d h)) rights fits
                   (long_from network row (long k d h));
             };
-            residence = stays_by row (residence_after network.topology row.port) (stay k d h);
+            residence = stays_by row (row_need network row) (residence_after network.topology row.port) (stay k d h);
           });
       deadlines = λ k d h. in_time_from rows (get_or network.streams k d) (time k d h);
     }
@@ -249,7 +250,7 @@ holds_clear network rows is holds =
           (is_place network row.port row.class is (holds.rows_of.used k d h)) (holds.each k d h).covers)));
       overstay = first_some-none (overstay network) rows
           (λ k d h. (let row : Row = get_or rows k d in
-          by_stay row (residence_after network.topology row.port) (holds.each k d h).residence));
+          by_stay row (row_need network row) (residence_after network.topology row.port) (holds.each k d h).residence));
       late = first_some-none (late rows) network.streams
           (λ k d h. by_time rows (get_or network.streams k d) (holds.deadlines k d h));
     }

@@ -5,19 +5,9 @@
 
 ghost use Rattle.std.specs.Prelude.{◌≡◌, ◌≢◌, ◌⊎◌, IfErr};
 
-mod fault_counts;
-#[cfg(test)]
-mod fault_tests;
-mod laws;
-mod real_files;
-mod real_sink;
-#[cfg(test)]
-mod tests;
-mod top;
-
-use crate::real_files::RealFiles;
-use crate::real_sink::RealSink;
-use ats_command::Status;
+use ats_answer::Status;
+use ats_command::ats;
+use ats_system::{RealFiles, RealSink};
 use std::env;
 use std::io::ErrorKind;
 use std::process::ExitCode;
@@ -51,7 +41,7 @@ fn status_of(kind: ErrorKind) -> Status
 // Runs the command that these words name.
 fn run(rt: HostRuntime, words: &[String]) -> Status {
     match RealFiles::new(rt.alloc(), rt, words) {
-        Ok(mut files) => top::ats(rt.alloc(), words, &mut files, &mut RealSink::new(rt)),
+        Ok(mut files) => ats(rt.alloc(), words, &mut files, &mut RealSink::new(rt)),
         Err(_) => Status::NoMemory,
     }
 }

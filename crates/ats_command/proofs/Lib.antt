@@ -1,8 +1,8 @@
-pub mod RowSteps
-pub mod RowPorts
 pub mod RowOrder
 pub mod Judging
 pub mod Steps
 pub mod OneAnswer
 pub mod Meanings
 pub mod PrintedBounds
+pub mod Ending
+pub mod Surely

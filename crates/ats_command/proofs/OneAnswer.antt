@@ -1,6 +1,6 @@
 use Rattle.std.proofs.Common.{◌≡◌, ℕ, List, Option, refl}
-use Rattle.ats_command.specs.Command.{Command, Shape, Show, Bound, Check, Unknown, command_of}
-use Rattle.ats_command.specs.Answer.{Answer, words_answer}
+use Rattle.ats_answer.specs.Command.{Command, Shape, Show, Bound, Check, Unknown, command_of}
+use Rattle.ats_answer.specs.Answer.{Answer, words_answer}
 use Rattle.ats_command.specs.Due.{IsDue, IsTold, shape_answer, show_answer, bound_answer, check_answer, told_bytes}
 use Rattle.ats_command.specs.Laws.{OneAnswerIsDue}
 

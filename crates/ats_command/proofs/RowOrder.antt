@@ -3,6 +3,7 @@ use Rattle.std.proofs.Common.{◌≡◌, ℕ, true, List, [], ◌∷◌, ◌++�
 use Rattle.std.specs.Prelude.{IfOk, AllPairs}
 use Rattle.std.proofs.lemmas.Bool.Decides.{nat_tests}
 use Rattle.std.proofs.lemmas.List.Quantifiers.{all_pairs_push}
+use Rattle.std.proofs.lemmas.Option.{same_Some}
 use Rattle.ats_topology.specs.Topology.{DeclaredTopology}
 use Rattle.ats_certificate.specs.Certificate.{IsBefore}
 use Rattle.ats_certificate.specs.Form.{ComesAfter, last_of}
@@ -10,20 +11,17 @@ use Rattle.ats_certificate.specs.declared.row.Row.{Row}
 use Rattle.ats_certificate.proofs.Rows.{after_each}
 use Rattle.ats_certificate_file.specs.Reading.{row_in, is_before, comes_after, row_after, rows_of}
 use Rattle.ats_certificate_file.specs.declared.fault.CertFault.TheVariants.{RowOrder}
-use Rattle.ats_command.proofs.RowSteps.{always, followed, where_passed, rows_keep}
+use Rattle.ats_answer.proofs.RowSteps.{always, followed, where_passed, rows_keep}
 
 -- a row that passes the test comes before the other
 before_passed : (a b : Row) → is_before a b ≡ true → IsBefore a b
 before_passed a b passed = grind (arith, nat_tests)
 
-one_row : (a b : Row) → Some a ≡ Some b → a ≡ b
-one_row a b h = cc
-
 last_passed : (last : Option Row) (row : Row) → comes_after last row ≡ true → (before : Row) → last ≡ Some before
     → IsBefore before row
 last_passed None row passed before is = cc
 last_passed (Some last) row passed before is =
-    subst (λ (r : Row). IsBefore r row) (one_row last before is) (before_passed last row passed)
+    subst (λ (r : Row). IsBefore r row) (same_Some last before is) (before_passed last row passed)
 
 -- a row that is read comes after the last one
 comes_last : (topology : DeclaredTopology) (rows : List Row) (n : ℕ) (fields : List (List ℕ))

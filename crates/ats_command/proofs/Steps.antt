@@ -1,15 +1,14 @@
-use Rattle.std.proofs.Common.{◌≡◌, ℕ, List, [], Option, Some, None, Result, Ok, Err, refl, sym, ◌∙◌, ap, subst, arith}
-use Rattle.ats_io.specs.Outside.{Rose}
-use Rattle.std.specs.Prelude.{IsSome, IfSome, IfOk, IsErrAnd, IsOk, ◌≤◌, unwrap_or}
+use Rattle.std.proofs.Common.{◌≡◌, ℕ, List, [], Option, Some, None, Result, Ok, Err, refl, sym, ◌∙◌, ap, subst}
+use Rattle.std.specs.Prelude.{IsSome, IfSome, IfOk, IsErrAnd, IsOk, unwrap_or}
 use Rattle.std.specs.Global.{Vec}
 use Rattle.ats_num.specs.Failure.{◌>>=◌}
-use Rattle.ats_command.specs.Answer.{Answer, settled}
-use Rattle.ats_command.specs.Input.{bytes_in, declared_in}
+use Rattle.ats_answer.specs.Answer.{Answer, settled}
 use Rattle.ats_command.specs.Due.{told_bytes}
-use Rattle.ats_command.specs.Outcome.{Gives, IsStopOf, answer_of}
-use Rattle.ats_command.specs.declared.outcome.Stop.{Stop}
-use Rattle.ats_command.specs.declared.outcome.Stop.TheVariants.{Input, Refused, ReadFailed, NoMemory}
-use Rattle.ats_command.specs.declared.status.Status.TheVariants as status
+use Rattle.ats_answer.specs.Outcome.{Gives, IsStopOf, answer_of}
+use Rattle.ats_answer.specs.declared.outcome.Stop.{Stop}
+use Rattle.ats_answer.specs.declared.outcome.Stop.TheVariants.{Input, Refused, ReadFailed, NoMemory}
+use Rattle.ats_answer.specs.declared.status.Status.TheVariants as status
+use Rattle.ats_answer.proofs.Steps.{stops_all}
 
 some_is : (o : Option (List ℕ)) → IsSome o → o ≡ Some (unwrap_or o [])
 some_is None h = cc
@@ -19,19 +18,6 @@ some_is (Some bytes) h = refl
 pub told_is : (told : List ℕ → Option (List ℕ)) (name : List ℕ) → IsSome (told name)
     → told name ≡ Some (told_bytes told name)
 told_is told name h = some_is (told name) h
-
--- what stops a step stops what goes on from it
-pub stops_all : {A B : Type 0} (stop : Stop) (due : Result A Answer) (next : A → Result B Answer) → IsStopOf stop due
-    → IsStopOf stop (due >>= next)
-stops_all (Input text) due next h = ap (λ d. d >>= next) h
-stops_all (Refused text) due next h = ap (λ d. d >>= next) h
-stops_all ReadFailed due next h = tt
-stops_all NoMemory due next h = tt
-
--- what a step gives goes on
-pub goes_on : {X A B : Type 0} (seen : X → B) (result : Result X Stop) (due : Result A Answer) (value : A) (next : A
-    → Result B Answer) → due ≡ Ok value → Gives seen result (next value) → Gives seen result (due >>= next)
-goes_on seen result due value next gives rest = subst (λ d. Gives seen result (d >>= next)) (sym gives) rest
 
 -- what stops a command settles it
 pub stop_settles : (stop : Stop) (due : Result (List ℕ) Answer) → IsStopOf stop due
@@ -45,20 +31,6 @@ stop_settles NoMemory due h = tt
 pub text_settles : (text : List ℕ) (due : Result (List ℕ) Answer) → due ≡ Ok text
     → record { status = status.Done; text = text } ≡ settled due
 text_settles text due h = sym (ap settled h)
-
--- an error that is handed on is the same
-pub err_is : {X : Type 0} (result : Result X Stop) (stop : Stop) → IsErrAnd result (λ e. e ≡ stop) → result ≡ Err stop
-err_is (Ok x) stop h = absurd h
-err_is (Err e) stop h = ap Err h
-
--- what the bytes of a file declare, once they were read
-pub declares : {X A F : Type 0} (seen : X → A) (result : Result X Stop) (file bytes whole text : List ℕ)
-    (words : F → List ℕ) (reading : List ℕ → Result A F)
-    → bytes_in file bytes ≡ Ok whole → text ≡ whole → Gives seen result (declared_in file words (reading text))
-    → Gives seen result (bytes_in file bytes >>= λ t. declared_in file words (reading t))
-declares seen result file bytes whole text words reading was_read same gives =
-    goes_on seen result (bytes_in file bytes) whole (λ t. declared_in file words (reading t)) was_read
-    (subst (λ (t : List ℕ). Gives seen result (declared_in file words (reading t))) same gives)
 
 -- a step that stops a command settles it
 pub step_settles : {A : Type 0} (result : Result (Vec ℕ) Stop) (stop : Stop) (due : Result A Answer)
@@ -81,10 +53,6 @@ pub text_then : (result : Result (Vec ℕ) Stop) (P Q : List ℕ → Type 0) →
 text_then (Ok text) P Q h f = f text.items h
 text_then (Err stop) P Q h f = tt
 
--- a fault that came after some state came after an earlier one
-pub rose_since : (before between after : ℕ) → before ≤ between → Rose between after → Rose before after
-rose_since before between after h rose = omega arith
-
 one_error : {X : Type 0} (stop other : Stop) → (let r : Result X Stop = Err stop in r ≡ Err other) → stop ≡ other
 one_error stop other h = cc
 
@@ -96,12 +64,3 @@ same_stop {X} result stop other h k = one_error {X = X} stop other (sym h ∙ k)
 -- what is declared is no answer
 pub declared_is_ok : {A : Type 0} (due : Result A Answer) (value : A) → due ≡ Ok value → IsOk due
 declared_is_ok due value h = rw h refl
-
--- a value that was declared keeps what each one keeps that is due
-pub declared_keeps : {A F : Type 0} (P : A → Type 0) (result : Result A Stop) (file : List ℕ) (words : F → List ℕ)
-    (due : Result A F)
-    → Gives (λ (value : A). value) result (declared_in file words due) → ((value : A) → due ≡ Ok value → P value)
-    → IfOk result P
-declared_keeps P (Err stop) file words due h keeps = tt
-declared_keeps P (Ok value) file words (Err fault) h keeps = cc
-declared_keeps P (Ok value) file words (Ok other) h keeps = keeps value (let same : other ≡ value = cc in ap Ok same)

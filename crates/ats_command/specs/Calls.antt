@@ -1,9 +1,16 @@
-use Rattle.std.specs.Prelude.{◌≡◌, ℕ, List, Option, All}
+use Rattle.std.specs.Prelude.{◌≡◌, ℕ, List, IfSome, Option, Result, All}
+use Rattle.std.specs.Global.{Vec}
 use Rattle.ats_io.specs.Outside.{Rose, TakesPrefix, appended}
-use Rattle.ats_command.specs.Command.{Command, file_words}
-use Rattle.ats_command.specs.Answer.{Answer}
-use Rattle.ats_command.specs.Due.{IsDue, IsTold, Reaches}
-use Rattle.ats_command.specs.declared.status.Status.{Status}
+use Rattle.ats_answer.specs.Command.{Command, file_words}
+use Rattle.ats_answer.specs.Answer.{Answer}
+use Rattle.ats_answer.specs.Outcome.{answer_of}
+use Rattle.ats_answer.specs.declared.outcome.Stop.{Stop}
+use Rattle.ats_command.specs.Due.{IsAnswer, IsDue, IsTold, Reaches, told_bytes}
+use Rattle.ats_answer.specs.declared.status.Status.{Status}
+
+-- where the files tell their bytes, the answer that an outcome makes is one to the command
+abbrev pub Answers : (List ℕ → Option (List ℕ)) → Command → Result (Vec ℕ) Stop → Type 0
+Answers told command outcome = IsTold told command → IfSome (answer_of outcome) (IsAnswer (told_bytes told) command)
 
 -- a text was printed, whole; with the status it is due, where the files tell their bytes
 abbrev pub Printed : (List ℕ → Option (List ℕ)) → Command → Status → Option (List ℕ) → Option (List ℕ) → Type 0

@@ -2,11 +2,11 @@ use Rattle.std.specs.Prelude.{◌≡◌, ℕ, ◌⊎◌, List, [], All, IsSome, 
 use Rattle.ats_io.specs.Outside.{IfTold}
 use Rattle.ats_shape.specs.Text.{text_of}
 use Rattle.ats_network_text.specs.Text.{show_text}
-use Rattle.ats_command.specs.Command.{Command, Shape, Show, Bound, Check, Unknown, file_words}
+use Rattle.ats_answer.specs.Command.{Command, Shape, Show, Bound, Check, Unknown, file_words}
 use Rattle.ats_num.specs.Failure.{◌>>=◌}
-use Rattle.ats_command.specs.Answer.{Answer, words_answer, settled}
-use Rattle.ats_command.specs.Input.{shape_in, network_in, rows_in}
-use Rattle.ats_command.specs.Judged.{bound_judged, check_judged}
+use Rattle.ats_answer.specs.Answer.{Answer, words_answer, settled}
+use Rattle.ats_answer.specs.Input.{shape_in, network_in}
+use Rattle.ats_command.specs.Judged.{bound_judged, certificate_judged}
 
 -- to `shape FILE`, by the bytes of the file
 unfoldable pub shape_answer : List ℕ → List ℕ → Answer
@@ -30,8 +30,7 @@ bound_answer net bytes = settled (do
 unfoldable pub check_answer : List ℕ → List ℕ → List ℕ → List ℕ → Answer
 check_answer net certificate net_bytes certificate_bytes = settled (do
   network ← network_in net net_bytes
-  rows ← rows_in network.topology certificate certificate_bytes
-  check_judged network rows)
+  certificate_judged network certificate certificate_bytes)
 
 -- an answer to a command, where its files have these bytes
 abbrev pub IsAnswer : (List ℕ → List ℕ) → Command → Answer → Type 0

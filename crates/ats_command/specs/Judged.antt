@@ -7,8 +7,10 @@ use Rattle.ats_bound.specs.Least.{least_certificate}
 use Rattle.ats_bound.specs.Reason.{reason_of}
 use Rattle.ats_checker.specs.Refusal.{refusal_of}
 use Rattle.ats_verdict_text.specs.Text.{accepted_text, reason_text, refusal_text, refused_text}
-use Rattle.ats_command.specs.Answer.{Answer}
-use Rattle.ats_command.specs.declared.status.Status.TheVariants.{Refused}
+use Rattle.ats_num.specs.Failure.{◌>>=◌}
+use Rattle.ats_answer.specs.Answer.{Answer}
+use Rattle.ats_answer.specs.Input.{rows_in}
+use Rattle.ats_answer.specs.declared.status.Status.TheVariants.{Refused}
 
 -- a text, unless something is refused
 abbrev pub judged : List ℕ → Option (List ℕ) → Result (List ℕ) Answer
@@ -24,3 +26,9 @@ bound_judged network = judged (certificate_text network.topology (least_certific
 unfoldable pub check_judged : DeclaredNetwork → List Row → Result (List ℕ) Answer
 check_judged network rows =
     judged (accepted_text network rows) (option_map (refusal_text network.topology) (refusal_of network rows))
+
+-- the same of the rows that a file of these bytes declares, unless it has a fault
+abbrev pub certificate_judged : DeclaredNetwork → List ℕ → List ℕ → Result (List ℕ) Answer
+certificate_judged network certificate bytes = do
+  rows ← rows_in network.topology certificate bytes
+  check_judged network rows

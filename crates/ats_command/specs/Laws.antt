@@ -8,8 +8,8 @@ use Rattle.ats_network.specs.Senders.{sender_at}
 use Rattle.ats_certificate.specs.declared.row.Row.{Row}
 use Rattle.ats_soundness_law.specs.Sound.{bounds_of}
 use Rattle.ats_verdict_text.specs.Text.{stream_lines}
-use Rattle.ats_command.specs.Command.{command_of}
-use Rattle.ats_command.specs.Answer.{Answer}
+use Rattle.ats_answer.specs.Command.{command_of}
+use Rattle.ats_answer.specs.Answer.{Answer}
 use Rattle.ats_command.specs.Due.{IsDue, IsTold}
 
 -- this answer is due, and no other

@@ -1,12 +1,6 @@
-pub mod Command
-pub mod Answer
-pub mod Input
 pub mod Judged
 pub mod Due
 pub mod Calls
 pub mod Soundness
-pub mod Named
-pub mod Outcome
 pub mod Laws
 pub mod Meaning
-pub mod Status

@@ -7,11 +7,11 @@ use Rattle.ats_bound.specs.Least.{least_certificate}
 use Rattle.ats_soundness_law.specs.Sound.{IsSound}
 use Rattle.ats_checker.specs.InTime.{FramesAreInTime}
 use Rattle.ats_verdict_text.specs.Text.{accepted_text}
-use Rattle.ats_command.specs.Input.{network_in, rows_in}
+use Rattle.ats_answer.specs.Input.{network_in, rows_in}
 use Rattle.ats_command.specs.Due.{bound_answer, check_answer}
-use Rattle.ats_command.specs.declared.status.Status.{Status}
-use Rattle.ats_command.specs.declared.status.Status.TheVariants.{Done, Words, Input, Refused, ReadFailed, WriteFailed}
-use Rattle.ats_command.specs.declared.status.Status.TheVariants.{NoMemory}
+use Rattle.ats_answer.specs.declared.status.Status.{Status}
+use Rattle.ats_answer.specs.declared.status.Status.TheVariants.{Done, Words, Input, Refused, ReadFailed, WriteFailed}
+use Rattle.ats_answer.specs.declared.status.Status.TheVariants.{NoMemory}
 
 -- a file of these bytes declares this network, and the text writes its least certificate, which holds and is sound
 pub record IsBounded (net bytes text : List ℕ) (network : DeclaredNetwork) : Type 0 where

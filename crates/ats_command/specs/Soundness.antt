@@ -5,9 +5,9 @@ use Rattle.ats_soundness_law.specs.Sound.{IsSound}
 use Rattle.ats_checker.specs.InTime.{FramesAreInTime}
 use Rattle.ats_verdict_text.specs.Text.{accepted_text}
 use Rattle.ats_io.specs.Outside.{appended}
-use Rattle.ats_command.specs.Command.{Command, Shape, Show, Bound, Check, Unknown}
+use Rattle.ats_answer.specs.Command.{Command, Shape, Show, Bound, Check, Unknown}
 use Rattle.ats_command.specs.Due.{IsTold, told_bytes}
-use Rattle.ats_command.specs.Input.{network_in, rows_in}
+use Rattle.ats_answer.specs.Input.{network_in, rows_in}
 
 -- a text gives the bounds of rows and their sums; the bounds are sound, and by them each frame of a talker that keeps
 -- its buckets arrives within the sum and within the deadline
@@ -15,6 +15,11 @@ pub record IsSoundText (network : DeclaredNetwork) (rows : List Row) (text : Lis
   pub sound : IsSound network rows
   pub in_time : FramesAreInTime network rows
   pub written : text ≡ accepted_text network rows
+
+-- a file of these bytes declares rows for a network, of which the text is such a one
+abbrev pub IsSoundFile : DeclaredNetwork → List ℕ → List ℕ → List ℕ → Type 0
+IsSoundFile network certificate bytes text =
+    (rows : List Row) × (rows_in network.topology certificate bytes ≡ Ok rows) × IsSoundText network rows text
 
 -- two files of these bytes declare this network and these rows, of which the text is such a one
 pub record AreSound (net certificate net_bytes certificate_bytes text : List ℕ) (network : DeclaredNetwork)

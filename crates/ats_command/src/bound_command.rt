@@ -4,13 +4,12 @@ ghost use Rattle.std.specs.Prelude.{◌≡◌, IfOk, IsErrOf};
 ghost use Rattle.ats_io.specs.Outside.{Continues};
 ghost use Rattle.ats_tally.specs.Reason.{ReasonInside};
 ghost use Rattle.ats_verdict_text.specs.Text.{reason_text, refused_text};
-ghost use Rattle.ats_command.specs.Command as table;
-ghost use Rattle.ats_command.specs.Calls.{ReadRose};
+ghost use Rattle.ats_answer.specs.Command as table;
+ghost use Rattle.ats_command.specs.Calls.{Answers, ReadRose};
 ghost use Rattle.ats_command.specs.Judged.{bound_judged};
-ghost use Rattle.ats_command.specs.Outcome.{Answers, Gives};
+ghost use Rattle.ats_answer.specs.Outcome.{Gives};
 
-use crate::input_file::network_in;
-use crate::outcome::Stop;
+use ats_answer::{Stop, network_in};
 use ats_bound::make;
 use ats_certificate_file::write_certificate;
 use ats_io::Files;

@@ -1,17 +1,16 @@
 //! `check NET CERT`: judges a certificate of a network, and gives the sums.
 
 ghost use Rattle.std.specs.Prelude.{◌≡◌, IfOk, IsErrOf};
-ghost use Rattle.ats_io.specs.Outside.{Continues};
+ghost use Rattle.ats_io.specs.Outside.{Continues, IfTold, Rose};
 ghost use Rattle.ats_checker.specs.Ports.{RefusalInside, RowsInside};
 ghost use Rattle.ats_verdict_text.specs.Text.{refusal_text, refused_text};
-ghost use Rattle.ats_command.specs.Command as table;
-ghost use Rattle.ats_command.specs.Calls.{ReadRose};
-ghost use Rattle.ats_command.specs.Judged.{check_judged};
-ghost use Rattle.ats_command.specs.Outcome.{Answers, Gives};
-ghost use Rattle.ats_command.specs.Soundness.{IsSoundCheck, IsSoundText};
+ghost use Rattle.ats_answer.specs.Command as table;
+ghost use Rattle.ats_command.specs.Calls.{Answers, ReadRose};
+ghost use Rattle.ats_command.specs.Judged.{certificate_judged, check_judged};
+ghost use Rattle.ats_answer.specs.Outcome.{Gives};
+ghost use Rattle.ats_command.specs.Soundness.{IsSoundCheck, IsSoundFile, IsSoundText};
 
-use crate::input_file::{certificate_in, network_in};
-use crate::outcome::Stop;
+use ats_answer::{Stop, certificate_in, network_in};
 use ats_certificate::Certificate;
 use ats_checker::Refusal;
 use ats_io::Files;
@@ -37,8 +36,26 @@ pub fn check<F: Files>(
     ensures continues { Continues F.told F.faults files.old files.new }
 {
     let network = network_in(alloc, net, files)?;
+    verdict_of(alloc, &network, certificate, files)
+}
+
+// What is printed of the certificate that a file declares.
+fn verdict_of<F: Files>(
+    alloc: Global,
+    network: &Network,
+    certificate: &str,
+    files: &mut F,
+) -> Result<Vec<u8>, Stop>
+    ensures due { IfTold (F.told files.old certificate.now) (λ bytes.
+        Gives (λ text. text.items) result (certificate_judged network.now certificate.now bytes)) }
+    ensures sound { IfOk result (λ text. IfTold (F.told files.old certificate.now)
+        (λ bytes. IsSoundFile network.now certificate.now bytes text.items)) }
+    ensures failed { IsErrOf result Stop.ReadFailed
+        → Rose (F.faults files.old certificate.now) (F.faults files.new certificate.now) }
+    ensures continues { Continues F.told F.faults files.old files.new }
+{
     let rows = certificate_in(alloc, certificate, network.topology(), files)?;
-    judgement_of(alloc, &network, &rows)
+    judgement_of(alloc, network, &rows)
 }
 
 // What is printed of a certificate that holds, or why it does not.

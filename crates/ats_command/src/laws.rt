@@ -1,7 +1,16 @@
-//! What is proved of the definitions themselves.
+//! What is proved of the definitions themselves, and of calls over an outside that never fails.
 
+ghost use Rattle.std.specs.Prelude.{◌≡◌, ◌⊎◌};
+ghost use Rattle.ats_answer.specs.Command.{command_of};
+ghost use Rattle.ats_answer.specs.Named.{texts_of};
+ghost use Rattle.ats_command.specs.Calls.{StatusIsDue};
 ghost use Rattle.ats_command.specs.Laws.{OneAnswerIsDue, PrintedBoundsAreSound};
 ghost use Rattle.ats_command.specs.Meaning.{BoundMeans, CheckMeans};
+
+use crate::call::ats;
+use ats_answer::Status;
+use ats_io::{Files, SureFiles, SureSink};
+use std::alloc::Global;
 
 /// For all words, and all bytes told under the names of their files, just one answer is due.
 pub fn one_answer_is_due()
@@ -28,3 +37,17 @@ pub fn what_check_answers()
 pub fn printed_bounds_are_sound()
     ensures { PrintedBoundsAreSound }
 {}
+
+/// Over files that tell their bytes and a sink, of which neither ever fails, a call ends with the
+/// status that is due, or with `NoMemory`.
+pub fn ats_surely(
+    alloc: Global,
+    words: &[String],
+    files: &mut SureFiles,
+    out: &mut SureSink,
+) -> Status
+    ensures { (result ≡ Status.NoMemory)
+        ⊎ StatusIsDue (⟦<SureFiles as Files>⟧.told files.old) (command_of (texts_of words.now)) result }
+{
+    ats(alloc, words, files, out)
+}

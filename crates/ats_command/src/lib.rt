@@ -1,22 +1,17 @@
-//! What a command of the program answers: the command table, the files of a command, the text that
-//! each comes to or the stop in its place, the status, and how they are printed; and which answers
-//! are due, with laws about them.
+//! What the program answers: the text that each command comes to or the stop in its place, which
+//! answers are due, with laws about them, and the one call that the program makes.
 #![tactic(auto)]
 
 pub mod bound_command;
+pub mod call;
 pub mod check_command;
-pub mod command;
-pub mod input_file;
 pub mod laws;
-pub mod outcome;
 pub mod shape_command;
 pub mod show_command;
-pub mod status;
 
 pub use bound_command::bound;
+pub use call::ats;
 pub use check_command::check;
-pub use command::{Command, named_by};
-pub use outcome::{Stop, finish, print};
+pub use laws::ats_surely;
 pub use shape_command::shape;
 pub use show_command::show;
-pub use status::Status;

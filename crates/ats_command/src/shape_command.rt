@@ -3,12 +3,10 @@
 ghost use Rattle.std.specs.Prelude.{◌≡◌, IfOk, IsErrOf};
 ghost use Rattle.ats_io.specs.Outside.{Continues};
 ghost use Rattle.ats_shape.specs.Text.{text_of};
-ghost use Rattle.ats_command.specs.Command as table;
-ghost use Rattle.ats_command.specs.Calls.{ReadRose};
-ghost use Rattle.ats_command.specs.Outcome.{Answers};
+ghost use Rattle.ats_answer.specs.Command as table;
+ghost use Rattle.ats_command.specs.Calls.{Answers, ReadRose};
 
-use crate::input_file::shape_in;
-use crate::outcome::Stop;
+use ats_answer::{Stop, shape_in};
 use ats_io::Files;
 use ats_shape::{Shape, judge, report};
 use std::alloc::{AllocError, Global};

@@ -5,3 +5,4 @@ pub mod Laws
 pub mod Order
 pub mod Ranked
 pub mod Steps
+pub mod Weak

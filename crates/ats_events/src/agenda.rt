@@ -4,10 +4,10 @@ ghost use Rattle.std.specs.Prelude.{◌≡◌, ◌≢◌, ◌↔◌, ◌+◌, �
 ghost use Rattle.std.specs.Option.{ForSome};
 ghost use Rattle.ats_events.specs.Contents.{opened};
 ghost use Rattle.ats_events.specs.Steps.{Inserts, Pops};
-ghost use Rattle.ats_events.specs.Inside.{AreDistinct, AreInRange, IsFirstOf};
 
 use crate::moment::Moment;
-use crate::order::{TimeOrder, is_before};
+use crate::order::{ByMoment, TimeOrder};
+use ats_heap::Heap;
 use std::alloc::{AllocError, Global};
 use std::marker::Model;
 
@@ -18,9 +18,7 @@ use std::marker::Model;
 /// where there is one.
 #[derive(Drop)]
 pub struct Agenda<O: TimeOrder, E: Copy> {
-    entries: Vec<(Moment, E)>,
-    capacity: u32,
-    order: O,
+    entries: Heap<(Moment, E), ByMoment<O>>,
     last: Option<Moment>,
 }
 
@@ -29,12 +27,16 @@ impl<O: TimeOrder, E: Copy> Model for Agenda<O, E> {
 
     ghost Value = { Contents O E };
 
-    ghost use Rattle.std.specs.Prelude.{vec_capacity};
     ghost use Rattle.ats_events.specs.Inside.{IsKept};
 
-    ghost view = { λ a. record { entries = a.entries.items; capacity = a.capacity; order = a.order; last = a.last } };
+    ghost view = { λ a. record {
+      entries = a.entries.items;
+      capacity = a.entries.capacity;
+      order = a.entries.order.order;
+      last = a.last;
+    } };
 
-    ghost invariant = { λ a. IsKept (O.before a.order) a.entries.items a.capacity (vec_capacity a.entries) a.last };
+    ghost invariant = { λ a. IsKept (O.before a.entries.order.order) a.entries.items a.last };
 }
 
 impl<O: TimeOrder, E: Copy> Agenda<O, E> {
@@ -44,9 +46,7 @@ impl<O: TimeOrder, E: Copy> Agenda<O, E> {
         ensures { IfOk result (λ agenda. agenda ≡ opened capacity order) }
     {
         Ok(Agenda {
-            entries: Vec::with_capacity(alloc, capacity as usize)?,
-            capacity,
-            order,
+            entries: Heap::open(alloc, capacity, ByMoment { order })?,
             last: None,
         })
     }
@@ -60,7 +60,7 @@ impl<O: TimeOrder, E: Copy> Agenda<O, E> {
         ensures inserted { Inserts (O.before self.old.order) self.old self.new (moment, event) }
         ensures count { length self.new.entries ≡ length self.old.entries + 1 }
     {
-        self.entries.push((moment, event)).unwrap();
+        self.entries.insert((moment, event));
     }
 
     /// Takes out the entry whose moment is before all others. This moment is after the one popped
@@ -73,29 +73,8 @@ impl<O: TimeOrder, E: Copy> Agenda<O, E> {
         ensures none { IsNone result ↔ (self.old.entries ≡ []) }
         ensures unchanged { IfNone result (self.new ≡ self.old) }
     {
-        if self.entries.is_empty() {
-            return None;
-        }
-        let first = first_of(self.order, &self.entries);
-        let entry = self.entries.remove(first);
+        let entry = self.entries.pop()?;
         self.last = Some(entry.0);
         Some(entry)
     }
-}
-
-/// The place of the entry whose moment is before all others.
-fn first_of<O: TimeOrder, E: Copy>(order: O, entries: &[(Moment, E)]) -> usize
-    requires some { 0 < length entries.now }
-    requires distinct { AreDistinct entries.now }
-    requires in_range { AreInRange entries.now }
-    ensures within { result < length entries.now }
-    ensures first { IsFirstOf (O.before order) entries.now (length entries.now) result }
-{
-    let mut first = 0;
-    for i in 1..entries.len() {
-        if is_before(order, entries[i].0, entries[first].0) {
-            first = i;
-        }
-    }
-    first
 }

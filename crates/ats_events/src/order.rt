@@ -1,7 +1,6 @@
 //! The order of moments.
 
-ghost use Rattle.std.specs.Prelude.{◌≢◌, ◌↔◌, IsTrue};
-ghost use Rattle.std.specs.Bool.{OnTrue, OnFalse};
+ghost use Rattle.std.specs.Prelude.{◌↔◌, IsTrue};
 ghost use Rattle.ats_events.specs.declared.moment.Moment.{Moment};
 ghost use Rattle.ats_events.specs.Order.{IsInRange, IsIrreflexive, IsTransitive, IsTotal, IsTimed, IsBeforeByRank};
 ghost use Rattle.ats_events.specs.Order.{IsBeforeUp, IsBeforeDown, IsBeforeScrambled};
@@ -9,8 +8,10 @@ ghost use Rattle.ats_events.specs.Ranked.{up_irreflexive, up_transitive, up_tota
 ghost use Rattle.ats_events.specs.Ranked.{down_irreflexive, down_transitive, down_total, down_timed};
 ghost use Rattle.ats_events.specs.Ranked.{scrambled_irreflexive, scrambled_transitive, scrambled_total};
 ghost use Rattle.ats_events.specs.Ranked.{scrambled_timed};
+ghost use Rattle.ats_events.specs.Weak.{before_weakly};
 
 use crate::moment::Moment;
+use ats_heap::Precedence;
 
 /// A lawful order of moments. Time decides, and at equal times the phase; what happens at one time
 /// in one phase stands in an order that each implementation chooses. No moment is before itself,
@@ -110,10 +111,21 @@ fn is_before_by_rank(a: &Moment, b: &Moment, x: u32, y: u32) -> bool
     x < y
 }
 
-/// Whether `a` is before `b`. Where it is not and they differ, `b` is before `a`.
-pub(crate) fn is_before<O: TimeOrder>(order: O, a: Moment, b: Moment) -> bool
-    ensures before { OnTrue result (O.before order a b) }
-    ensures after { OnFalse result (a ≢ b → O.before order b a) }
-{
-    order.before(&a, &b)
+/// The order of an agenda's entries, which is that of their moments.
+#[derive(Clone, Copy)]
+pub(crate) struct ByMoment<O: TimeOrder> {
+    pub(crate) order: O,
+}
+
+impl<O: TimeOrder, E: Copy> Precedence<(Moment, E)> for ByMoment<O> {
+    ghost covers = { λ _ x. IsInRange x.0 };
+
+    ghost goes_before = { λ by x y. O.before by.order x.0 y.0 };
+
+    ghost weak_order = { λ by. before_weakly (O.before by.order) (O.irreflexive by.order) (O.transitive by.order)
+        (O.total by.order) };
+
+    fn goes_before(&self, x: &(Moment, E), y: &(Moment, E)) -> bool {
+        self.order.before(&x.0, &y.0)
+    }
 }

@@ -1,15 +1,15 @@
 use Rattle.std.proofs.Common.{◌≡◌, ℕ, ◌<◌, Bool, true, false, List, [], ◌∷◌, length, All, sym, ap, ◌∙◌, refl, subst}
-use Rattle.std.proofs.Common.{eq-eqb, arith}
-use Rattle.std.specs.Prelude.{◌≢◌, ◌==◌, filter, slice_index, if◌then◌else◌}
+use Rattle.std.proofs.Common.{arith}
+use Rattle.std.specs.Prelude.{◌==◌, filter, slice_index, if◌then◌else◌}
 use Rattle.std.proofs.lemmas.Map.Views.{exact_unsigned_eq}
-use Rattle.std.proofs.lemmas.Bool.{false≢true}
+use Rattle.std.proofs.lemmas.Bool.{eqb-false}
 use Rattle.std.proofs.lemmas.List.Elements.{All-tail}
 use Rattle.ats_group.specs.declared.member.Declared.{Declared}
 use Rattle.ats_group.specs.declared.member.Member.{Member}
 use Rattle.ats_group.specs.declared.verdict.Verdict.{Verdict}
 use Rattle.ats_group.specs.Group.{State, Offer, judged, next, verdicts_of, state_after}
-use Rattle.ats_group.specs.Standing.{Standing, member_at, declared_of, group_of, residence_of, state_of}
-use Rattle.ats_group.specs.Laws.{verdict_at, standing_next, IsStep, standing_last, verdicts_in, offers_to}
+use Rattle.ats_group.specs.GroupsState.{GroupsState, member_at, declared_of, group_of, residence_of, state_of}
+use Rattle.ats_group.specs.Laws.{verdict_at, groups_next, IsStep, groups_last, verdicts_in, offers_to}
 use Rattle.ats_group.specs.Laws.{EachGroupIsAFold}
 use Rattle.ats_group.proofs.StepLemmas.{each_frame, the_rest}
 
@@ -34,11 +34,8 @@ state_more true declared residence state later last offer offers e n s =
 state_more false declared residence state later last offer offers e n s =
     e ∙ ap (λ (x : State). state_after declared residence x offers) (s refl)
 
-not_same : (m n : ℕ) → (m == n) ≡ false → m ≢ n
-not_same m n e = λ p. false≢true (sym e ∙ eq-eqb m n p)
-
 -- the same fold, told by the members and residences of another moment
-like : (s t : Standing) (group : ℕ) (offers : List Offer) → t.members ≡ s.members → t.residences_ns ≡ s.residences_ns
+like : (s t : GroupsState) (group : ℕ) (offers : List Offer) → t.members ≡ s.members → t.residences_ns ≡ s.residences_ns
     → (state : State) → verdicts_of (declared_of t) (residence_of t group) state (offers_to t group offers)
     ≡ verdicts_of (declared_of s) (residence_of s group) state (offers_to s group offers)
 like s t group offers m r state =
@@ -46,7 +43,7 @@ like s t group offers m r state =
     (filter (λ (o : Offer). (member_at ms o.member).group == group) offers)) m
     ∙ ap (λ (rs : List ℕ). verdicts_of (declared_of s) (slice_index rs group) state (offers_to s group offers)) r
 
-state_like : (s t : Standing) (group : ℕ) (offers : List Offer) → t.members ≡ s.members
+state_like : (s t : GroupsState) (group : ℕ) (offers : List Offer) → t.members ≡ s.members
     → t.residences_ns ≡ s.residences_ns → (state : State) → state_after (declared_of t) (residence_of t group) state
     (offers_to t group offers) ≡ state_after (declared_of s) (residence_of s group) state (offers_to s group offers)
 state_like s t group offers m r state =
@@ -54,35 +51,35 @@ state_like s t group offers m r state =
     (filter (λ (o : Offer). (member_at ms o.member).group == group) offers)) m
     ∙ ap (λ (rs : List ℕ). state_after (declared_of s) (slice_index rs group) state (offers_to s group offers)) r
 
-step_in : (standing : Standing) (offer : Offer) (group : ℕ) → IsStep standing offer (group_of standing offer.member)
-    → group_of standing offer.member ≡ group → IsStep standing offer group
-step_in standing offer group i e = let P : ℕ → Type 0 = λ (g : ℕ). IsStep standing offer g in subst P e i
+step_in : (groups : GroupsState) (offer : Offer) (group : ℕ) → IsStep groups offer (group_of groups offer.member)
+    → group_of groups offer.member ≡ group → IsStep groups offer group
+step_in groups offer group i e = let P : ℕ → Type 0 = λ (g : ℕ). IsStep groups offer g in subst P e i
 
-members_in : (s t : Standing) (offers : List Offer) → t.members ≡ s.members
+members_in : (s t : GroupsState) (offers : List Offer) → t.members ≡ s.members
     → All (λ (o : Offer). o.member < length s.members) offers → All (λ (o : Offer). o.member < length t.members) offers
 members_in s t offers e a = rw e a
 
 pub each_group : EachGroupIsAFold
-each_group standing [] group k a = record { verdicts = refl; state = refl }
-each_group standing (offer ∷ offers) group k a =
-    let later : Standing = standing_next standing offer in
-    let kept = the_rest standing offer k in
-    let rest = each_group later offers group kept.lawful (members_in standing later offers kept.members
-    (All-tail (λ (o : Offer). o.member < length standing.members) offer offers a)) in
-    let step = each_frame standing offer k (a 0 offer (omega arith)) in
-    let test : Bool = group_of standing offer.member == group in
-    let in_group : test ≡ true → IsStep standing offer group =
-    λ e. step_in standing offer group step (exact_unsigned_eq (group_of standing offer.member) group e) in
-    let elsewhere : test ≡ false → state_of later group ≡ state_of standing group =
-    λ e. step.others group (λ p. not_same (group_of standing offer.member) group e (sym p)) in
+each_group groups [] group k a = record { verdicts = refl; state = refl }
+each_group groups (offer ∷ offers) group k a =
+    let later : GroupsState = groups_next groups offer in
+    let kept = the_rest groups offer k in
+    let rest = each_group later offers group kept.lawful (members_in groups later offers kept.members
+    (All-tail (λ (o : Offer). o.member < length groups.members) offer offers a)) in
+    let step = each_frame groups offer k (a 0 offer (omega arith)) in
+    let test : Bool = group_of groups offer.member == group in
+    let in_group : test ≡ true → IsStep groups offer group =
+    λ e. step_in groups offer group step (exact_unsigned_eq (group_of groups offer.member) group e) in
+    let elsewhere : test ≡ false → state_of later group ≡ state_of groups group =
+    λ e. step.others group (λ p. eqb-false (group_of groups offer.member) group e (sym p)) in
     record {
-      verdicts = verdicts_more test (declared_of standing) (residence_of standing group) (state_of standing group)
-          (state_of later group) offer (verdict_at standing offer) (verdicts_in later group offers)
-          (offers_to standing group offers)
-          (rest.verdicts ∙ like standing later group offers kept.members kept.residences (state_of later group))
+      verdicts = verdicts_more test (declared_of groups) (residence_of groups group) (state_of groups group)
+          (state_of later group) offer (verdict_at groups offer) (verdicts_in later group offers)
+          (offers_to groups group offers)
+          (rest.verdicts ∙ like groups later group offers kept.members kept.residences (state_of later group))
           (λ e. (in_group e).verdict) (λ e. (in_group e).own) elsewhere;
-      state = state_more test (declared_of standing) (residence_of standing group) (state_of standing group)
-          (state_of later group) (state_of (standing_last later offers) group) offer (offers_to standing group offers)
-          (rest.state ∙ state_like standing later group offers kept.members kept.residences (state_of later group))
+      state = state_more test (declared_of groups) (residence_of groups group) (state_of groups group)
+          (state_of later group) (state_of (groups_last later offers) group) offer (offers_to groups group offers)
+          (rest.state ∙ state_like groups later group offers kept.members kept.residences (state_of later group))
           (λ e. (in_group e).own) elsewhere;
     }

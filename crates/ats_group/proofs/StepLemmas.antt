@@ -11,10 +11,11 @@ use Rattle.ats_group.specs.declared.member.Member.{Member}
 use Rattle.ats_group.specs.declared.verdict.Verdict.{Verdict}
 use Rattle.ats_group.specs.declared.verdict.Verdict.TheVariants.{Eligible, Late, Size}
 use Rattle.ats_group.specs.Group.{State, Offer, judged, after, verdict_on, empty_once}
-use Rattle.ats_group.specs.Standing.{Standing, IsStanding, no_member, declared_of, group_of, time_at, empty_at, opened}
-use Rattle.ats_group.specs.Standing.{residence_of, state_of, standing_after}
+use Rattle.ats_group.specs.GroupsState.{GroupsState, AreGroups, no_member, declared_of, group_of, time_at, empty_at}
+use Rattle.ats_group.specs.GroupsState.{opened}
+use Rattle.ats_group.specs.GroupsState.{residence_of, state_of, groups_after}
 use Rattle.ats_group.specs.Laws.{verdict_at, EachFrameIsAStep, OpenedIsFirst, Outlasts, EachFrameKeepsTheRest}
-use Rattle.ats_group.proofs.Kept.{standing-after}
+use Rattle.ats_group.proofs.Kept.{groups-after}
 
 -- a choice between two equal values, and by a test that is known
 either : (b : Bool) (x : ℤ) → (if b then x else x) ≡ x
@@ -38,13 +39,13 @@ state_is : (s t : ℕ) (e f : ℕ → ℤ) → s ≡ t → ((i : ℕ) → e i �
 state_is s t e f p q = let g : e ≡ f = fun_ext q in cc
 
 -- the member's own group
-own_verdict : (standing : Standing) (offer : Offer) → verdict_at standing offer ≡ judged (declared_of standing)
-    (residence_of standing (group_of standing offer.member)) (state_of standing (group_of standing offer.member)) offer
-own_verdict standing offer =
+own_verdict : (groups : GroupsState) (offer : Offer) → verdict_at groups offer ≡ judged (declared_of groups)
+    (residence_of groups (group_of groups offer.member)) (state_of groups (group_of groups offer.member)) offer
+own_verdict groups offer =
     ap (λ (b : ℤ).
-    verdict_on (declared_of standing offer.member) (residence_of standing (group_of standing offer.member))
-    (time_at standing.times (group_of standing offer.member)) b offer.arrival offer.octets)
-    (sym (same (group_of standing offer.member) (empty_at standing.empties offer.member) _))
+    verdict_on (declared_of groups offer.member) (residence_of groups (group_of groups offer.member))
+    (time_at groups.times (group_of groups offer.member)) b offer.arrival offer.octets)
+    (sym (same (group_of groups offer.member) (empty_at groups.empties offer.member) _))
 
 -- one member's bucket-empty time after an eligible frame: its own frame, then another member's
 at_member : (empties : List ℤ) (member group : ℕ) (x : ℤ) (once : ℤ → ℤ) (y : ℤ) → member < length empties
@@ -91,59 +92,59 @@ other_empty empties member group x groups firsts n i =
     ]
 
 -- the member's own group takes the fold's step
-own_after : (standing : Standing) (offer : Offer) (v : Verdict)
-    → group_of standing offer.member < length standing.times → offer.member < length standing.empties
-    → state_of (standing_after standing offer.member offer.octets v) (group_of standing offer.member)
-    ≡ after (declared_of standing) (state_of standing (group_of standing offer.member)) offer v
-own_after standing offer (Eligible e) t m =
+own_after : (groups : GroupsState) (offer : Offer) (v : Verdict)
+    → group_of groups offer.member < length groups.times → offer.member < length groups.empties
+    → state_of (groups_after groups offer.member offer.octets v) (group_of groups offer.member)
+    ≡ after (declared_of groups) (state_of groups (group_of groups offer.member)) offer v
+own_after groups offer (Eligible e) t m =
     state_is _ _ _ _
-    (ap (λ (p : Ps). p.0) (get_or-set_same standing.times (group_of standing offer.member) e (record { 0 = 0 }) t))
-    (own_empty standing.empties offer.member _ (λ (i : ℕ) (b : ℤ). empty_once (declared_of standing i)
-    b e.0 offer.octets) (group_of standing) (λ (i : ℕ). first_empty (declared_of standing i).burst_bits) m refl)
-own_after standing offer (Late e) t m = refl
-own_after standing offer Size t m = refl
+    (ap (λ (p : Ps). p.0) (get_or-set_same groups.times (group_of groups offer.member) e (record { 0 = 0 }) t))
+    (own_empty groups.empties offer.member _ (λ (i : ℕ) (b : ℤ). empty_once (declared_of groups i)
+    b e.0 offer.octets) (group_of groups) (λ (i : ℕ). first_empty (declared_of groups i).burst_bits) m refl)
+own_after groups offer (Late e) t m = refl
+own_after groups offer Size t m = refl
 
 -- the others stay
-other_after : (standing : Standing) (offer : Offer) (v : Verdict) (group : ℕ) → group ≢ group_of standing offer.member
-    → state_of (standing_after standing offer.member offer.octets v) group ≡ state_of standing group
-other_after standing offer (Eligible e) group n =
+other_after : (groups : GroupsState) (offer : Offer) (v : Verdict) (group : ℕ) → group ≢ group_of groups offer.member
+    → state_of (groups_after groups offer.member offer.octets v) group ≡ state_of groups group
+other_after groups offer (Eligible e) group n =
     state_is _ _ _ _
     (ap (λ (p : Ps). p.0)
-    (get_or-set_other standing.times (group_of standing offer.member) group e (record { 0 = 0 }) n))
-    (other_empty standing.empties offer.member group _ (group_of standing)
-    (λ (i : ℕ). first_empty (declared_of standing i).burst_bits) n)
-other_after standing offer (Late e) group n = refl
-other_after standing offer Size group n = refl
+    (get_or-set_other groups.times (group_of groups offer.member) group e (record { 0 = 0 }) n))
+    (other_empty groups.empties offer.member group _ (group_of groups)
+    (λ (i : ℕ). first_empty (declared_of groups i).burst_bits) n)
+other_after groups offer (Late e) group n = refl
+other_after groups offer Size group n = refl
 
-group_in : (standing : Standing) (member : ℕ) → IsStanding standing → member < length standing.members
-    → group_of standing member < length standing.times
-group_in standing member k h = rw k.times (k.members member no_member h).group
+group_in : (groups : GroupsState) (member : ℕ) → AreGroups groups → member < length groups.members
+    → group_of groups member < length groups.times
+group_in groups member k h = rw k.times (k.members member no_member h).group
 
-member_in : (standing : Standing) (member : ℕ) → IsStanding standing → member < length standing.members
-    → member < length standing.empties
-member_in standing member k h = rw k.empties h
+member_in : (groups : GroupsState) (member : ℕ) → AreGroups groups → member < length groups.members
+    → member < length groups.empties
+member_in groups member k h = rw k.empties h
 
 pub each_frame : EachFrameIsAStep
-each_frame standing offer k h = record {
-  verdict = own_verdict standing offer;
+each_frame groups offer k h = record {
+  verdict = own_verdict groups offer;
   own =
-      own_after standing offer (verdict_at standing offer) (group_in standing offer.member k h)
-      (member_in standing offer.member k h)
-      ∙ ap (after (declared_of standing) (state_of standing (group_of standing offer.member)) offer)
-      (own_verdict standing offer);
-  others = λ group n. other_after standing offer (verdict_at standing offer) group n;
+      own_after groups offer (verdict_at groups offer) (group_in groups offer.member k h)
+      (member_in groups offer.member k h)
+      ∙ ap (after (declared_of groups) (state_of groups (group_of groups offer.member)) offer)
+      (own_verdict groups offer);
+  others = λ group n. other_after groups offer (verdict_at groups offer) group n;
 }
 
-outlasts_at : (standing : Standing) (member octets : ℕ) (v : Verdict)
-    → IsStanding (standing_after standing member octets v) → Outlasts standing (standing_after standing member octets v)
-outlasts_at standing member octets (Eligible e) k = record { members = refl; residences = refl; lawful = k }
-outlasts_at standing member octets (Late e) k = record { members = refl; residences = refl; lawful = k }
-outlasts_at standing member octets Size k = record { members = refl; residences = refl; lawful = k }
+outlasts_at : (groups : GroupsState) (member octets : ℕ) (v : Verdict)
+    → AreGroups (groups_after groups member octets v) → Outlasts groups (groups_after groups member octets v)
+outlasts_at groups member octets (Eligible e) k = record { members = refl; residences = refl; lawful = k }
+outlasts_at groups member octets (Late e) k = record { members = refl; residences = refl; lawful = k }
+outlasts_at groups member octets Size k = record { members = refl; residences = refl; lawful = k }
 
 pub the_rest : EachFrameKeepsTheRest
-the_rest standing offer k =
-    outlasts_at standing offer.member offer.octets (verdict_at standing offer)
-    (standing-after standing offer.member offer.arrival offer.octets k)
+the_rest groups offer k =
+    outlasts_at groups offer.member offer.octets (verdict_at groups offer)
+    (groups-after groups offer.member offer.arrival offer.octets k)
 
 zero_at : (n group : ℕ) → time_at (replicate n (record { 0 = 0 })) group ≡ 0
 zero_at n group =

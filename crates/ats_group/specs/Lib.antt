@@ -1,4 +1,5 @@
 pub mod Group
+pub mod GroupsState
+pub mod Judge
 pub mod Laws
-pub mod Seat
-pub mod Standing
+pub mod MemberScheduler

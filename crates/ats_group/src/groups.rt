@@ -4,12 +4,12 @@ ghost use Rattle.std.specs.Prelude.{◌≡◌, ℕ, ◌-◌, ◌<◌, ◌≤◌,
 ghost use Rattle.ats_num.specs.declared.time.TheConstants.{PS_PER_SECOND, END};
 ghost use Rattle.ats_group.specs.declared.member.TheConstants.{MAX_RESIDENCE_NS};
 ghost use Rattle.ats_group.specs.Group.{InTime};
-ghost use Rattle.ats_group.specs.Standing.{opened, verdict_of, value_after, time_at, first_empties, IsStanding};
-ghost use Rattle.ats_group.specs.Standing.{AreMembers, AreRuled};
-ghost use Rattle.ats_group.specs.Seat.{IsSeat, standing_of, members_of, empties_of, IsKept};
+ghost use Rattle.ats_group.specs.GroupsState.{opened, verdict_of, value_after, time_at, first_empties, AreGroups};
+ghost use Rattle.ats_group.specs.GroupsState.{AreMembers, AreRuled};
+ghost use Rattle.ats_group.specs.MemberScheduler.{IsMemberScheduler, groups_from, members_of, empties_of, IsKept};
 
 use crate::member::Member;
-use crate::seat::Seat;
+use crate::member_scheduler::MemberScheduler;
 use crate::verdict::Verdict;
 use ats_num::Ps;
 use std::alloc::{AllocError, Global};
@@ -21,19 +21,19 @@ use std::marker::Model;
 pub struct Groups {
     residences_ns: Vec<u32>,
     times: Vec<Ps>,
-    seats: Vec<Seat>,
+    schedulers: Vec<MemberScheduler>,
 }
 
 impl Model for Groups {
-    ghost use Rattle.ats_group.specs.Standing.{Standing};
+    ghost use Rattle.ats_group.specs.GroupsState.{GroupsState};
 
-    ghost Value = { Standing };
+    ghost Value = { GroupsState };
 
-    ghost use Rattle.ats_group.specs.Seat.{standing_of, IsKept};
+    ghost use Rattle.ats_group.specs.MemberScheduler.{groups_from, IsKept};
 
-    ghost view = { λ g. standing_of g.residences_ns.items g.times.items g.seats.items };
+    ghost view = { λ g. groups_from g.residences_ns.items g.times.items g.schedulers.items };
 
-    ghost invariant = { λ g. IsKept g.residences_ns.items g.times.items g.seats.items };
+    ghost invariant = { λ g. IsKept g.residences_ns.items g.times.items g.schedulers.items };
 }
 
 impl Groups {
@@ -49,13 +49,13 @@ impl Groups {
         requires residences { All (λ (r : ℕ). r ≤ MAX_RESIDENCE_NS) residences_ns.now }
         requires members { AreMembers (length residences_ns.now) members.now }
         ensures value { IfOk result (λ groups. groups ≡ opened residences_ns.now members.now) }
-        ensures standing { IfOk result IsStanding }
+        ensures groups { IfOk result AreGroups }
     {
-        let seats = seats_of(alloc, members)?;
+        let schedulers = schedulers_of(alloc, members)?;
         Ok(Groups {
             residences_ns: Vec::from_slice(alloc, residences_ns)?,
             times: vec![in alloc; Ps(0); residences_ns.len()]?,
-            seats,
+            schedulers,
         })
     }
 
@@ -72,12 +72,12 @@ impl Groups {
         ensures in_time { InTime result arrival.0 }
         ensures members { self.new.members ≡ self.old.members }
         ensures residences { self.new.residences_ns ≡ self.old.residences_ns }
-        ensures standing { IsStanding self.new }
+        ensures groups { AreGroups self.new }
     {
         judge(
             &self.residences_ns,
             &mut self.times,
-            &mut self.seats,
+            &mut self.schedulers,
             member as usize,
             arrival,
             octets,
@@ -94,44 +94,44 @@ impl Groups {
     }
 }
 
-fn seats_of(alloc: Global, members: &[Member]) -> Result<Vec<Seat>, AllocError>
+fn schedulers_of(alloc: Global, members: &[Member]) -> Result<Vec<MemberScheduler>, AllocError>
     requires { AreRuled members.now }
-    ensures members { IfOk result (λ seats. members_of seats.items ≡ members.now) }
-    ensures empties { IfOk result (λ seats. empties_of seats.items ≡ first_empties members.now) }
-    ensures seats { IfOk result (λ seats. All IsSeat seats.items) }
+    ensures members { IfOk result (λ schedulers. members_of schedulers.items ≡ members.now) }
+    ensures empties { IfOk result (λ schedulers. empties_of schedulers.items ≡ first_empties members.now) }
+    ensures schedulers { IfOk result (λ schedulers. All IsMemberScheduler schedulers.items) }
 {
-    let mut seats = Vec::with_capacity(alloc, members.len())?;
+    let mut schedulers = Vec::with_capacity(alloc, members.len())?;
     for member in members {
-        seats.push(Seat::new(member))?;
+        schedulers.push(MemberScheduler::new(member))?;
     }
-    Ok(seats)
+    Ok(schedulers)
 }
 
 /// Judges a frame over the lists that a `Groups` holds.
 fn judge(
     residences_ns: &[u32],
     times: &mut [Ps],
-    seats: &mut [Seat],
+    schedulers: &mut [MemberScheduler],
     member: usize,
     arrival: Ps,
     octets: u32,
 ) -> Verdict
-    requires kept { IsKept residences_ns.now times.old seats.old }
-    requires member { member < length seats.old }
+    requires kept { IsKept residences_ns.now times.old schedulers.old }
+    requires member { member < length schedulers.old }
     requires arrival { arrival.0 ≤ END - PS_PER_SECOND }
-    ensures verdict { let old = standing_of residences_ns.now times.old seats.old in
+    ensures verdict { let old = groups_from residences_ns.now times.old schedulers.old in
         result ≡ verdict_of old member arrival.0 octets }
-    ensures value { let old = standing_of residences_ns.now times.old seats.old in
-        standing_of residences_ns.now times.new seats.new ≡ value_after old member arrival.0 octets }
+    ensures value { let old = groups_from residences_ns.now times.old schedulers.old in
+        groups_from residences_ns.now times.new schedulers.new ≡ value_after old member arrival.0 octets }
     ensures in_time { InTime result arrival.0 }
-    ensures kept { IsKept residences_ns.now times.new seats.new }
+    ensures kept { IsKept residences_ns.now times.new schedulers.new }
 {
-    let seat = seats[member];
-    let group = seat.member.group as usize;
-    let verdict = seat.verdict(residences_ns[group], times[group], arrival, octets);
+    let scheduler = schedulers[member];
+    let group = scheduler.member.group as usize;
+    let verdict = scheduler.verdict(residences_ns[group], times[group], arrival, octets);
     if let Verdict::Eligible(eligible) = verdict {
         times[group] = eligible;
-        seats[member] = seat.after(eligible, octets);
+        schedulers[member] = scheduler.after(eligible, octets);
     }
     verdict
 }

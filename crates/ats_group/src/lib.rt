@@ -5,7 +5,7 @@
 pub mod groups;
 pub mod laws;
 pub mod member;
-mod seat;
+mod member_scheduler;
 pub mod verdict;
 
 pub use groups::Groups;

@@ -4,9 +4,10 @@ use Rattle.std.specs.Prelude.{ℤ, pos, ◌-ℤ◌, ◌==◌, if◌then◌else�
 use Rattle.std.proofs.lemmas.Int.{ints}
 use Rattle.ats_num.specs.declared.time.TheConstants.{PS_PER_SECOND, PS_PER_NS}
 use Rattle.ats_num.specs.Wire.{bits_of}
-use Rattle.ats_bucket.specs.Integers.{nonnegative-is, ceiling}
+use Rattle.ats_num.specs.Division.{ceiling}
+use Rattle.ats_bucket.specs.Integers.{nonnegative-is}
 use Rattle.ats_bucket.specs.Scheduler.{holds_at, IsEligibility, eligibility_time}
-use Rattle.ats_bucket.proofs.Ceiling.{ceiling-is}
+use Rattle.ats_num.proofs.Ceiling.{ceiling-is}
 use Rattle.ats_bucket.proofs.EmptyAfter.{empty_after-is}
 use Rattle.ats_group.specs.declared.member.Declared.{Declared}
 use Rattle.ats_group.specs.declared.verdict.Verdict.{Verdict}

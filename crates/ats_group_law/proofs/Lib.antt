@@ -9,8 +9,6 @@ pub mod OutputLaws
 pub mod Push
 pub mod Regulator
 pub mod Renaming
-pub mod RenamingRow
-pub mod RowProofs
 pub mod ShapingFree
 pub mod ShapingStep
 pub mod ShapingUse

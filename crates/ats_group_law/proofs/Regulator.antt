@@ -1,16 +1,14 @@
-use Rattle.std.proofs.Common.{◌≡◌, ℕ, ◌+◌, Bool, true, false, List, [], ◌∷◌, sum_by, refl, sym, ap, ◌∙◌, arith}
-use Rattle.std.proofs.lemmas.List.Sums.{sum_by-cons}
-use Rattle.std.specs.Prelude.{if◌then◌else◌}
+use Rattle.std.proofs.Common.{◌≡◌, ℕ, Bool, true, false, List, [], ◌∷◌, refl, arith}
+use Rattle.std.specs.Prelude.{◌≤◌, nat_le, if◌then◌else◌}
 use Rattle.std.specs.List.{AllZip}
 use Rattle.ats_group.specs.declared.member.Declared.{Declared}
 use Rattle.ats_group.specs.declared.verdict.Verdict.{Verdict}
 use Rattle.ats_group.specs.declared.verdict.Verdict.TheVariants.{Eligible, Late, Size}
-use Rattle.ats_group.specs.Group.{Offer, State, first, next, verdicts_of, is_declared_size}
-use Rattle.ats_bucket.specs.Conforming.{Frame}
-use Rattle.ats_group_law.specs.Regulator.{OnEligible, IsEligibleSized, IsRule, bucket_rule, IsDelayedBy, AtsIsRegulator}
+use Rattle.ats_group.specs.Group.{Offer, State, first, next, verdicts_of, is_declared_size, verdict_by}
+use Rattle.ats_group.specs.Judge.{OnEligible, bucket_rule}
+use Rattle.ats_group_law.specs.Regulator.{IsEligibleSized, IsEligibleArrived, IsRule, IsDelayedBy, AtsIsRegulator}
 use Rattle.ats_group_law.specs.Shaping.{Passage, IsDelayed}
-use Rattle.ats_group_law.specs.Windows.{bits_within}
-use Rattle.ats_group_law.proofs.WindowBits.{bits_in, bits_within-cons}
+use Rattle.ats_group_law.proofs.WindowBits.{bits_in, bits_within-sum}
 use Rattle.ats_group_law.proofs.WindowParts.{KeepsWindows-fewer}
 use Rattle.ats_group_law.proofs.WindowPlaces.{windows_from_places, places_from_windows}
 use Rattle.ats_group_law.proofs.OutputLaws.{output_conforms}
@@ -35,12 +33,25 @@ sized_from declared residence_ns state (offer ∷ offers) = (
   sized_from declared residence_ns (next declared residence_ns state offer) offers,
 )
 
--- the bits of a window, as a sum over all frames
-window_bits : (frames : List Frame) (from to : ℕ) → bits_within frames from to ≡ sum_by (bits_in from to) frames
-window_bits [] from to = refl
-window_bits (f ∷ fs) from to =
-    bits_within-cons f fs from to ∙ ap (λ (n : ℕ). bits_in from to f + n) (window_bits fs from to)
-    ∙ sym (sum_by-cons (bits_in from to) f fs)
+-- an eligible frame has arrived where its time is no earlier
+arrived_in : (in_time : Bool) (eligible arrival : ℕ) → arrival ≤ eligible
+    → OnEligible (if in_time then Eligible (record { 0 = eligible }) else Late (record { 0 = eligible }))
+    (λ e. arrival ≤ e)
+arrived_in true eligible arrival h = h
+arrived_in false eligible arrival h = tt
+
+arrived_by : (size : Bool) (latest eligible arrival : ℕ) → arrival ≤ eligible
+    → OnEligible (if size then verdict_by latest eligible else Size) (λ e. arrival ≤ e)
+arrived_by true latest eligible arrival h = arrived_in (nat_le eligible latest) eligible arrival h
+arrived_by false latest eligible arrival h = tt
+
+arrived_from : (declared : ℕ → Declared) (residence_ns : ℕ) (state : State) (offers : List Offer)
+    → AllZip IsEligibleArrived offers (verdicts_of declared residence_ns state offers)
+arrived_from declared residence_ns state [] = tt
+arrived_from declared residence_ns state (offer ∷ offers) = (
+  arrived_by (is_declared_size (declared offer.member) offer.octets) _ _ offer.arrival (omega arith),
+  arrived_from declared residence_ns (next declared residence_ns state offer) offers,
+)
 
 bucket_is_rule : IsRule bucket_rule
 bucket_is_rule = record {
@@ -49,7 +60,7 @@ bucket_is_rule = record {
         in_order = ascends;
         windows = KeepsWindows-fewer d.rate d.burst_bits others frames
             (λ from to.
-            omega (arith, window_bits frames from to, window_bits others from to, no_more (bits_in from to)))
+            omega (arith, bits_within-sum frames from to, bits_within-sum others from to, no_more (bits_in from to)))
             (windows_from_places d.rate d.burst_bits others conforms).windows;
       });
   conforms = λ d frames ruled sized conforms. conforms;
@@ -72,6 +83,7 @@ ats_is_regulator = record {
   rule = bucket_is_rule;
   regulator = record {
     sized = λ declared residence_ns offers. sized_from declared residence_ns (first declared) offers;
+    arrived = λ declared residence_ns offers. arrived_from declared residence_ns (first declared) offers;
     keeps = λ declared residence_ns offers member ruled. output_conforms declared residence_ns offers member ruled;
     free = λ declared residence_ns bound passages delayed.
         shaping_free declared residence_ns bound passages (delayed_by declared residence_ns bound passages delayed);

@@ -1,7 +1,7 @@
 use Rattle.std.specs.Prelude.{ℕ, ◌+◌, ◌-◌, ◌*◌, ◌≤◌, max, ◌==◌, List, [], ◌∷◌, if◌then◌else◌, fold}
 use Rattle.ats_num.specs.declared.time.TheConstants.{PS_PER_SECOND, PS_PER_NS}
 use Rattle.ats_num.specs.Wire.{bits_of}
-use Rattle.ats_bucket.specs.Integers.{ceiling}
+use Rattle.ats_num.specs.Division.{ceiling}
 use Rattle.ats_bucket.specs.Conforming.{Frame}
 use Rattle.ats_group.specs.declared.member.Declared.{Declared}
 use Rattle.ats_group.specs.declared.verdict.Verdict.{Verdict}

@@ -6,8 +6,8 @@ use Rattle.ats_bucket.specs.Conforming.{Frame, times_of, Conforms}
 use Rattle.ats_group.specs.declared.member.Member.{Member}
 use Rattle.ats_group.specs.declared.verdict.Verdict.TheVariants.{Eligible}
 use Rattle.ats_group.specs.Group.{Offer}
-use Rattle.ats_group.specs.Standing.{AreMembers, declared_of, group_of, opened, time_at}
-use Rattle.ats_group.specs.Laws.{verdict_at, standing_last, verdicts_in, offers_to}
+use Rattle.ats_group.specs.GroupsState.{AreMembers, declared_of, group_of, opened, time_at}
+use Rattle.ats_group.specs.Laws.{verdict_at, groups_last, verdicts_in, offers_to}
 use Rattle.ats_group_law.specs.Accepted.{accepted, accepted_of}
 use Rattle.ats_group_law.specs.Laws.{IsLeastConforming}
 
@@ -50,8 +50,8 @@ abbrev pub GroupsEligibilityIsLeast : Type 0
 GroupsEligibilityIsLeast =
     (residences_ns : List ℕ) (members : List Member) (offers : List Offer) (offer : Offer) (e : Ps)
     → IsUse residences_ns members offers → offer.member < length members
-    → verdict_at (standing_last (opened residences_ns members) offers) offer ≡ Eligible e
+    → verdict_at (groups_last (opened residences_ns members) offers) offer ≡ Eligible e
     → IsLeastConforming (declared_of (opened residences_ns members) offer.member).rate (declared_of
     (opened residences_ns members) offer.member).burst_bits (passed_of_member residences_ns members offers offer.member)
-    (time_at (standing_last (opened residences_ns members) offers).times
+    (time_at (groups_last (opened residences_ns members) offers).times
     (group_among residences_ns members offer.member)) offer.arrival (bits_of offer.octets) e.0

@@ -4,7 +4,5 @@ pub mod GroupsLaws
 pub mod Laws
 pub mod Regulator
 pub mod Renaming
-pub mod Rows
-pub mod RenamingRow
 pub mod Shaping
 pub mod Windows

@@ -6,30 +6,19 @@ use Rattle.std.specs.List.{AllZip}
 use Rattle.ats_bucket.specs.Conforming.{Frame, times_of, Conforms}
 use Rattle.ats_group.specs.declared.member.Declared.{Declared}
 use Rattle.ats_group.specs.declared.verdict.Verdict.{Verdict}
-use Rattle.ats_group.specs.declared.verdict.Verdict.TheVariants.{Eligible, Late, Size}
-use Rattle.ats_group.specs.Group.{Offer, IsRuled, first, verdicts_of, is_declared_size}
+use Rattle.ats_group.specs.Group.{Offer, IsRuled, is_declared_size}
+use Rattle.ats_group.specs.Judge.{OnEligible, Judge, ats_judge, bucket_rule}
 use Rattle.ats_group_law.specs.Accepted.{accepted_of}
 use Rattle.ats_group_law.specs.Shaping.{Passage, offers_of, frames_before, IsEligibleAgain}
-
--- where a verdict is eligible, this holds of its time
-abbrev pub OnEligible : Verdict → (ℕ → Type 0) → Type 0
-OnEligible (Eligible e) next = next e.0
-OnEligible (Late e) next = Unit {0}
-OnEligible Size next = Unit {0}
-
--- how a group judges frames that come one after another: by what its members declare and its maximum residence time in
--- nanoseconds, the verdict on each of them
-abbrev pub Judge : Type 0
-Judge = (ℕ → Declared) → ℕ → List Offer → List Verdict
-
--- as Asynchronous Traffic Shaping does: by the members' schedulers and the group eligibility time
-abbrev pub ats_judge : Judge
-ats_judge declared residence_ns offers = verdicts_of declared residence_ns (first declared) offers
 
 -- a frame is eligible only where its member declares its size
 abbrev pub IsEligibleSized : (ℕ → Declared) → Offer → Verdict → Type 0
 IsEligibleSized declared offer verdict =
     OnEligible verdict (λ e. IsTrue (is_declared_size (declared offer.member) offer.octets))
+
+-- a frame is eligible only when it has arrived
+abbrev pub IsEligibleArrived : Offer → Verdict → Type 0
+IsEligibleArrived offer verdict = OnEligible verdict (λ e. offer.arrival ≤ e)
 
 -- what a judge lets through of a member
 abbrev pub passed_by : Judge → (ℕ → Declared) → ℕ → List Offer → ℕ → List Frame
@@ -47,10 +36,6 @@ pub record IsRule (rule : Declared → List Frame → Type 0) : Type 0 where
   pub conforms : (d : Declared) (frames : List Frame) → IsRuled d
       → All (λ (f : Frame). f.bits ≤ bits_of d.max_octets) frames → rule d frames → Conforms d.rate d.burst_bits frames
 
--- the rule of a token bucket: frames conform to the declared rate and burst
-abbrev pub bucket_rule : Declared → List Frame → Type 0
-bucket_rule declared frames = Conforms declared.rate declared.burst_bits frames
-
 -- what comes to a group kept the rule at the hop before, member by member, and its order from there; each frame arrives
 -- at most `bound` picoseconds after it was eligible there, and may stay in the group until then
 pub record IsDelayedBy (rule : Declared → List Frame → Type 0) (declared : ℕ → Declared) (residence_ns bound : ℕ)
@@ -67,6 +52,9 @@ pub record IsRegulator (judge : Judge) (rule : Declared → List Frame → Type 
   -- it lets frames through at declared sizes only
   pub sized : (declared : ℕ → Declared) (residence_ns : ℕ) (offers : List Offer)
       → AllZip (IsEligibleSized declared) offers (judge declared residence_ns offers)
+  -- each only when it has arrived
+  pub arrived : (declared : ℕ → Declared) (residence_ns : ℕ) (offers : List Offer)
+      → AllZip IsEligibleArrived offers (judge declared residence_ns offers)
   -- what it lets through of a member keeps the rule
   pub keeps : (declared : ℕ → Declared) (residence_ns : ℕ) (offers : List Offer) (member : ℕ)
       → IsRuled (declared member) → rule (declared member) (passed_by judge declared residence_ns offers member)

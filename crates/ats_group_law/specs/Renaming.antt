@@ -1,7 +1,7 @@
 use Rattle.std.specs.Prelude.{◌≡◌, ℕ, Bool, IsTrue, List, map, All}
 use Rattle.ats_group.specs.declared.member.Declared.{Declared}
 use Rattle.ats_group.specs.Group.{Offer, State, first, state_after}
-use Rattle.ats_group_law.specs.Regulator.{ats_judge}
+use Rattle.ats_group.specs.Judge.{ats_judge}
 
 -- members are given other numbers, each its own, under which the same is declared
 pub record IsRenaming (is_member : ℕ → Bool) (rename : ℕ → ℕ) (declared renamed : ℕ → Declared) : Type 0 where

@@ -5,9 +5,7 @@ ghost use Rattle.ats_group_law.specs.Laws.{OutputConforms, OutputConformsByWindo
 ghost use Rattle.ats_group_law.specs.GroupsLaws.{GroupsOutputConforms, GroupsOutputAscends, GroupsEligibilityIsLeast};
 ghost use Rattle.ats_group_law.specs.Regulator.{AtsIsRegulator};
 ghost use Rattle.ats_group_law.specs.Renaming.{VerdictsAreKept};
-ghost use Rattle.ats_group_law.specs.RenamingRow.{NumbersAreOwn};
 ghost use Rattle.ats_group_law.specs.Shaping.{ShapingIsFree};
-ghost use Rattle.ats_group_law.specs.Rows.{BucketEmptied, OrderCounts, RoundedUp};
 
 /// Frames conform to a token bucket from each place to each later one exactly where their times do not descend and no
 /// window of time holds more bits than the rate gives in it and the burst.
@@ -82,16 +80,6 @@ pub fn shaping_is_free()
     ensures { ShapingIsFree }
 {}
 
-/// The laws at two lists of frames: a bucket that is just emptied, and a rate at which eligibility
-/// times are rounded up. Frames that were a picosecond earlier would not conform. And two frames
-/// that come in another order than they were eligible at the hop before, for which shaping is not
-/// free.
-pub fn worked_rows()
-    ensures bucket_emptied { BucketEmptied }
-    ensures rounded_up { RoundedUp }
-    ensures order_counts { OrderCounts }
-{}
-
 /// The schedulers and groups of Asynchronous Traffic Shaping regulate by token buckets, whatever
 /// their members declare: they let frames through at declared sizes only, what they let through of
 /// a member conforms, and shaping is free. And token buckets are a rule: frames conform also where
@@ -104,9 +92,4 @@ pub fn ats_is_regulator()
 /// declared, the verdicts stay, the group eligibility time, and each member's bucket under its number.
 pub fn verdicts_are_kept()
     ensures { VerdictsAreKept }
-{}
-
-/// Two members under other numbers, and under one.
-pub fn numbers_are_own()
-    ensures { NumbersAreOwn }
 {}

@@ -2,6 +2,7 @@ use Rattle.std.proofs.Common.{◌≡◌, ◌≢◌, ℕ, ◌<◌, Bool, true, fa
 use Rattle.std.proofs.Common.{arith}
 use Rattle.std.proofs.lemmas.Bool.{eq-eqb}
 use Rattle.std.specs.List.{All, AllPairs}
+use Rattle.ats_facts.proofs.Lists.{pairs_head, pairs_tail}
 use Rattle.ats_topology.specs.Node.{is_station}
 use Rattle.ats_topology.specs.Port.{port_at, no_port, leaves, HasBack}
 use Rattle.ats_topology.specs.Topology.{DeclaredTopology, IsTopology, HasLawfulPorts, HasOnePort, node_at}
@@ -11,7 +12,6 @@ use Rattle.ats_topology.proofs.Rules.{ports_are_lawful}
 use Rattle.ats_network.specs.Bridges.{MeetAtBridge}
 use Rattle.ats_network.specs.Senders.{AllNeighbours}
 use Rattle.ats_network.specs.Laws.{PathsMeetAtBridges}
-use Rattle.ats_network.proofs.Appended.{pairs_head, pairs_tail}
 use Rattle.ats_network.proofs.CountLemmas.{one_passes}
 use Rattle.ats_network.proofs.PathLemmas.{nodes_to}
 

@@ -9,7 +9,7 @@ use Rattle.ats_streams.specs.declared.stream.TheConstants.{MAX_CLASS}
 use Rattle.ats_network.specs.Sender.{Sender, stream_sender, flow_sender}
 use Rattle.ats_network.specs.Class.{class_along, class_at}
 use Rattle.ats_network.specs.Laws.{ClassIsByHop}
-use Rattle.ats_network.proofs.Appended.{pairs_head, pairs_tail}
+use Rattle.ats_facts.proofs.Lists.{pairs_head, pairs_tail}
 
 -- what holds of 0 and of each of the classes holds of the class at a port
 along_keeps : (P : ℕ → Type 0) (port : ℕ) (path classes : List ℕ) → P 0 → All P classes

@@ -4,13 +4,8 @@ use Rattle.std.specs.Prelude.{is_some}
 use Rattle.std.specs.List.{find}
 use Rattle.std.specs.Option.{option_or}
 use Rattle.std.proofs.lemmas.Bool.{cases_eq}
+use Rattle.std.proofs.lemmas.Option.{none-some}
 use Rattle.ats_network.specs.Shortest.{first_along, first_of}
-
-no_some : {X : Type 0} (x : X) → None ≡ Some x → ⊥
-no_some x h = cc
-
-some_is : {X : Type 0} (x y : X) → Some x ≡ Some y → x ≡ y
-some_is x y h = cc
 
 -- the first number for which a function gives a value, and the value
 pub record IsFirst (given : ℕ → Option (List ℕ)) (numbers : List ℕ) (value : List ℕ) : Type 0 where
@@ -20,7 +15,7 @@ pub record IsFirst (given : ℕ → Option (List ℕ)) (numbers : List ℕ) (val
 
 pub first_along-some : (given : ℕ → Option (List ℕ)) (numbers : List ℕ) (value : List ℕ)
     → first_along given numbers ≡ Some value → IsFirst given numbers value
-first_along-some given [] value h = absurd (no_some value h)
+first_along-some given [] value h = absurd (none-some value h)
 first_along-some given (p ∷ numbers) value h = by (given p) refl h (first_along-some given numbers value)
   where
     by : (o : Option (List ℕ)) → given p ≡ o → option_or o (first_along given numbers) ≡ Some value
@@ -49,7 +44,7 @@ first_along-none given (p ∷ numbers) h = by (given p) refl h (first_along-none
         → find (λ q. is_some (given q)) (p ∷ numbers) ≡ None
     by None e h more =
         ap (λ (o : Option (List ℕ)). cond (is_some o) (Some p) (find (λ q. is_some (given q)) numbers)) e ∙ more h
-    by (Some found) e h more = absurd (no_some found (sym h))
+    by (Some found) e h more = absurd (none-some found (sym h))
 
 -- the least number below n for which a function gives a value, and the value
 pub record IsLeastOf (given : ℕ → Option (List ℕ)) (n : ℕ) (value : List ℕ) : Type 0 where
@@ -65,11 +60,11 @@ first_of-none given (suc n) h k below = by (first_of given n) refl h (λ e. firs
     by : (o : Option (List ℕ)) → first_of given n ≡ o → option_or o (given n) ≡ None
         → (first_of given n ≡ None → k < n → given k ≡ None) → given k ≡ None
     by None e h more = ⊎_elim (λ same. ap given same ∙ h) (λ ne. more e (omega arith)) (cases_eq k n)
-    by (Some found) e h more = absurd (no_some found (sym h))
+    by (Some found) e h more = absurd (none-some found (sym h))
 
 pub first_of-some : (given : ℕ → Option (List ℕ)) (n : ℕ) (value : List ℕ) → first_of given n ≡ Some value
     → IsLeastOf given n value
-first_of-some given zero value h = absurd (no_some value h)
+first_of-some given zero value h = absurd (none-some value h)
 first_of-some given (suc n) value h = by (first_of given n) refl h (first_of-some given n value)
   where
     by : (o : Option (List ℕ)) → first_of given n ≡ o → option_or o (given n) ≡ Some value

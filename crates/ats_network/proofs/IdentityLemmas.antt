@@ -2,11 +2,12 @@ use Rattle.std.proofs.Common.{◌≡◌, ℕ, ◌+◌, Bool, true, false, cond, 
 use Rattle.std.proofs.Common.{None, refl, sym, ap, ◌∙◌, ◌<◌, arith, eqb, length-append}
 use Rattle.std.specs.Prelude.{is_some}
 use Rattle.std.specs.BTreeMap.{BTreeMap, Updates}
-use Rattle.std.proofs.lemmas.Bool.{eqb-true, and_parts}
+use Rattle.std.proofs.lemmas.Bool.{eqb-true, and_parts, false≢true}
 use Rattle.std.proofs.lemmas.List.{map-append}
 use Rattle.std.proofs.lemmas.List.Quantifiers.{all_pairs_push}
+use Rattle.ats_facts.proofs.Lists.{position_from-push}
+use Rattle.ats_facts.proofs.Options.{is_some-false, cond-is_some}
 use Rattle.ats_topology.proofs.Pairs.{pair_cmp, is_eq-pair_cmp}
-use Rattle.ats_topology.proofs.TableLemmas.{position_from-push}
 use Rattle.ats_topology.proofs.PositionLemmas.{all_fail}
 use Rattle.ats_streams.specs.Stream.{DeclaredStream}
 use Rattle.ats_network.specs.Network.{Share, AreIdentified}
@@ -49,31 +50,17 @@ taken_back old mid new identity declared place same none there back address vlan
         ∙ put old mid identity (Some place) there address vlan
         ∙ ap (λ (b : Bool). cond b (Some place) (number_at old address vlan)) e
 
-no_true : false ≡ true → ⊥
-no_true h = cc
-
-no_some : (n : ℕ) → is_some (Some n) ≡ false → ⊥
-no_some n h = cc
-
-none_of : (o : Option ℕ) → is_some o ≡ false → o ≡ None
-none_of None h = refl
-none_of (Some n) h = absurd (no_some n h)
-
 -- an identity that is not taken is found nowhere
 pub absent_identity : (streams : List DeclaredStream) (declared : Option (ℕ × ℕ))
     → is_identity_taken streams declared ≡ false
     → (address vlan : ℕ) → is_identity (address, vlan) declared ≡ true → place_identified (address, vlan) streams ≡ None
-absent_identity streams None free address vlan same = absurd (no_true same)
+absent_identity streams None free address vlan same = absurd (false≢true same)
 absent_identity streams (Some identity) free address vlan same =
     let parts : (eqb identity.0 address ≡ true) × (eqb identity.1 vlan ≡ true) =
     and_parts (eqb identity.0 address) (eqb identity.1 vlan) same in
     ap (λ (n : ℕ). place_identified (n, vlan) streams) (sym (eqb-true identity.0 address parts.0))
     ∙ ap (λ (n : ℕ). place_identified (identity.0, n) streams) (sym (eqb-true identity.1 vlan parts.1))
-    ∙ none_of (place_identified identity streams) free
-
-chosen : (o : Option ℕ) → cond (is_some o) o None ≡ o
-chosen None = refl
-chosen (Some n) = refl
+    ∙ is_some-false (place_identified identity streams) free
 
 -- a stream more: the map that has its number too finds each
 pub identified_push : (streams : List DeclaredStream) (stream : DeclaredStream) (old new : BTreeMap (ℕ × ℕ) ℕ)
@@ -100,7 +87,7 @@ identified_push streams stream old new found free more address vlan = by (has_id
     by false e =
         more address vlan ∙ ap (λ (b : Bool). cond b (Some (length streams)) (number_at old address vlan)) e
         ∙ found address vlan
-        ∙ sym (pushed false e ∙ chosen (place_identified (address, vlan) streams))
+        ∙ sym (pushed false e ∙ cond-is_some (place_identified (address, vlan) streams))
 
 refl_eqb : (n : ℕ) → eqb n n ≡ true
 refl_eqb n = grind arith
@@ -117,7 +104,7 @@ share_push streams stream apart free =
     let none : place_identified identity streams ≡ None =
     absent_identity streams stream.identity free identity.0 identity.1
     (ap (is_identity identity) shared.other ∙ same_identity identity) in
-    no_true (sym (all_fail (has_identity identity) 0 streams none k d below)
+    false≢true (sym (all_fail (has_identity identity) 0 streams none k d below)
     ∙ (ap (is_identity identity) shared.one ∙ same_identity identity)))
 
 -- a table of streams with the same numbers

@@ -5,7 +5,10 @@ use Rattle.std.specs.Option.{option_or, option_map}
 use Rattle.std.specs.Str.{bytes_eq}
 use Rattle.std.proofs.lemmas.List.{map-append, get_or_default, length-map}
 use Rattle.std.proofs.lemmas.List.Elements.{All-weaker}
-use Rattle.std.proofs.lemmas.Slice.Eq.{bytes_eq-Decides}
+use Rattle.std.proofs.lemmas.Option.{same_Some}
+use Rattle.std.proofs.lemmas.Bool.{true≢false}
+use Rattle.ats_facts.proofs.Bytes.{bytes_eq-true, bytes_eq-same}
+use Rattle.ats_facts.proofs.Lists.{all_left, all_right, pairs_head, pairs_tail}
 use Rattle.ats_num.specs.Places.{place_of}
 use Rattle.ats_topology.specs.Node.{AreApart}
 use Rattle.ats_topology.proofs.PositionLemmas.{all_fail}
@@ -13,8 +16,7 @@ use Rattle.ats_streams.specs.Stream.{DeclaredStream}
 use Rattle.ats_network.specs.Sender.{Sender, stream_sender, flow_sender}
 use Rattle.ats_network.specs.Network.{DeclaredNetwork, senders_of, names_of}
 use Rattle.ats_network.specs.Tables.{stream_names, flow_names}
-use Rattle.ats_network.proofs.Appended.{position_from-append, position_from-later, pairs_head, pairs_tail, pairs_insert}
-use Rattle.ats_network.proofs.Appended.{all_left, all_right}
+use Rattle.ats_network.proofs.Appended.{position_from-append, position_from-later, pairs_insert}
 
 map-map : {X Y Z : Type 0} (f : X → Y) (g : Y → Z) (xs : List X) → map g (map f xs) ≡ map (λ x. g (f x)) xs
 map-map f g [] = refl
@@ -37,24 +39,15 @@ place_of-append name xs ys =
     ∙ ap (option_or (place_of name xs)) (ap (λ (n : ℕ). position_from (bytes_eq name) n ys) (omega arith)
     ∙ position_from-later (bytes_eq name) (length xs) 0 ys)
 
-bytes_eq_refl : (name : List ℕ) → bytes_eq name name ≡ true
-bytes_eq_refl name = grind (arith, bytes_eq-Decides name name)
-
-bytes_eq_is : (xs ys : List ℕ) → bytes_eq xs ys ≡ true → xs ≡ ys
-bytes_eq_is xs ys h = grind (arith, bytes_eq-Decides xs ys)
-
 bytes_ne : (xs ys : List ℕ) → xs ≢ ys → bytes_eq xs ys ≡ false
 bytes_ne xs ys ne = by (bytes_eq xs ys) refl
   where
     by : (b : Bool) → bytes_eq xs ys ≡ b → bytes_eq xs ys ≡ false
-    by true e = absurd (ne (bytes_eq_is xs ys e))
+    by true e = absurd (ne (bytes_eq-true xs ys e))
     by false e = e
 
-true_is_false : true ≡ false → ⊥
-true_is_false h = cc
-
 differ : (name other : List ℕ) → bytes_eq name other ≡ false → other ≢ name
-differ name other h e = true_is_false (sym (bytes_eq_refl name) ∙ ap (bytes_eq name) (sym e) ∙ h)
+differ name other h e = true≢false (sym (bytes_eq-same name) ∙ ap (bytes_eq name) (sym e) ∙ h)
 
 -- a name that is not found differs from each
 pub absent_differs : (name : List ℕ) (names : List (List ℕ)) → place_of name names ≡ None
@@ -63,22 +56,19 @@ absent_differs name names none =
     All-weaker (λ other. bytes_eq name other ≡ false) (λ other. other ≢ name) (differ name) names
     (all_fail (bytes_eq name) 0 names none)
 
-some_is : (a b : ℕ) → Some a ≡ Some b → a ≡ b
-some_is a b h = cc
-
 -- names that are found at their own places are pairwise different, and the other way round
 pub pairs_from_apart : (names : List (List ℕ)) → AreApart names → AllPairs (λ a b. a ≢ b) names
 pairs_from_apart names apart i j d below within same =
     let left : get_or names i [] ≡ get_or names j [] =
     get_or_default names i [] d (omega arith) ∙ same ∙ get_or_default names j d [] within in
     let one : i ≡ j =
-    some_is i j (sym (apart i (omega arith)) ∙ ap (λ (name : List ℕ). place_of name names) left ∙ apart j within) in
+    same_Some i j (sym (apart i (omega arith)) ∙ ap (λ (name : List ℕ). place_of name names) left ∙ apart j within) in
     omega arith
 
 pub apart_from_pairs : (names : List (List ℕ)) → AllPairs (λ a b. a ≢ b) names → AreApart names
 apart_from_pairs [] pairs n below = absurd (omega arith)
 apart_from_pairs (x ∷ names) pairs zero below =
-    ap (λ (b : Bool). cond b (Some 0) (position_from (bytes_eq x) 1 names)) (bytes_eq_refl x)
+    ap (λ (b : Bool). cond b (Some 0) (position_from (bytes_eq x) 1 names)) (bytes_eq-same x)
 apart_from_pairs (x ∷ names) pairs (suc n) below =
     let within : n < length names = omega arith in
     let name : List ℕ = get_or names n [] in

@@ -2,37 +2,22 @@ use Rattle.std.proofs.Common.{◌≡◌, ◌≢◌, ℕ, ◌<◌, Bool, true, fa
 use Rattle.std.proofs.Common.{Option, Some, None, refl, sym, ap, subst, ◌∙◌, arith, eqb, ltb}
 use Rattle.std.specs.List.{All, AllPairs}
 use Rattle.std.specs.Option.{option_map}
-use Rattle.std.proofs.lemmas.Bool.{eqb-true, eq-eqb, ne_eqb, and_parts}
-use Rattle.std.proofs.lemmas.Bool.Decides.{nat_tests}
+use Rattle.std.proofs.lemmas.Bool.{eqb-true, eq-eqb, ne_eqb, and_parts, true≢false, lt-ltb, ltb-true, not-true}
 use Rattle.std.proofs.lemmas.List.Elements.{All-nil, All-cons, All-head, All-tail}
 use Rattle.std.proofs.lemmas.List.Kept.{AllPairs-cons}
+use Rattle.std.proofs.lemmas.Option.{same_Some, none-some}
+use Rattle.ats_facts.proofs.Lists.{pairs_head, pairs_tail}
 use Rattle.ats_topology.specs.Port.{port_at}
 use Rattle.ats_topology.specs.Topology.{DeclaredTopology}
-use Rattle.ats_topology.specs.Walks.{IsWalk, ArePorts}
+use Rattle.ats_topology.specs.Walks.{IsPortFrom, IsWalk, ArePorts}
 use Rattle.ats_topology.specs.declared.port.Port.{Port}
 use Rattle.ats_network.specs.Path.{IsValidPath, IsStationAt}
 use Rattle.ats_network.specs.PathSteps.{walk_end, ends_of, comes_to, part_ways}
-use Rattle.ats_network.proofs.Appended.{pairs_head, pairs_tail}
-
-some_is : {X : Type 0} (a b : X) → Some a ≡ Some b → a ≡ b
-some_is a b h = cc
-
-no_some : {X : Type 0} (a : X) → None ≡ Some a → ⊥
-no_some a h = cc
-
-true_false : true ≡ false → ⊥
-true_false h = cc
-
-below : (m n : ℕ) → ltb m n ≡ true → m < n
-below m n h = grind (arith, nat_tests)
-
-is_below : (m n : ℕ) → m < n → ltb m n ≡ true
-is_below m n h = grind (arith, nat_tests)
 
 -- where a walk ends, as it is computed
 pub walk_from_end : (ports : List Port) (a : ℕ) (path : List ℕ) (b : ℕ) → walk_end ports a path ≡ Some b
     → IsWalk ports a b path
-walk_from_end ports a [] b h = some_is a b h
+walk_from_end ports a [] b h = same_Some a b h
 walk_from_end ports a (p ∷ path) b h =
     by (ltb p (length ports) && eqb (port_at ports p).from a) refl h (walk_from_end ports (port_at ports p).to path b)
   where
@@ -43,15 +28,17 @@ walk_from_end ports a (p ∷ path) b h =
     by true e h more =
         let parts : (ltb p (length ports) ≡ true) × (eqb (port_at ports p).from a ≡ true) =
         and_parts (ltb p (length ports)) (eqb (port_at ports p).from a) e in
-        (record { within = below p (length ports) parts.0; from = eqb-true (port_at ports p).from a parts.1 }, more h)
-    by false e h more = absurd (no_some b h)
+        let goes : IsPortFrom ports a p =
+        record { within = ltb-true p (length ports) parts.0; from = eqb-true (port_at ports p).from a parts.1 } in
+        (goes, more h)
+    by false e h more = absurd (none-some b h)
 
 pub walk_end-walk : (ports : List Port) (a : ℕ) (path : List ℕ) (b : ℕ) → IsWalk ports a b path
     → walk_end ports a path ≡ Some b
 walk_end-walk ports a [] b w = ap Some w
 walk_end-walk ports a (p ∷ path) b w =
     let test : (ltb p (length ports) && eqb (port_at ports p).from a) ≡ true =
-    ap (λ (t : Bool). t && eqb (port_at ports p).from a) (is_below p (length ports) w.0.within)
+    ap (λ (t : Bool). t && eqb (port_at ports p).from a) (lt-ltb p (length ports) w.0.within)
     ∙ eq-eqb (port_at ports p).from a w.0.from in
     ap (λ (t : Bool). cond t (walk_end ports (port_at ports p).to path) None) test
     ∙ walk_end-walk ports (port_at ports p).to path b w.1
@@ -71,14 +58,14 @@ pub record AreEnds (ports : List Port) (path : List ℕ) (a b : ℕ) : Type 0 wh
   pub walk : IsWalk ports a b path
 
 pub ends_are : (ports : List Port) (path : List ℕ) (a b : ℕ) → ends_of ports path ≡ Some (a, b) → AreEnds ports path a b
-ends_are ports [] a b h = absurd (no_some (a, b) h)
+ends_are ports [] a b h = absurd (none-some (a, b) h)
 ends_are ports (p ∷ path) a b h = by (walk_end ports (port_at ports p).from (p ∷ path)) refl h
   where
     by : (o : Option ℕ) → walk_end ports (port_at ports p).from (p ∷ path) ≡ o
         → option_map {U = ℕ × ℕ} (λ n. ((port_at ports p).from, n)) o ≡ Some (a, b) → AreEnds ports (p ∷ path) a b
-    by None e h = absurd (no_some (a, b) h)
+    by None e h = absurd (none-some (a, b) h)
     by (Some n) e h =
-        let both : ((port_at ports p).from, n) ≡ (a, b) = some_is ((port_at ports p).from, n) (a, b) h in
+        let both : ((port_at ports p).from, n) ≡ (a, b) = same_Some ((port_at ports p).from, n) (a, b) h in
         let from : (port_at ports p).from ≡ a = ap (λ (pair : ℕ × ℕ). pair.0) both in
         let to : n ≡ b = ap (λ (pair : ℕ × ℕ). pair.1) both in
         record {
@@ -102,29 +89,30 @@ ends_of-valid topology (p ∷ path) valid =
 
 pub no_ends : (topology : DeclaredTopology) (path : List ℕ) → ends_of topology.ports path ≡ None
     → IsValidPath topology path → ⊥
-no_ends topology path none valid = no_some (valid.talker, valid.listener) (sym none ∙ ends_of-valid topology path valid)
+no_ends topology path none valid =
+    none-some (valid.talker, valid.listener) (sym none ∙ ends_of-valid topology path valid)
 
 -- and they are its talker and its listener
 pub talker_is : (topology : DeclaredTopology) (path : List ℕ) (a b : ℕ) → ends_of topology.ports path ≡ Some (a, b)
     → (valid : IsValidPath topology path) → valid.talker ≡ a
 talker_is topology path a b h valid = ap (λ (pair : ℕ × ℕ). pair.0)
-    (some_is (valid.talker, valid.listener) (a, b) (sym (ends_of-valid topology path valid) ∙ h))
+    (same_Some (valid.talker, valid.listener) (a, b) (sym (ends_of-valid topology path valid) ∙ h))
 
 pub listener_is : (topology : DeclaredTopology) (path : List ℕ) (a b : ℕ) → ends_of topology.ports path ≡ Some (a, b)
     → (valid : IsValidPath topology path) → valid.listener ≡ b
 listener_is topology path a b h valid = ap (λ (pair : ℕ × ℕ). pair.1)
-    (some_is (valid.talker, valid.listener) (a, b) (sym (ends_of-valid topology path valid) ∙ h))
+    (same_Some (valid.talker, valid.listener) (a, b) (sym (ends_of-valid topology path valid) ∙ h))
 
 -- the nodes to which ports lead
 abbrev pub nodes_to : List Port → List ℕ → List ℕ
 nodes_to ports path = map (λ q. (port_at ports q).to) path
 
 or_parts : (a b : Bool) → (a || b) ≡ false → (a ≡ false) × (b ≡ false)
-or_parts true b h = absurd (true_false h)
+or_parts true b h = absurd (true≢false h)
 or_parts false b h = (refl, h)
 
 no_eqb : (m n : ℕ) → eqb m n ≡ false → n ≢ m
-no_eqb m n h e = true_false (sym (eq-eqb m n (sym e)) ∙ h)
+no_eqb m n h e = true≢false (sym (eq-eqb m n (sym e)) ∙ h)
 
 -- a node that none of the ports leads to
 pub away : (ports : List Port) (node : ℕ) (path : List ℕ) → comes_to ports node path ≡ false
@@ -144,10 +132,6 @@ comes_to-away ports node (p ∷ path) h =
     (λ e. All-head (λ n. node ≢ n) (port_at ports p).to (nodes_to ports path) h (sym e)))
     ∙ comes_to-away ports node path (All-tail (λ n. node ≢ n) (port_at ports p).to (nodes_to ports path) h)
 
-not_false : (b : Bool) → not b ≡ true → b ≡ false
-not_false true h = sym h
-not_false false h = refl
-
 -- ports that part ways lead to different nodes, and the other way round
 pub pairs_from_parting : (ports : List Port) (path : List ℕ) → part_ways ports path ≡ true
     → AllPairs (λ a b. a ≢ b) (nodes_to ports path)
@@ -156,7 +140,7 @@ pairs_from_parting ports (p ∷ path) h =
     let parts : (not (comes_to ports (port_at ports p).to path) ≡ true) × (part_ways ports path ≡ true) =
     and_parts (not (comes_to ports (port_at ports p).to path)) (part_ways ports path) h in
     AllPairs-cons (λ a b. a ≢ b) (port_at ports p).to (nodes_to ports path)
-    (away ports (port_at ports p).to path (not_false (comes_to ports (port_at ports p).to path) parts.0))
+    (away ports (port_at ports p).to path (not-true (comes_to ports (port_at ports p).to path) parts.0))
     (pairs_from_parting ports path parts.1)
 
 pub part_ways-pairs : (ports : List Port) (path : List ℕ) → AllPairs (λ a b. a ≢ b) (nodes_to ports path)
@@ -182,7 +166,7 @@ comes_to_end ports a p (q ∷ path) b w =
 pub valid_from_parts : (topology : DeclaredTopology) (path : List ℕ) (a b : ℕ)
     → ends_of topology.ports path ≡ Some (a, b) → IsStationAt topology a → IsStationAt topology b
     → comes_to topology.ports a path ≡ false → part_ways topology.ports path ≡ true → IsValidPath topology path
-valid_from_parts topology [] a b h begins ends back part = absurd (no_some (a, b) h)
+valid_from_parts topology [] a b h begins ends back part = absurd (none-some (a, b) h)
 valid_from_parts topology (p ∷ path) a b h begins ends back part =
     let e : AreEnds topology.ports (p ∷ path) a b = ends_are topology.ports (p ∷ path) a b h in
     let from : (port_at topology.ports p).from ≡ a = e.walk.0.from in
@@ -192,7 +176,7 @@ valid_from_parts topology (p ∷ path) a b h begins ends back part =
       walk = e.walk;
       begins = begins;
       ends = ends;
-      differ = λ same. true_false (sym (comes_to_end topology.ports a p path b e.walk)
+      differ = λ same. true≢false (sym (comes_to_end topology.ports a p path b e.walk)
           ∙ ap (λ (n : ℕ). comes_to topology.ports n (p ∷ path)) (sym same) ∙ back);
       apart =
           AllPairs-cons (λ a b. a ≢ b) (port_at topology.ports p).from (nodes_to topology.ports (p ∷ path))

@@ -1,8 +1,10 @@
-use Rattle.std.proofs.Common.{◌≡◌, ℕ, ◌<◌, false, List, [], ◌∷◌, ◌++◌, map, length, Option, Some, None, sym, arith}
-use Rattle.std.proofs.Common.{append_assoc, length-append}
+use Rattle.std.proofs.Common.{◌≡◌, ℕ, ◌<◌, false, List, [], ◌∷◌, ◌++◌, map, length, Option, None, sym, arith}
+use Rattle.std.proofs.Common.{ap, ◌∙◌, append_assoc, length-append}
 use Rattle.std.specs.Prelude.{is_some}
 use Rattle.std.proofs.lemmas.List.{map-append, append-nil}
 use Rattle.std.proofs.lemmas.List.Elements.{All-append, All-push}
+use Rattle.ats_facts.proofs.Lists.{all_left, all_right}
+use Rattle.ats_facts.proofs.Options.{is_some-false}
 use Rattle.ats_num.specs.Places.{place_of}
 use Rattle.ats_topology.specs.Node.{AreApart}
 use Rattle.ats_streams.specs.Stream.{DeclaredStream, IsStream}
@@ -13,7 +15,6 @@ use Rattle.ats_network.specs.Network.{DeclaredNetwork, IsNetwork, senders_of, na
 use Rattle.ats_network.specs.Pushes.{with_stream, with_flow, is_identity_taken}
 use Rattle.ats_network.specs.Tables.{stream_names, flow_names}
 use Rattle.ats_network.specs.declared.network.TheConstants.{MAX_STREAMS, MAX_FLOWS}
-use Rattle.ats_network.proofs.Appended.{all_left, all_right}
 use Rattle.ats_network.proofs.NameLemmas.{names_of-senders, apart_insert}
 use Rattle.ats_network.proofs.IdentityLemmas.{share_push}
 
@@ -95,12 +96,10 @@ pushed_flow network flow is keeps valid absent room = record {
     apart = rw (← append_assoc (stream_names network.streams) (flow_names network.flows) (flow.name ∷ []))
         (rw (append-nil (names ++ flow.name ∷ [])) at last)
 
-no_some : (n : ℕ) → is_some (Some n) ≡ false → ⊥
-no_some n h = cc
-
 -- a name that a look-up did not find
-pub not_found : (found : Option ℕ) (name : List ℕ) (network : DeclaredNetwork)
-    → found ≡ place_of name (names_of (senders_of network)) → is_some found ≡ false
+pub not_found : (found : Option ℕ) (asked name : List ℕ) (network told : DeclaredNetwork) → network ≡ told
+    → asked ≡ name → found ≡ place_of asked (names_of (senders_of told)) → is_some found ≡ false
     → place_of name (names_of (senders_of network)) ≡ None
-not_found None name network same h = sym same
-not_found (Some n) name network same h = absurd (no_some n h)
+not_found found asked name network told same is at none =
+    ap (λ (n : DeclaredNetwork). place_of name (names_of (senders_of n))) same
+    ∙ sym (at ∙ ap (λ (t : List ℕ). place_of t (names_of (senders_of told))) is) ∙ is_some-false found none

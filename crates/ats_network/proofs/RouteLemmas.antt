@@ -10,6 +10,7 @@ use Rattle.std.specs.declared.cmp.Ordering.TheVariants.{Less, Equal}
 use Rattle.std.proofs.lemmas.Bool.{cases_eq, cases_lt, eqb-true, eq-eqb}
 use Rattle.std.proofs.lemmas.Bool.Decides.{nat_tests}
 use Rattle.std.specs.declared.alloc.AllocError.{AllocError}
+use Rattle.std.proofs.lemmas.Option.{same_Some, none-some}
 use Rattle.ats_topology.specs.Port.{port_at, leaving}
 use Rattle.ats_topology.specs.Topology.{DeclaredTopology, IsTopology}
 use Rattle.ats_topology.specs.Walks.{IsWalk, IsLeastWalk, NoWalk}
@@ -21,12 +22,6 @@ use Rattle.ats_network.specs.Laws.{ShortestIsLeast}
 use Rattle.ats_network.proofs.FirstLemmas.{IsFirst, first_along-some, first_along-none, IsLeastOf, first_of-some}
 use Rattle.ats_network.proofs.FirstLemmas.{first_of-none}
 use Rattle.ats_network.proofs.SimpleWalks.{SimpleWalk, simple_walk, simple_short}
-
-no_some : {X : Type 0} (x : X) → None ≡ Some x → ⊥
-no_some x h = cc
-
-some_is : {X : Type 0} (x y : X) → Some x ≡ Some y → x ≡ y
-some_is x y h = cc
 
 -- the first walk through a port, where the rest can be gone
 abbrev through : ℕ → List Port → ℕ → ℕ → Option (List ℕ)
@@ -40,7 +35,7 @@ passes (Some walk) p h = refl
 pub walk_found : (n : ℕ) (ports : List Port) (a b : ℕ) (walk : List ℕ) → IsWalk ports a b walk → length walk ≡ n
     → first_walk n ports a b ≡ None → ⊥
 walk_found zero ports a b [] is long none =
-    no_some [] (sym none ∙ ap (λ (t : Bool). cond t (Some []) None) (eq-eqb a b is))
+    none-some [] (sym none ∙ ap (λ (t : Bool). cond t (Some []) None) (eq-eqb a b is))
 walk_found zero ports a b (p ∷ walk) is long none = omega arith
 walk_found (suc n) ports a b [] is long none = omega arith
 walk_found (suc n) ports a b (p ∷ walk) is long none =
@@ -99,9 +94,9 @@ first_walk-is zero ports a b walk h = by (eqb a b) refl h
 
     by : (t : Bool) → eqb a b ≡ t → cond t (Some []) None ≡ Some walk → IsFirstWalk ports a b 0 walk
     by true e h =
-        subst (IsFirstWalk ports a b 0) (some_is [] walk h)
+        subst (IsFirstWalk ports a b 0) (same_Some [] walk h)
         (record { is = eqb-true a b e; long = refl; first = λ other is long. alone other long })
-    by false e h = absurd (no_some walk h)
+    by false e h = absurd (none-some walk h)
 first_walk-is (suc n) ports a b walk h =
     let f : IsFirst (through n ports b) (leaving a ports) walk =
     first_along-some (through n ports b) (leaving a ports) walk h in
@@ -113,9 +108,9 @@ first_walk-is (suc n) ports a b walk h =
         → option_map (λ (rest : List ℕ). f.number ∷ rest) o ≡ Some walk
         → ((rest : List ℕ) → first_walk n ports (port_at ports f.number).to b ≡ Some rest
         → IsFirstWalk ports (port_at ports f.number).to b n rest) → IsFirstWalk ports a b (suc n) walk
-    by f None e g more = absurd (no_some walk g)
+    by f None e g more = absurd (none-some walk g)
     by f (Some rest) e g more =
-        subst (IsFirstWalk ports a b (suc n)) (some_is (f.number ∷ rest) walk g)
+        subst (IsFirstWalk ports a b (suc n)) (same_Some (f.number ∷ rest) walk g)
         (first_step n ports a b f.number rest
         (find-leaving (λ q. is_some (through n ports b q)) a ports f.number f.found) (more rest e))
 

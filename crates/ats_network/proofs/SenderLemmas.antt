@@ -1,7 +1,9 @@
-use Rattle.std.proofs.Common.{◌≡◌, ◌≢◌, ℕ, ◌<◌, ◌≤◌, List, [], ◌∷◌, map, length, sym, ap, ◌∙◌, arith}
+use Rattle.std.proofs.Common.{◌≡◌, ◌≢◌, ℕ, ◌-◌, ◌<◌, ◌≤◌, List, [], ◌∷◌, map, length, get_or, sym, ap, ◌∙◌, arith}
+use Rattle.std.proofs.Common.{length-append}
 use Rattle.std.specs.List.{All, AllPairs}
-use Rattle.std.proofs.lemmas.List.{get_or-map, length-map}
+use Rattle.std.proofs.lemmas.List.{get_or-append_right, get_or-map, length-map}
 use Rattle.std.proofs.lemmas.List.Elements.{All-nil, All-cons, All-head, All-tail, All-append, All-weaker}
+use Rattle.ats_facts.proofs.Lists.{all_left, all_right, pairs_tail}
 use Rattle.ats_streams.specs.Rules.{AreSizes, KeepsRules}
 use Rattle.ats_streams.specs.Path.{IsPath}
 use Rattle.ats_streams.specs.Stream.{DeclaredStream, IsStream, IsClass}
@@ -15,7 +17,6 @@ use Rattle.ats_network.specs.Path.{IsValidPath}
 use Rattle.ats_network.specs.Network.{DeclaredNetwork, IsNetwork, senders_of}
 use Rattle.ats_network.specs.Senders.{IsSender, sender_at, no_sender}
 use Rattle.ats_network.specs.Laws.{EachIsSender}
-use Rattle.ats_network.proofs.Appended.{all_left, all_right, pairs_tail}
 use Rattle.ats_network.proofs.ClassLemmas.{class_at-flow}
 use Rattle.ats_network.proofs.PathLemmas.{nodes_to, walk_ports}
 use Rattle.ats_network.proofs.BridgeLemmas.{meet_at_bridges}
@@ -100,3 +101,21 @@ each_is_sender network is =
 pub sender_keeps : (network : DeclaredNetwork) (n : ℕ) → IsNetwork network → n < length (senders_of network)
     → IsSender network.topology (sender_at network n)
 sender_keeps network n is within = each_is_sender network is n no_sender within
+
+pub no_flow : DeclaredFlow
+no_flow = record { name = []; path = []; max_octets = 0 }
+
+-- a sender past the streams is of class 0 at each port
+pub flow_class : (network : DeclaredNetwork) (n port : ℕ) → length network.streams ≤ n → n < length (senders_of network)
+    → class_at (sender_at network n) port ≡ 0
+flow_class network n port past within =
+    let streams : List Sender = map stream_sender network.streams in
+    let flows : List Sender = map flow_sender network.flows in
+    let flow : DeclaredFlow = get_or network.flows (n - length network.streams) no_flow in
+    let first : length streams ≡ length network.streams = length-map network.streams stream_sender in
+    let second : length flows ≡ length network.flows = length-map network.flows flow_sender in
+    let below : n - length network.streams < length network.flows = omega (arith, length-append streams flows) in
+    ap (λ (s : Sender). class_at s port)
+    (get_or-append_right streams flows (length network.streams) n no_sender first past
+    ∙ get_or-map flow_sender network.flows (n - length network.streams) no_flow no_sender below)
+    ∙ class_at-flow flow port

@@ -1,20 +1,20 @@
 use Rattle.std.proofs.Common.{◌≡◌, ◌≢◌, ℕ, ◌<◌, ◌≤◌, Bool, true, false, ◌||◌, List, [], ◌∷◌, length, refl, sym, subst}
 use Rattle.std.proofs.Common.{arith, eqb}
 use Rattle.std.specs.List.{All, AllPairs, list_any}
-use Rattle.std.proofs.lemmas.Bool.{eqb-true}
+use Rattle.std.proofs.lemmas.Bool.{eqb-true, false≢true}
 use Rattle.std.proofs.lemmas.Bool.Decides.{Decides-eqb}
 use Rattle.std.proofs.lemmas.List.{length-map}
 use Rattle.std.proofs.lemmas.List.Elements.{All-nil, All-cons, All-head, All-tail}
 use Rattle.std.proofs.lemmas.List.Kept.{AllPairs-cons}
 use Rattle.std.proofs.lemmas.Map.Made.{IsDistinct-from_AllPairs}
 use Rattle.std.proofs.lemmas.Map.Steps.{length-le_from_distinct_below}
+use Rattle.ats_facts.proofs.Lists.{pairs_tail}
 use Rattle.ats_topology.specs.Port.{port_at, no_port}
 use Rattle.ats_topology.specs.Topology.{DeclaredTopology, IsTopology}
 use Rattle.ats_topology.specs.Walks.{IsWalk}
 use Rattle.ats_topology.specs.declared.port.Port.{Port}
 use Rattle.ats_topology.proofs.Rules.{ports_are_lawful}
 use Rattle.ats_network.specs.PathSteps.{comes_to}
-use Rattle.ats_network.proofs.Appended.{pairs_tail}
 use Rattle.ats_network.proofs.PathLemmas.{nodes_to, away}
 
 -- a walk that comes to no node twice
@@ -23,13 +23,10 @@ pub record SimpleWalk (ports : List Port) (a b : ℕ) : Type 0 where
   pub is : IsWalk ports a b walk
   pub apart : AllPairs (λ m n. m ≢ n) (a ∷ nodes_to ports walk)
 
-false_true : false ≡ true → ⊥
-false_true h = cc
-
 -- what is left of a walk from the place where it comes to a node
 cut : (ports : List Port) (x : ℕ) (walk : List ℕ) (b node : ℕ) → IsWalk ports x b walk
     → AllPairs (λ m n. m ≢ n) (nodes_to ports walk) → comes_to ports node walk ≡ true → SimpleWalk ports node b
-cut ports x [] b node is apart comes = absurd (false_true comes)
+cut ports x [] b node is apart comes = absurd (false≢true comes)
 cut ports x (p ∷ walk) b node is apart comes =
     by (eqb (port_at ports p).to node) refl comes (cut ports (port_at ports p).to walk b node is.1
     (pairs_tail (λ m n. m ≢ n) (port_at ports p).to (nodes_to ports walk) apart))
@@ -67,7 +64,7 @@ simple_walk ports a (p ∷ walk) b is = by (simple_walk ports (port_at ports p).
 
 -- a number that is in a list of numbers below n is below n
 listed_below : (n : ℕ) (numbers : List ℕ) → All (λ m. m < n) numbers → (q : ℕ) → list_any (eqb q) numbers ≡ true → q < n
-listed_below n [] all q listed = absurd (false_true listed)
+listed_below n [] all q listed = absurd (false≢true listed)
 listed_below n (m ∷ numbers) all q listed =
     by (eqb q m) refl listed (listed_below n numbers (All-tail (λ m. m < n) m numbers all) q)
   where

@@ -16,7 +16,8 @@ use Rattle.ats_network.specs.Network.{DeclaredNetwork, IsNetwork, declared_netwo
 use Rattle.ats_network.specs.Pushes.{with_stream, with_flow, is_name_taken, is_identity_taken}
 use Rattle.ats_network.specs.Pushes.{stream_push_fault, flow_push_fault}
 use Rattle.ats_network.specs.declared.network.TheConstants.{MAX_STREAMS, MAX_FLOWS}
-use Rattle.ats_network.proofs.Pushed.{pushed_stream, pushed_flow, not_found}
+use Rattle.ats_network.proofs.Pushed.{pushed_stream, pushed_flow}
+use Rattle.ats_facts.proofs.Options.{is_some-false}
 use Rattle.ats_network_toml.specs.Document as file
 use Rattle.ats_network_toml.specs.Reading.{document_of}
 use Rattle.ats_network_toml.specs.declared.fault.DocumentFault.{DocumentFault}
@@ -52,7 +53,7 @@ path_kept t table n route path h =
 -- a name that is free
 name_free : (network : DeclaredNetwork) (name : List ℕ) → is_name_taken network name ≡ false
     → place_of name (names_of (senders_of network)) ≡ None
-name_free network name h = not_found (place_of name (names_of (senders_of network))) name network refl h
+name_free network name h = is_some-false (place_of name (names_of (senders_of network))) h
 
 stream_push_kept : (network : DeclaredNetwork) (stream : DeclaredStream) (next : DeclaredNetwork)
     → IsNetwork network → IsStream stream → IsValidPath network.topology stream.path

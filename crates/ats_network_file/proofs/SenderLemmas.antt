@@ -2,9 +2,9 @@ use Rattle.std.proofs.Common.{◌≡◌, ℕ, ◌≤◌, Bool, true, false, ◌|
 use Rattle.std.proofs.Common.{Some, None, refl, sym, subst}
 use Rattle.std.specs.Prelude.{nat_lt, ◌==◌}
 use Rattle.std.specs.List.{All, list_any}
-use Rattle.std.specs.Option.{option_or}
 use Rattle.std.proofs.lemmas.Bool.{or_parts, ltb-false}
 use Rattle.std.proofs.lemmas.List.Elements.{All-nil, All-cons, All-replicate}
+use Rattle.ats_facts.proofs.Options.{option_or-none}
 use Rattle.ats_num.specs.Wire.{bits_of}
 use Rattle.ats_num.specs.declared.rate.TheConstants.{MAX_BPS, MAX_BURST_BITS}
 use Rattle.ats_num.specs.declared.wire.TheConstants.{MIN_OCTETS, MAX_OCTETS}
@@ -28,14 +28,6 @@ pub record Passed {F : Type 0} (a : Bool) (rest : Option F) : Type 0 where
 pub passed : {F : Type 0} (a : Bool) (fault : F) (rest : Option F) → cond a (Some fault) rest ≡ None → Passed a rest
 passed true fault rest h = cc
 passed false fault rest h = record { test = refl; none = h }
-
-record NoneOf (a b : Option StreamFault) : Type 0 where
-  first : a ≡ None
-  then : b ≡ None
-
-none_of : (a b : Option StreamFault) → option_or a b ≡ None → NoneOf a b
-none_of None b h = record { first = refl; then = h }
-none_of (Some f) b h = cc
 
 record Between (least most x : ℕ) : Type 0 where
   above : least ≤ x
@@ -106,8 +98,9 @@ pub stream_keeps : (given : List ℕ) (s : DeclaredStream) → s.classes ≡ cla
 stream_keeps given s along identity h =
     let a = passed (are_bad_classes (length s.path) given) _ _ h in
     let b =
-    none_of (rules_fault s.rate s.burst_bits s.min_octets s.max_octets) (limit_fault s.path s.deadline_ns) a.none in
-    let c = passed (nat_lt (length s.path) 1 || nat_lt MAX_PORTS (length s.path)) _ _ b.then in
+    option_or-none (rules_fault s.rate s.burst_bits s.min_octets s.max_octets) (limit_fault s.path s.deadline_ns)
+    a.none in
+    let c = passed (nat_lt (length s.path) 1 || nat_lt MAX_PORTS (length s.path)) _ _ b.1 in
     let d = passed (nat_lt s.deadline_ns 1 || nat_lt MAX_DEADLINE_NS s.deadline_ns) _ _ c.none in
     let classes : AreClasses (length s.path) s.classes =
     subst (AreClasses (length s.path)) (sym along) (classes_kept (length s.path) given a.test) in
@@ -116,7 +109,7 @@ stream_keeps given s along identity h =
     record {
       classes = classes.each;
       each_port = classes.count;
-      rules = rules_kept s.rate s.burst_bits s.min_octets s.max_octets b.first;
+      rules = rules_kept s.rate s.burst_bits s.min_octets s.max_octets b.0;
       path = record { least = ports.above; most = ports.below };
       deadline = record { positive = deadline.above; most = deadline.below };
       identity = identity;

@@ -1,37 +1,20 @@
 use Rattle.std.proofs.Common.{◌≡◌, ◌≢◌, ℕ, ◌<◌, Bool, true, false, not, ◌&&◌, ◌||◌, List, [], ◌∷◌, map, length, refl}
 use Rattle.std.proofs.Common.{sym, ap, subst, ◌∙◌, arith, eqb, ltb}
 use Rattle.std.specs.List.{All, AllPairs, list_any}
-use Rattle.std.proofs.lemmas.Bool.{eqb-true, eq-eqb, ne_eqb, and_parts, or_parts}
-use Rattle.std.proofs.lemmas.Bool.Decides.{nat_tests}
+use Rattle.std.proofs.lemmas.Bool.{eqb-true, eq-eqb, ne_eqb, and_parts, or_parts, true≢false, lt-ltb, ltb-true}
 use Rattle.std.proofs.lemmas.List.Elements.{All-nil, All-cons, All-head, All-tail}
 use Rattle.std.proofs.lemmas.List.Kept.{AllPairs-cons}
+use Rattle.std.proofs.lemmas.Bool.{not-true, and_from}
+use Rattle.ats_facts.proofs.Lists.{pairs_head, pairs_tail}
 use Rattle.ats_topology.specs.Node.{is_station}
 use Rattle.ats_topology.specs.Port.{port_at}
 use Rattle.ats_topology.specs.Topology.{DeclaredTopology, IsTopology, node_at}
 use Rattle.ats_topology.specs.Walks.{IsWalk}
 use Rattle.ats_topology.specs.declared.port.Port.{Port}
 use Rattle.ats_network.specs.Path.{IsValidPath, IsStationAt, nodes_along}
-use Rattle.ats_network.proofs.Appended.{pairs_head, pairs_tail}
 use Rattle.ats_network.proofs.PathLemmas.{nodes_to}
 use Rattle.ats_network.proofs.SimpleWalks.{SimpleWalk, simple_short}
 use Rattle.ats_network_file.specs.Routes.{is_walk, last_node, is_station_at, are_apart, is_valid}
-
-true_false : true ≡ false → ⊥
-true_false h = cc
-
-below : (m n : ℕ) → ltb m n ≡ true → m < n
-below m n h = grind (arith, nat_tests)
-
-is_below : (m n : ℕ) → m < n → ltb m n ≡ true
-is_below m n h = grind (arith, nat_tests)
-
-not_false : (b : Bool) → not b ≡ true → b ≡ false
-not_false true h = sym h
-not_false false h = refl
-
-both_true : (a b : Bool) → a ≡ true → b ≡ true → (a && b) ≡ true
-both_true true b h k = k
-both_true false b h k = absurd (true_false (sym h))
 
 -- what passes the test of a walk is one, to the node where its last port leads
 walk_passed : (ports : List Port) (a : ℕ) (path : List ℕ) → is_walk ports a path ≡ true
@@ -43,7 +26,7 @@ walk_passed ports a (p ∷ path) h =
     and_parts (ltb p (length ports) && eqb (port_at ports p).from a) (is_walk ports (port_at ports p).to path) h in
     let first : (ltb p (length ports) ≡ true) × (eqb (port_at ports p).from a ≡ true) =
     and_parts (ltb p (length ports)) (eqb (port_at ports p).from a) parts.0 in (
-      record { within = below p (length ports) first.0; from = eqb-true (port_at ports p).from a first.1 },
+      record { within = ltb-true p (length ports) first.0; from = eqb-true (port_at ports p).from a first.1 },
       walk_passed ports (port_at ports p).to path parts.1,
     )
 
@@ -51,8 +34,8 @@ walk_passed ports a (p ∷ path) h =
 walk_passes : (ports : List Port) (a b : ℕ) (path : List ℕ) → IsWalk ports a b path → is_walk ports a path ≡ true
 walk_passes ports a b [] w = refl
 walk_passes ports a b (p ∷ path) w =
-    both_true (ltb p (length ports) && eqb (port_at ports p).from a) (is_walk ports (port_at ports p).to path)
-    (both_true (ltb p (length ports)) (eqb (port_at ports p).from a) (is_below p (length ports) w.0.within)
+    and_from (ltb p (length ports) && eqb (port_at ports p).from a) (is_walk ports (port_at ports p).to path)
+    (and_from (ltb p (length ports)) (eqb (port_at ports p).from a) (lt-ltb p (length ports) w.0.within)
     (eq-eqb (port_at ports p).from a w.0.from))
     (walk_passes ports (port_at ports p).to b path w.1)
 
@@ -65,11 +48,11 @@ station_passed : (topology : DeclaredTopology) (n : ℕ) → is_station_at topol
 station_passed topology n h =
     let parts : (ltb n (length topology.nodes) ≡ true) × (is_station (node_at topology.nodes n).kind ≡ true) =
     and_parts (ltb n (length topology.nodes)) (is_station (node_at topology.nodes n).kind) h in
-    record { within = below n (length topology.nodes) parts.0; station = parts.1 }
+    record { within = ltb-true n (length topology.nodes) parts.0; station = parts.1 }
 
 station_passes : (topology : DeclaredTopology) (n : ℕ) → IsStationAt topology n → is_station_at topology n ≡ true
-station_passes topology n h = both_true (ltb n (length topology.nodes)) (is_station (node_at topology.nodes n).kind)
-    (is_below n (length topology.nodes) h.within) h.station
+station_passes topology n h = and_from (ltb n (length topology.nodes)) (is_station (node_at topology.nodes n).kind)
+    (lt-ltb n (length topology.nodes) h.within) h.station
 
 -- a number that does not occur in a list differs from each element
 differs : (n : ℕ) (ns : List ℕ) → list_any (λ m. eqb m n) ns ≡ false → All (λ m. n ≢ m) ns
@@ -77,7 +60,7 @@ differs n [] h = All-nil (λ m. n ≢ m)
 differs n (m ∷ ns) h =
     let parts : (eqb m n ≡ false) × (list_any (λ m. eqb m n) ns ≡ false) =
     or_parts (eqb m n) (list_any (λ m. eqb m n) ns) h in
-    All-cons (λ m. n ≢ m) m ns (λ e. true_false (sym (eq-eqb m n (sym e)) ∙ parts.0)) (differs n ns parts.1)
+    All-cons (λ m. n ≢ m) m ns (λ e. true≢false (sym (eq-eqb m n (sym e)) ∙ parts.0)) (differs n ns parts.1)
 
 occurs_not : (n : ℕ) (ns : List ℕ) → All (λ m. n ≢ m) ns → list_any (λ m. eqb m n) ns ≡ false
 occurs_not n [] h = refl
@@ -91,13 +74,13 @@ apart_passed [] h = λ i j d before within. absurd (omega arith)
 apart_passed (n ∷ ns) h =
     let parts : (not (list_any (λ m. eqb m n) ns) ≡ true) × (are_apart ns ≡ true) =
     and_parts (not (list_any (λ m. eqb m n) ns)) (are_apart ns) h in
-    AllPairs-cons (λ a b. a ≢ b) n ns (differs n ns (not_false (list_any (λ m. eqb m n) ns) parts.0))
+    AllPairs-cons (λ a b. a ≢ b) n ns (differs n ns (not-true (list_any (λ m. eqb m n) ns) parts.0))
     (apart_passed ns parts.1)
 
 apart_passes : (ns : List ℕ) → AllPairs (λ a b. a ≢ b) ns → are_apart ns ≡ true
 apart_passes [] pairs = refl
 apart_passes (n ∷ ns) pairs =
-    both_true (not (list_any (λ m. eqb m n) ns)) (are_apart ns)
+    and_from (not (list_any (λ m. eqb m n) ns)) (are_apart ns)
     (ap not (occurs_not n ns (pairs_head (λ a b. a ≢ b) n ns pairs)))
     (apart_passes ns (pairs_tail (λ a b. a ≢ b) n ns pairs))
 
@@ -111,7 +94,7 @@ last_of P ports a p (q ∷ path) h = last_of P ports (port_at ports p).to q path
 -- what passes the test of a valid path is one
 pub valid_passed : (topology : DeclaredTopology) (path : List ℕ) → is_valid topology path ≡ true
     → IsValidPath topology path
-valid_passed topology [] h = absurd (true_false (sym h))
+valid_passed topology [] h = absurd (true≢false (sym h))
 valid_passed topology (p ∷ path) h =
     let from = (port_at topology.ports p).from in
     let to = last_node topology.ports from (p ∷ path) in
@@ -148,9 +131,9 @@ valid_passes topology (p ∷ path) valid =
     let walk : IsWalk topology.ports from valid.listener (p ∷ path) =
     subst (λ (a : ℕ). IsWalk topology.ports a valid.listener (p ∷ path)) begin valid.walk in
     let end : valid.listener ≡ to = sym (walk_ends topology.ports from valid.listener (p ∷ path) walk) in
-    both_true (walks && is_station_at topology from && is_station_at topology to) (are_apart nodes)
-    (both_true (walks && is_station_at topology from) (is_station_at topology to)
-    (both_true walks (is_station_at topology from) (walk_passes topology.ports from valid.listener (p ∷ path) walk)
+    and_from (walks && is_station_at topology from && is_station_at topology to) (are_apart nodes)
+    (and_from (walks && is_station_at topology from) (is_station_at topology to)
+    (and_from walks (is_station_at topology from) (walk_passes topology.ports from valid.listener (p ∷ path) walk)
     (station_passes topology from (subst (IsStationAt topology) begin valid.begins)))
     (station_passes topology to (subst (IsStationAt topology) end valid.ends)))
     (apart_passes nodes valid.apart)

@@ -1,9 +1,9 @@
-use Rattle.std.proofs.Common.{◌≡◌, ℕ, ◌+◌, ◌<◌, List, [], ◌∷◌, ◌++◌, length, take, get_or, map, subst, sym, ◌∙◌, ap}
+use Rattle.std.proofs.Common.{◌≡◌, ℕ, ◌+◌, ◌<◌, List, [], ◌∷◌, ◌++◌, length, take, get_or, map, sym, ◌∙◌, ap}
 use Rattle.std.proofs.Common.{All, arith, append_assoc}
 use Rattle.std.specs.List.{flat_map, enumerate_from}
-use Rattle.std.proofs.lemmas.List.{flat_map_more, take_more, length-map, take_all}
-use Rattle.std.proofs.Math.ListN.{get_or-map}
+use Rattle.std.proofs.lemmas.List.{flat_map_more, take_more, take_all}
 use Rattle.std.proofs.lemmas.List.FromFn.{length-enumerate_from, get_or-enumerate_from}
+use Rattle.ats_facts.proofs.Lists.{all_left, all_right, all_unmapped}
 use Rattle.ats_topology.specs.Port.{port_at, no_port}
 use Rattle.ats_topology.specs.Topology.{DeclaredTopology}
 use Rattle.ats_topology.specs.Walks.{ArePorts}
@@ -13,13 +13,8 @@ use Rattle.ats_streams.specs.Flow.{DeclaredFlow}
 use Rattle.ats_network.specs.Sender.{Sender, stream_sender, flow_sender}
 use Rattle.ats_network.specs.Network.{DeclaredNetwork, IsNetwork}
 use Rattle.ats_network.specs.Senders.{IsSender}
-use Rattle.ats_network.proofs.Appended.{all_left, all_right}
 use Rattle.ats_network.proofs.SenderLemmas.{each_is_sender}
 use Rattle.ats_network_text.specs.Text.{port_line}
-
--- a fact of what a function makes of each element
-made_of : {X Y : Type 0} (P : Y → Type 0) (f : X → Y) (xs : List X) → All P (map f xs) → All (λ x. P (f x)) xs
-made_of P f xs all = λ k d lt. subst P (get_or-map f xs k d) (all k (f d) (omega (arith, length-map xs f)))
 
 -- the ports of each stream and each flow of a network are ports of its topology
 pub ports_of_streams : (network : DeclaredNetwork) → IsNetwork network
@@ -29,7 +24,7 @@ ports_of_streams network is =
     let streams : List Sender = map stream_sender network.streams in
     let flows : List Sender = map flow_sender network.flows in
     λ k d lt.
-    (made_of Is stream_sender network.streams (all_left Is streams flows (each_is_sender network is)) k d lt).ports
+    (all_unmapped Is stream_sender network.streams (all_left Is streams flows (each_is_sender network is)) k d lt).ports
 
 pub ports_of_flows : (network : DeclaredNetwork) → IsNetwork network
     → All (λ (f : DeclaredFlow). ArePorts network.topology.ports f.path) network.flows
@@ -38,7 +33,7 @@ ports_of_flows network is =
     let streams : List Sender = map stream_sender network.streams in
     let flows : List Sender = map flow_sender network.flows in
     λ k d lt.
-    (made_of Is flow_sender network.flows (all_right Is streams flows (each_is_sender network is)) k d lt).ports
+    (all_unmapped Is flow_sender network.flows (all_right Is streams flows (each_is_sender network is)) k d lt).ports
 
 -- the line of the next port
 pub next_port : (topology : DeclaredTopology) (n : ℕ) (x before after : List ℕ) → n < length topology.ports

@@ -1,41 +1,16 @@
 use Rattle.std.proofs.Common.{◌≡◌, ℕ, ◌+◌, ◌<◌, ◌^◌, Bool, true, false, cond, List, [], ◌∷◌, ◌++◌, length, Option, Some}
 use Rattle.std.proofs.Common.{None, refl, sym, ◌∙◌, ap, arith, length-append}
 use Rattle.std.specs.Prelude.{is_some, IfSome}
-use Rattle.std.specs.List.{position_from}
 use Rattle.std.specs.Str.{bytes_eq}
 use Rattle.std.specs.Ordering.{nat_cmp}
 use Rattle.std.specs.Cmp.Lexicographic.{slice_cmp}
 use Rattle.std.specs.BTreeMap.{BTreeMap, get, is_at, Updates}
 use Rattle.std.proofs.lemmas.Map.Text.{is_eq-slice_cmp}
-use Rattle.std.proofs.lemmas.Slice.Eq.{bytes_eq-Decides}
 use Rattle.std.specs.Cmp.Lexicographic.{nat_list_eq_equiv}
+use Rattle.ats_facts.proofs.Lists.{position_from-lt, position_from-push}
+use Rattle.ats_facts.proofs.Options.{cond-is_some}
+use Rattle.ats_facts.proofs.Bytes.{bytes_eq-true}
 use Rattle.ats_num.specs.Places.{place_of, AreNumbered}
-
--- a search goes on to an element at the end only where nothing before it passed
-abbrev after_push : (t : List ℕ → Bool) (i : ℕ) (xs : List (List ℕ)) (x : List ℕ) → Option ℕ
-after_push t i xs x =
-    cond (is_some (position_from t i xs)) (position_from t i xs) (cond (t x) (Some (i + length xs)) None)
-
-position_from-push : (t : List ℕ → Bool) (i : ℕ) (xs : List (List ℕ)) (x : List ℕ)
-    → position_from t i (xs ++ x ∷ []) ≡ after_push t i xs x
-position_from-push t i [] x = ap (λ n. cond (t x) (Some n) None) (omega arith)
-position_from-push t i (y ∷ ys) x = by (t y) (position_from-push t (i + 1) ys x ∙ ap (λ n.
-    cond (is_some (position_from t (i + 1) ys)) (position_from t (i + 1) ys) (cond (t x) (Some n) None)) (omega arith))
-  where
-    by : (b : Bool) → position_from t (i + 1) (ys ++ x ∷ []) ≡ cond (is_some (position_from t (i + 1) ys))
-        (position_from t (i + 1) ys) (cond (t x) (Some (i + length (y ∷ ys))) None)
-        → cond b (Some i) (position_from t (i + 1) (ys ++ x ∷ []))
-        ≡ cond (is_some (cond b (Some i) (position_from t (i + 1) ys)))
-        (cond b (Some i) (position_from t (i + 1) ys)) (cond (t x) (Some (i + length (y ∷ ys))) None)
-    by true h = refl
-    by false h = h
-
-chosen : (o : Option ℕ) → cond (is_some o) o None ≡ o
-chosen None = refl
-chosen (Some n) = refl
-
-bytes_eq_is : (xs ys : List ℕ) → bytes_eq xs ys ≡ true → xs ≡ ys
-bytes_eq_is xs ys h = grind (arith, bytes_eq-Decides xs ys)
 
 bytes_eq_symm : (xs ys : List ℕ) → bytes_eq xs ys ≡ bytes_eq ys xs
 bytes_eq_symm xs ys = nat_list_eq_equiv.symm xs ys
@@ -54,7 +29,7 @@ numbered_push names name old new numbered absent few updates = record {
 
     by : (q : List ℕ) (b : Bool) → bytes_eq q name ≡ b → get (slice_cmp nat_cmp) new q ≡ place_of q (names ++ name ∷ [])
     by q true e =
-        let same : q ≡ name = bytes_eq_is q name e in
+        let same : q ≡ name = bytes_eq-true q name e in
         updates.0 q ∙ ap (λ b. cond b (Some (length names)) (get (slice_cmp nat_cmp) old q)) (at_name q ∙ e)
         ∙ sym (position_from-push (bytes_eq q) 0 names name ∙ ap (λ o. cond (is_some o) o
         (cond (bytes_eq q name) (Some (0 + length names)) None)) (ap (λ p. place_of p names) same ∙ absent)
@@ -63,28 +38,12 @@ numbered_push names name old new numbered absent few updates = record {
         updates.0 q ∙ ap (λ b. cond b (Some (length names)) (get (slice_cmp nat_cmp) old q)) (at_name q ∙ e)
         ∙ numbered.found q
         ∙ sym (position_from-push (bytes_eq q) 0 names name ∙ ap (λ b. cond (is_some (place_of q names))
-        (place_of q names) (cond b (Some (0 + length names)) None)) e ∙ chosen (place_of q names))
-
-none_is : (n : ℕ) → None ≡ Some n → ⊥
-none_is n h = cc
-
-some_is : (a b : ℕ) → Some a ≡ Some b → a ≡ b
-some_is a b h = cc
-
-from_lt : (t : List ℕ → Bool) (i : ℕ) (xs : List (List ℕ)) (place : ℕ) → position_from t i xs ≡ Some place
-    → place < i + length xs
-from_lt t i [] place h = absurd (none_is place h)
-from_lt t i (x ∷ xs) place h = by (t x) (from_lt t (i + 1) xs place) h
-  where
-    by : (b : Bool) → (position_from t (i + 1) xs ≡ Some place → place < (i + 1) + length xs)
-        → cond b (Some i) (position_from t (i + 1) xs) ≡ Some place → place < i + length (x ∷ xs)
-    by true more h = let e = some_is i place h in omega arith
-    by false more h = let e = more h in omega arith
+        (place_of q names) (cond b (Some (0 + length names)) None)) e ∙ cond-is_some (place_of q names))
 
 -- a place that is found is one of the list
 pub place_of-lt : (name : List ℕ) (names : List (List ℕ)) (place : ℕ) → place_of name names ≡ Some place
     → place < length names
-place_of-lt name names place found = omega (arith, from_lt (bytes_eq name) 0 names place found)
+place_of-lt name names place found = omega (arith, position_from-lt (bytes_eq name) 0 names place found)
 
 pub found_within : (name : List ℕ) (names : List (List ℕ)) (found : Option ℕ) → found ≡ place_of name names
     → IfSome found (λ place. place < length names)

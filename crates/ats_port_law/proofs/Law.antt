@@ -5,7 +5,9 @@ use Rattle.std.proofs.lemmas.List.Elements.{All-from_get_or}
 use Rattle.std.proofs.lemmas.List.Sums.{get_or-le-sum_by}
 use Rattle.ats_num.specs.declared.time.TheConstants.{PS_PER_SECOND}
 use Rattle.ats_topology.specs.Port.{port_at}
+use Rattle.ats_topology.proofs.Rules.{ports_are_lawful}
 use Rattle.ats_network.specs.Sender.{Sender}
+use Rattle.ats_network.specs.Class.{PortSender, class_at}
 use Rattle.ats_network.specs.Network.{DeclaredNetwork, IsNetwork, senders_of}
 use Rattle.ats_network.specs.Senders.{sender_at, no_sender}
 use Rattle.ats_certificate.specs.PortSums.{is_above, is_of, is_below, longest, shortest, sum_where, senders_at}
@@ -39,7 +41,7 @@ takes_time : (network : DeclaredNetwork) (row : Row) (sent : List Transmission) 
 takes_time network row sent c k d h =
     let ps : ℕ = (port_at network.topology.ports row.port).ps_per_bit in
     let x : Transmission = get_or sent k d in
-    let rate : 10 ≤ ps = (c.net.topology.each_port row.port _ c.port).rate.least in
+    let rate : 10 ≤ ps = ((ports_are_lawful network.topology c.net.topology).each row.port _ c.port).rate.least in
     let bits : 1 ≤ x.bits = omega (arith, (c.offered.each k d h).least) in
     let product : 10 * x.bits ≤ ps * x.bits = mul-le-mul_right x.bits rate in
     omega (arith, product, bits)
@@ -52,7 +54,7 @@ lower_frames network row sent c k d h below =
     let declared = c.offered.each k d h in
     let reaches = greatest_reaches row.port (is_below row.class) longest (senders_of network)
     y.sender no_sender declared.exists declared.uses
-    (lt-ltb (sender_at network y.sender).class row.class (omega (arith, declared.class, below))) in
+    (lt-ltb (class_at (sender_at network y.sender) row.port) row.class (omega (arith, declared.class, below))) in
     omega (arith, declared.most, reaches, c.covers.sums.lower)
 
 -- a frame of the class is no shorter than the row says
@@ -64,7 +66,7 @@ least_frame network row sent c k d h class =
     let declared = c.offered.each k d h in
     let reaches = least_reaches row.port (is_of row.class) shortest (senders_of network)
     x.sender no_sender declared.exists declared.uses
-    (eq-eqb (sender_at network x.sender).class row.class (sym declared.class ∙ class)) in
+    (eq-eqb (class_at (sender_at network x.sender) row.port) row.class (sym declared.class ∙ class)) in
     omega (arith, declared.least, reaches, c.covers.sums.least)
 
 -- where there is one, the class has a rate
@@ -75,12 +77,14 @@ equal_rate network row sent c k d h class =
     let x : Transmission = get_or sent k d in
     let s : Sender = sender_at network x.sender in
     let declared = c.offered.each k d h in
-    let ranked : s.class ≡ row.class = sym declared.class ∙ class in
-    let rates : ℕ = sum_where (is_of row.class) (λ (s : Sender). s.rate) (senders_at row.port (senders_of network)) in
-    let reaches : s.rate ≤ rates = sum_reaches row.port (is_of row.class) (λ (s : Sender). s.rate) (senders_of network)
-    x.sender no_sender declared.exists declared.uses (eq-eqb s.class row.class ranked) in
-    let rate : 1 ≤ s.rate = has_rate network x.sender c.net declared.exists (omega (arith, ranked, c.some)) in
-    let fast : 10 ≤ ps = (c.net.topology.each_port row.port _ c.port).rate.least in
+    let ranked : class_at s row.port ≡ row.class = sym declared.class ∙ class in
+    let rates : ℕ =
+    sum_where (is_of row.class) (λ (s : PortSender). s.rate) (senders_at row.port (senders_of network)) in
+    let reaches : s.rate ≤ rates = sum_reaches row.port (is_of row.class) (λ (s : PortSender). s.rate)
+    (senders_of network)
+    x.sender no_sender declared.exists declared.uses (eq-eqb (class_at s row.port) row.class ranked) in
+    let rate : 1 ≤ s.rate = has_rate network row.port x.sender c.net declared.exists (omega (arith, ranked, c.some)) in
+    let fast : 10 ≤ ps = ((ports_are_lawful network.topology c.net.topology).each row.port _ c.port).rate.least in
     let product : 10 * rates ≤ ps * rates = mul-le-mul_right rates fast in
     let equal : row.equal ≡ ps * rates = c.covers.sums.equal in
     omega (arith, product, equal, reaches, rate)
@@ -153,8 +157,8 @@ walk_numbers : (network : DeclaredNetwork) (row : Row) (sent : List Transmission
     → Walk PS_PER_SECOND (port_at network.topology.ports row.port).ps_per_bit w.since (get_or sent k d).eligible
     (get_or sent k d).start (get_or sent k d).end
     (walk_bits row.class w.first (get_or sent k d).start sent)
-    (sum_where (is_above row.class) (λ (s : Sender). s.rate) (senders_at row.port (senders_of network)))
-    (sum_where (is_of row.class) (λ (s : Sender). s.rate) (senders_at row.port (senders_of network)))
+    (sum_where (is_above row.class) (λ (s : PortSender). s.rate) (senders_at row.port (senders_of network)))
+    (sum_where (is_of row.class) (λ (s : PortSender). s.rate) (senders_at row.port (senders_of network)))
     (get_or sent k d).bits row.higher row.equal row.bursts row.lower row.least row.wait
 walk_numbers network row sent c k d h class w =
     let x : Transmission = get_or sent k d in

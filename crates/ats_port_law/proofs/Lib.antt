@@ -1,10 +1,6 @@
 pub mod Law
-pub mod Networks
 pub mod Numbers
 pub mod Pairs
-pub mod PremiseProofs
-pub mod RowNetworks
-pub mod RowProofs
 pub mod Senders
 pub mod Sums
 pub mod Totals

@@ -4,13 +4,15 @@ use Rattle.std.specs.Prelude.{◌==◌, nat_lt}
 use Rattle.std.proofs.lemmas.Bool.{cases_Bool, cases_lt, cases_order, cond-true, cond-false, eqb-true, eq-eqb, ne_eqb}
 use Rattle.std.proofs.lemmas.Bool.{lt-ltb, le-ltb, true≢false}
 use Rattle.std.proofs.lemmas.List.{get_or-map, length-map, get_or_append_left, get_or-append_right}
+use Rattle.ats_network.proofs.SenderLemmas.{no_flow}
 use Rattle.ats_num.specs.declared.time.TheConstants.{PS_PER_SECOND}
 use Rattle.ats_port_rule.specs.Transmission.{Transmission}
 use Rattle.ats_streams.specs.Stream.{DeclaredStream}
-use Rattle.ats_streams.specs.Flow.{DeclaredFlow}
 use Rattle.ats_network.specs.Sender.{Sender, stream_sender, flow_sender}
+use Rattle.ats_network.specs.Class.{class_at, seen_at}
 use Rattle.ats_network.specs.Network.{DeclaredNetwork, IsNetwork, senders_of}
 use Rattle.ats_network.specs.Senders.{sender_at, no_sender}
+use Rattle.ats_network.proofs.ClassLemmas.{class_at-flow}
 use Rattle.ats_certificate.specs.PortSums.{uses, is_above, is_of}
 use Rattle.ats_port_law.specs.PortLaw.{IsDeclared, IsOffered}
 use Rattle.ats_port_law.proofs.Sums.{sum_by-le-all, sum_by-none, sum_by-keys}
@@ -21,7 +23,7 @@ pub no_stream : DeclaredStream
 no_stream = record {
   name = [];
   path = [];
-  class = 0;
+  classes = [];
   rate = 0;
   burst_bits = 0;
   min_octets = 0;
@@ -29,9 +31,6 @@ no_stream = record {
   deadline_ns = 0;
   identity = None;
 }
-
-no_flow : DeclaredFlow
-no_flow = record { name = []; path = []; max_octets = 0 }
 
 -- the first senders are the streams
 pub stream_at : (network : DeclaredNetwork) (i : ℕ) → i < length network.streams
@@ -42,10 +41,10 @@ stream_at network i h =
     (omega (arith, h, length-map network.streams stream_sender))
     ∙ get_or-map stream_sender network.streams i no_stream no_sender h
 
--- the others are flows, of class 0
-flow_at : (network : DeclaredNetwork) (i : ℕ) → i < length (senders_of network) → length network.streams ≤ i
-    → (sender_at network i).class ≡ 0
-flow_at network i h past =
+-- the others are flows, of class 0 at each port
+flow_at : (network : DeclaredNetwork) (port i : ℕ) → i < length (senders_of network) → length network.streams ≤ i
+    → class_at (sender_at network i) port ≡ 0
+flow_at network port i h past =
     let streams : List Sender = map stream_sender network.streams in
     let flows : List Sender = map flow_sender network.flows in
     let some : i - length network.streams < length network.flows =
@@ -57,24 +56,25 @@ flow_at network i h past =
       length-map network.streams stream_sender,
       length-map network.flows flow_sender,
     ) in
-    ap (λ (s : Sender). s.class)
+    ap (λ (s : Sender). class_at s port)
     (get_or-append_right streams flows (length network.streams) i no_sender
     (length-map network.streams stream_sender) past
     ∙ get_or-map flow_sender network.flows (i - length network.streams) no_flow no_sender some)
+    ∙ class_at-flow (get_or network.flows (i - length network.streams) no_flow) port
 
--- a sender of class 1 or more is a stream
-pub is_stream : (network : DeclaredNetwork) (i : ℕ) → i < length (senders_of network) → 1 ≤ (sender_at network i).class
-    → i < length network.streams
-is_stream network i h shaped = elim (cases_lt i (length network.streams)) as (λ _. i < length network.streams) [
+-- a sender that has a class of 1 or more at a port is a stream
+pub is_stream : (network : DeclaredNetwork) (port i : ℕ) → i < length (senders_of network)
+    → 1 ≤ class_at (sender_at network i) port → i < length network.streams
+is_stream network port i h shaped = elim (cases_lt i (length network.streams)) as (λ _. i < length network.streams) [
   | inl first ↦ first
-  | inr past ↦ absurd (let none = flow_at network i h past in omega (arith, none, shaped))
+  | inr past ↦ absurd (let none = flow_at network port i h past in omega (arith, none, shaped))
 ]
 
 -- so it has a rate
-pub has_rate : (network : DeclaredNetwork) (i : ℕ) → IsNetwork network → i < length (senders_of network)
-    → 1 ≤ (sender_at network i).class → 1 ≤ (sender_at network i).rate
-has_rate network i n h shaped =
-    let first = is_stream network i h shaped in
+pub has_rate : (network : DeclaredNetwork) (port i : ℕ) → IsNetwork network → i < length (senders_of network)
+    → 1 ≤ class_at (sender_at network i) port → 1 ≤ (sender_at network i).rate
+has_rate network port i n h shaped =
+    let first = is_stream network port i h shaped in
     let rate = ap (λ (s : Sender). s.rate) (stream_at network i first) in
     omega (arith, rate, (n.streams i no_stream first).rules.rate.positive)
 
@@ -105,7 +105,7 @@ counted-below class since early late y h =
 -- what is declared of a transmission, by the number of its sender
 record IsOf (network : DeclaredNetwork) (port i : ℕ) (y : Transmission) : Type 0 where
   pub used : uses port (sender_at network i) ≡ true
-  pub ranked : y.class ≡ (sender_at network i).class
+  pub ranked : y.class ≡ class_at (sender_at network i) port
 
 is_of_sender : (network : DeclaredNetwork) (port i : ℕ) (y : Transmission) → IsDeclared network port y → y.sender ≡ i
     → IsOf network port i y
@@ -157,22 +157,23 @@ of_nothing network port i sent f o each =
     let le = of_one_sender network port i sent f (λ (y : Transmission). 0) o.each each k d h in
     omega (arith, le, cond_zero (y.sender == i))))
 
-share-above : (m port class above of : ℕ) (s : Sender) → uses port s ≡ true → class < s.class
+share-above : (m port class above of : ℕ) (s : Sender) → uses port s ≡ true → class < class_at s port
     → share m port class above of s ≡ s.rate * above + m * s.burst_bits
 share-above m port class above of s used h =
-    cond-true (uses port s) (cond (is_above class s) (s.rate * above + m * s.burst_bits)
-    (cond (is_of class s) (s.rate * of + m * s.burst_bits) 0)) 0 used
-    ∙ cond-true (is_above class s) (s.rate * above + m * s.burst_bits)
-    (cond (is_of class s) (s.rate * of + m * s.burst_bits) 0) (lt-ltb class s.class h)
+    cond-true (uses port s) (cond (is_above class (seen_at port s)) (s.rate * above + m * s.burst_bits)
+    (cond (is_of class (seen_at port s)) (s.rate * of + m * s.burst_bits) 0)) 0 used
+    ∙ cond-true (is_above class (seen_at port s)) (s.rate * above + m * s.burst_bits)
+    (cond (is_of class (seen_at port s)) (s.rate * of + m * s.burst_bits) 0) (lt-ltb class (class_at s port) h)
 
-share-of : (m port class above of : ℕ) (s : Sender) → uses port s ≡ true → s.class ≡ class
+share-of : (m port class above of : ℕ) (s : Sender) → uses port s ≡ true → class_at s port ≡ class
     → share m port class above of s ≡ s.rate * of + m * s.burst_bits
 share-of m port class above of s used e =
-    cond-true (uses port s) (cond (is_above class s) (s.rate * above + m * s.burst_bits)
-    (cond (is_of class s) (s.rate * of + m * s.burst_bits) 0)) 0 used
-    ∙ cond-false (is_above class s) (s.rate * above + m * s.burst_bits)
-    (cond (is_of class s) (s.rate * of + m * s.burst_bits) 0) (le-ltb class s.class (omega (arith, e)))
-    ∙ cond-true (is_of class s) (s.rate * of + m * s.burst_bits) 0 (eq-eqb s.class class e)
+    cond-true (uses port s) (cond (is_above class (seen_at port s)) (s.rate * above + m * s.burst_bits)
+    (cond (is_of class (seen_at port s)) (s.rate * of + m * s.burst_bits) 0)) 0 used
+    ∙ cond-false (is_above class (seen_at port s)) (s.rate * above + m * s.burst_bits)
+    (cond (is_of class (seen_at port s)) (s.rate * of + m * s.burst_bits) 0)
+    (le-ltb class (class_at s port) (omega (arith, e)))
+    ∙ cond-true (is_of class (seen_at port s)) (s.rate * of + m * s.burst_bits) 0 (eq-eqb (class_at s port) class e)
 
 -- what one sender adds is at most its share
 one_share : (network : DeclaredNetwork) (port class since early late : ℕ) (sent : List Transmission)
@@ -189,16 +190,16 @@ one_share network port class since early late sent o some before_early before_la
       | inr unused ↦ (
           let none = of_nothing network port i sent part o (λ y d. absurd (true≢false (sym d.used ∙ unused))) in
           omega (arith, none))
-      | inl used ↦ elim (cases_order class s.class) as (λ _. Goal) [
+      | inl used ↦ elim (cases_order class (class_at s port)) as (λ _. Goal) [
         | inl same ↦ (
             let window = within_window network port i sent part since early o
-            (is_stream network i h (omega (arith, some, same))) before_early
+            (is_stream network port i h (omega (arith, some, same))) before_early
             (λ y d. (let e = counted-of class since early late y (d.ranked ∙ sym same) in omega (arith, e))) in
             omega (arith, window, share-of PS_PER_SECOND port class (late - since) (early - since) s used (sym same)))
         | inr differ ↦ elim differ as (λ _. Goal) [
           | inl above ↦ (
               let window = within_window network port i sent part since late o
-              (is_stream network i h (omega (arith, some, above))) before_late
+              (is_stream network port i h (omega (arith, some, above))) before_late
               (λ y d. (let e = counted-above class since early late y (omega (arith, d.ranked, above)) in
               omega (arith, e))) in
               omega (arith, window, share-above PS_PER_SECOND port class (late - since) (early - since) s used above))

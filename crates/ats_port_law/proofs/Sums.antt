@@ -1,5 +1,5 @@
 use Rattle.std.proofs.Common.{◌≡◌, ℕ, zero, suc, ◌+◌, ◌*◌, ◌<◌, ◌≤◌, Bool, true, false, cond, List, [], ◌∷◌, length}
-use Rattle.std.proofs.Common.{get_or, take, drop, filter, sum_by, All, refl, ap, add-one, arith}
+use Rattle.std.proofs.Common.{get_or, take, drop, filter, map, sum_by, All, refl, ap, add-one, arith}
 use Rattle.std.specs.Prelude.{◌==◌, nat_lt}
 use Rattle.std.proofs.Math.Nat.{mul-le-mul_left}
 use Rattle.std.proofs.lemmas.Bool.{cond-true, lt-ltb}
@@ -38,6 +38,14 @@ sum_by-filter {X} f test (x ∷ xs) =
     let rest = sum_by-filter f test xs in
     let all = sum_by-cons (λ (x : X). cond (test x) (f x) 0) x xs in
     omega (arith, chosen, rest, all)
+
+-- a sum over images is one over what they are images of
+pub sum_by-map : {X Y : Type 0} (f : Y → ℕ) (g : X → Y) (xs : List X)
+    → sum_by f (map g xs) ≡ sum_by (λ (x : X). f (g x)) xs
+sum_by-map f g [] = refl
+sum_by-map {X} f g (x ∷ xs) =
+    let rest = sum_by-map f g xs in
+    omega (arith, sum_by-cons f (g x) (map g xs), sum_by-cons (λ (x : X). f (g x)) x xs, rest)
 
 -- a sum of larger terms, to which an element adds that gave nothing before
 pub sum_by-one_more : {X : Type 0} (f g : X → ℕ) (xs : List X) (i : ℕ) (d : X) → i < length xs → ((x : X) → f x ≤ g x)

@@ -1,4 +1,5 @@
 use Rattle.std.proofs.Common.{◌≡◌, ℕ, ◌<◌, ◌≤◌, Bool, true, cond, List, [], ◌∷◌, length, length-append, get_or, map}
+use Rattle.std.proofs.Common.{filter}
 use Rattle.std.proofs.Common.{All, subst, inl, inr, arith}
 use Rattle.std.specs.Prelude.{◌==◌}
 use Rattle.std.specs.List.{list_any}
@@ -9,15 +10,17 @@ use Rattle.ats_topology.specs.Walks.{IsWalk}
 use Rattle.ats_topology.specs.declared.port.Port.{Port}
 use Rattle.ats_streams.specs.Stream.{DeclaredStream}
 use Rattle.ats_network.specs.Sender.{Sender, stream_sender, flow_sender}
+use Rattle.ats_network.specs.Class.{PortSender, class_at, seen_at}
 use Rattle.ats_network.specs.Network.{DeclaredNetwork, IsNetwork, senders_of}
 use Rattle.ats_network.specs.Senders.{no_sender}
 use Rattle.ats_network.specs.Path.{IsValidPath}
+use Rattle.ats_network.proofs.ClassLemmas.{class_at-stream}
 use Rattle.ats_certificate.specs.PortSums.{uses, is_of, is_used, senders_at}
 use Rattle.ats_port_law.proofs.Senders.{no_stream, stream_at}
 
--- a port that a stream uses is one of the network, and its class is 1 or more
+-- a port that a stream uses is one of the network, and its class there is 1 or more
 record Allows (ports port : ℕ) (s : DeclaredStream) : Type 0 where
-  class : 1 ≤ s.class
+  class : uses port (stream_sender s) ≡ true → 1 ≤ class_at (stream_sender s) port
   within : uses port (stream_sender s) ≡ true → port < ports
 
 pub record IsPlace (ports port class : ℕ) : Type 0 where
@@ -38,14 +41,18 @@ used_by : (ports port class : ℕ) (streams : List DeclaredStream) → All (Allo
 used_by ports port class [] all used = absurd (false≢true used)
 used_by ports port class (s ∷ ss) all used =
     let first : Allows ports port s = All-head (Allows ports port) s ss all in
-    let rest : List Sender = senders_at port (map stream_sender ss) in
+    let kept : List Sender = filter (uses port) (map stream_sender ss) in
+    let rest : List PortSender = senders_at port (map stream_sender ss) in
     let later = used_by ports port class ss (All-tail (Allows ports port) s ss all) in
-    let Used : Bool → Type 0 = λ (b : Bool). list_any (is_of class) (cond b (stream_sender s ∷ rest) rest) ≡ true in
+    let Used : Bool → Type 0 =
+    λ (b : Bool). list_any (is_of class) (map (seen_at port) (cond b (stream_sender s ∷ kept) kept)) ≡ true in
     elim (cases_Bool (uses port (stream_sender s))) as (λ _. IsPlace ports port class) [
-      | inl e ↦ elim (or_cases (is_of class (stream_sender s)) (list_any (is_of class) rest)
+      | inl e ↦ elim (or_cases (is_of class (seen_at port (stream_sender s))) (list_any (is_of class) rest)
           (subst Used e used)) as (λ _. IsPlace ports port class) [
-            | inl same ↦
-                record { ranked = omega (arith, eqb-true s.class class same, first.class); within = first.within e }
+            | inl same ↦ record {
+              ranked = omega (arith, eqb-true (class_at (stream_sender s) port) class same, first.class e);
+              within = first.within e;
+            }
             | inr other ↦ later other
           ]
       | inr e ↦ later (subst Used e used)
@@ -60,7 +67,7 @@ allowed network port i n h =
     (arith, h, length-append streams (map flow_sender network.flows), length-map network.streams stream_sender) in
     let valid = subst Valid (stream_at network i h) (n.paths i no_sender exists) in
     record {
-      class = (n.streams i no_stream h).class.least;
+      class = λ used. (class_at-stream (get_or network.streams i no_stream) port (n.streams i no_stream h) used).least;
       within = λ used. on_walk network.topology.ports port valid.talker valid.listener
           (get_or network.streams i no_stream).path valid.walk used;
     }

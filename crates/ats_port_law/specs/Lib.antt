@@ -1,3 +1,1 @@
 pub mod PortLaw
-pub mod Rows
-pub mod Premises

@@ -1,10 +1,10 @@
 -- No two ports of a topology go between the same nodes.
 use Rattle.std.proofs.Common.{◌≡◌, ◌∙◌, ℕ, zero, suc, ◌+◌, ◌*◌, ◌<◌, List, [], ◌∷◌, ◌++◌, get_or, length, take, None}
-use Rattle.std.proofs.Common.{Some, refl, sym, ap, arith, ◌⊎◌, inl, inr}
+use Rattle.std.proofs.Common.{Some, refl, ap, arith, ◌⊎◌, inl, inr}
 use Rattle.std.specs.List.{All, position_from}
-use Rattle.std.specs.Option.{option_or}
 use Rattle.std.proofs.lemmas.Bool.{eq-eqb}
 use Rattle.std.proofs.lemmas.List.{get_or_default, take_more}
+use Rattle.ats_facts.proofs.Options.{option_or-none}
 use Rattle.ats_topology.specs.Faults.{topology_fault, node_twice, link_twice, no_link, self_link, unknown_node}
 use Rattle.ats_topology.specs.Node.{names_of}
 use Rattle.ats_topology.specs.Port.{goes, no_port, port_at, port_between}
@@ -12,19 +12,10 @@ use Rattle.ats_topology.specs.Topology.{IsTopology, HasLawfulPorts, link_at, por
 use Rattle.ats_topology.specs.declared.node.Node.{Node}
 use Rattle.ats_topology.specs.declared.link.Link.{Link}
 use Rattle.ats_topology.specs.declared.port.Port.{Port}
-use Rattle.ats_topology.specs.declared.fault.TopologyFault.{TopologyFault}
 use Rattle.ats_topology.proofs.Known.{IsOpen, all_open}
 use Rattle.ats_topology.proofs.Numbered.{first_absent, second_absent}
 use Rattle.ats_topology.proofs.PositionLemmas.{position_from-some}
 use Rattle.ats_topology.proofs.Rules.{topology_rules, ports_are_lawful}
-use Rattle.std.specs.Prelude.{Option}
-
-some_fault : (fault : TopologyFault) → None ≡ Some fault → ⊥
-some_fault fault h = cc
-
-none_parts : (o p : Option TopologyFault) → option_or o p ≡ None → (o ≡ None) × (p ≡ None)
-none_parts None p h = (refl, h)
-none_parts (Some f) p h = absurd (some_fault f (sym h))
 
 -- the faults that are asked for here
 record AreJoined (nodes : List Node) (links : List Link) : Type 0 where
@@ -33,10 +24,10 @@ record AreJoined (nodes : List Node) (links : List Link) : Type 0 where
 
 are_joined : (nodes : List Node) (links : List Link) → topology_fault nodes links ≡ None → AreJoined nodes links
 are_joined nodes links h =
-    let one = none_parts (node_twice nodes) _ h in
-    let two = none_parts (link_twice links) _ one.1 in
-    let three = none_parts (self_link links) _ two.1 in
-    let four = none_parts (unknown_node nodes links) _ three.1 in
+    let one = option_or-none (node_twice nodes) _ h in
+    let two = option_or-none (link_twice links) _ one.1 in
+    let three = option_or-none (self_link links) _ two.1 in
+    let four = option_or-none (unknown_node nodes links) _ three.1 in
     record { joined = two.0; opens = all_open nodes links four.0 three.0 }
 
 -- the ports of the first links are the first ports, two to a link

@@ -1,18 +1,16 @@
-use Rattle.std.specs.Prelude.{◌≢◌, ℕ, ◌<◌, ◌≤◌, List, length, slice_index_or, AllPairs}
+use Rattle.std.specs.Prelude.{◌≢◌, ◌<◌, ◌^◌, List, All, AllPairs}
 use Rattle.ats_queue.specs.declared.queued.Queued.{Queued}
-use Rattle.ats_queue.specs.Order.{GoesBefore}
 
 -- no frame is held twice
 abbrev pub AreDistinct : List Queued → Type 0
 AreDistinct held = AllPairs (λ (x y : Queued). x.frame ≢ y.frame) held
 
--- the frame at this place goes before the others of the first n
-abbrev pub IsFirstOf : (ℕ → ℕ → ℕ) → List Queued → ℕ → ℕ → Type 0
-IsFirstOf key held n i =
-    (k : ℕ) (d : Queued) → k < n → k ≢ i → GoesBefore key (slice_index_or held i d) (slice_index_or held k d)
+-- the numbers of a frame and its sender fit their types
+pub record IsInRange (x : Queued) : Type 0 where
+  pub frame : x.frame < 2 ^ 32
+  pub sender : x.sender < 2 ^ 32
 
--- there is room for all that may be held, and no frame is held twice
-pub record IsKept (held : List Queued) (capacity room : ℕ) : Type 0 where
-  pub reserved : capacity ≤ room
-  pub within : length held ≤ capacity
+-- no frame is held twice, and numbers fit their types
+pub record IsKept (held : List Queued) : Type 0 where
   pub distinct : AreDistinct held
+  pub in_range : All IsInRange held

@@ -1,3 +1,4 @@
 pub mod Contents
 pub mod Inside
 pub mod Order
+pub mod Weak

@@ -3,9 +3,9 @@
 ghost use Rattle.std.specs.Prelude.{◌≡◌, ◌≢◌, ◌↔◌, ◌+◌, ◌<◌, ◌≤◌, [], ◌∷◌, length, All, IsNone, IfNone, IfSome, IfOk};
 ghost use Rattle.std.specs.Prelude.{IsPermutation};
 ghost use Rattle.ats_queue.specs.Order.{GoesBefore, Takes, IsNextTime};
-ghost use Rattle.ats_queue.specs.Inside.{AreDistinct, IsFirstOf};
 
-use crate::queued::{Queued, goes_before};
+use crate::queued::{ByEligibility, Queued};
+use ats_heap::Heap;
 use ats_num::{Ps, Tie};
 use std::alloc::{AllocError, Global};
 use std::marker::Model;
@@ -14,9 +14,7 @@ use std::marker::Model;
 /// order means nothing, and the capacity and the tie that the queue was opened with.
 #[derive(Drop)]
 pub struct ClassQueue<T: Tie> {
-    held: Vec<Queued>,
-    capacity: u32,
-    tie: T,
+    held: Heap<Queued, ByEligibility<T>>,
 }
 
 impl<T: Tie> Model for ClassQueue<T> {
@@ -24,12 +22,11 @@ impl<T: Tie> Model for ClassQueue<T> {
 
     ghost Value = { Contents T };
 
-    ghost use Rattle.std.specs.Prelude.{vec_capacity};
     ghost use Rattle.ats_queue.specs.Inside.{IsKept};
 
-    ghost view = { λ q. record { held = q.held.items; capacity = q.capacity; tie = q.tie } };
+    ghost view = { λ q. record { held = q.held.items; capacity = q.held.capacity; tie = q.held.order.tie } };
 
-    ghost invariant = { λ q. IsKept q.held.items q.capacity (vec_capacity q.held) };
+    ghost invariant = { λ q. IsKept q.held.items };
 }
 
 impl<T: Tie> ClassQueue<T> {
@@ -38,9 +35,7 @@ impl<T: Tie> ClassQueue<T> {
         ensures { IfOk result (λ queue. queue ≡ record { held = []; capacity = capacity; tie = tie }) }
     {
         Ok(ClassQueue {
-            held: Vec::with_capacity(alloc, capacity as usize)?,
-            capacity,
-            tie,
+            held: Heap::open(alloc, capacity, ByEligibility { tie })?,
         })
     }
 
@@ -52,7 +47,7 @@ impl<T: Tie> ClassQueue<T> {
         ensures count { length self.new.held ≡ length self.old.held + 1 }
         ensures rest { self.new ≡ record self.old { held = self.new.held } }
     {
-        self.held.push(queued).unwrap();
+        self.held.insert(queued);
     }
 
     /// The held frame of the least eligibility time, and of the least key among equal ones, which is held no longer.
@@ -63,14 +58,11 @@ impl<T: Tie> ClassQueue<T> {
         ensures unchanged { IfNone result (self.new ≡ self.old) }
         ensures rest { self.new ≡ record self.old { held = self.new.held } }
     {
-        if self.held.is_empty() {
+        let first = self.held.peek()?;
+        if now.0 < first.eligible.0 {
             return None;
         }
-        let first = first_of(self.tie, &self.held);
-        if now.0 < self.held[first].eligible.0 {
-            return None;
-        }
-        Some(self.held.remove(first))
+        self.held.pop()
     }
 
     /// The least eligibility time of a held frame. `None` exactly where nothing is held.
@@ -78,26 +70,6 @@ impl<T: Tie> ClassQueue<T> {
         ensures least { IfSome result (λ time. IsNextTime self.now.held time.0) }
         ensures none { IsNone result ↔ (self.now.held ≡ []) }
     {
-        if self.held.is_empty() {
-            return None;
-        }
-        let first = first_of(self.tie, &self.held);
-        Some(self.held[first].eligible)
+        Some(self.held.peek()?.eligible)
     }
-}
-
-/// The place of the frame that goes before all others.
-fn first_of<T: Tie>(tie: T, held: &[Queued]) -> usize
-    requires some { 0 < length held.now }
-    requires distinct { AreDistinct held.now }
-    ensures within { result < length held.now }
-    ensures first { IsFirstOf (T.key tie) held.now (length held.now) result }
-{
-    let mut first = 0;
-    for i in 1..held.len() {
-        if goes_before(tie, held[i], held[first]) {
-            first = i;
-        }
-    }
-    first
 }

@@ -1,9 +1,10 @@
 //! The frames of a class queue, and their order.
 
-ghost use Rattle.std.specs.Prelude.{◌≢◌};
-ghost use Rattle.std.specs.Bool.{OnTrue, OnFalse};
+ghost use Rattle.std.specs.Prelude.{⊤};
 ghost use Rattle.ats_queue.specs.Order.{GoesBefore};
+ghost use Rattle.ats_queue.specs.Weak.{goes_before_weakly};
 
+use ats_heap::Precedence;
 use ats_num::{Ps, Tie};
 
 /// A frame that waits in a class queue: its number, the number of its sender, the time from which it is eligible, in
@@ -16,13 +17,24 @@ pub struct Queued {
     pub octets: u32,
 }
 
-/// Whether `x` goes before `y`: it was eligible earlier, or at the same time with the lesser key.
-pub(crate) fn goes_before<T: Tie>(tie: T, x: Queued, y: Queued) -> bool
-    ensures before { OnTrue result (GoesBefore (T.key tie) x y) }
-    ensures after { OnFalse result (x.frame ≢ y.frame → GoesBefore (T.key tie) y x) }
-{
-    if x.eligible.0 != y.eligible.0 {
-        return x.eligible.0 < y.eligible.0;
+/// The order of a class queue: a frame goes before another where it was eligible earlier, or at the same time with the
+/// lesser key.
+#[derive(Clone, Copy)]
+pub(crate) struct ByEligibility<T: Tie> {
+    pub(crate) tie: T,
+}
+
+impl<T: Tie> Precedence<Queued> for ByEligibility<T> {
+    ghost covers = { λ _ _. ⊤ };
+
+    ghost goes_before = { λ order. GoesBefore (T.key order.tie) };
+
+    ghost weak_order = { λ order. goes_before_weakly (T.key order.tie) };
+
+    fn goes_before(&self, x: &Queued, y: &Queued) -> bool {
+        if x.eligible.0 != y.eligible.0 {
+            return x.eligible.0 < y.eligible.0;
+        }
+        self.tie.key(x.sender, x.frame) < self.tie.key(y.sender, y.frame)
     }
-    tie.key(x.sender, x.frame) < tie.key(y.sender, y.frame)
 }

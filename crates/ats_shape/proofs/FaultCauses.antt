@@ -1,9 +1,9 @@
-use Rattle.std.proofs.Common.{◌≡◌, ◌⊎◌, ℕ, ◌<◌, ◌≤◌, Bool, true, false, not, ◌&&◌, List, length, Option, None, Some}
-use Rattle.std.proofs.Common.{Result, Ok, Err, refl, sym, ap, ◌∙◌, inl, inr, arith}
+use Rattle.std.proofs.Common.{◌≡◌, ◌⊎◌, ℕ, Bool, true, false, not, ◌&&◌, List, length, Option, None, Some}
+use Rattle.std.proofs.Common.{Result, Ok, Err, refl, sym, ap, ◌∙◌, inl, inr}
 use Rattle.std.specs.Prelude.{◌==◌, is_ok, is_some, is_none, codes, nat_le, nat_lt, if◌then◌else◌}
 use Rattle.std.specs.List.{list_all}
 use Rattle.std.specs.Str.{bytes_eq}
-use Rattle.std.proofs.lemmas.Bool.Decides.{nat_tests}
+use Rattle.std.proofs.lemmas.Bool.{and_parts, le-leb, le-ltb, lt-leb}
 use Rattle.ats_num.specs.Places.{place_of}
 use Rattle.ats_io.specs.Text.{words_of}
 use Rattle.ats_streams.specs.Fault.{rules_fault}
@@ -31,11 +31,6 @@ not_said r fault x form p = form ∙ ap (λ (b : Bool). ok_where b fault x) p
 is_said : {A : Type 0} (r : Result A ShapeFault) (fault : ShapeFault) (x : A) → r ≡ ok_where (is_ok r) fault x
     → is_ok r ≡ true → r ≡ Ok x
 is_said r fault x form p = form ∙ ap (λ (b : Bool). ok_where b fault x) p
-
-both : (a b : Bool) → (a && b) ≡ true → (a ≡ true) × (b ≡ true)
-both true true h = (refl, refl)
-both true false h = cc
-both false b h = cc
 
 -- a line without its form is a bad line
 abbrev stream_behind : List (List ℕ) → Bool → ℕ → List (List ℕ) → Result Line ShapeFault
@@ -143,7 +138,7 @@ opened_stream : (before : List (List ℕ)) (n : ℕ) (line : List ℕ) → has_f
     → is_stream_line line ≡ true → OpenedStream before n line
 opened_stream before n line form stream =
     let h = opened_word before n line (codes "stream") refl form stream in
-    let parts = both (length (arrivals_on before) == 0) (is_ok (stream_in n (words_of line)))
+    let parts = and_parts (length (arrivals_on before) == 0) (is_ok (stream_in n (words_of line)))
     (then_of (is_stream_line line) _ (is_frame_line line && is_ok (frame_in n (words_of line))) stream h.3) in
     record { counts = h.0; opened = h.1; begins = h.2; early = parts.0; said = parts.1 }
 
@@ -157,7 +152,7 @@ opened_frame before n line form frame =
     else_of (is_skipped line) (bytes_eq (word (words_of line) 0) (codes "stream"))
     ((length (arrivals_on before) == 0) && is_ok (stream_in n (words_of line)))
     (is_frame_line line && is_ok (frame_in n (words_of line))) other h.3 in
-    let parts = both (is_frame_line line) (is_ok (frame_in n (words_of line))) said in
+    let parts = and_parts (is_frame_line line) (is_ok (frame_in n (words_of line))) said in
     record { counts = h.0; opened = h.1; other = other; begins = h.2; said = parts.1 }
 
 -- the answer on such a line
@@ -257,22 +252,13 @@ end_frame_past : (n : ℕ) (place : Option ℕ) (ordered few : Bool) (said : Fra
 end_frame_past n None ordered few said p q r = cc
 end_frame_past n (Some i) ordered few said p q r = rw (q, r) refl
 
-not_below : (a b : ℕ) → b ≤ a → nat_lt a b ≡ false
-not_below a b h = grind (arith, nat_tests)
-
-not_least : (a b : ℕ) → b < a → nat_le a b ≡ false
-not_least a b h = grind (arith, nat_tests)
-
-least : (a b : ℕ) → a ≤ b → nat_le a b ≡ true
-least a b h = grind (arith, nat_tests)
-
 limit : (before : List (List ℕ)) (n : ℕ) (line : List ℕ) → IsStreamPast before n line ⊎ IsFramePast before n line
     → line_behind before n line ≡ Err (Limit n)
 limit before n line (inl h) = stream_answer before n line (opened_stream before n line h.new.form h.new.stream)
-    ∙ end_past n _ _ _ (stream_said (words_of line)) h.new.new h.kept (not_below (length (names_on before)) 4096 h.past)
+    ∙ end_past n _ _ _ (stream_said (words_of line)) h.new.new h.kept (le-ltb (length (names_on before)) 4096 h.past)
 limit before n line (inr h) = frame_answer before n line (opened_frame before n line h.known.form h.known.frame)
     ∙ end_frame_past n _ _ _ (frame_said (words_of line)) h.known.known
-    (least (last_of (arrivals_on before)) _ h.ordered) (not_below (length (arrivals_on before)) 200000 h.past)
+    (le-leb (last_of (arrivals_on before)) _ h.ordered) (le-ltb (length (arrivals_on before)) 200000 h.past)
 
 caused : (before : List (List ℕ)) (n : ℕ) (line : List ℕ) (fault : ShapeFault) → line_number fault ≡ n
     → Cause before n line fault → line_behind before n line ≡ Err fault
@@ -292,7 +278,7 @@ caused before n line (UnknownName m) p h =
     ∙ ap (λ (k : ℕ). let r : Result Line ShapeFault = Err (UnknownName k) in r) (sym p)
 caused before n line (TimeBack m) p h =
     frame_answer before n line (opened_frame before n line h.known.form h.known.frame) ∙ end_back n _ _ _
-    (frame_said (words_of line)) h.known.known (not_least (last_of (arrivals_on before)) _ h.back)
+    (frame_said (words_of line)) h.known.known (lt-leb (last_of (arrivals_on before)) _ h.back)
     ∙ ap (λ (k : ℕ). let r : Result Line ShapeFault = Err (TimeBack k) in r) (sym p)
 caused before n line (Limit m) p h =
     limit before n line h ∙ ap (λ (k : ℕ). let r : Result Line ShapeFault = Err (Limit k) in r) (sym p)

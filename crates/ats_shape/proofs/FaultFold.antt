@@ -7,6 +7,7 @@ use Rattle.std.proofs.Math.ListN.{get_or-map}
 use Rattle.std.proofs.lemmas.List.{length-map, map-append, append-nil}
 use Rattle.std.proofs.lemmas.List.Elements.{filter-append}
 use Rattle.std.proofs.lemmas.List.Folds.{list_all-append}
+use Rattle.std.proofs.lemmas.Bool.{and_parts}
 use Rattle.ats_io.specs.Text.{lines_of, words_of}
 use Rattle.ats_num.specs.Failure.{◌>>=◌, or_fault}
 use Rattle.ats_shape.specs.Shape.{DeclaredShape}
@@ -278,11 +279,6 @@ first_answered draft before (l ∷ lines) line after fault h faultless found =
     (subst (λ (ls : List (List ℕ)). HasFault ls line fault) (sym (append_assoc before (l ∷ []) lines)) found))
 
 -- lines that are all skipped miss their residence
-both_skipped : (a b : Bool) → (a && b) ≡ true → (a ≡ true) × (b ≡ true)
-both_skipped true true h = (refl, refl)
-both_skipped true false h = cc
-both_skipped false b h = cc
-
 skip : (draft : DraftShape) (n : ℕ) (line : List ℕ) → is_skipped line ≡ true → line_in draft n line ≡ Ok Skipped
 skip draft n line p = rw p refl
 
@@ -290,7 +286,7 @@ all_skipped : (n : ℕ) (lines : List (List ℕ)) → list_all is_skipped lines 
     → shape_from blank n lines ≡ Err (BadLine (length lines + n))
 all_skipped n [] p = ap (λ (k : ℕ). let r : Result DeclaredShape ShapeFault = Err (BadLine k) in r) (omega arith)
 all_skipped n (line ∷ lines) p =
-    let parts = both_skipped (is_skipped line) (list_all is_skipped lines) p in
+    let parts = and_parts (is_skipped line) (list_all is_skipped lines) p in
     ap (λ (r : Result Line ShapeFault). r >>= λ said. shape_from (with_line blank said) (n + 1) lines)
     (skip blank n line parts.0)
     ∙ all_skipped (n + 1) lines parts.1

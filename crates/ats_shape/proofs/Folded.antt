@@ -10,9 +10,9 @@ use Rattle.ats_group.specs.declared.member.Member.{Member}
 use Rattle.ats_group.specs.declared.verdict.Verdict.{Verdict}
 use Rattle.ats_group.specs.declared.verdict.Verdict.TheVariants.{Eligible, Late, Size}
 use Rattle.ats_group.specs.Group.{Offer, State, first, verdicts_of}
-use Rattle.ats_group.specs.Standing.{Standing, opened, declared_of, group_of, state_of, standing_after, no_member}
-use Rattle.ats_group.specs.Standing.{AreMembers, IsMember, IsStanding}
-use Rattle.ats_group.specs.Laws.{verdict_at, standing_next, verdicts_in, offers_to, IsFold}
+use Rattle.ats_group.specs.GroupsState.{GroupsState, opened, declared_of, group_of, state_of, groups_after, no_member}
+use Rattle.ats_group.specs.GroupsState.{AreMembers, IsMember, AreGroups}
+use Rattle.ats_group.specs.Laws.{verdict_at, groups_next, verdicts_in, offers_to, IsFold}
 use Rattle.ats_group.proofs.FoldLemmas.{each_group}
 use Rattle.ats_group.proofs.StepLemmas.{opened_first}
 use Rattle.ats_shape.specs.Shape.{DeclaredShape, IsShape, IsRuled}
@@ -21,47 +21,47 @@ use Rattle.ats_shape.specs.declared.shape.ShapeStream.{ShapeStream}
 use Rattle.ats_shape.specs.declared.shape.ShapeFrame.{ShapeFrame}
 
 -- the verdicts on frames to any groups, one after another
-abbrev pub verdict_list : Standing → List Offer → List Verdict
-verdict_list standing [] = []
-verdict_list standing (offer ∷ offers) = verdict_at standing offer ∷ verdict_list (standing_next standing offer) offers
+abbrev pub verdict_list : GroupsState → List Offer → List Verdict
+verdict_list groups [] = []
+verdict_list groups (offer ∷ offers) = verdict_at groups offer ∷ verdict_list (groups_next groups offer) offers
 
 -- where the group of a shape stands at first
-abbrev pub at_first : DeclaredShape → Standing
+abbrev pub at_first : DeclaredShape → GroupsState
 at_first shape = opened (shape.residence_ns ∷ []) (map member_of shape.streams)
 
-members_stay : (standing : Standing) (member octets : ℕ) (verdict : Verdict)
-    → (standing_after standing member octets verdict).members ≡ standing.members
-members_stay standing member octets (Eligible e) = refl
-members_stay standing member octets (Late e) = refl
-members_stay standing member octets Size = refl
+members_stay : (groups : GroupsState) (member octets : ℕ) (verdict : Verdict)
+    → (groups_after groups member octets verdict).members ≡ groups.members
+members_stay groups member octets (Eligible e) = refl
+members_stay groups member octets (Late e) = refl
+members_stay groups member octets Size = refl
 
 -- each member is of group 0
-abbrev IsLone : Standing → Type 0
-IsLone standing = (member : ℕ) → group_of standing member ≡ 0
+abbrev IsLone : GroupsState → Type 0
+IsLone groups = (member : ℕ) → group_of groups member ≡ 0
 
-lone_next : (standing : Standing) (offer : Offer) → IsLone standing → IsLone (standing_next standing offer)
-lone_next standing offer lone = λ member. ap (λ (ms : List Member). (get_or ms member no_member).group)
-    (members_stay standing offer.member offer.octets (verdict_at standing offer)) ∙ lone member
+lone_next : (groups : GroupsState) (offer : Offer) → IsLone groups → IsLone (groups_next groups offer)
+lone_next groups offer lone = λ member. ap (λ (ms : List Member). (get_or ms member no_member).group)
+    (members_stay groups offer.member offer.octets (verdict_at groups offer)) ∙ lone member
 
-lone_test : (standing : Standing) (member : ℕ) → IsLone standing → (group_of standing member == 0) ≡ true
-lone_test standing member lone = ap (λ (g : ℕ). g == 0) (lone member)
+lone_test : (groups : GroupsState) (member : ℕ) → IsLone groups → (group_of groups member == 0) ≡ true
+lone_test groups member lone = ap (λ (g : ℕ). g == 0) (lone member)
 
-lone_verdicts : (standing : Standing) (offers : List Offer) → IsLone standing
-    → verdicts_in standing 0 offers ≡ verdict_list standing offers
-lone_verdicts standing [] lone = refl
-lone_verdicts standing (offer ∷ offers) lone =
-    let next : Standing = standing_next standing offer in
-    ap (λ (b : Bool). cond b (verdict_at standing offer ∷ verdicts_in next 0 offers) (verdicts_in next 0 offers))
-    (lone_test standing offer.member lone)
-    ∙ ap (λ (vs : List Verdict). verdict_at standing offer ∷ vs)
-    (lone_verdicts (standing_next standing offer) offers (lone_next standing offer lone))
+lone_verdicts : (groups : GroupsState) (offers : List Offer) → IsLone groups
+    → verdicts_in groups 0 offers ≡ verdict_list groups offers
+lone_verdicts groups [] lone = refl
+lone_verdicts groups (offer ∷ offers) lone =
+    let next : GroupsState = groups_next groups offer in
+    ap (λ (b : Bool). cond b (verdict_at groups offer ∷ verdicts_in next 0 offers) (verdicts_in next 0 offers))
+    (lone_test groups offer.member lone)
+    ∙ ap (λ (vs : List Verdict). verdict_at groups offer ∷ vs)
+    (lone_verdicts (groups_next groups offer) offers (lone_next groups offer lone))
 
-lone_offers : (standing : Standing) (offers : List Offer) → IsLone standing → offers_to standing 0 offers ≡ offers
-lone_offers standing [] lone = refl
-lone_offers standing (offer ∷ offers) lone =
-    ap (λ (b : Bool). cond b (offer ∷ offers_to standing 0 offers) (offers_to standing 0 offers))
-    (lone_test standing offer.member lone)
-    ∙ ap (λ (os : List Offer). offer ∷ os) (lone_offers standing offers lone)
+lone_offers : (groups : GroupsState) (offers : List Offer) → IsLone groups → offers_to groups 0 offers ≡ offers
+lone_offers groups [] lone = refl
+lone_offers groups (offer ∷ offers) lone =
+    ap (λ (b : Bool). cond b (offer ∷ offers_to groups 0 offers) (offers_to groups 0 offers))
+    (lone_test groups offer.member lone)
+    ∙ ap (λ (os : List Offer). offer ∷ os) (lone_offers groups offers lone)
 
 at_first_lone : (shape : DeclaredShape) → IsLone (at_first shape)
 at_first_lone shape = λ member. ap (λ (m : Member). m.group) (get_or-map member_of shape.streams member no_stream)
@@ -75,7 +75,7 @@ pub are_members : (streams : List ShapeStream) → All IsRuled streams → AreMe
 are_members streams ruled =
     All-map (IsMember 1) member_of streams (λ k d lt. record { group = lit< tt; declared = ruled k d lt })
 
-at_first_stands : (shape : DeclaredShape) → IsShape shape → IsStanding (at_first shape)
+at_first_stands : (shape : DeclaredShape) → IsShape shape → AreGroups (at_first shape)
 at_first_stands shape h = record {
   times = refl;
   empties = length-map (map member_of shape.streams) _;
@@ -103,19 +103,19 @@ all_verdicts shape h =
     ∙ ap (λ (d : ℕ → Declared). verdicts_of d shape.residence_ns (first d) offers) (at_first_declared shape)
 
 -- a verdict that is given leaves those on the frames behind it
-pub judged_next : (standing next : Standing) (frames : List ShapeFrame) (i : ℕ) (f : ShapeFrame)
+pub judged_next : (groups next : GroupsState) (frames : List ShapeFrame) (i : ℕ) (f : ShapeFrame)
     (before after : List Verdict) (verdict : Verdict) → i < length frames
-    → verdict ≡ verdict_at standing (offer_of (get_or frames i f))
-    → next ≡ standing_next standing (offer_of (get_or frames i f)) → after ≡ before ++ verdict ∷ []
+    → verdict ≡ verdict_at groups (offer_of (get_or frames i f))
+    → next ≡ groups_next groups (offer_of (get_or frames i f)) → after ≡ before ++ verdict ∷ []
     → after ++ verdict_list next (map offer_of (drop (i + 1) frames))
-    ≡ before ++ verdict_list standing (map offer_of (drop i frames))
-judged_next standing next frames i f before after verdict within given stands added =
+    ≡ before ++ verdict_list groups (map offer_of (drop i frames))
+judged_next groups next frames i f before after verdict within given stands added =
     let frame : ShapeFrame = get_or frames i f in
     let rest : List ShapeFrame = drop (i + 1) frames in
     ap (λ (vs : List Verdict). vs ++ verdict_list next (map offer_of rest)) added
     ∙ append_assoc before (verdict ∷ []) (verdict_list next (map offer_of rest))
-    ∙ ap (λ (s : Standing). before ++ (verdict ∷ verdict_list s (map offer_of rest))) stands
+    ∙ ap (λ (s : GroupsState). before ++ (verdict ∷ verdict_list s (map offer_of rest))) stands
     ∙ ap
-    (λ (v : Verdict). before ++ (v ∷ verdict_list (standing_next standing (offer_of frame)) (map offer_of rest))) given
-    ∙ ap (λ (fs : List ShapeFrame). before ++ verdict_list standing (map offer_of fs))
+    (λ (v : Verdict). before ++ (v ∷ verdict_list (groups_next groups (offer_of frame)) (map offer_of rest))) given
+    ∙ ap (λ (fs : List ShapeFrame). before ++ verdict_list groups (map offer_of fs))
     (ap (λ (k : ℕ). frame ∷ drop k frames) (add-one i) ∙ sym (drop-cons frames i f within))

@@ -1,7 +1,7 @@
 //! The verdicts on the frames of a shape.
 
 ghost use Rattle.std.specs.Prelude.{◌≡◌, IfOk, length, map};
-ghost use Rattle.ats_group.specs.Standing.{AreMembers};
+ghost use Rattle.ats_group.specs.GroupsState.{AreMembers};
 ghost use Rattle.ats_shape.specs.Verdicts.{verdicts_on, member_of};
 
 use crate::shape::{Shape, ShapeStream};

@@ -1,15 +1,15 @@
 use Rattle.std.proofs.Common.{◌≡◌, ℕ, List, [], ◌∷◌, ◌++◌, All, refl}
 use Rattle.std.specs.Prelude.{Option, Some, None}
 use Rattle.std.proofs.lemmas.List.Elements.{All-nil, All-cons, All-head, All-tail, All-append}
+use Rattle.ats_facts.proofs.Lists.{all_left, all_right}
 use Rattle.ats_num.specs.declared.time.Ps.{Ps}
 use Rattle.ats_num.specs.Wire.{bits_of}
 use Rattle.ats_network.specs.Sender.{Sender}
 use Rattle.ats_network.specs.Senders.{AllNeighbours}
-use Rattle.ats_network.proofs.Appended.{all_left, all_right}
 use Rattle.ats_group.specs.declared.verdict.Verdict.{Verdict}
 use Rattle.ats_group.specs.declared.verdict.Verdict.TheVariants.{Eligible, Late, Size}
 use Rattle.ats_port_rule.specs.Transmission.{Transmission}
-use Rattle.ats_trace.specs.Journey.{class_at, GoesOn, IsWay}
+use Rattle.ats_trace.specs.Journey.{class_at, IsSentOrEnds, IsWay}
 use Rattle.ats_trace.specs.Projections.{Hop, Crossing, Handed, transmission_by, transmission_of, hop_at, crossing_at}
 use Rattle.ats_trace.specs.Projections.{handed_at, hops_along, crossings_along, handed_along}
 use Rattle.ats_trace.specs.declared.journey.Release.{Release}
@@ -52,36 +52,37 @@ abbrev pub hop_of : Crossing → Hop
 hop_of c = record { port = c.port; sent = c.sent }
 
 -- what holds of each transmission that a frame may make at a port
-abbrev pub AtPort : (Hop → Type 0) → ℕ → Release → ℕ → ℕ → Type 0
-AtPort P frame release class port = (e : Ps) (times : Ps × Ps) → P (hop_by frame release class port e times)
+abbrev pub AtPort : (Hop → Type 0) → ℕ → Release → Sender → ℕ → Type 0
+AtPort P frame release sender port =
+    (e : Ps) (times : Ps × Ps) → P (hop_by frame release (class_at sender port) port e times)
 
 -- and of each with what becomes of it, where it goes on to another port
-abbrev pub AtPorts : (Handed → Type 0) → ℕ → Release → ℕ → ℕ → ℕ → Type 0
-AtPorts P frame release class port next =
+abbrev pub AtPorts : (Handed → Type 0) → ℕ → Release → Sender → ℕ → ℕ → Type 0
+AtPorts P frame release sender port next =
     (came : ℕ) (e : Ps) (times : Ps × Ps) (arrival : ℕ) (verdict : Verdict)
-    → P (handed_on frame release class port came e times arrival verdict)
+    → P (handed_on frame release (class_at sender port) port came e times arrival verdict)
 
-pub one_hop : (P : Hop → Type 0) (frame : ℕ) (release : Release) (class port : ℕ)
-    (verdict : Verdict) (sent : Option (Ps × Ps)) → AtPort P frame release class port
-    → All P (hop_at port (transmission_by frame release class verdict sent))
-one_hop P frame release class port (Eligible e) (Some times) each =
-    All-cons P (hop_by frame release class port e times) [] (each e times) (All-nil P)
-one_hop P frame release class port (Eligible e) None each = All-nil P
-one_hop P frame release class port (Late e) sent each = All-nil P
-one_hop P frame release class port Size sent each = All-nil P
+pub one_hop : (P : Hop → Type 0) (frame : ℕ) (release : Release) (sender : Sender) (port : ℕ)
+    (verdict : Verdict) (sent : Option (Ps × Ps)) → AtPort P frame release sender port
+    → All P (hop_at port (transmission_by frame release (class_at sender port) verdict sent))
+one_hop P frame release sender port (Eligible e) (Some times) each =
+    All-cons P (hop_by frame release (class_at sender port) port e times) [] (each e times) (All-nil P)
+one_hop P frame release sender port (Eligible e) None each = All-nil P
+one_hop P frame release sender port (Late e) sent each = All-nil P
+one_hop P frame release sender port Size sent each = All-nil P
 
 -- so of each transmission along a path
 pub all_hops : (P : Hop → Type 0) (frame : ℕ) (release : Release) (sender : Sender) (path : List ℕ)
     (hops : List HopRecord)
-    → All (AtPort P frame release sender.class) path → All P (hops_along frame release sender path hops)
+    → All (AtPort P frame release sender) path → All P (hops_along frame release sender path hops)
 all_hops P frame release sender [] hops each = All-nil P
 all_hops P frame release sender (p ∷ path) [] each = All-nil P
 all_hops P frame release sender (p ∷ path) (hop ∷ hops) each =
     All-append P (hop_at p (transmission_of frame release (class_at sender p) hop))
     (hops_along frame release sender path hops)
-    (one_hop P frame release sender.class p hop.verdict hop.sent
-    (All-head (AtPort P frame release sender.class) p path each))
-    (all_hops P frame release sender path hops (All-tail (AtPort P frame release sender.class) p path each))
+    (one_hop P frame release sender p hop.verdict hop.sent
+    (All-head (AtPort P frame release sender) p path each))
+    (all_hops P frame release sender path hops (All-tail (AtPort P frame release sender) p path each))
 
 -- where there is no record there is nothing
 pub no_hops : (frame : ℕ) (release : Release) (sender : Sender) (path : List ℕ)
@@ -151,16 +152,16 @@ all_have_crossed P frame release sender (p ∷ path) (hop ∷ hops) ending all =
 -- what holds of all that may be handed on holds of all that is
 handed_here : (P : Handed → Type 0) (frame : ℕ) (release : Release) (sender : Sender) (came p : ℕ) (path : List ℕ)
     (verdict : Verdict) (sent : Option (Ps × Ps)) (hops : List HopRecord) (ending : Ending)
-    → AllNeighbours (AtPorts P frame release sender.class) (p ∷ path)
+    → AllNeighbours (AtPorts P frame release sender) (p ∷ path)
     → (IsWay path hops ending → All P (handed_along frame release sender path hops))
-    → GoesOn (IsWay path hops ending) verdict sent hops ending
-    → All P (handed_at release.octets came p (transmission_by frame release sender.class verdict sent) hops
+    → IsSentOrEnds (IsWay path hops ending) verdict sent hops ending
+    → All P (handed_at release.octets came p (transmission_by frame release (class_at sender p) verdict sent) hops
     ++ handed_along frame release sender path hops)
 handed_here P frame release sender came p [] (Eligible e) (Some times) [] ending each rest way = All-nil P
 handed_here P frame release sender came p [] (Eligible e) (Some times) (next ∷ hops) ending each rest way = absurd way
 handed_here P frame release sender came p (q ∷ path) (Eligible e) (Some times) [] ending each rest way = absurd way
 handed_here P frame release sender came p (q ∷ path) (Eligible e) (Some times) (next ∷ hops) ending each rest way =
-    All-cons P (handed_on frame release sender.class p came e times next.arrival.0 next.verdict)
+    All-cons P (handed_on frame release (class_at sender p) p came e times next.arrival.0 next.verdict)
     (handed_along frame release sender (q ∷ path) (next ∷ hops))
     (each.0 came e times next.arrival.0 next.verdict) (rest way)
 handed_here P frame release sender came p path (Eligible e) None hops ending each rest way = absurd way
@@ -177,12 +178,12 @@ later_neighbours R p (q ∷ path) each = each.1
 
 pub all_handed : (P : Handed → Type 0) (frame : ℕ) (release : Release) (sender : Sender) (path : List ℕ)
     (hops : List HopRecord) (ending : Ending)
-    → AllNeighbours (AtPorts P frame release sender.class) path → IsWay path hops ending
+    → AllNeighbours (AtPorts P frame release sender) path → IsWay path hops ending
     → All P (handed_along frame release sender path hops)
 all_handed P frame release sender [] hops ending each way = All-nil P
 all_handed P frame release sender (p ∷ path) [] ending each way = All-nil P
 all_handed P frame release sender (p ∷ path) (hop ∷ hops) ending each way =
     handed_here P frame release sender hop.arrival.0 p path hop.verdict hop.sent hops ending each
     (all_handed P frame release sender path hops ending
-    (later_neighbours (AtPorts P frame release sender.class) p path each))
+    (later_neighbours (AtPorts P frame release sender) p path each))
     way

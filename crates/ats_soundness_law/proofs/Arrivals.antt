@@ -5,20 +5,21 @@ use Rattle.std.proofs.Math.Nat.{mul-le-mul_right}
 use Rattle.std.proofs.lemmas.Bool.{and_parts, eqb-true, cases_order}
 use Rattle.std.proofs.lemmas.List.{get_or-map, length-map, get_or_default}
 use Rattle.std.proofs.lemmas.List.Elements.{All-filter, filter_passes, All-contains, All-contains_itself}
+use Rattle.ats_facts.proofs.Lists.{All-from_filter}
 use Rattle.ats_topology.specs.Port.{port_at}
+use Rattle.ats_topology.proofs.Rules.{ports_are_lawful}
 use Rattle.ats_network.specs.Network.{DeclaredNetwork}
 use Rattle.ats_network.specs.Senders.{sender_at}
 use Rattle.ats_port_rule.specs.Transmission.{Transmission}
 use Rattle.ats_port_rule.specs.PortRule.{KeepsPortRule, AreApart}
 use Rattle.ats_port_law.specs.PortLaw.{IsOffered}
 use Rattle.ats_port_law.proofs.Pairs.{TakesTime, eligible_no_later}
-use Rattle.ats_port_law.proofs.Totals.{All-from_filter}
 use Rattle.ats_bucket.specs.Conforming.{Frame}
 use Rattle.ats_group.specs.declared.member.Declared.{Declared}
 use Rattle.ats_trace.specs.Journey.{Travel}
 use Rattle.ats_trace.specs.Projections.{Hop, Crossing, Handed, hops_from, crossings_from, handed_from, sent_by}
 use Rattle.ats_trace.specs.Projections.{crossings_by, handed_by}
-use Rattle.ats_group_law.specs.Regulator.{Judge}
+use Rattle.ats_group.specs.Judge.{Judge}
 use Rattle.ats_soundness_law.proofs.Along.{hop_of, all_were_sent, all_have_crossed}
 use Rattle.ats_soundness_law.proofs.Known.{Case, IsTold, told}
 use Rattle.ats_soundness_law.proofs.Lifts.{run_were_sent, run_have_crossed}
@@ -93,7 +94,7 @@ pub takes_time : {judge : Judge} {rule : Declared → List Frame → Type 0} (ne
 takes_time network run port c within offered k d h =
     let ps : ℕ = (port_at network.topology.ports port).ps_per_bit in
     let x : Transmission = get_or (sent_by network run port) k d in
-    let rate : 10 ≤ ps = (c.net.topology.each_port port _ within).rate.least in
+    let rate : 10 ≤ ps = ((ports_are_lawful network.topology c.net.topology).each port _ within).rate.least in
     let bits : 1 ≤ x.bits = omega (arith, (offered.each k d h).least) in
     let product : 10 * x.bits ≤ ps * x.bits = mul-le-mul_right x.bits rate in
     omega (arith, product, bits)

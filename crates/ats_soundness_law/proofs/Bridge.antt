@@ -18,12 +18,13 @@ use Rattle.ats_group.specs.Group.{Offer, IsRuled, is_declared_size}
 use Rattle.ats_group.specs.declared.member.Declared.{Declared}
 use Rattle.ats_group.specs.declared.verdict.Verdict.{Verdict}
 use Rattle.ats_group_law.specs.Accepted.{accepted_of}
-use Rattle.ats_group_law.specs.Regulator.{OnEligible, Judge, passed_by}
+use Rattle.ats_group.specs.Judge.{OnEligible, Judge}
+use Rattle.ats_group_law.specs.Regulator.{passed_by}
 use Rattle.ats_group_law.proofs.AcceptedParts.{sum_by-accepted_of}
 use Rattle.ats_trace.specs.Journey.{Travel, IsJourney, IsReleased, IsWay, class_at}
 use Rattle.ats_trace.specs.Projections.{Hop, Handed, hops_along, handed_along, journey_hops, journey_handed}
 use Rattle.ats_trace.specs.Projections.{handed_by, hop_at, transmission_of}
-use Rattle.ats_trace.specs.Eligibility.{declared_by, offer_of, IsJudged, residence_behind}
+use Rattle.ats_trace.specs.Eligibility.{declared_by, offer_of, IsJudged, residence_of_groups}
 use Rattle.ats_trace.specs.declared.journey.Release.{Release}
 use Rattle.ats_trace.specs.declared.journey.HopRecord.{HopRecord}
 use Rattle.ats_trace.specs.declared.journey.Ending.{Ending}
@@ -39,7 +40,7 @@ use Rattle.ats_soundness_law.proofs.Offered.{DeclaredAt, Kept, IsFed, fed}
 use Rattle.ats_soundness_law.proofs.Paths.{sender_is, not_both, first_station, neighbours_with, uses_own, port_before}
 use Rattle.ats_soundness_law.proofs.Paths.{port_before-is, port_before-within}
 use Rattle.ats_soundness_law.proofs.Sized.{IsSized, sized}
-use Rattle.ats_soundness_law.proofs.Streams.{stream_exists, stream_class, sender_ruled}
+use Rattle.ats_soundness_law.proofs.Streams.{stream_exists, stream_class, stream_ruled}
 use Rattle.ats_soundness_law.proofs.Weights.{IsPassedOn, first-le, later-le}
 
 -- a port that leaves a bridge, in a legal run
@@ -61,13 +62,13 @@ not_first network run port a p path valid same P =
 sized_along : (network : DeclaredNetwork) (port n : ℕ) (r : Release) → r.sender < length (senders_of network)
     → (path : List ℕ) → All (λ (p : ℕ). uses p (sender_at network r.sender) ≡ true) path
     → All (AtPort (λ g. is_declared_size (declared_by network r.sender) r.octets ≡ true → DeclaredAt network port g) n r
-    (sender_at network r.sender).class) path
+    (sender_at network r.sender)) path
 sized_along network port n r exists path used k d h e times size same =
     let sizes = bits_of_size network r.sender r.octets size in
     record {
       exists = exists;
       uses = subst (λ (q : ℕ). uses q (sender_at network r.sender) ≡ true) same (used k d h);
-      class = refl;
+      class = ap (class_at (sender_at network r.sender)) same;
       least = sizes.0;
       most = sizes.1;
     }
@@ -93,7 +94,7 @@ declared_behind network run port a n r exists (p ∷ path) (hop ∷ hops) ending
     (sized_along network port n r exists path (All-tail (λ (q : ℕ). uses q s ≡ true) p path used)) in
     All-append (DeclaredAt network port) (hop_at p (transmission_of n r (class_at s p) hop))
     (hops_along n r s path hops)
-    (one_hop (DeclaredAt network port) n r s.class p hop.verdict hop.sent
+    (one_hop (DeclaredAt network port) n r s p hop.verdict hop.sent
     (λ e times same. not_first network run port a p path valid same _))
     (λ k d h. each k d h (sizes k d h))
 
@@ -111,7 +112,7 @@ same_release network net n j is all k d h =
     × (h.crossing.octets ≡ r.octets) in
     let told = all_handed OfRelease n r s s.path j.hops j.ending
     (neighbours_with (λ p. p < length network.topology.ports) (MeetAtBridge network.topology)
-    (AtPorts OfRelease n r s.class)
+    (AtPorts OfRelease n r s)
     (λ a b within meet came e times arrival verdict. (refl, refl)) s.path keeps.ports keeps.bridges)
     is.way in
     let one : Handed = get_or (journey_handed network n j) k d in
@@ -137,44 +138,49 @@ weight_behind : {judge : Judge} {rule : Declared → List Frame → Type 0} (net
     → AtBridge judge rule network run port → (n : ℕ) (r : Release) (s : Sender)
     → (path : List ℕ) (hops : List HopRecord) (ending : Ending) → IsValidPath network.topology path
     → IsWay path hops ending → IsReleased r hops
-    → AllNeighbours (IsPassedOn (hop_weight i port weight) g n r s.class) path
+    → AllNeighbours (IsPassedOn (hop_weight i port weight) g n r s) path
     → sum_by (hop_weight i port weight) (hops_along n r s path hops) ≤ sum_by g (handed_along n r s path hops)
 weight_behind network run i port weight g a n r s [] hops ending valid way released passed = omega arith
 weight_behind network run i port weight g a n r s (p ∷ path) [] ending valid way released passed = omega arith
 weight_behind network run i port weight g a n r s (p ∷ path) (hop ∷ hops) ending valid way released passed =
     let f : Hop → ℕ = hop_weight i port weight in
-    let here = first-le f 0 n r s.class p hop.verdict hop.sent released.1 (λ times.
+    let here = first-le f 0 n r s p hop.verdict hop.sent released.1 (λ times.
     counted-none (p == port) _ (λ same. not_first network run port a p path valid (eqb-true p port same) ⊥)) in
     let later = later-le f g n r s p path hop hops ending passed way in
     let all = sum_by-append f (hop_at p (transmission_of n r (class_at s p) hop)) (hops_along n r s path hops) in
     omega (arith, here, later, all)
 
--- the port before this one on a stream's path, and the stream's class
+-- the port before this one on a stream's path, and the stream's class there
 abbrev group_port : DeclaredNetwork → ℕ → ℕ → ℕ
 group_port network port i = port_before port (sender_at network i).path
+
+abbrev group_class : DeclaredNetwork → ℕ → ℕ → ℕ
+group_class network port i = class_at (sender_at network i) (group_port network port i)
 
 journey_weight : {judge : Judge} {rule : Declared → List Frame → Type 0} (network : DeclaredNetwork) (run : List Travel)
     (i port : ℕ) (weight : Frame → ℕ)
     → AtBridge judge rule network run port → (n : ℕ) (j : Travel) → IsJourney network j
     → sum_by (hop_weight i port weight) (journey_hops network n j) ≤ sum_by
-    (handed_weight i (group_port network port i) (sender_at network i).class weight) (journey_handed network n j)
+    (handed_weight i (group_port network port i) (group_class network port i) weight) (journey_handed network n j)
 journey_weight network run i port weight a n j is =
     let r : Release = j.release in
     let s : Sender = sender_at network r.sender in
     let keeps : IsSender network.topology s = sender_is network a.known.net r.sender is.sender in
     let f : Hop → ℕ = hop_weight i port weight in
-    let g : Handed → ℕ = handed_weight i (group_port network port i) (sender_at network i).class weight in
+    let g : Handed → ℕ = handed_weight i (group_port network port i) (group_class network port i) weight in
     weight_behind network run i port weight g a n r s s.path j.hops j.ending keeps.valid is.way is.released
     (neighbours_with (λ p. p < length network.topology.ports) (λ p q. q ≡ port → p ≡ port_before port s.path)
-    (IsPassedOn f g n r s.class)
+    (IsPassedOn f g n r s)
     (λ p q within only e since times earlier came arrival.
-    counted_on (q == port) (r.sender == i) (p == group_port network port i) (s.class == (sender_at network i).class)
+    counted_on (q == port) (r.sender == i) (p == group_port network port i) (class_at s p == group_class network port i)
     (record { at = e.0; bits = bits_of r.octets }) weight
     (λ there own. (
-    let same = eqb-true r.sender i own in (
-      eq-eqb p (group_port network port i)
-          (only (eqb-true q port there) ∙ ap (λ (k : ℕ). port_before port (sender_at network k).path) same),
-      eq-eqb s.class (sender_at network i).class (ap (λ (k : ℕ). (sender_at network k).class) same),
+    let same = eqb-true r.sender i own in
+    let before : p ≡ group_port network port i =
+    only (eqb-true q port there) ∙ ap (λ (k : ℕ). port_before port (sender_at network k).path) same in (
+      eq-eqb p (group_port network port i) before,
+      eq-eqb (class_at s p) (group_class network port i)
+          (ap (λ (k : ℕ). class_at (sender_at network k) p) same ∙ ap (class_at (sender_at network i)) before),
     ))))
     s.path keeps.ports (port_before-is port s.path keeps.apart))
 
@@ -185,27 +191,27 @@ stream_kept : {judge : Judge} {rule : Declared → List Frame → Type 0} (netwo
 stream_kept {judge} {rule} network run port a i h =
     let s : Sender = sender_at network i in
     let keeps : IsSender network.topology s = sender_is network a.known.net i (stream_exists network i h) in
-    let shaped : 1 ≤ s.class = stream_class network a.known.net i h in
-    let ruled : IsRuled (declared_by network i) =
-    sender_ruled network a.known.net i (stream_exists network i h) shaped in
+    let ruled : IsRuled (declared_by network i) = stream_ruled network a.known.net i h in
     let q : ℕ = port_before port s.path in
     let within : q < length network.topology.ports =
     port_before-within (λ p. p < length network.topology.ports) port s.path keeps.path.least keeps.ports in
-    let j : IsJudged judge network (residence_behind network q) (handed_by network run q s.class) =
-    a.known.legal.groups q s.class within shaped in
+    let shaped : 1 ≤ class_at s q = stream_class network a.known.net q i h
+    (port_before-within (λ p. uses p s ≡ true) port s.path keeps.path.least (uses_own s)) in
+    let j : IsJudged judge network (residence_of_groups network q) (handed_by network run q (class_at s q)) =
+    a.known.legal.groups q (class_at s q) within shaped in
     let offers : List Offer = map offer_of j.arrivals in
     record {
-      others = passed_by judge (declared_by network) (residence_behind network q) offers i;
-      keeps = a.known.regulator.keeps (declared_by network) (residence_behind network q) offers i ruled;
+      others = passed_by judge (declared_by network) (residence_of_groups network q) offers i;
+      keeps = a.known.regulator.keeps (declared_by network) (residence_of_groups network q) offers i ruled;
       no_more = λ weight. (
-          let le = run_hops-le (IsJourney network) (hop_weight i port weight) (handed_weight i q s.class weight)
+          let le = run_hops-le (IsJourney network) (hop_weight i port weight) (handed_weight i q (class_at s q) weight)
           network 0 run (journey_weight network run i port weight a) a.known.legal.journeys in
           let moved =
-          sum_by-IsPermutation (through_weight i weight) (handed_by network run q s.class) j.arrivals j.same in
+          sum_by-IsPermutation (through_weight i weight) (handed_by network run q (class_at s q)) j.arrivals j.same in
           let accepted = sum_by-accepted_of offer_of (λ (h : Handed). h.verdict) i j.arrivals weight in
           let judged = ap (λ (vs : List Verdict). sum_by weight (accepted_of i offers vs)) j.verdicts in
           let sent = frames_weight network run i port weight in
-          let group = group_weight network run i q s.class weight in
+          let group = group_weight network run i q (class_at s q) weight in
           omega (arith, le, moved, accepted, judged, sent, group));
     }
 

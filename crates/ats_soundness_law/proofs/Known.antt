@@ -7,13 +7,14 @@ use Rattle.ats_network.specs.Sender.{Sender}
 use Rattle.ats_network.specs.Bridges.{IsBridgeAt, MeetAtBridge}
 use Rattle.ats_network.specs.Network.{DeclaredNetwork, IsNetwork, senders_of}
 use Rattle.ats_network.specs.Senders.{sender_at, IsSender}
-use Rattle.ats_certificate.specs.PortSums.{uses, shortest, longest}
+use Rattle.ats_certificate.specs.PortSums.{uses}
 use Rattle.ats_group.specs.Group.{is_declared_size}
-use Rattle.ats_trace.specs.Journey.{Travel, IsJourney}
+use Rattle.ats_trace.specs.Journey.{Travel, IsJourney, class_at}
 use Rattle.ats_trace.specs.Projections.{Hop, Handed, journey_hops, journey_handed, hops_from, handed_from}
 use Rattle.ats_trace.specs.Eligibility.{declared_by}
 use Rattle.ats_trace.specs.Run.{IsLegalBy, IsLegal}
-use Rattle.ats_group_law.specs.Regulator.{Judge, ats_judge, IsRule, bucket_rule, IsRegulator}
+use Rattle.ats_group.specs.Judge.{Judge, ats_judge, bucket_rule}
+use Rattle.ats_group_law.specs.Regulator.{IsRule, IsRegulator}
 use Rattle.ats_group_law.proofs.Regulator.{ats_is_regulator}
 use Rattle.ats_bucket.specs.Conforming.{Frame}
 use Rattle.ats_group.specs.declared.member.Declared.{Declared}
@@ -40,7 +41,7 @@ pub record IsKnown (network : DeclaredNetwork) (g : Hop) : Type 0 where
   pub exists : g.sent.sender < length (senders_of network)
   pub within : g.port < length network.topology.ports
   pub used : uses g.port (sender_at network g.sent.sender) ≡ true
-  pub ranked : g.sent.class ≡ (sender_at network g.sent.sender).class
+  pub ranked : g.sent.class ≡ class_at (sender_at network g.sent.sender) g.port
 
 journey_known : (network : DeclaredNetwork) → IsNetwork network → (n : ℕ) (j : Travel) → IsJourney network j
     → All (IsKnown network) (journey_hops network n j)
@@ -60,7 +61,7 @@ known network run c =
 pub record IsTold (network : DeclaredNetwork) (h : Handed) : Type 0 where
   pub exists : h.crossing.sent.sender < length (senders_of network)
   pub within : h.crossing.port < length network.topology.ports
-  pub ranked : h.crossing.sent.class ≡ (sender_at network h.crossing.sent.sender).class
+  pub ranked : h.crossing.sent.class ≡ class_at (sender_at network h.crossing.sent.sender) h.crossing.port
   pub bits : h.crossing.sent.bits ≡ bits_of h.crossing.octets
   pub bridge : IsBridgeAt network.topology (port_at network.topology.ports h.crossing.port).to
 
@@ -71,7 +72,7 @@ journey_told network net n j is =
     let keeps : IsSender network.topology s = sender_is network net j.release.sender is.sender in
     all_handed (IsTold network) n j.release s s.path j.hops j.ending
     (neighbours_with (λ p. p < length network.topology.ports) (MeetAtBridge network.topology)
-    (AtPorts (IsTold network) n j.release s.class)
+    (AtPorts (IsTold network) n j.release s)
     (λ a b within meet came e times arrival verdict.
     record { exists = is.sender; within = within; ranked = refl; bits = refl; bridge = meet.bridge })
     s.path keeps.ports keeps.bridges)
@@ -85,7 +86,8 @@ told network run c =
 
 -- so many octets are of a declared size exactly where their bits are
 pub bits_of_size : (network : DeclaredNetwork) (i octets : ℕ) → is_declared_size (declared_by network i) octets ≡ true
-    → (shortest (sender_at network i) ≤ bits_of octets) × (bits_of octets ≤ longest (sender_at network i))
+    → (bits_of (sender_at network i).min_octets ≤ bits_of octets)
+    × (bits_of octets ≤ bits_of (sender_at network i).max_octets)
 bits_of_size network i octets size =
     let s : Sender = sender_at network i in
     let p = and_parts (nat_le s.min_octets octets) (nat_le octets s.max_octets) size in
@@ -93,8 +95,9 @@ bits_of_size network i octets size =
     let most = leb-true octets s.max_octets p.1 in
     (omega (arith, least), omega (arith, most))
 
-pub size_of_bits : (network : DeclaredNetwork) (i octets : ℕ) → shortest (sender_at network i) ≤ bits_of octets
-    → bits_of octets ≤ longest (sender_at network i) → is_declared_size (declared_by network i) octets ≡ true
+pub size_of_bits : (network : DeclaredNetwork) (i octets : ℕ)
+    → bits_of (sender_at network i).min_octets ≤ bits_of octets
+    → bits_of octets ≤ bits_of (sender_at network i).max_octets → is_declared_size (declared_by network i) octets ≡ true
 size_of_bits network i octets least most =
     let s : Sender = sender_at network i in
     and_from (nat_le s.min_octets octets) (nat_le octets s.max_octets)

@@ -2,8 +2,8 @@ use Rattle.std.proofs.Common.{ℕ, zero, suc, ◌+◌, ◌<◌, ◌≤◌, List,
 use Rattle.std.specs.Prelude.{Contains}
 use Rattle.std.proofs.lemmas.List.Elements.{All-nil, All-head, All-tail, All-append}
 use Rattle.std.proofs.lemmas.List.Sums.{sum_by-cons, sum_by-append}
+use Rattle.ats_facts.proofs.Lists.{all_left, all_right}
 use Rattle.ats_network.specs.Network.{DeclaredNetwork}
-use Rattle.ats_network.proofs.Appended.{all_left, all_right}
 use Rattle.ats_trace.specs.Journey.{Travel}
 use Rattle.ats_trace.specs.Projections.{Hop, Crossing, Handed, journey_hops, journey_crossings, journey_handed}
 use Rattle.ats_trace.specs.Projections.{hops_from, crossings_from, handed_from}

@@ -3,13 +3,14 @@ use Rattle.std.specs.Prelude.{◌==◌}
 use Rattle.std.proofs.lemmas.Bool.{eqb-true}
 use Rattle.std.proofs.lemmas.List.Elements.{All-map, All-filter, filter_passes}
 use Rattle.std.proofs.lemmas.List.Sorted.{All-permutation, sum_by-IsPermutation}
+use Rattle.ats_num.specs.Wire.{bits_of}
 use Rattle.ats_bucket.specs.Conforming.{Frame}
 use Rattle.ats_group.specs.declared.member.Declared.{Declared}
-use Rattle.ats_group_law.specs.Regulator.{Judge, AreNoMore, bucket_rule}
+use Rattle.ats_group.specs.Judge.{Judge, bucket_rule}
+use Rattle.ats_group_law.specs.Regulator.{AreNoMore}
 use Rattle.ats_group_law.proofs.Order.{from_frames}
 use Rattle.ats_network.specs.Network.{DeclaredNetwork}
 use Rattle.ats_network.specs.Senders.{sender_at}
-use Rattle.ats_certificate.specs.PortSums.{longest}
 use Rattle.ats_port_rule.specs.Transmission.{Transmission}
 use Rattle.ats_port_law.specs.PortLaw.{IsDeclared, IsOffered, frame_of, frames_by}
 use Rattle.ats_trace.specs.Journey.{Travel}
@@ -17,7 +18,7 @@ use Rattle.ats_trace.specs.Projections.{Hop, hops_from, sent_by}
 use Rattle.ats_trace.specs.Eligibility.{declared_by}
 use Rattle.ats_soundness_law.proofs.Known.{Case}
 use Rattle.ats_soundness_law.proofs.Sorting.{InOrder, in_order}
-use Rattle.ats_soundness_law.proofs.Streams.{stream_exists, stream_class, sender_ruled}
+use Rattle.ats_soundness_law.proofs.Streams.{stream_ruled}
 
 -- a transmission is a declared one, where it is of this port
 abbrev pub DeclaredAt : DeclaredNetwork → ℕ → Hop → Type 0
@@ -50,16 +51,16 @@ pub record IsFed (rule : Declared → List Frame → Type 0) (network : Declared
 -- a sender's frames are no longer than it declares
 own_sizes : (network : DeclaredNetwork) (run : List Travel) (port i : ℕ)
     → All (IsDeclared network port) (sent_by network run port)
-    → All (λ (f : Frame). f.bits ≤ longest (sender_at network i)) (frames_by i (sent_by network run port))
+    → All (λ (f : Frame). f.bits ≤ bits_of (sender_at network i).max_octets) (frames_by i (sent_by network run port))
 own_sizes network run port i each =
     let sent : List Transmission = sent_by network run port in
     let test = λ (x : Transmission). x.sender == i in
-    All-map (λ (f : Frame). f.bits ≤ longest (sender_at network i)) frame_of (filter test sent)
+    All-map (λ (f : Frame). f.bits ≤ bits_of (sender_at network i).max_octets) frame_of (filter test sent)
     (λ k d h. (
     let x : Transmission = get_or (filter test sent) k d in
     let same : x.sender ≡ i = eqb-true x.sender i (filter_passes test sent k d h) in
     let most = (All-filter test (IsDeclared network port) sent each k d h).most in
-    subst (λ (n : ℕ). x.bits ≤ longest (sender_at network n)) same most))
+    subst (λ (n : ℕ). x.bits ≤ bits_of (sender_at network n).max_octets) same most))
 
 pub fed : {judge : Judge} {rule : Declared → List Frame → Type 0} (network : DeclaredNetwork) (run : List Travel)
     (port : ℕ) → Case judge rule network run → All (DeclaredAt network port) (hops_from network 0 run)
@@ -78,12 +79,12 @@ fed {judge} {rule} network run port c declared kept =
             let o : InOrder frames = in_order frames in
             let keeps = c.rules.fewer d o.order k.others k.keeps (from_frames o.order o.ascends)
             (λ weight. omega (arith, sum_by-IsPermutation weight frames o.order o.same, k.no_more weight)) in
-            let shaped = stream_class network c.net i h in
             record {
               order = o.order;
               same = o.same;
-              conforms = c.rules.conforms d o.order (sender_ruled network c.net i (stream_exists network i h) shaped)
-                  (All-permutation (λ (f : Frame). f.bits ≤ longest (sender_at network i)) frames o.order o.same
+              conforms = c.rules.conforms d o.order (stream_ruled network c.net i h)
+                  (All-permutation (λ (f : Frame). f.bits ≤ bits_of (sender_at network i).max_octets)
+                  frames o.order o.same
                   (own_sizes network run port i each)) keeps;
             });
       };

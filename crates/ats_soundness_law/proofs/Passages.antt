@@ -16,7 +16,7 @@ use Rattle.ats_trace.specs.Journey.{Travel}
 use Rattle.ats_trace.specs.Projections.{Handed, handed_from, sent_by, handed_by}
 use Rattle.ats_trace.specs.Eligibility.{declared_by, offer_of}
 use Rattle.ats_group.specs.Group.{Offer}
-use Rattle.ats_group_law.specs.Regulator.{Judge}
+use Rattle.ats_group.specs.Judge.{Judge}
 use Rattle.ats_soundness_law.proofs.Along.{hop_of}
 use Rattle.ats_soundness_law.proofs.Bits.{sum_by-map, hop_weight, frames_weight}
 use Rattle.ats_soundness_law.proofs.Known.{Case, IsTold, told}

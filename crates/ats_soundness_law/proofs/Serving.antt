@@ -18,7 +18,7 @@ use Rattle.ats_group.specs.declared.member.Declared.{Declared}
 use Rattle.ats_trace.specs.Journey.{Travel}
 use Rattle.ats_trace.specs.Projections.{Crossing, Handed, sent_by, crossings_by, handed_by}
 use Rattle.ats_trace.specs.Links.{KeepsLinkRule}
-use Rattle.ats_group_law.specs.Regulator.{Judge}
+use Rattle.ats_group.specs.Judge.{Judge}
 use Rattle.ats_soundness_law.specs.Laws.{IsHandedOn}
 use Rattle.ats_soundness_law.specs.Sound.{IsEligibleBy}
 use Rattle.ats_soundness_law.proofs.Offered.{IsFed}

@@ -20,14 +20,15 @@ use Rattle.ats_network.specs.Bridges.{IsBridgeAt}
 use Rattle.ats_network.specs.Network.{DeclaredNetwork, senders_of}
 use Rattle.ats_network.specs.Residence.{residence_at}
 use Rattle.ats_network.specs.Senders.{sender_at, no_sender}
-use Rattle.ats_certificate.specs.Certificate.{RowHolds}
+use Rattle.ats_certificate.specs.Certificate.{RowHolds, residence_needed}
 use Rattle.ats_certificate.specs.PortSums.{is_of, is_used, shortest}
 use Rattle.ats_certificate.specs.declared.row.Row.{Row}
 use Rattle.ats_group.specs.Group.{Offer, IsRuled, is_declared_size}
 use Rattle.ats_group.specs.declared.verdict.Verdict.{Verdict}
 use Rattle.ats_group.specs.declared.verdict.Verdict.TheVariants.{Eligible}
 use Rattle.ats_group_law.specs.Shaping.{Passage, frames_before, IsEligibleAgain}
-use Rattle.ats_group_law.specs.Regulator.{Judge, IsDelayedBy}
+use Rattle.ats_group.specs.Judge.{Judge}
+use Rattle.ats_group_law.specs.Regulator.{IsDelayedBy}
 use Rattle.ats_group_law.proofs.ShapingUse.{All-from_all_zip}
 use Rattle.ats_port_rule.specs.Transmission.{Transmission}
 use Rattle.ats_port_rule.specs.PortRule.{KeepsPortRule}
@@ -37,10 +38,10 @@ use Rattle.ats_port_law.proofs.Totals.{least_reaches}
 use Rattle.ats_port_law.proofs.Used.{IsPlace, used_place}
 use Rattle.ats_bucket.specs.Conforming.{Frame}
 use Rattle.ats_group.specs.declared.member.Declared.{Declared}
-use Rattle.ats_trace.specs.Journey.{Travel}
+use Rattle.ats_trace.specs.Journey.{Travel, class_at}
 use Rattle.ats_trace.specs.Projections.{Crossing, Handed, sent_by, crossings_by, handed_by}
-use Rattle.ats_trace.specs.Links.{earliest_of, ArrivesWithin, KeepsLinkRule}
-use Rattle.ats_trace.specs.Eligibility.{declared_by, IsJudged, residence_behind}
+use Rattle.ats_trace.specs.Links.{ArrivesWithin, KeepsLinkRule}
+use Rattle.ats_trace.specs.Eligibility.{declared_by, IsJudged, residence_of_groups}
 use Rattle.ats_soundness_law.specs.Laws.{ShapingForFree, IsHandedOn}
 use Rattle.ats_soundness_law.specs.Sound.{IsEligibleBy}
 use Rattle.ats_soundness_law.proofs.Arrivals.{HasArrived, arrived, takes_time, leave_in_order}
@@ -61,18 +62,19 @@ record AtRow (judge : Judge) (rule : Declared → List Frame → Type 0) (networ
   holds : RowHolds network row
   fed : IsFed rule network run row.port
 
--- the wait is at most the residence of the bridge
-stays : (kind : Kind) (wait : ℕ) → is_station kind ≡ false → ForSome (residence_at kind) (λ ns. wait ≤ PS_PER_NS * ns)
-    → wait ≤ PS_PER_NS * unwrap_or (residence_at kind) 0
-stays Station wait bridge may = absurd (true≢false bridge)
-stays (Bridge processing_ns residence_ns) wait bridge may = may residence_ns refl
+-- what a frame may need to stay is at most the residence of the bridge
+stays : (kind : Kind) (need : ℕ) → is_station kind ≡ false → ForSome (residence_at kind) (λ ns. need ≤ PS_PER_NS * ns)
+    → need ≤ PS_PER_NS * unwrap_or (residence_at kind) 0
+stays Station need bridge may = absurd (true≢false bridge)
+stays (Bridge processing_min_ns processing_max_ns residence_ns) need bridge may = may residence_ns refl
 
 -- what is known of one frame of the class that the port hands on: when it came, and that it may stay until its bound
 record OnTime (network : DeclaredNetwork) (row : Row) (h : Handed) : Type 0 where
   arrives : h.crossing.arrival ≤ h.crossing.sent.eligible + row.bound
-  may_stay : h.crossing.sent.eligible + row.bound ≤ h.crossing.arrival + PS_PER_NS * residence_behind network row.port
+  may_stay : h.crossing.sent.eligible + row.bound
+      ≤ h.crossing.arrival + PS_PER_NS * residence_of_groups network row.port
   size : is_declared_size (declared_by network h.crossing.sent.sender) h.crossing.octets ≡ true
-  shaped : 1 ≤ (sender_at network h.crossing.sent.sender).class
+  shaped : 1 ≤ class_at (sender_at network h.crossing.sent.sender) row.port
 
 -- the frame arrives no sooner than its transmission and the earliest latency allow, which are no less than the bound
 -- without the wait
@@ -86,8 +88,8 @@ on_time network run row a h came =
     let x : Transmission = h.crossing.sent in
     let rule : KeepsPortRule ps sent = a.known.legal.ports row.port a.within in
     let link : KeepsLinkRule port (crossings_by network run row.port) = a.known.legal.links row.port a.within in
-    let in_time : ArrivesWithin (earliest_of port) port.latency.0 h.crossing =
-    All-contains (ArrivesWithin (earliest_of port) port.latency.0) (crossings_by network run row.port)
+    let in_time : ArrivesWithin port.earliest.0 port.latency.0 h.crossing =
+    All-contains (ArrivesWithin port.earliest.0 port.latency.0) (crossings_by network run row.port)
     h.crossing link.within came.crossed in
     let declared : IsDeclared network row.port x =
     All-contains (IsDeclared network row.port) sent x a.fed.offered.each came.sent in
@@ -95,16 +97,17 @@ on_time network run row a h came =
     (law network row sent a.known.net a.used a.holds.covers rule a.fed.offered) came.sent in
     let waits = All-contains (λ (y : Transmission). y.eligible ≤ y.start) sent x rule.waits came.sent in
     let takes = All-contains (λ (y : Transmission). y.end ≡ y.start + ps * y.bits) sent x rule.takes came.sent in
-    let class : (sender_at network x.sender).class ≡ row.class = sym declared.class ∙ came.class_is in
+    let class : class_at (sender_at network x.sender) row.port ≡ row.class = sym declared.class ∙ came.class_is in
     let reaches = least_reaches row.port (is_of row.class) shortest (senders_of network)
-    x.sender no_sender declared.exists declared.uses (eq-eqb (sender_at network x.sender).class row.class class) in
+    x.sender no_sender declared.exists declared.uses
+    (eq-eqb (class_at (sender_at network x.sender) row.port) row.class class) in
     let least : row.least ≤ x.bits = omega (arith, reaches, a.holds.covers.sums.least, declared.least) in
     let product : ps * row.least ≤ ps * x.bits = mul-le-mul_left ps least in
-    let stay = stays (node_at network.topology.nodes port.to).kind row.wait a.bridge.bridge a.holds.residence in
-    let spread : port.latency.0 ≤ earliest_of port = omega arith in
+    let stay = stays (node_at network.topology.nodes port.to).kind (residence_needed port row.wait)
+    a.bridge.bridge a.holds.residence in
     record {
       arrives = omega (arith, in_time.latest, within came.class_is);
-      may_stay = omega (arith, in_time.earliest, spread, waits, takes, product, stay, a.holds.covers.bound);
+      may_stay = omega (arith, in_time.earliest, waits, takes, product, stay, a.holds.covers.bound);
       size = size_of_bits network x.sender h.crossing.octets (omega (arith, declared.least, came.told.bits))
           (omega (arith, declared.most, came.told.bits));
       shaped = omega (arith, class, a.shaped);
@@ -167,8 +170,9 @@ in_order network run row a arrivals came ascends i j d le within =
 -- so a group delays none of them
 delayed : {judge : Judge} {rule : Declared → List Frame → Type 0} (network : DeclaredNetwork) (run : List Travel)
     (row : Row) → AtRow judge rule network run row
-    → (j : IsJudged judge network (residence_behind network row.port) (handed_by network run row.port row.class))
-    → IsDelayedBy rule (declared_by network) (residence_behind network row.port) row.bound (map passage_of j.arrivals)
+    → (j : IsJudged judge network (residence_of_groups network row.port) (handed_by network run row.port row.class))
+    → IsDelayedBy rule (declared_by network) (residence_of_groups network row.port) row.bound
+    (map passage_of j.arrivals)
 delayed {judge} {rule} network run row a j =
     let handed : List Handed = handed_by network run row.port row.class in
     let passages : List Passage = map passage_of j.arrivals in
@@ -181,7 +185,7 @@ delayed {judge} {rule} network run row a j =
     in_order network run row a j.arrivals came j.in_order in
     record {
       ruled = All-map (λ (p : Passage). IsRuled (declared_by network p.offer.member)) passage_of j.arrivals
-          (λ k d h. sender_ruled network a.known.net (get_or j.arrivals k d).crossing.sent.sender
+          (λ k d h. sender_ruled network a.known.net row.port (get_or j.arrivals k d).crossing.sent.sender
           (came k d h).told.exists (timely k d h).shaped);
       sized = All-map (λ (p : Passage). is_declared_size (declared_by network p.offer.member) p.offer.octets ≡ true)
           passage_of j.arrivals (λ k d h. (timely k d h).size);
@@ -192,11 +196,11 @@ delayed {judge} {rule} network run row a j =
           (λ k d h. (
           let i : ℕ = (get_or j.arrivals k d).crossing.sent.sender in
           passages_keep network run row.port row.class a.known j.arrivals j.same order i
-          (a.fed.kept i (is_stream network i (came k d h).told.exists (timely k d h).shaped))));
+          (a.fed.kept i (is_stream network row.port i (came k d h).told.exists (timely k d h).shaped))));
       arrives = All-map (λ (p : Passage). p.offer.arrival ≤ p.since + row.bound) passage_of j.arrivals
           (λ k d h. (timely k d h).arrives);
       may_stay = All-map
-          (λ (p : Passage). p.since + row.bound ≤ p.offer.arrival + PS_PER_NS * residence_behind network row.port)
+          (λ (p : Passage). p.since + row.bound ≤ p.offer.arrival + PS_PER_NS * residence_of_groups network row.port)
           passage_of j.arrivals (λ k d h. (timely k d h).may_stay);
     }
 
@@ -225,7 +229,7 @@ shaping_for_free_by {judge} {rule} network run row known used bridge holds fed =
       fed = fed;
     } in
     let handed : List Handed = handed_by network run row.port row.class in
-    let residence_ns : ℕ = residence_behind network row.port in
+    let residence_ns : ℕ = residence_of_groups network row.port in
     let j : IsJudged judge network residence_ns handed =
     known.legal.groups row.port row.class place.within place.ranked in
     let Again : Passage → Verdict → Type 0 = IsEligibleAgain row.bound in

@@ -3,18 +3,19 @@ use Rattle.std.specs.Prelude.{◌==◌, ◌&&◌}
 use Rattle.std.proofs.lemmas.Bool.{cases_lt, and_from, eq-eqb}
 use Rattle.std.proofs.lemmas.List.Elements.{All-weaker}
 use Rattle.std.proofs.lemmas.List.Sorted.{All-permutation, IsPermutation-sym}
+use Rattle.ats_facts.proofs.Lists.{All-from_filter}
 use Rattle.ats_network.specs.Network.{DeclaredNetwork}
 use Rattle.ats_group.specs.Group.{Offer, is_declared_size}
 use Rattle.ats_group.specs.declared.verdict.Verdict.{Verdict}
 use Rattle.ats_group.specs.declared.verdict.Verdict.TheVariants.{Eligible}
-use Rattle.ats_port_law.proofs.Totals.{All-from_filter}
 use Rattle.ats_bucket.specs.Conforming.{Frame}
 use Rattle.ats_group.specs.declared.member.Declared.{Declared}
 use Rattle.ats_trace.specs.Journey.{Travel}
 use Rattle.ats_trace.specs.Projections.{Handed, handed_by, handed_from}
-use Rattle.ats_trace.specs.Eligibility.{declared_by, offer_of, IsJudged, IsPassed, residence_behind}
+use Rattle.ats_trace.specs.Eligibility.{declared_by, offer_of, IsJudged, IsPassed, residence_of_groups}
 use Rattle.std.specs.List.{AllZip}
-use Rattle.ats_group_law.specs.Regulator.{OnEligible, Judge, IsEligibleSized, IsRegulator}
+use Rattle.ats_group.specs.Judge.{OnEligible, Judge}
+use Rattle.ats_group_law.specs.Regulator.{IsEligibleSized, IsRegulator}
 use Rattle.ats_group_law.proofs.Regulator.{by_size}
 use Rattle.ats_group_law.proofs.ShapingUse.{All-from_all_zip}
 use Rattle.ats_soundness_law.proofs.Known.{Case, IsTold, told}
@@ -50,11 +51,11 @@ place_sized : {judge : Judge} {rule : Declared → List Frame → Type 0} (netwo
 place_sized {judge} network run c port class within =
     elim (cases_lt 0 class) as (λ _. All (IsSized network) (handed_by network run port class)) [
       | inl shaped ↦ (
-          let j : IsJudged judge network (residence_behind network port) (handed_by network run port class) =
+          let j : IsJudged judge network (residence_of_groups network port) (handed_by network run port class) =
           c.legal.groups port class within shaped in
           All-permutation (IsSized network) j.arrivals (handed_by network run port class)
           (IsPermutation-sym (handed_by network run port class) j.arrivals j.same)
-          (group_sized network (residence_behind network port) c.regulator j.arrivals j.verdicts))
+          (group_sized network (residence_of_groups network port) c.regulator j.arrivals j.verdicts))
       | inr none ↦ (
           let zero_class : class ≡ 0 = omega arith in
           let Goal : ℕ → Type 0 = λ (n : ℕ). All (IsSized network) (handed_by network run port n) in

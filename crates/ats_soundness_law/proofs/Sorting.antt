@@ -5,6 +5,7 @@ use Rattle.std.proofs.lemmas.Bool.{cases_lt}
 use Rattle.std.proofs.lemmas.List.Elements.{All-nil, All-cons, All-weaker}
 use Rattle.std.proofs.lemmas.List.Sorted.{IsPermutation-refl, IsPermutation-cons, IsPermutation-trans, All-permutation}
 use Rattle.std.proofs.lemmas.List.Sorted.{IsPermutation-swap}
+use Rattle.ats_group_law.proofs.Order.{order-head, order-tail}
 use Rattle.ats_bucket.specs.Conforming.{Frame}
 
 -- frames in the order of their times
@@ -21,14 +22,6 @@ ascends-cons f fs past o zero (suc j) d h k = past j d (omega arith)
 ascends-cons f fs past o (suc i) zero d h k = absurd (omega arith)
 ascends-cons f fs past o (suc i) (suc j) d h k = o i j d (omega arith) (omega arith)
 
-ascends-head : (f : Frame) (fs : List Frame) → IsNonDecreasingBy (λ (f : Frame). f.at) (f ∷ fs)
-    → All (λ (g : Frame). f.at ≤ g.at) fs
-ascends-head f fs o j d h = o 0 (suc j) d (omega arith) (omega arith)
-
-ascends-tail : (f : Frame) (fs : List Frame) → IsNonDecreasingBy (λ (f : Frame). f.at) (f ∷ fs)
-    → IsNonDecreasingBy (λ (f : Frame). f.at) fs
-ascends-tail f fs o i j d h k = o (suc i) (suc j) d (omega arith) (omega arith)
-
 swap_first : (f g : Frame) (fs : List Frame) → IsPermutation (f ∷ g ∷ fs) (g ∷ f ∷ fs)
 swap_first f g fs = IsPermutation-swap (f ∷ g ∷ fs) (g ∷ f ∷ fs) 0 1 (omega arith) (omega arith) refl
 
@@ -41,9 +34,9 @@ with_one f [] o = record {
 }
 with_one f (g ∷ fs) o = elim (cases_lt g.at f.at) as (λ _. InOrder (f ∷ g ∷ fs)) [
   | inl later ↦ (
-      let rest : InOrder (f ∷ fs) = with_one f fs (ascends-tail g fs o) in
+      let rest : InOrder (f ∷ fs) = with_one f fs (order-tail g fs o) in
       let past : All (λ (h : Frame). g.at ≤ h.at) (f ∷ fs) =
-      All-cons (λ (h : Frame). g.at ≤ h.at) f fs (omega arith) (ascends-head g fs o) in
+      All-cons (λ (h : Frame). g.at ≤ h.at) f fs (omega arith) (order-head g fs o) in
       record {
         order = g ∷ rest.order;
         same = IsPermutation-trans (f ∷ g ∷ fs) (g ∷ f ∷ fs) (g ∷ rest.order) (swap_first f g fs)
@@ -53,7 +46,7 @@ with_one f (g ∷ fs) o = elim (cases_lt g.at f.at) as (λ _. InOrder (f ∷ g �
       })
   | inr first ↦ (
       let past : All (λ (h : Frame). f.at ≤ h.at) fs = All-weaker (λ (h : Frame). g.at ≤ h.at)
-      (λ (h : Frame). f.at ≤ h.at) (λ h le. omega arith) fs (ascends-head g fs o) in
+      (λ (h : Frame). f.at ≤ h.at) (λ h le. omega arith) fs (order-head g fs o) in
       record {
         order = f ∷ g ∷ fs;
         same = IsPermutation-refl (f ∷ g ∷ fs);

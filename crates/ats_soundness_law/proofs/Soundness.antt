@@ -3,24 +3,24 @@ use Rattle.std.proofs.Common.{arith}
 use Rattle.std.specs.Prelude.{Contains, ◌==◌, ◌&&◌, Option}
 use Rattle.std.proofs.lemmas.Bool.{and_from, eq-eqb}
 use Rattle.std.proofs.lemmas.List.Elements.{All-nil, All-cons, All-tail, All-contains, All-contains_itself}
+use Rattle.ats_facts.proofs.Lists.{all_right, All-from_filter}
 use Rattle.ats_network.specs.Sender.{Sender}
 use Rattle.ats_network.specs.Path.{IsValidPath}
 use Rattle.ats_network.specs.Bridges.{MeetAtBridge}
 use Rattle.ats_network.specs.Network.{DeclaredNetwork, IsNetwork}
 use Rattle.ats_network.specs.Senders.{sender_at, IsSender, AllNeighbours}
-use Rattle.ats_network.proofs.Appended.{all_right}
 use Rattle.ats_certificate.specs.PortSums.{uses}
 use Rattle.ats_certificate.specs.declared.row.Row.{Row}
 use Rattle.ats_group.specs.declared.verdict.Verdict.{Verdict}
 use Rattle.ats_port_rule.specs.Transmission.{Transmission}
-use Rattle.ats_port_law.proofs.Totals.{All-from_filter}
 use Rattle.ats_bucket.specs.Conforming.{Frame}
 use Rattle.ats_group.specs.declared.member.Declared.{Declared}
 use Rattle.ats_trace.specs.Journey.{Travel, IsJourney, IsOfStream, IsReleased, IsWay, class_at}
 use Rattle.ats_trace.specs.Projections.{Hop, Crossing, Handed, crossings_along, handed_along, crossing_at, handed_at}
 use Rattle.ats_trace.specs.Projections.{transmission_of, crossings_from, handed_from, crossings_by, handed_by}
 use Rattle.ats_trace.specs.Run.{IsLegalBy, releases_of}
-use Rattle.ats_group_law.specs.Regulator.{Judge, ats_judge, IsRule, IsRegulator}
+use Rattle.ats_group.specs.Judge.{Judge, ats_judge}
+use Rattle.ats_group_law.specs.Regulator.{IsRule, IsRegulator}
 use Rattle.ats_group_law.proofs.Regulator.{ats_is_regulator}
 use Rattle.ats_trace.specs.Talker.{start_of, talker_of, KeepsBucketsBy}
 use Rattle.ats_trace.specs.declared.journey.Release.{Release}
@@ -28,9 +28,9 @@ use Rattle.ats_trace.specs.declared.journey.HopRecord.{HopRecord}
 use Rattle.ats_trace.specs.declared.journey.Ending.{Ending}
 use Rattle.ats_soundness_law.specs.Laws.{PathLaw, Containment, SoundByRules, CertificateIsSound}
 use Rattle.ats_soundness_law.specs.Rules.{Rule, rows_are_there, Keeps}
-use Rattle.ats_soundness_law.specs.Sound.{IsSoundBy, IsEligibleBy, IsPrompt, IsServed, IsPromptOnce, IsContained}
+use Rattle.ats_soundness_law.specs.Sound.{IsSoundBy, IsEligibleBy, IsPrompt, IsServed, IsPromptIfEligible, IsContained}
 use Rattle.ats_soundness_law.specs.Sound.{bounds_of}
-use Rattle.ats_soundness_law.specs.Sound.{later_ports, later_hops}
+use Rattle.ats_soundness_law.specs.Sound.{after_first}
 use Rattle.ats_soundness_law.proofs.Along.{hop_of, all_hops, all_were_sent, all_have_crossed}
 use Rattle.ats_soundness_law.proofs.Behind.{way_on}
 use Rattle.ats_soundness_law.proofs.Bridge.{bridge_fed}
@@ -78,44 +78,50 @@ all_given network run c k d h =
           (eq-eqb one.crossing.sent.class one.crossing.sent.class refl));
     }
 
--- where all ports of a way serve the frame's class, its crossings keep the bounds
-record IsServing (network : DeclaredNetwork) (run : List Travel) (rows : List Row) (class : ℕ) (g : Hop) : Type 0 where
-  serves : Serves network run rows class g.port
-  ranked : g.sent.class ≡ class
+-- a port serves the class that a sender has there
+abbrev ServesAt : DeclaredNetwork → List Travel → List Row → Sender → ℕ → Type 0
+ServesAt network run rows s port = Serves network run rows (class_at s port) port
+
+-- where all ports of a way do, the frame's crossings keep the bounds
+record IsServing (network : DeclaredNetwork) (run : List Travel) (rows : List Row) (s : Sender) (g : Hop) : Type 0 where
+  serves : ServesAt network run rows s g.port
+  ranked : g.sent.class ≡ class_at s g.port
 
 serving : (network : DeclaredNetwork) (run : List Travel) (rows : List Row) (n : ℕ) (r : Release) (s : Sender)
-    (path : List ℕ) (hops : List HopRecord) (ending : Ending) → All (Serves network run rows s.class) path
-    → All (λ (c : Crossing). IsServing network run rows s.class (hop_of c)) (crossings_along n r s path hops ending)
+    (path : List ℕ) (hops : List HopRecord) (ending : Ending) → All (ServesAt network run rows s) path
+    → All (λ (c : Crossing). IsServing network run rows s (hop_of c)) (crossings_along n r s path hops ending)
 serving network run rows n r s path hops ending all =
-    all_were_sent (IsServing network run rows s.class) n r s path hops ending
-    (all_hops (IsServing network run rows s.class) n r s path hops
+    all_were_sent (IsServing network run rows s) n r s path hops ending
+    (all_hops (IsServing network run rows s) n r s path hops
     (λ k d h e times. record { serves = all k d h; ranked = refl }))
 
 arrive_within : (network : DeclaredNetwork) (run : List Travel) (rows : List Row) (n : ℕ) (r : Release) (s : Sender)
-    (path : List ℕ) (hops : List HopRecord) (ending : Ending) → All (Serves network run rows s.class) path
+    (path : List ℕ) (hops : List HopRecord) (ending : Ending) → All (ServesAt network run rows s) path
     → All (IsThere network run) (crossings_along n r s path hops ending)
     → All (ArrivesWithin (bounds_of rows s)) (crossings_along n r s path hops ending)
 arrive_within network run rows n r s path hops ending all there k d h =
     let c : Crossing = get_or (crossings_along n r s path hops ending) k d in
-    let at : IsServing network run rows s.class (hop_of c) =
+    let at : IsServing network run rows s (hop_of c) =
     serving network run rows n r s path hops ending all k d h in
-    All-contains (λ (x : Crossing). x.sent.class ≡ s.class → x.arrival ≤ x.sent.eligible + bounds_of rows s c.port)
+    All-contains (λ (x : Crossing). x.sent.class ≡ class_at s c.port
+    → x.arrival ≤ x.sent.eligible + bounds_of rows s c.port)
     (crossings_by network run c.port) c
     at.serves.arrives (there k d h) at.ranked
 
 eligible_within : (network : DeclaredNetwork) (run : List Travel) (rows : List Row) (n : ℕ) (r : Release) (s : Sender)
-    (path : List ℕ) (hops : List HopRecord) (ending : Ending) → All (Serves network run rows s.class) path
+    (path : List ℕ) (hops : List HopRecord) (ending : Ending) → All (ServesAt network run rows s) path
     → All (IsGiven network run) (handed_along n r s path hops)
     → All (EligibleWithin (bounds_of rows s)) (handed_along n r s path hops)
 eligible_within network run rows n r s path hops ending all given k d h =
     let one : Handed = get_or (handed_along n r s path hops) k d in
-    let at : IsServing network run rows s.class (hop_of one.crossing) =
-    all_have_crossed (λ (c : Crossing). IsServing network run rows s.class (hop_of c)) n r s path hops ending
+    let at : IsServing network run rows s (hop_of one.crossing) =
+    all_have_crossed (λ (c : Crossing). IsServing network run rows s (hop_of c)) n r s path hops ending
     (serving network run rows n r s path hops ending all) k d h in
     let is : IsGiven network run one = given k d h in
-    let among : Contains (handed_by network run one.crossing.port s.class) one =
+    let among : Contains (handed_by network run one.crossing.port (class_at s one.crossing.port)) one =
     subst (λ (class : ℕ). Contains (handed_by network run one.crossing.port class) one) at.ranked is.among in
-    All-contains (EligibleBehind rows s one.crossing.port) (handed_by network run one.crossing.port s.class) one
+    All-contains (EligibleBehind rows s one.crossing.port)
+    (handed_by network run one.crossing.port (class_at s one.crossing.port)) one
     (at.serves.free is.told.bridge) among
   where
     EligibleBehind : List Row → Sender → ℕ → Handed → Type 0
@@ -175,11 +181,11 @@ all_serve : {judge : Judge} {rule : Declared → List Frame → Type 0} (network
     → OfStream judge rule network run rows j → (path : List ℕ)
     → All (λ q. uses q (sender_at network j.release.sender) ≡ true) path
     → All (λ q. q < length network.topology.ports) path → All (λ q. IsFed rule network run q) path
-    → All (Serves network run rows (sender_at network j.release.sender).class) path
+    → All (ServesAt network run rows (sender_at network j.release.sender)) path
 all_serve network run rows j o path used within offered k d h =
     let i : ℕ = j.release.sender in
     let p : ℕ = get_or path k d in
-    serves network run rows o.case o.holds (sender_at network i).class p (within k d h)
+    serves network run rows o.case o.holds (class_at (sender_at network i) p) p (within k d h)
     (stream_used network p i o.stream (used k d h)) (offered k d h)
 
 -- at its first port the frame is eligible at its release
@@ -209,7 +215,7 @@ served {judge} {rule} network rows run c holds j there stream keeps =
     (comes_first r s.path j.hops j.ending o.keeps.path.least o.is.released) in
     record { prompt = is_prompt; arrives = within_sum (bounds_of rows s) s.path j.hops j.ending r.at.0 is_prompt }
 
-none_once : (bound : ℕ → ℕ) (path : List ℕ) (ending : Ending) → IsPromptOnce bound path [] ending
+none_once : (bound : ℕ → ℕ) (path : List ℕ) (ending : Ending) → IsPromptIfEligible bound path [] ending
 none_once bound [] ending = tt
 none_once bound (p ∷ path) ending = tt
 
@@ -222,7 +228,8 @@ contained_behind : {judge : Judge} {rule : Declared → List Frame → Type 0} (
     → All (λ q. q < length network.topology.ports) path
     → All (IsThere network run) (crossings_along n j.release (sender_at network j.release.sender) path hops ending)
     → All (IsGiven network run) (handed_along n j.release (sender_at network j.release.sender) path hops)
-    → IsPromptOnce (bounds_of rows (sender_at network j.release.sender)) (later_ports path) (later_hops hops) ending
+    → IsPromptIfEligible (bounds_of rows (sender_at network j.release.sender)) (after_first path)
+    (after_first hops) ending
 contained_behind network run rows j o n [] hops ending way meet used within there given = tt
 contained_behind network run rows j o n (p ∷ path) [] ending way meet used within there given =
     none_once (bounds_of rows (sender_at network j.release.sender)) path ending
@@ -230,7 +237,8 @@ contained_behind network run rows j o n (p ∷ path) (hop ∷ hops) ending way m
     let r : Release = j.release in
     let s : Sender = sender_at network r.sender in
     let sent : Option Transmission = transmission_of n r (class_at s p) hop in
-    let Once : List HopRecord → Type 0 = λ (hs : List HopRecord). IsPromptOnce (bounds_of rows s) path hs ending in
+    let Once : List HopRecord → Type 0 =
+    λ (hs : List HopRecord). IsPromptIfEligible (bounds_of rows s) path hs ending in
     let serve = all_serve network run rows j o path (All-tail (λ q. uses q s ≡ true) p path used)
     (All-tail (λ q. q < length network.topology.ports) p path within)
     (later_offered network run o.case p path meet) in

@@ -25,7 +25,7 @@ use Rattle.ats_trace.specs.Run.{releases_of}
 use Rattle.ats_trace.specs.Talker.{talker_of, start_of, KeepsBucketsBy, frames_of}
 use Rattle.ats_trace.specs.declared.journey.Release.{Release}
 use Rattle.ats_trace.specs.declared.journey.HopRecord.{HopRecord}
-use Rattle.ats_group_law.specs.Regulator.{Judge}
+use Rattle.ats_group.specs.Judge.{Judge}
 use Rattle.ats_soundness_law.specs.Laws.{StationIsOffered}
 use Rattle.ats_soundness_law.proofs.Along.{AtPort, hop_by, all_hops}
 use Rattle.ats_soundness_law.proofs.Bits.{hop_weight, frames_weight, release_weight, releases_weight, counted-none}
@@ -34,7 +34,7 @@ use Rattle.ats_soundness_law.proofs.Bits.{counted-neither}
 use Rattle.ats_soundness_law.proofs.Known.{Case, ats_case, bits_of_size}
 use Rattle.ats_soundness_law.proofs.Lifts.{run_hops, run_travels-le}
 use Rattle.ats_soundness_law.proofs.Offered.{DeclaredAt, Kept, IsFed, fed}
-use Rattle.ats_soundness_law.proofs.Streams.{stream_exists, stream_class, sender_ruled}
+use Rattle.ats_soundness_law.proofs.Streams.{stream_ruled}
 use Rattle.ats_soundness_law.proofs.Paths.{sender_is, not_both, later_bridges, uses_own}
 use Rattle.ats_soundness_law.proofs.Weights.{first-le}
 
@@ -70,19 +70,19 @@ declared_along : {judge : Judge} {rule : Declared → List Frame → Type 0} (ne
     → All (λ (p : ℕ). uses p (sender_at network r.sender) ≡ true) path
     → (start_of network.topology.ports path ≡ (port_at network.topology.ports port).from
     → is_declared_size (declared_by network r.sender) r.octets ≡ true)
-    → All (AtPort (DeclaredAt network port) n r (sender_at network r.sender).class) path
+    → All (AtPort (DeclaredAt network port) n r (sender_at network r.sender)) path
 declared_along network run port a n r exists [] meet used size =
-    All-nil (AtPort (DeclaredAt network port) n r (sender_at network r.sender).class)
+    All-nil (AtPort (DeclaredAt network port) n r (sender_at network r.sender))
 declared_along network run port a n r exists (p ∷ path) meet used size =
     let s : Sender = sender_at network r.sender in
-    All-cons (AtPort (DeclaredAt network port) n r s.class) p path
+    All-cons (AtPort (DeclaredAt network port) n r s) p path
     (λ e times same. (
     let sizes =
     bits_of_size network r.sender r.octets (size (ap (λ (q : ℕ). (port_at network.topology.ports q).from) same)) in
     record {
       exists = exists;
       uses = subst (λ (q : ℕ). uses q s ≡ true) same (All-head (λ (q : ℕ). uses q s ≡ true) p path used);
-      class = refl;
+      class = ap (class_at s) same;
       least = sizes.0;
       most = sizes.1;
     }))
@@ -90,7 +90,7 @@ declared_along network run port a n r exists (p ∷ path) meet used size =
     not_both network.topology (port_at network.topology.ports port).from a.station
     (subst (λ (q : ℕ). IsBridgeAt network.topology (port_at network.topology.ports q).from) same
     (later_bridges network.topology p path meet k d h))
-    (IsDeclared network port (hop_by n r s.class (get_or path k d) e times).sent))
+    (IsDeclared network port (hop_by n r (class_at s (get_or path k d)) (get_or path k d) e times).sent))
 
 journey_declared : {judge : Judge} {rule : Declared → List Frame → Type 0} (network : DeclaredNetwork)
     (run : List Travel) (port : ℕ)
@@ -109,13 +109,13 @@ weight_along : {judge : Judge} {rule : Declared → List Frame → Type 0} (netw
     → AtStation judge rule network run port → (n : ℕ) (r : Release) (s : Sender) (path : List ℕ) (hops : List HopRecord)
     → AllNeighbours (MeetAtBridge network.topology) path → IsReleased r hops
     → ((p : ℕ) (times : Ps × Ps) → start_of network.topology.ports path ≡ (port_at network.topology.ports p).from
-    → hop_weight i port weight (hop_by n r s.class p r.at times) ≤ most)
+    → hop_weight i port weight (hop_by n r (class_at s p) p r.at times) ≤ most)
     → sum_by (hop_weight i port weight) (hops_along n r s path hops) ≤ most
 weight_along network run i port weight most a n r s [] hops meet released first = omega arith
 weight_along network run i port weight most a n r s (p ∷ path) [] meet released first = omega arith
 weight_along network run i port weight most a n r s (p ∷ path) (hop ∷ hops) meet released first =
     let f : Hop → ℕ = hop_weight i port weight in
-    let here = first-le f most n r s.class p hop.verdict hop.sent released.1 (λ times. first p times refl) in
+    let here = first-le f most n r s p hop.verdict hop.sent released.1 (λ times. first p times refl) in
     let none = sum_by-none f (hops_along n r s path hops)
     (all_hops (λ (g : Hop). f g ≤ 0) n r s path hops
     (λ k d h e times. counted-none (get_or path k d == port) _ (λ same.
@@ -176,8 +176,7 @@ station_fed {judge} {rule} network run port known station keeps =
       }
       | inr other ↦ record {
         others = [];
-        keeps = known.regulator.keeps (declared_by network) 0 [] i
-            (sender_ruled network known.net i (stream_exists network i h) (stream_class network known.net i h));
+        keeps = known.regulator.keeps (declared_by network) 0 [] i (stream_ruled network known.net i h);
         no_more = λ weight. other_weight network run i port weight a other;
       }
     ])

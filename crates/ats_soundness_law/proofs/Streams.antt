@@ -4,12 +4,15 @@ use Rattle.std.specs.List.{list_any}
 use Rattle.std.proofs.lemmas.Bool.{cases_Bool, or_left, or_right, eq-eqb}
 use Rattle.std.proofs.lemmas.List.{length-map, get_or_append_left}
 use Rattle.ats_network.specs.Sender.{Sender, stream_sender, flow_sender}
+use Rattle.ats_streams.specs.Stream.{IsClass}
+use Rattle.ats_network.specs.Class.{class_at, seen_at}
+use Rattle.ats_network.proofs.ClassLemmas.{class_at-stream}
 use Rattle.ats_network.specs.Network.{DeclaredNetwork, IsNetwork, senders_of}
 use Rattle.ats_network.specs.Senders.{sender_at, no_sender}
 use Rattle.ats_certificate.specs.PortSums.{uses, is_of, is_used}
 use Rattle.ats_group.specs.Group.{IsRuled}
 use Rattle.ats_port_law.proofs.Senders.{no_stream, stream_at}
-use Rattle.ats_trace.specs.Eligibility.{declared_by}
+use Rattle.ats_trace.specs.Eligibility.{declared_of, declared_by}
 use Rattle.ats_soundness_law.proofs.Paths.{sender_is}
 
 -- the first senders are the streams
@@ -28,41 +31,53 @@ stream_exists network i h = omega (
   length-map network.streams stream_sender,
 )
 
--- a stream's class is 1 or more
-pub stream_class : (network : DeclaredNetwork) → IsNetwork network → (i : ℕ) → i < length network.streams
-    → 1 ≤ (sender_at network i).class
-stream_class network net i h =
-    let class = ap (λ (s : Sender). s.class) (stream_at network i h) in
-    omega (arith, class, (net.streams i no_stream h).class.least)
+-- a stream's class is 1 or more at each port of its path
+pub stream_class : (network : DeclaredNetwork) → IsNetwork network → (port i : ℕ) → i < length network.streams
+    → uses port (sender_at network i) ≡ true → 1 ≤ class_at (sender_at network i) port
+stream_class network net port i h used =
+    let same = stream_at network i h in
+    let class = ap (λ (s : Sender). class_at s port) same in
+    let of_class : IsClass (class_at (stream_sender (get_or network.streams i no_stream)) port) =
+    class_at-stream (get_or network.streams i no_stream) port (net.streams i no_stream h)
+    (ap (uses port) (sym same) ∙ used) in
+    omega (arith, class, of_class.least)
 
 -- and it keeps the rules that a group asks of its members
-pub sender_ruled : (network : DeclaredNetwork) → IsNetwork network → (i : ℕ) → i < length (senders_of network)
-    → 1 ≤ (sender_at network i).class → IsRuled (declared_by network i)
-sender_ruled network net i h shaped = (sender_is network net i h).shaped shaped
+pub sender_ruled : (network : DeclaredNetwork) → IsNetwork network → (port i : ℕ) → i < length (senders_of network)
+    → 1 ≤ class_at (sender_at network i) port → IsRuled (declared_by network i)
+sender_ruled network net port i h shaped = (sender_is network net i h).shaped port shaped
 
--- some element that passes one test passes another
-any_chosen : {X : Type 0} (test chosen : X → Bool) (xs : List X) (k : ℕ) (d : X) → k < length xs
-    → chosen (get_or xs k d) ≡ true → test (get_or xs k d) ≡ true → list_any test (filter chosen xs) ≡ true
-any_chosen test chosen [] k d h c t = absurd (omega arith)
-any_chosen {X} test chosen (x ∷ xs) zero d h c t =
-    let Goal : Bool → Type 0 = λ (b : Bool). list_any test (cond b (x ∷ filter chosen xs) (filter chosen xs)) ≡ true in
-    subst Goal (sym c) (or_left (test x) (list_any test (filter chosen xs)) t)
-any_chosen {X} test chosen (x ∷ xs) (suc k) d h c t =
-    let Goal : Bool → Type 0 = λ (b : Bool). list_any test (cond b (x ∷ filter chosen xs) (filter chosen xs)) ≡ true in
-    let rest : list_any test (filter chosen xs) ≡ true = any_chosen test chosen xs k d (omega arith) c t in
+pub stream_ruled : (network : DeclaredNetwork) → IsNetwork network → (i : ℕ) → i < length network.streams
+    → IsRuled (declared_by network i)
+stream_ruled network net i h =
+    subst (λ (s : Sender). IsRuled (declared_of s)) (sym (stream_at network i h)) (net.streams i no_stream h).rules
+
+-- some image of an element that passes one test passes another
+any_chosen : {X Y : Type 0} (test : Y → Bool) (seen : X → Y) (chosen : X → Bool) (xs : List X) (k : ℕ) (d : X)
+    → k < length xs → chosen (get_or xs k d) ≡ true → test (seen (get_or xs k d)) ≡ true
+    → list_any test (map seen (filter chosen xs)) ≡ true
+any_chosen test seen chosen [] k d h c t = absurd (omega arith)
+any_chosen {X} test seen chosen (x ∷ xs) zero d h c t =
+    let kept : List X = filter chosen xs in
+    let Goal : Bool → Type 0 = λ (b : Bool). list_any test (map seen (cond b (x ∷ kept) kept)) ≡ true in
+    subst Goal (sym c) (or_left (test (seen x)) (list_any test (map seen kept)) t)
+any_chosen {X} test seen chosen (x ∷ xs) (suc k) d h c t =
+    let kept : List X = filter chosen xs in
+    let Goal : Bool → Type 0 = λ (b : Bool). list_any test (map seen (cond b (x ∷ kept) kept)) ≡ true in
+    let rest : list_any test (map seen kept) ≡ true = any_chosen test seen chosen xs k d (omega arith) c t in
     elim (cases_Bool (chosen x)) as (λ _. Goal (chosen x)) [
-      | inl e ↦ subst Goal (sym e) (or_right (test x) (list_any test (filter chosen xs)) rest)
+      | inl e ↦ subst Goal (sym e) (or_right (test (seen x)) (list_any test (map seen kept)) rest)
       | inr e ↦ subst Goal (sym e) rest
     ]
 
--- a stream's class is used at the ports of its path
+-- a stream's class at a port of its path is used there
 pub stream_used : (network : DeclaredNetwork) (port i : ℕ) → i < length network.streams
-    → uses port (sender_at network i) ≡ true → is_used network port (sender_at network i).class ≡ true
+    → uses port (sender_at network i) ≡ true → is_used network port (class_at (sender_at network i) port) ≡ true
 stream_used network port i h used =
     let streams : List Sender = map stream_sender network.streams in
+    let class : ℕ = class_at (sender_at network i) port in
     let same = first_senders network i h in
-    any_chosen (is_of (sender_at network i).class) (uses port) streams i no_sender
+    any_chosen (is_of class) (seen_at port) (uses port) streams i no_sender
     (omega (arith, h, length-map network.streams stream_sender))
     (ap (uses port) (sym same) ∙ used)
-    (ap (is_of (sender_at network i).class) (sym same)
-    ∙ eq-eqb (sender_at network i).class (sender_at network i).class refl)
+    (ap (λ (s : Sender). is_of class (seen_at port s)) (sym same) ∙ eq-eqb class class refl)

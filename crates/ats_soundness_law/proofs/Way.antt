@@ -2,21 +2,21 @@ use Rattle.std.proofs.Common.{ℕ, ◌+◌, ◌≤◌, List, [], ◌∷◌, ◌+
 use Rattle.std.specs.Prelude.{Option, Some, None}
 use Rattle.std.proofs.lemmas.List.Elements.{All-head}
 use Rattle.std.proofs.lemmas.List.Sums.{sum_by-cons}
+use Rattle.ats_facts.proofs.Lists.{all_left, all_right}
 use Rattle.ats_num.specs.declared.time.Ps.{Ps}
 use Rattle.ats_network.specs.Sender.{Sender}
-use Rattle.ats_network.proofs.Appended.{all_left, all_right}
 use Rattle.ats_group.specs.declared.verdict.Verdict.{Verdict}
 use Rattle.ats_group.specs.declared.verdict.Verdict.TheVariants.{Eligible, Late, Size}
 use Rattle.ats_port_rule.specs.Transmission.{Transmission}
-use Rattle.ats_trace.specs.Journey.{GoesOn, IsWay}
+use Rattle.ats_trace.specs.Journey.{class_at, IsSentOrEnds, IsWay}
 use Rattle.ats_trace.specs.Projections.{Crossing, Handed, transmission_by, crossing_at, handed_at, crossings_along}
 use Rattle.ats_trace.specs.Projections.{handed_along}
 use Rattle.ats_trace.specs.declared.journey.Release.{Release}
 use Rattle.ats_trace.specs.declared.journey.HopRecord.{HopRecord}
 use Rattle.ats_trace.specs.declared.journey.Ending.{Ending}
 use Rattle.ats_trace.specs.declared.journey.Ending.TheVariants.{Sink, Discard}
-use Rattle.ats_soundness_law.specs.Sound.{IsEligibleBy, IsPrompt, ArrivesBy, IsPromptOnce}
-use Rattle.ats_group_law.specs.Regulator.{OnEligible}
+use Rattle.ats_soundness_law.specs.Sound.{IsEligibleBy, IsPrompt, ArrivesBy, IsPromptIfEligible}
+use Rattle.ats_group.specs.Judge.{OnEligible}
 use Rattle.ats_soundness_law.proofs.Along.{crossing_by, handed_on}
 
 -- a frame arrives behind its port within the bound of its eligibility
@@ -38,18 +38,19 @@ comes_next : (bound : ℕ → ℕ) (frame : ℕ) (release : Release) (sender : S
     (times : Ps × Ps) (hops : List HopRecord) (ending : Ending)
     → IsWay path hops ending
     → All (ArrivesWithin bound) (crossing_at release.octets came p
-    (transmission_by frame release sender.class (Eligible e) (Some times)) hops ending)
+    (transmission_by frame release (class_at sender p) (Eligible e) (Some times)) hops ending)
     → All (EligibleWithin bound)
-    (handed_at release.octets came p (transmission_by frame release sender.class (Eligible e) (Some times)) hops
+    (handed_at release.octets came p (transmission_by frame release (class_at sender p) (Eligible e) (Some times)) hops
     ++ handed_along frame release sender path hops)
     → ComesBy (e.0 + bound p) path hops ending
 comes_next bound frame release sender came p [] e times [] (Sink at) way all handed =
-    All-head (ArrivesWithin bound) (crossing_by frame release sender.class p came e times at.0) [] all
+    All-head (ArrivesWithin bound) (crossing_by frame release (class_at sender p) p came e times at.0) [] all
 comes_next bound frame release sender came p [] e times [] Discard way all handed = absurd way
 comes_next bound frame release sender came p [] e times (hop ∷ hops) ending way all handed = absurd way
 comes_next bound frame release sender came p (q ∷ path) e times [] ending way all handed = tt
 comes_next bound frame release sender came p (q ∷ path) e times (next ∷ hops) ending way all handed =
-    All-head (EligibleWithin bound) (handed_on frame release sender.class p came e times next.arrival.0 next.verdict)
+    All-head (EligibleWithin bound)
+    (handed_on frame release (class_at sender p) p came e times next.arrival.0 next.verdict)
     (handed_along frame release sender (q ∷ path) (next ∷ hops)) handed
 
 -- one step of the way
@@ -58,17 +59,18 @@ prompt_here : (bound : ℕ → ℕ) (frame : ℕ) (release : Release) (sender : 
     → ((limit : ℕ) → IsWay path hops ending → All (ArrivesWithin bound) (crossings_along frame release
     sender path hops ending) → All (EligibleWithin bound) (handed_along frame release sender path hops)
     → ComesBy limit path hops ending → IsPrompt bound limit path hops ending)
-    → GoesOn (IsWay path hops ending) verdict sent hops ending
+    → IsSentOrEnds (IsWay path hops ending) verdict sent hops ending
     → All (ArrivesWithin bound)
-    (crossing_at release.octets came p (transmission_by frame release sender.class verdict sent) hops ending
+    (crossing_at release.octets came p (transmission_by frame release (class_at sender p) verdict sent) hops ending
     ++ crossings_along frame release sender path hops ending)
     → All (EligibleWithin bound) (handed_at release.octets came p
-    (transmission_by frame release sender.class verdict sent) hops ++ handed_along frame release sender path hops)
+    (transmission_by frame release (class_at sender p) verdict sent) hops
+    ++ handed_along frame release sender path hops)
     → IsEligibleBy limit (λ e. Unit {0}) verdict
     → IsEligibleBy limit (λ e. IsPrompt bound (e + bound p) path hops ending) verdict
 prompt_here bound frame release sender came p path (Eligible e) (Some times)
     hops ending limit rest way all handed first =
-    let sent : Option Transmission = transmission_by frame release sender.class (Eligible e) (Some times) in
+    let sent : Option Transmission = transmission_by frame release (class_at sender p) (Eligible e) (Some times) in
     let here : List Crossing = crossing_at release.octets came p sent hops ending in
     let later : List Crossing = crossings_along frame release sender path hops ending in (
       first.0,
@@ -137,7 +139,7 @@ pub prompt_once : (bound : ℕ → ℕ) (frame : ℕ) (release : Release) (sende
     (hops : List HopRecord) (ending : Ending)
     → IsWay path hops ending → All (ArrivesWithin bound) (crossings_along frame release sender path hops ending)
     → All (EligibleWithin bound) (handed_along frame release sender path hops)
-    → IsPromptOnce bound path hops ending
+    → IsPromptIfEligible bound path hops ending
 prompt_once bound frame release sender [] hops ending way all handed = tt
 prompt_once bound frame release sender (p ∷ path) [] ending way all handed = tt
 prompt_once bound frame release sender (p ∷ path) (hop ∷ hops) ending way all handed =

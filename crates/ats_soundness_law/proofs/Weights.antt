@@ -7,7 +7,7 @@ use Rattle.ats_network.specs.Senders.{AllNeighbours}
 use Rattle.ats_group.specs.declared.verdict.Verdict.{Verdict}
 use Rattle.ats_group.specs.declared.verdict.Verdict.TheVariants.{Eligible, Late, Size}
 use Rattle.ats_port_rule.specs.Transmission.{Transmission}
-use Rattle.ats_trace.specs.Journey.{class_at, GoesOn, IsWay}
+use Rattle.ats_trace.specs.Journey.{class_at, IsSentOrEnds, IsWay}
 use Rattle.ats_trace.specs.Projections.{Hop, Handed, transmission_by, transmission_of, hop_at, handed_at, hops_along}
 use Rattle.ats_trace.specs.Projections.{handed_along}
 use Rattle.ats_trace.specs.declared.journey.Release.{Release}
@@ -37,37 +37,39 @@ handed-le f frame release sender (p ∷ path) (hop ∷ hops) =
     omega (arith, here, rest, all, sums)
 
 -- a transmission at a port weighs no more than what the port before handed on
-abbrev pub IsPassedOn : (Hop → ℕ) → (Handed → ℕ) → ℕ → Release → ℕ → ℕ → ℕ → Type 0
-IsPassedOn f g frame release class before port =
-    (e since : Ps) (times earlier : Ps × Ps) (came arrival : ℕ) → f (hop_by frame release class port e times)
-    ≤ g (handed_on frame release class before came since earlier arrival (Eligible e))
+abbrev pub IsPassedOn : (Hop → ℕ) → (Handed → ℕ) → ℕ → Release → Sender → ℕ → ℕ → Type 0
+IsPassedOn f g frame release sender before port =
+    (e since : Ps) (times earlier : Ps × Ps) (came arrival : ℕ)
+    → f (hop_by frame release (class_at sender port) port e times)
+    ≤ g (handed_on frame release (class_at sender before) before came since earlier arrival (Eligible e))
 
 -- where that holds of neighbours on a path, all later transmissions weigh no more than what is handed on
-next_hop : (f : Hop → ℕ) (g : Handed → ℕ) (frame : ℕ) (release : Release) (class came p q : ℕ) (since : Ps)
-    (earlier : Ps × Ps) (arrival : ℕ) (verdict : Verdict) (sent : Option (Ps × Ps))
-    → IsPassedOn f g frame release class p q → sum_by f (hop_at q (transmission_by frame release class verdict sent))
-    ≤ g (handed_on frame release class p came since earlier arrival verdict)
-next_hop f g frame release class came p q since earlier arrival (Eligible e) (Some times) passed =
+next_hop : (f : Hop → ℕ) (g : Handed → ℕ) (frame : ℕ) (release : Release) (sender : Sender) (came p q : ℕ)
+    (since : Ps) (earlier : Ps × Ps) (arrival : ℕ) (verdict : Verdict) (sent : Option (Ps × Ps))
+    → IsPassedOn f g frame release sender p q
+    → sum_by f (hop_at q (transmission_by frame release (class_at sender q) verdict sent))
+    ≤ g (handed_on frame release (class_at sender p) p came since earlier arrival verdict)
+next_hop f g frame release sender came p q since earlier arrival (Eligible e) (Some times) passed =
     let le = passed e since times earlier came arrival in
     omega (arith, le)
-next_hop f g frame release class came p q since earlier arrival (Eligible e) None passed = omega arith
-next_hop f g frame release class came p q since earlier arrival (Late e) sent passed = omega arith
-next_hop f g frame release class came p q since earlier arrival Size sent passed = omega arith
+next_hop f g frame release sender came p q since earlier arrival (Eligible e) None passed = omega arith
+next_hop f g frame release sender came p q since earlier arrival (Late e) sent passed = omega arith
+next_hop f g frame release sender came p q since earlier arrival Size sent passed = omega arith
 
 -- the rest of a way, behind a port
 later_here : (f : Hop → ℕ) (g : Handed → ℕ) (frame : ℕ) (release : Release) (sender : Sender) (came p q : ℕ)
     (path : List ℕ) (verdict : Verdict) (sent : Option (Ps × Ps)) (next : HopRecord) (hops : List HopRecord)
     (ending : Ending)
-    → IsPassedOn f g frame release sender.class p q
+    → IsPassedOn f g frame release sender p q
     → (IsWay (q ∷ path) (next ∷ hops) ending → sum_by f (hops_along frame release sender path hops)
     ≤ sum_by g (handed_along frame release sender (q ∷ path) (next ∷ hops)))
-    → GoesOn (IsWay (q ∷ path) (next ∷ hops) ending) verdict sent (next ∷ hops) ending
+    → IsSentOrEnds (IsWay (q ∷ path) (next ∷ hops) ending) verdict sent (next ∷ hops) ending
     → sum_by f (hops_along frame release sender (q ∷ path) (next ∷ hops))
-    ≤ sum_by g (handed_at release.octets came p (transmission_by frame release sender.class verdict sent)
+    ≤ sum_by g (handed_at release.octets came p (transmission_by frame release (class_at sender p) verdict sent)
     (next ∷ hops) ++ handed_along frame release sender (q ∷ path) (next ∷ hops))
 later_here f g frame release sender came p q path (Eligible e) (Some times) next hops ending passed rest way =
-    let one : Handed = handed_on frame release sender.class p came e times next.arrival.0 next.verdict in
-    let here = next_hop f g frame release sender.class came p q e times next.arrival.0 next.verdict next.sent passed in
+    let one : Handed = handed_on frame release (class_at sender p) p came e times next.arrival.0 next.verdict in
+    let here = next_hop f g frame release sender came p q e times next.arrival.0 next.verdict next.sent passed in
     let behind = rest way in
     let sent = sum_by-append f (hop_at q (transmission_of frame release (class_at sender q) next))
     (hops_along frame release sender path hops) in
@@ -81,7 +83,7 @@ later_here f g frame release sender came p q path Size None next hops ending pas
 
 pub later-le : (f : Hop → ℕ) (g : Handed → ℕ) (frame : ℕ) (release : Release) (sender : Sender) (p : ℕ) (path : List ℕ)
     (hop : HopRecord) (hops : List HopRecord) (ending : Ending)
-    → AllNeighbours (IsPassedOn f g frame release sender.class) (p ∷ path) → IsWay (p ∷ path) (hop ∷ hops) ending
+    → AllNeighbours (IsPassedOn f g frame release sender) (p ∷ path) → IsWay (p ∷ path) (hop ∷ hops) ending
     → sum_by f (hops_along frame release sender path hops)
     ≤ sum_by g (handed_along frame release sender (p ∷ path) (hop ∷ hops))
 later-le f g frame release sender p [] hop hops ending each way = omega arith
@@ -92,16 +94,17 @@ later-le f g frame release sender p (q ∷ path) hop (next ∷ hops) ending each
     way
 
 -- the first transmission, of a frame that is eligible at its release
-pub first-le : (f : Hop → ℕ) (most frame : ℕ) (release : Release) (class p : ℕ) (verdict : Verdict)
+pub first-le : (f : Hop → ℕ) (most frame : ℕ) (release : Release) (sender : Sender) (p : ℕ) (verdict : Verdict)
     (sent : Option (Ps × Ps))
-    → verdict ≡ Eligible release.at → ((times : Ps × Ps) → f (hop_by frame release class p release.at times) ≤ most)
-    → sum_by f (hop_at p (transmission_by frame release class verdict sent)) ≤ most
-first-le f most frame release class p verdict sent is each =
+    → verdict ≡ Eligible release.at
+    → ((times : Ps × Ps) → f (hop_by frame release (class_at sender p) p release.at times) ≤ most)
+    → sum_by f (hop_at p (transmission_by frame release (class_at sender p) verdict sent)) ≤ most
+first-le f most frame release sender p verdict sent is each =
     let Goal : Verdict → Type 0 =
-    λ (v : Verdict). sum_by f (hop_at p (transmission_by frame release class v sent)) ≤ most in
+    λ (v : Verdict). sum_by f (hop_at p (transmission_by frame release (class_at sender p) v sent)) ≤ most in
     subst Goal (sym is) (by sent)
   where
     by : (sent : Option (Ps × Ps))
-        → sum_by f (hop_at p (transmission_by frame release class (Eligible release.at) sent)) ≤ most
+        → sum_by f (hop_at p (transmission_by frame release (class_at sender p) (Eligible release.at) sent)) ≤ most
     by None = omega arith
     by (Some times) = omega (arith, each times)

@@ -1,20 +1,20 @@
-use Rattle.std.specs.Prelude.{ℕ, ◌+◌, ◌<◌, IsTrue, List, length, All, Contains}
+use Rattle.std.specs.Prelude.{ℕ, ◌+◌, ◌<◌, IsTrue, List, length, All}
 use Rattle.ats_topology.specs.Port.{port_at}
 use Rattle.ats_network.specs.Network.{DeclaredNetwork, IsNetwork}
-use Rattle.ats_network.specs.Senders.{sender_at}
 use Rattle.ats_network.specs.Path.{IsStationAt}
 use Rattle.ats_network.specs.Bridges.{IsBridgeAt}
 use Rattle.ats_certificate.specs.PortSums.{is_used}
 use Rattle.ats_certificate.specs.Certificate.{RowHolds, Holds}
 use Rattle.ats_certificate.specs.declared.row.Row.{Row}
 use Rattle.ats_port_law.specs.PortLaw.{IsOffered}
-use Rattle.ats_group_law.specs.Regulator.{Judge, IsRegulator, bucket_rule}
-use Rattle.ats_trace.specs.Journey.{Travel, IsOfStream}
+use Rattle.ats_group.specs.Judge.{Judge, ats_judge, bucket_rule}
+use Rattle.ats_group_law.specs.Regulator.{IsRegulator}
+use Rattle.ats_trace.specs.Journey.{Travel}
 use Rattle.ats_trace.specs.Projections.{Handed, sent_by, handed_by}
 use Rattle.ats_trace.specs.Run.{IsLegal, releases_of}
-use Rattle.ats_trace.specs.Talker.{talker_of, KeepsBuckets}
+use Rattle.ats_trace.specs.Talker.{KeepsBuckets}
 use Rattle.ats_soundness_law.specs.Rules.{Rule, Keeps}
-use Rattle.ats_soundness_law.specs.Sound.{IsEligibleBy, IsServed, IsContained, IsSoundBy, IsSound}
+use Rattle.ats_soundness_law.specs.Sound.{IsEligibleBy, AreServed, AreContained, IsSoundBy, IsSound}
 
 -- what a port that leaves a station is asked to send, where the station keeps its buckets: frames of declared sizes,
 -- and those of each stream conform
@@ -47,17 +47,12 @@ ShapingForFree = (network : DeclaredNetwork) (run : List Travel) (row : Row) →
 -- each frame of a stream whose talker keeps its buckets is served, by the rows of a certificate that holds
 abbrev pub PathLaw : Type 0
 PathLaw = (network : DeclaredNetwork) (rows : List Row) → IsNetwork network → Holds network rows
-    → (run : List Travel) → IsLegal network run → (journey : Travel) → Contains run journey
-    → IsOfStream network journey
-    → KeepsBuckets network (releases_of run) (talker_of network journey.release.sender)
-    → IsServed rows (sender_at network journey.release.sender) journey
+    → AreServed ats_judge bucket_rule network rows
 
 -- each frame of any stream is contained by them, whatever its talker does
 abbrev pub Containment : Type 0
 Containment = (network : DeclaredNetwork) (rows : List Row) → IsNetwork network → Holds network rows
-    → (run : List Travel) → IsLegal network run → (journey : Travel) → Contains run journey
-    → IsOfStream network journey
-    → IsContained rows (sender_at network journey.release.sender) journey
+    → AreContained ats_judge network rows
 
 -- where groups regulate by token buckets, bounds that keep each of the ten rules are sound
 abbrev pub SoundByRules : Type 0

@@ -8,7 +8,7 @@ use Rattle.ats_bucket.specs.Conforming.{Frame}
 use Rattle.ats_group.specs.declared.member.Declared.{Declared}
 use Rattle.ats_group.specs.declared.verdict.Verdict.{Verdict}
 use Rattle.ats_group.specs.declared.verdict.Verdict.TheVariants.{Eligible, Late, Size}
-use Rattle.ats_group_law.specs.Regulator.{OnEligible, Judge, ats_judge, bucket_rule}
+use Rattle.ats_group.specs.Judge.{OnEligible, Judge, ats_judge, bucket_rule}
 use Rattle.ats_trace.specs.Journey.{Travel, IsOfStream}
 use Rattle.ats_trace.specs.Run.{IsLegalBy, releases_of}
 use Rattle.ats_trace.specs.Talker.{talker_of, KeepsBucketsBy}
@@ -47,39 +47,41 @@ pub record IsServed (rows : List Row) (sender : Sender) (journey : Travel) : Typ
   pub prompt : IsPrompt (bounds_of rows sender) journey.release.at.0 sender.path journey.hops journey.ending
   pub arrives : ArrivesBy (journey.release.at.0 + sum_by (bounds_of rows sender) sender.path) journey.ending
 
--- behind a port where it is eligible a frame is prompt
-abbrev pub IsPromptOnce : (ℕ → ℕ) → List ℕ → List HopRecord → Ending → Type 0
-IsPromptOnce bound [] hops ending = Unit {0}
-IsPromptOnce bound (p ∷ path) [] ending = Unit {0}
-IsPromptOnce bound (p ∷ path) (hop ∷ hops) ending =
+-- if a frame is eligible at the first of these ports, it is prompt behind it
+abbrev pub IsPromptIfEligible : (ℕ → ℕ) → List ℕ → List HopRecord → Ending → Type 0
+IsPromptIfEligible bound [] hops ending = Unit {0}
+IsPromptIfEligible bound (p ∷ path) [] ending = Unit {0}
+IsPromptIfEligible bound (p ∷ path) (hop ∷ hops) ending =
     OnEligible hop.verdict (λ e. IsPrompt bound (e + bound p) path hops ending)
 
--- the ports after the first
-abbrev pub later_ports : List ℕ → List ℕ
-later_ports [] = []
-later_ports (p ∷ path) = path
-
--- the records after the first
-abbrev pub later_hops : List HopRecord → List HopRecord
-later_hops [] = []
-later_hops (hop ∷ hops) = hops
+-- all but the first
+abbrev pub after_first : {X : Type 0} → List X → List X
+after_first [] = []
+after_first (x ∷ xs) = xs
 
 -- whatever its own talker does, a frame that the first bridge lets through is prompt from there on
 abbrev pub IsContained : List Row → Sender → Travel → Type 0
 IsContained rows sender journey =
-    IsPromptOnce (bounds_of rows sender) (later_ports sender.path) (later_hops journey.hops) journey.ending
+    IsPromptIfEligible (bounds_of rows sender) (after_first sender.path) (after_first journey.hops) journey.ending
 
--- the bounds of these rows are sound, where groups judge so and talkers keep this rule: in each legal run, each frame
--- of a stream whose talker keeps the rule is served, and each frame of any stream is contained
+-- in each legal run, where groups judge so, each frame of a stream whose talker keeps this rule is served
+abbrev pub AreServed : Judge → (Declared → List Frame → Type 0) → DeclaredNetwork → List Row → Type 0
+AreServed judge rule network rows = (run : List Travel) → IsLegalBy judge network run → (journey : Travel)
+    → Contains run journey → IsOfStream network journey
+    → KeepsBucketsBy rule network (releases_of run) (talker_of network journey.release.sender)
+    → IsServed rows (sender_at network journey.release.sender) journey
+
+-- and each frame of any stream is contained, whatever its talker does
+abbrev pub AreContained : Judge → DeclaredNetwork → List Row → Type 0
+AreContained judge network rows = (run : List Travel) → IsLegalBy judge network run → (journey : Travel)
+    → Contains run journey → IsOfStream network journey
+    → IsContained rows (sender_at network journey.release.sender) journey
+
+-- the bounds of these rows are sound, where groups judge so and talkers keep this rule: frames are served and contained
 pub record IsSoundBy (judge : Judge) (rule : Declared → List Frame → Type 0) (network : DeclaredNetwork)
     (rows : List Row) : Type 0 where
-  pub served : (run : List Travel) → IsLegalBy judge network run → (journey : Travel) → Contains run journey
-      → IsOfStream network journey
-      → KeepsBucketsBy rule network (releases_of run) (talker_of network journey.release.sender)
-      → IsServed rows (sender_at network journey.release.sender) journey
-  pub contained : (run : List Travel) → IsLegalBy judge network run → (journey : Travel) → Contains run journey
-      → IsOfStream network journey
-      → IsContained rows (sender_at network journey.release.sender) journey
+  pub served : AreServed judge rule network rows
+  pub contained : AreContained judge network rows
 
 -- and the groups are those of Asynchronous Traffic Shaping, and talkers keep their buckets
 abbrev pub IsSound : DeclaredNetwork → List Row → Type 0

@@ -3,29 +3,29 @@ use Rattle.std.proofs.Common.{◌≡◌, ◌≢◌, ℕ, ◌+◌, ◌-◌, ◌*�
 use Rattle.std.proofs.Common.{length, get_or, set, take, map, filter, replicate, Option, refl, sym, ap, subst, ◌∙◌, inl}
 use Rattle.std.proofs.Common.{inr, ◌⊎◌, ⊎_elim, eqb, arith, length-set, get_or-set_same, get_or-set_other}
 use Rattle.std.specs.Prelude.{is_some, ◌||◌}
-use Rattle.std.specs.List.{All, AllPairs, list_any}
+use Rattle.std.specs.List.{AllPairs, list_any}
 use Rattle.std.proofs.lemmas.Bool.{cases_Bool, cases_eq, eq-eqb, ne_eqb, or_right}
 use Rattle.std.proofs.lemmas.List.{append-nil, get_or-take, get_or_default, length-take-le, length-replicate}
 use Rattle.std.proofs.lemmas.List.{get_or-replicate}
-use Rattle.std.proofs.lemmas.List.Elements.{All-map, All-filter, filter-append, filter_more}
 use Rattle.std.proofs.lemmas.List.Folds.{list_any_more, list_any_none, list_any-append}
 use Rattle.ats_network.specs.Sender.{Sender, stream_sender, flow_sender}
+use Rattle.ats_network.specs.Class.{PortSender, seen_at}
 use Rattle.ats_network.specs.Network.{DeclaredNetwork, IsNetwork, senders_of}
 use Rattle.ats_network.specs.Senders.{sender_at, no_sender}
-use Rattle.ats_streams.specs.Flow.{DeclaredFlow}
-use Rattle.ats_certificate.specs.PortSums.{uses, is_of, shortest, senders_at, is_used}
+use Rattle.ats_certificate.specs.PortSums.{is_of, shortest, senders_at, is_used}
 use Rattle.ats_tally.specs.Tally.{no_tally, least_known, tally_with, IsTally}
 use Rattle.ats_tally.specs.declared.tally.Tally.{Tally}
 use Rattle.ats_tally.proofs.Places.{IsPlace, is_place}
+use Rattle.ats_tally.proofs.SeenLemmas.{senders_at-append, senders_at-more, flows_class}
 use Rattle.ats_tally.proofs.Tallied.{tally_none, tally_more}
 use Rattle.ats_tally.specs.Tallies.{AddsSender, AreTallies}
 
 -- no class has the sender yet
-pub added_none : (s : Sender) (from : ℕ) (table : List Tally) → AddsSender s from 1 table table
+pub added_none : (s : PortSender) (from : ℕ) (table : List Tally) → AddsSender s from 1 table table
 added_none s from table = record { count = refl; added = λ i d low high. absurd (omega arith); kept = λ i d out. refl }
 
 -- one class more
-pub added_more : (s : Sender) (from below : ℕ) (old new : List Tally) (next : Tally) → 1 ≤ below
+pub added_more : (s : PortSender) (from below : ℕ) (old new : List Tally) (next : Tally) → 1 ≤ below
     → from + below < length old → AddsSender s from below old new
     → ((d : Tally) → next ≡ tally_with below s (get_or new (from + below) d))
     → AddsSender s from (below + 1) old (set new (from + below) next)
@@ -55,8 +55,9 @@ added_more s from below old new next some inside before is = record {
         ∙ before.added i d low (let differ : i ≢ from + below = other in omega (arith, differ))
 
 -- the senders at a port, of those counted so far and, where the port is one of these, one more
-abbrev pub counted_at : List Sender → Sender → List ℕ → ℕ → List Sender
-counted_at senders s path port = senders_at port senders ++ cond (list_any (λ p. eqb p port) path) (s ∷ []) []
+abbrev pub counted_at : List Sender → Sender → List ℕ → ℕ → List PortSender
+counted_at senders s path port =
+    senders_at port senders ++ cond (list_any (λ p. eqb p port) path) (seen_at port s ∷ []) []
 
 -- these ports have the sender as one more
 pub record AreCounting (ports : ℕ) (senders : List Sender) (s : Sender) (path : List ℕ)
@@ -70,7 +71,7 @@ pub counting_none : (ports : ℕ) (senders : List Sender) (s : Sender) (table : 
 counting_none ports senders s table h = record {
   count = h.count;
   each = λ port class d within least most.
-      subst (λ (t : List Sender). IsTally class t (get_or table (8 * port + class) d))
+      subst (λ (t : List PortSender). IsTally class t (get_or table (8 * port + class) d))
       (sym (append-nil (senders_at port senders))) (h.each port class d within least most);
 }
 
@@ -95,14 +96,16 @@ pub before_port : (ports : ℕ) (senders : List Sender) (s : Sender) (path : Lis
     → AreCounting ports senders s (take i path) table → (class : ℕ) (d : Tally) → 1 ≤ class → class ≤ 7
     → IsTally class (senders_at (get_or path i 0) senders) (get_or table (8 * get_or path i 0 + class) d)
 before_port ports senders s path i table apart h within before class d least most =
-    subst (λ (t : List Sender). IsTally class t (get_or table (8 * get_or path i 0 + class) d))
-    (ap (λ (b : Bool). senders_at (get_or path i 0) senders ++ cond b (s ∷ []) []) (not_before path i apart h)
+    subst (λ (t : List PortSender). IsTally class t (get_or table (8 * get_or path i 0 + class) d))
+    (ap (λ (b : Bool). senders_at (get_or path i 0) senders ++ cond b (seen_at (get_or path i 0) s ∷ []) [])
+    (not_before path i apart h)
     ∙ append-nil (senders_at (get_or path i 0) senders))
     (before.each (get_or path i 0) class d within least most)
 
 pub counting_more : (ports : ℕ) (senders : List Sender) (s : Sender) (path : List ℕ) (i : ℕ) (old new : List Tally)
     → AllPairs (λ p q. p ≢ q) path → i < length path → get_or path i 0 < ports
-    → AreCounting ports senders s (take i path) old → AddsSender s (8 * get_or path i 0) 8 old new
+    → AreCounting ports senders s (take i path) old
+    → AddsSender (seen_at (get_or path i 0) s) (8 * get_or path i 0) 8 old new
     → AreCounting ports senders s (take (i + 1) path) new
 counting_more ports senders s path i old new apart h inside before adds = record {
   count = adds.count ∙ before.count;
@@ -137,16 +140,17 @@ counting_more ports senders s path i old new apart h inside before adds = record
         let was : IsTally class (senders_at at senders) (get_or old (8 * at + class) d) =
         before_port ports senders s path i old apart h inside before class d least most in
         let class_is : 8 * at + class - 8 * at ≡ class = omega arith in
-        let value : get_or new (8 * port + class) d ≡ tally_with class s (get_or old (8 * at + class) d) =
+        let value : get_or new (8 * port + class) d ≡ tally_with class (seen_at at s) (get_or old (8 * at + class) d) =
         ap (λ (n : ℕ). get_or new (8 * n + class) d) same
         ∙ adds.added (8 * at + class) d (omega arith) (omega arith)
-        ∙ ap (λ (n : ℕ). tally_with n s (get_or old (8 * at + class) d)) class_is in
-        let list : counted_at senders s (take (i + 1) path) port ≡ senders_at at senders ++ s ∷ [] =
-        ap (λ (b : Bool). senders_at port senders ++ cond b (s ∷ []) []) now
-        ∙ ap (λ (n : ℕ). senders_at n senders ++ s ∷ []) same in
+        ∙ ap (λ (n : ℕ). tally_with n (seen_at at s) (get_or old (8 * at + class) d)) class_is in
+        let list : counted_at senders s (take (i + 1) path) port ≡ senders_at at senders ++ seen_at at s ∷ [] =
+        ap (λ (b : Bool). senders_at port senders ++ cond b (seen_at port s ∷ []) []) now
+        ∙ ap (λ (n : ℕ). senders_at n senders ++ seen_at n s ∷ []) same in
         subst (λ (t : Tally). IsTally class (counted_at senders s (take (i + 1) path) port) t) (sym value)
-        (subst (λ (l : List Sender). IsTally class l (tally_with class s (get_or old (8 * at + class) d))) (sym list)
-        (tally_more class (senders_at at senders) (get_or old (8 * at + class) d) s was))
+        (subst (λ (l : List PortSender). IsTally class l (tally_with class (seen_at at s)
+        (get_or old (8 * at + class) d))) (sym list)
+        (tally_more class (senders_at at senders) (get_or old (8 * at + class) d) (seen_at at s) was))
 
     elsewhere : (port class : ℕ) (d : Tally) → port < ports → 1 ≤ class → class ≤ 7 → (port ≡ at → ⊥)
         → IsTally class (counted_at senders s (take (i + 1) path) port) (get_or new (8 * port + class) d)
@@ -158,7 +162,8 @@ counting_more ports senders s path i old new apart h inside before adds = record
         adds.kept (8 * port + class) d (out port class least most other) in
         subst (λ (t : Tally). IsTally class (counted_at senders s (take (i + 1) path) port) t) (sym value)
         (subst (λ (b : Bool).
-        IsTally class (senders_at port senders ++ cond b (s ∷ []) []) (get_or old (8 * port + class) d)) (sym same)
+        IsTally class (senders_at port senders ++ cond b (seen_at port s ∷ []) [])
+        (get_or old (8 * port + class) d)) (sym same)
         (before.each port class d within least most))
 
 -- a whole path is counted
@@ -168,8 +173,8 @@ pub counted_all : (network : DeclaredNetwork) (ports i : ℕ) (table : List Tall
 counted_all network ports i table h counted = record {
   count = counted.count;
   each = λ port class d within least most.
-      subst (λ (t : List Sender). IsTally class t (get_or table (8 * port + class) d))
-      (sym (filter_more (uses port) (senders_of network) i no_sender h))
+      subst (λ (t : List PortSender). IsTally class t (get_or table (8 * port + class) d))
+      (sym (senders_at-more port (senders_of network) i no_sender h))
       (counted.each port class d within least most);
 }
 
@@ -191,7 +196,7 @@ not_used network port class is outside = ⊎_elim
     (cases_Bool (is_used network port class))
 
 -- a shortest frame is known where some sender is of the class
-known_any : (class : ℕ) (senders : List Sender)
+known_any : (class : ℕ) (senders : List PortSender)
     → is_some (least_known (map shortest (filter (is_of class) senders))) ≡ list_any (is_of class) senders
 known_any class [] = refl
 known_any class (s ∷ senders) = by (is_of class s) (known_any class senders)
@@ -204,23 +209,16 @@ known_any class (s ∷ senders) = by (is_of class s) (known_any class senders)
     by true h = refl
     by false h = h
 
--- a flow is of no class of streams
-no_flow : (class : ℕ) (flows : List DeclaredFlow) → 1 ≤ class
-    → All (λ (s : Sender). is_of class s ≡ false) (map flow_sender flows)
-no_flow class flows shaped =
-    All-map (λ (s : Sender). is_of class s ≡ false) flow_sender flows (λ k d h. ne_eqb 0 class (λ e. omega arith))
-
 pub used_is : (network : DeclaredNetwork) (port class : ℕ) (tally : Tally) → 1 ≤ class
     → IsTally class (senders_at port (senders_of network)) tally → is_some tally.least ≡ is_used network port class
 used_is network port class tally shaped h =
     let streams : List Sender = map stream_sender network.streams in
     let flows : List Sender = map flow_sender network.flows in
     let none : list_any (is_of class) (senders_at port flows) ≡ false =
-    list_any_none (is_of class) (senders_at port flows)
-    (All-filter (uses port) (λ (s : Sender). is_of class s ≡ false) flows (no_flow class network.flows shaped)) in
+    list_any_none (is_of class) (senders_at port flows) (flows_class port class network.flows shaped) in
     ap (λ (o : Option ℕ). is_some o) h.least
     ∙ known_any class (senders_at port (senders_of network))
-    ∙ ap (list_any (is_of class)) (filter-append (uses port) streams flows)
+    ∙ ap (list_any (is_of class)) (senders_at-append port streams flows)
     ∙ list_any-append (is_of class) (senders_at port streams) (senders_at port flows)
     ∙ ap (λ (b : Bool). list_any (is_of class) (senders_at port streams) || b) none
     ∙ or_no (list_any (is_of class) (senders_at port streams))

@@ -5,6 +5,7 @@ use Rattle.std.specs.List.{All}
 use Rattle.std.specs.Option.{option_or}
 use Rattle.std.proofs.lemmas.List.{drop_all}
 use Rattle.std.proofs.lemmas.List.Elements.{All-head, All-tail}
+use Rattle.std.proofs.lemmas.Option.{none-some, same_Some}
 use Rattle.ats_tally.specs.Reason.{first_some}
 
 pub first_step : {A B : Type 0} (given : A → Option B) (xs : List A) (i : ℕ) (d : A) → i < length xs
@@ -34,16 +35,10 @@ first_append {A} {B} given (x ∷ xs) ys = ap (option_or (given x)) (first_appen
     by None = refl
     by (Some y) = refl
 
-pub none_some : {B : Type 0} (b : B) → None ≡ Some b → ⊥
-none_some b h = cc
-
-pub some_is : {B : Type 0} (a b : B) → Some a ≡ Some b → a ≡ b
-some_is a b h = cc
-
 -- what is so of each value that a function gives is so of the first
 pub first_where : {A B : Type 0} (given : A → Option B) (P : B → Type 0) (xs : List A) (found : B)
     → All (λ (x : A). (b : B) → given x ≡ Some b → P b) xs → first_some given xs ≡ Some found → P found
-first_where given P [] found all some = absurd (none_some found some)
+first_where given P [] found all some = absurd (none-some found some)
 first_where {A} {B} given P (x ∷ xs) found all some =
     by (given x) refl
     (first_where given P xs found (All-tail (λ (x : A). (b : B) → given x ≡ Some b → P b) x xs all)) some
@@ -62,10 +57,10 @@ or_where P (Some x) b found first second h = first h
 -- a value that a test gives
 pub where_passed : {B : Type 0} (P : B → Type 0) (t : Bool) (x found : B) → P x
     → cond t None (Some x) ≡ Some found → P found
-where_passed P true x found p h = absurd (none_some found h)
-where_passed P false x found p h = subst P (some_is x found h) p
+where_passed P true x found p h = absurd (none-some found h)
+where_passed P false x found p h = subst P (same_Some x found h) p
 
 pub where_failed : {B : Type 0} (P : B → Type 0) (t : Bool) (x found : B) → P x
     → cond t (Some x) None ≡ Some found → P found
-where_failed P true x found p h = subst P (some_is x found h) p
-where_failed P false x found p h = absurd (none_some found h)
+where_failed P true x found p h = subst P (same_Some x found h) p
+where_failed P false x found p h = absurd (none-some found h)

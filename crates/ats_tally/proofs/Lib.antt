@@ -1,7 +1,7 @@
 pub mod Lists
 pub mod Firsts
-pub mod Ceiling
 pub mod Places
+pub mod SeenLemmas
 pub mod Tallied
 pub mod Network
 pub mod Counted

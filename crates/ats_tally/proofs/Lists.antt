@@ -7,6 +7,9 @@ use Rattle.std.proofs.lemmas.Bool.{or_cases}
 use Rattle.std.proofs.lemmas.List.{get_or-map, length-map}
 use Rattle.std.proofs.lemmas.List.Elements.{All-nil, All-cons, All-head, All-tail, All-append}
 use Rattle.std.proofs.lemmas.List.Kept.{AllPairs-cons}
+use Rattle.std.proofs.lemmas.Option.{none-some, same_Some}
+use Rattle.ats_facts.proofs.Options.{option_or-none}
+use Rattle.ats_facts.proofs.Lists.{pairs_tail}
 use Rattle.ats_tally.specs.Reason.{first_some}
 
 -- where an element of a list passes a test, what follows from each that passes
@@ -56,24 +59,18 @@ pub record IsFound {X : Type 0} (test : X → Bool) (xs : List X) (found : X) : 
   pub within : at < length xs
   pub is : (d : X) → get_or xs at d ≡ found
 
-some_is : {X : Type 0} (x y : X) → Some x ≡ Some y → x ≡ y
-some_is x y h = cc
-
-no_some : {X : Type 0} (x : X) → None ≡ Some x → ⊥
-no_some x h = cc
-
 pub found_is : {X : Type 0} (test : X → Bool) (xs : List X) (found : X) → find test xs ≡ Some found
     → IsFound test xs found
-found_is test [] found h = absurd (no_some found h)
+found_is test [] found h = absurd (none-some found h)
 found_is {X} test (x ∷ xs) found h = by (test x) refl h (found_is test xs found)
   where
     by : (b : Bool) → test x ≡ b → cond b (Some x) (find test xs) ≡ Some found
         → (find test xs ≡ Some found → IsFound test xs found) → IsFound test (x ∷ xs) found
     by true e h more = record {
-      passes = sym (ap test (some_is x found h)) ∙ e;
+      passes = sym (ap test (same_Some x found h)) ∙ e;
       at = zero;
       within = omega arith;
-      is = λ d. some_is x found h;
+      is = λ d. same_Some x found h;
     }
     by false e h more =
         let f : IsFound test xs found = more h in
@@ -126,10 +123,6 @@ first_some-none {A} {B} given (x ∷ xs) all =
     ap (λ (o : Option B). option_or o (first_some given xs)) (All-head (λ (x : A). given x ≡ None) x xs all)
     ∙ first_some-none given xs (All-tail (λ (x : A). given x ≡ None) x xs all)
 
-pub option_or-none : {B : Type 0} (a b : Option B) → option_or a b ≡ None → (a ≡ None) × (b ≡ None)
-option_or-none None b h = (refl, h)
-option_or-none (Some x) b h = absurd (let no : Some x ≡ None = h in cc)
-
 pub none_first : {A B : Type 0} (given : A → Option B) (xs : List A) → first_some given xs ≡ None
     → All (λ (x : A). given x ≡ None) xs
 none_first {A} given [] h = All-nil (λ (x : A). given x ≡ None)
@@ -144,9 +137,6 @@ not_empty x c = omega (arith, c.1)
 ahead_of : {X : Type 0} (R : X → X → Type 0) (x : X) (xs : List X) → AllPairs R (x ∷ xs) → (y : X)
     → Contains xs y → R x y
 ahead_of R x xs pairs y c = subst (R x) c.2 (pairs zero (suc c.0) y (omega arith) (omega (arith, c.1)))
-
-rest_of : {X : Type 0} (R : X → X → Type 0) (x : X) (xs : List X) → AllPairs R (x ∷ xs) → AllPairs R xs
-rest_of R x xs pairs i j d before within = pairs (suc i) (suc j) d (omega arith) (omega arith)
 
 head_or_later : {X : Type 0} (x : X) (xs : List X) (y : X) → Contains (x ∷ xs) y → (x ≡ y) ⊎ Contains xs y
 head_or_later x xs y (zero, within, is) = inl is
@@ -184,7 +174,7 @@ same_in_order R apart (x ∷ xs) [] first second there back = absurd (not_empty 
 same_in_order {X} R apart (x ∷ xs) (y ∷ ys) first second there back =
     let same : x ≡ y = same_head R apart x xs y ys first second (there x (zero, omega arith, refl))
     (back y (zero, omega arith, refl)) in
-    let rests : xs ≡ ys = same_in_order R apart xs ys (rest_of R x xs first) (rest_of R y ys second)
+    let rests : xs ≡ ys = same_in_order R apart xs ys (pairs_tail R x xs first) (pairs_tail R y ys second)
     (λ z c. behind_head R apart x xs y ys first same z c (there z (behind x xs z c)))
     (λ z c. behind_head R apart y ys x xs second (sym same) z c (back z (behind y ys z c))) in
     ap (λ (t : List X). x ∷ t) rests ∙ ap (λ (h : X). h ∷ ys) same

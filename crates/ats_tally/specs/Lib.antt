@@ -1,4 +1,5 @@
 pub mod Tally
+pub mod Seen
 pub mod Tallies
 pub mod ClassSums
 pub mod Bounds

@@ -1,11 +1,12 @@
 use Rattle.std.specs.Prelude.{ℕ, ◌+◌, ◌*◌, ◌<◌, nat_lt, List, [], ◌∷◌, length, Option, Some, None, if◌then◌else◌}
 use Rattle.std.specs.Option.{option_or}
 use Rattle.ats_num.specs.declared.time.TheConstants.{PS_PER_SECOND, PS_PER_NS}
+use Rattle.ats_topology.specs.Port.{port_at}
 use Rattle.ats_topology.specs.Topology.{DeclaredTopology}
 use Rattle.ats_streams.specs.Stream.{DeclaredStream}
 use Rattle.ats_network.specs.Network.{DeclaredNetwork}
 use Rattle.ats_network.specs.Residence.{residence_after}
-use Rattle.ats_certificate.specs.Certificate.{bound_along}
+use Rattle.ats_certificate.specs.Certificate.{bound_along, residence_needed}
 use Rattle.ats_certificate.specs.declared.row.Row.{Row}
 use Rattle.ats_tally.specs.declared.reason.Reason.{Reason}
 use Rattle.ats_tally.specs.declared.reason.Reason.TheVariants.{Overloaded, Residence, Deadline}
@@ -23,14 +24,18 @@ overload_by port class load = if nat_lt PS_PER_SECOND load then Some (Overloaded
 abbrev pub overload_in : Row → Option Reason
 overload_in row = overload_by row.port row.class (row.higher + row.equal)
 
--- a wait that is longer than the maximum residence time behind its port
-abbrev pub overstay_by : Row → Option ℕ → Option Reason
-overstay_by row None = None
-overstay_by row (Some residence_ns) =
-    if nat_lt (PS_PER_NS * residence_ns) row.wait then Some (Residence row.port row.class row.wait) else None
+-- a need of residence that is longer than the maximum residence time behind the row's port
+abbrev pub overstay_by : Row → ℕ → Option ℕ → Option Reason
+overstay_by row need None = None
+overstay_by row need (Some residence_ns) =
+    if nat_lt (PS_PER_NS * residence_ns) need then Some (Residence row.port row.class need) else None
+
+-- how long a frame may have to stay behind a row's port
+abbrev pub row_need : DeclaredNetwork → Row → ℕ
+row_need network row = residence_needed (port_at network.topology.ports row.port) row.wait
 
 abbrev pub overstay : DeclaredNetwork → Row → Option Reason
-overstay network row = overstay_by row (residence_after network.topology row.port)
+overstay network row = overstay_by row (row_need network row) (residence_after network.topology row.port)
 
 -- a sum of bounds over a stream's deadline
 abbrev pub late_by : DeclaredStream → ℕ → Option Reason

@@ -1,5 +1,6 @@
 use Rattle.std.specs.Prelude.{◌≡◌, ℕ, ◌+◌, ◌*◌, ◌-◌, ◌<◌, ◌≤◌, ◌⊎◌, List, length, slice_index_or, take}
 use Rattle.ats_network.specs.Sender.{Sender}
+use Rattle.ats_network.specs.Class.{PortSender}
 use Rattle.ats_network.specs.Network.{DeclaredNetwork, IsNetwork, senders_of}
 use Rattle.ats_certificate.specs.PortSums.{senders_at}
 use Rattle.ats_tally.specs.Tally.{tally_with, IsTally, IsWithin}
@@ -22,7 +23,7 @@ pub record AreCounted (network : DeclaredNetwork) (tallies : List Tally) : Type 
   pub counted : AreTallies (length network.topology.ports) (senders_of network) tallies
 
 -- the classes below one, of those that stand from a place on, have a sender more
-pub record AddsSender (sender : Sender) (from below : ℕ) (old new : List Tally) : Type 0 where
+pub record AddsSender (sender : PortSender) (from below : ℕ) (old new : List Tally) : Type 0 where
   pub count : length new ≡ length old
   pub added : (i : ℕ) (d : Tally) → from + 1 ≤ i → i < from + below
       → slice_index_or new i d ≡ tally_with (i - from) sender (slice_index_or old i d)

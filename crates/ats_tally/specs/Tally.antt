@@ -2,7 +2,7 @@ use Rattle.std.specs.Prelude.{◌≡◌, ℕ, ◌+◌, ◌*◌, ◌≤◌, ◌||
 use Rattle.std.specs.Prelude.{None, unwrap_or, if◌then◌else◌}
 use Rattle.ats_num.specs.declared.rate.TheConstants.{MAX_BPS, MAX_BURST_BITS}
 use Rattle.ats_num.specs.declared.wire.TheConstants.{MAX_WIRE_BITS}
-use Rattle.ats_network.specs.Sender.{Sender}
+use Rattle.ats_network.specs.Class.{PortSender}
 use Rattle.ats_certificate.specs.PortSums.{PortSums, is_above, is_of, is_below, longest, shortest, sum_where}
 use Rattle.ats_certificate.specs.PortSums.{greatest_where}
 use Rattle.ats_tally.specs.declared.tally.Tally.{Tally}
@@ -22,7 +22,7 @@ least_known [] = None
 least_known (n ∷ ns) = Some (fold min n ns)
 
 -- what a class is made of with one sender more
-abbrev pub tally_with : ℕ → Sender → Tally → Tally
+abbrev pub tally_with : ℕ → PortSender → Tally → Tally
 tally_with class s tally =
     if is_below class s then record tally { lower = max tally.lower (longest s) }
     else if is_above class s then record tally { above = tally.above + s.rate; bursts = tally.bursts + s.burst_bits }
@@ -33,7 +33,7 @@ tally_with class s tally =
     }
 
 -- what the senders make of a class
-pub record IsTally (class : ℕ) (senders : List Sender) (tally : Tally) : Type 0 where
+pub record IsTally (class : ℕ) (senders : List PortSender) (tally : Tally) : Type 0 where
   pub above : tally.above ≡ sum_where (is_above class) (λ s. s.rate) senders
   pub equal : tally.equal ≡ sum_where (is_of class) (λ s. s.rate) senders
   pub bursts : tally.bursts ≡ sum_where (λ s. is_above class s || is_of class s) (λ s. s.burst_bits) senders

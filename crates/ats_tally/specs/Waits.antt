@@ -1,12 +1,9 @@
-use Rattle.std.specs.Prelude.{ℕ, ◌+◌, ◌-◌, ◌*◌, ◌/◌, unwrap_or}
+use Rattle.std.specs.Prelude.{ℕ, ◌+◌, ◌-◌, ◌*◌, unwrap_or}
+use Rattle.ats_num.specs.Division.{ceiling}
 use Rattle.ats_num.specs.declared.time.TheConstants.{PS_PER_SECOND}
 use Rattle.ats_topology.specs.declared.port.Port.{Port}
 use Rattle.ats_certificate.specs.PortSums.{PortSums}
 use Rattle.ats_tally.specs.declared.tally.Tally.{Tally}
-
--- n divided by d, rounded up
-abbrev pub ceiling : ℕ → ℕ → ℕ
-ceiling n d = (n + (d - 1)) / d
 
 -- the least wait that is enough for these sums: the time in which the longest lower frame and all bursts but the
 -- shortest frame are sent, at the rate that the higher classes leave

@@ -1,6 +1,6 @@
 //! The bounds of a certificate, by port and class.
 
-ghost use Rattle.std.specs.Prelude.{◌≡◌, ◌+◌, ◌*◌, ◌<◌, ◌≤◌, length, All, IfOk};
+ghost use Rattle.std.specs.Prelude.{◌≡◌, ◌≢◌, ◌+◌, ◌*◌, ◌<◌, ◌≤◌, length, All, AllPairs, IfOk};
 ghost use Rattle.ats_certificate.specs.Certificate.{bound_along};
 ghost use Rattle.ats_certificate.specs.Form.{AreRows};
 ghost use Rattle.ats_tally.specs.Bounds.{AreBounds, bound_given, rows_at};
@@ -68,14 +68,17 @@ impl<'a> Bounds<'a> {
         self.table[place(port, class)]
     }
 
-    /// The sum, in picoseconds, of the bounds of a stream's class along its path. A port without a row adds nothing.
+    /// The sum, in picoseconds, of the bounds along a stream's path, which has no port twice: at each port that of the
+    /// stream's class there. A port without a row adds nothing.
     pub fn along(&self, stream: &Stream) -> u128
-        requires { All (λ p. p < self.now.ports) stream.now.path }
+        requires ports { All (λ p. p < self.now.ports) stream.now.path }
+        requires apart { AllPairs (λ p q. p ≢ q) stream.now.path }
         ensures { result ≡ bound_along self.now.rows stream.now }
     {
+        let classes = stream.classes();
         let mut sum = 0;
-        for port in stream.path() {
-            sum += self.given(*port, stream.class()).unwrap_or(0);
+        for (hop, port) in stream.path().iter().enumerate() {
+            sum += self.given(*port, classes[hop]).unwrap_or(0);
         }
         sum
     }

@@ -14,13 +14,14 @@ pub enum Reason {
         /// The part of a second that they take, in picoseconds.
         load: u128,
     },
-    /// The wait is longer than the maximum residence time of the bridge behind the port.
+    /// The wait and the port's spread are longer than the maximum residence time of the bridge
+    /// behind the port.
     Residence {
         /// The number of the port.
         port: u32,
         /// The class.
         class: u8,
-        /// The wait, in picoseconds.
+        /// The wait plus the spread, in picoseconds.
         need: u128,
     },
     /// The bounds along a stream's path are together over its deadline.

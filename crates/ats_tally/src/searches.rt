@@ -35,9 +35,11 @@ pub fn overload(port: u32, class: u8, load: u128) -> Option<Reason>
     Some(Reason::Overloaded { port, class, load })
 }
 
-/// The first of these rows whose wait is longer than the maximum residence time of the bridge behind its port.
+/// The first of these rows whose wait and port's spread are longer than the maximum residence time of the bridge behind
+/// its port.
 pub fn first_overstay(network: &Network, rows: &[Row]) -> Option<Reason>
-    requires { All (λ (row : Row). row.port < length network.now.topology.ports) rows.now }
+    requires ports { All (λ (row : Row). row.port < length network.now.topology.ports) rows.now }
+    requires form { All IsRow rows.now }
     ensures { result ≡ first_some (overstay network.now) rows.now }
 {
     for row in rows {
@@ -48,19 +50,22 @@ pub fn first_overstay(network: &Network, rows: &[Row]) -> Option<Reason>
     None
 }
 
-// The row's wait, where it is longer than the maximum residence time of the bridge behind its port.
+// The row's wait and its port's spread, where they are longer than the maximum residence time of the bridge behind.
 fn overstay(network: &Network, row: &Row) -> Option<Reason>
-    requires { row.now.port < length network.now.topology.ports }
+    requires port { row.now.port < length network.now.topology.ports }
+    requires form { IsRow row.now }
     ensures { result ≡ overstay network.now row.now }
 {
     let residence_ns = network.residence(row.port)?;
-    if row.wait <= u128::from(PS_PER_NS) * u128::from(residence_ns) {
+    let port = &network.topology().ports()[row.port as usize];
+    let need = row.wait + u128::from(port.spread());
+    if need <= u128::from(PS_PER_NS) * u128::from(residence_ns) {
         return None;
     }
     Some(Reason::Residence {
         port: row.port,
         class: row.class,
-        need: row.wait,
+        need,
     })
 }
 

@@ -2,14 +2,15 @@
 
 ghost use Rattle.std.specs.Prelude.{◌≡◌, ◌+◌, ◌*◌, ◌<◌, ◌≤◌, length, IfOk};
 ghost use Rattle.ats_network.specs.Network.{IsNetwork, senders_of};
-ghost use Rattle.ats_network.specs.Senders.{sender_at};
 ghost use Rattle.ats_tally.specs.Tally.{IsTally};
 ghost use Rattle.ats_certificate.specs.PortSums.{is_used, port_sums, senders_at};
 ghost use Rattle.ats_tally.specs.ClassSums.{port_sums_of};
+ghost use Rattle.ats_tally.specs.Seen.{port_sender, KeepsLimits};
 ghost use Rattle.ats_tally.specs.Tallies.{AddsSender, AreCounted, AreFirst, HaveRoom};
 
 use crate::class_sums::ClassSums;
 use crate::place_index::place;
+use crate::seen::SeenSender;
 use crate::tally::Tally;
 use ats_network::Network;
 use std::alloc::{AllocError, Global};
@@ -101,20 +102,20 @@ fn count_sender(table: &mut Vec<Tally>, network: &Network, sender: u32)
     requires before { AreFirst network.now sender table.old.items }
     ensures { AreFirst network.now (sender + 1) table.new.items }
 {
-    for port in network.sender_path(sender) {
-        count_at(table, network, *port, sender);
+    for (hop, port) in network.sender_path(sender).iter().enumerate() {
+        count_at(table, *port, &SeenSender::at(network, sender, hop as u32));
     }
 }
 
-// Counts a sender at a port, in each class.
-fn count_at(table: &mut Vec<Tally>, network: &Network, port: u32, sender: u32)
-    requires sender { sender < length (senders_of network.now) }
+// Counts a sender that a port sees, in each class.
+fn count_at(table: &mut Vec<Tally>, port: u32, sender: &SeenSender)
+    requires limits { KeepsLimits sender.now }
     requires port { 8 * port + 8 ≤ length table.old.items }
     requires room { HaveRoom (8 * port) table.old.items }
-    ensures { AddsSender (sender_at network.now sender) (8 * port) 8 table.old.items table.new.items }
+    ensures { AddsSender (port_sender sender.now) (8 * port) 8 table.old.items table.new.items }
 {
     for class in 1..8 {
         let tally = &mut table[place(port, class)];
-        *tally = tally.with_sender(network, class, sender);
+        *tally = tally.with_sender(class, sender);
     }
 }

@@ -1,14 +1,11 @@
 //! What senders make of a class.
 
-ghost use Rattle.std.specs.Prelude.{◌≡◌, ◌<◌, ◌≤◌, length};
-ghost use Rattle.ats_network.specs.Network.{senders_of};
-ghost use Rattle.ats_network.specs.Sender.{stream_sender, flow_sender};
-ghost use Rattle.ats_network.specs.Senders.{sender_at};
+ghost use Rattle.std.specs.Prelude.{◌≡◌};
+ghost use Rattle.ats_tally.specs.Seen.{port_sender, KeepsLimits};
 ghost use Rattle.ats_tally.specs.Tally.{no_tally, least_with, tally_with, IsWithin};
 
-use ats_network::Network;
+use crate::seen::SeenSender;
 use ats_num::wire_bits;
-use ats_streams::{Flow, Stream};
 
 /// The most senders of a network.
 pub const MAX_SENDERS: u64 = 5120;
@@ -42,48 +39,24 @@ impl Tally {
         }
     }
 
-    /// With one sender of the network more.
-    pub fn with_sender(self, network: &Network, class: u8, sender: u32) -> Self
-        requires class { 1 ≤ class }
-        requires sender { sender < length (senders_of network.now) }
+    /// With one sender more that a port sees.
+    pub fn with_sender(self, class: u8, sender: &SeenSender) -> Self
+        requires limits { KeepsLimits sender.now }
         requires room { IsWithin MAX_SENDERS self }
-        ensures { result ≡ tally_with class (sender_at network.now sender) self }
-    {
-        let streams = network.streams();
-        let place = sender as usize;
-        if place < streams.len() {
-            return self.with_stream(class, &streams[place]);
-        }
-        self.with_flow(class, &network.flows()[place - streams.len()])
-    }
-
-    // With one stream more.
-    fn with_stream(self, class: u8, stream: &Stream) -> Self
-        requires room { IsWithin MAX_SENDERS self }
-        ensures { result ≡ tally_with class (stream_sender stream.now) self }
+        ensures { result ≡ tally_with class (port_sender sender.now) self }
     {
         let mut tally = self;
-        if stream.class() < class {
-            tally.lower = tally.lower.max(wire_bits(stream.max_octets()));
+        if sender.class < class {
+            tally.lower = tally.lower.max(wire_bits(sender.max_octets));
             return tally;
         }
-        tally.bursts += stream.burst_bits();
-        if stream.class() > class {
-            tally.above += stream.rate().bps();
+        tally.bursts += sender.burst_bits;
+        if sender.class > class {
+            tally.above += sender.rate_bps;
             return tally;
         }
-        tally.equal += stream.rate().bps();
-        tally.least = Some(least_with(tally.least, wire_bits(stream.min_octets())));
-        tally
-    }
-
-    // With one flow more, which is below each class of streams.
-    fn with_flow(self, class: u8, flow: &Flow) -> Self
-        requires class { 1 ≤ class }
-        ensures { result ≡ tally_with class (flow_sender flow.now) self }
-    {
-        let mut tally = self;
-        tally.lower = tally.lower.max(wire_bits(flow.max_octets()));
+        tally.equal += sender.rate_bps;
+        tally.least = Some(least_with(tally.least, wire_bits(sender.min_octets)));
         tally
     }
 }

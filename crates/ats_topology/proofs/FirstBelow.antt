@@ -1,11 +1,9 @@
-use Rattle.std.proofs.Common.{◌≡◌, ℕ, zero, suc, ◌+◌, ◌-◌, ◌<◌, Bool, true, false, cond, Option, Some, None, refl, sym}
+use Rattle.std.proofs.Common.{◌≡◌, ℕ, zero, suc, ◌+◌, ◌-◌, ◌<◌, Bool, true, false, cond, Option, Some, None, refl}
 use Rattle.std.proofs.Common.{ap, ◌∙◌, arith, add-one, ⊎_elim}
 use Rattle.std.specs.Option.{option_or}
 use Rattle.std.proofs.lemmas.Bool.{cases_eq}
+use Rattle.ats_facts.proofs.Options.{option_or-none, cond-none}
 use Rattle.ats_topology.specs.Faults.{first_below}
-
-no_some : (n : ℕ) → None ≡ Some n → ⊥
-no_some n h = cc
 
 -- where no number below i passes and i does not, none below i + 1 passes
 pub first_below-none : (t : ℕ → Bool) (i : ℕ) → first_below t i ≡ None → t i ≡ false → first_below t (i + 1) ≡ None
@@ -28,18 +26,10 @@ first_below-some t i n none passes below =
     ∙ ap (λ (b : Bool). cond b (Some i) None) passes in
     stays t (suc i) (n - suc i) n i (omega arith) here
 
-none_parts : (o p : Option ℕ) → option_or o p ≡ None → (o ≡ None) × (p ≡ None)
-none_parts None p h = (refl, h)
-none_parts (Some n) p h = absurd (no_some n (sym h))
-
-not_taken : (b : Bool) (n : ℕ) → cond b (Some n) None ≡ None → b ≡ false
-not_taken true n h = absurd (no_some n (sym h))
-not_taken false n h = refl
-
 -- where no number below n passes, each fails
 pub none_below : (t : ℕ → Bool) (n k : ℕ) → first_below t n ≡ None → k < n → t k ≡ false
 none_below t zero k none below = absurd (omega arith)
 none_below t (suc n) k none below =
     let parts : (first_below t n ≡ None) × (cond (t n) (Some n) None ≡ None) =
-    none_parts (first_below t n) (cond (t n) (Some n) None) none in
-    ⊎_elim (λ h. ap t h ∙ not_taken (t n) n parts.1) (λ h. none_below t n k parts.0 (omega arith)) (cases_eq k n)
+    option_or-none (first_below t n) (cond (t n) (Some n) None) none in
+    ⊎_elim (λ h. ap t h ∙ cond-none (t n) n parts.1) (λ h. none_below t n k parts.0 (omega arith)) (cases_eq k n)

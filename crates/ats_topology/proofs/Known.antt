@@ -6,6 +6,9 @@ use Rattle.std.specs.Str.{bytes_eq}
 use Rattle.std.proofs.lemmas.Bool.{false≢true, or_parts}
 use Rattle.std.proofs.lemmas.Bool.Decides.{same_from_decides, Decides-eqb}
 use Rattle.std.proofs.lemmas.Slice.Eq.{bytes_eq-Decides}
+use Rattle.std.proofs.lemmas.Option.{same_Some, none-some}
+use Rattle.ats_facts.proofs.Bytes.{bytes_eq-same, bytes_eq-true}
+use Rattle.ats_facts.proofs.Options.{is_some-false}
 use Rattle.ats_num.specs.Places.{place_of}
 use Rattle.ats_topology.specs.Node.{names_of, AreApart}
 use Rattle.ats_topology.specs.Link.{is_self_link, ends_at}
@@ -18,20 +21,10 @@ use Rattle.ats_topology.proofs.PositionLemmas.{position_from-some, all_fail, IsF
 use Rattle.ats_topology.proofs.FirstBelow.{none_below}
 use Rattle.ats_topology.proofs.NameLemmas.{length-names_of}
 
-no_some : {X : Type 0} (x : X) → None ≡ Some x → ⊥
-no_some x h = cc
-
-some_is : (a b : ℕ) → Some a ≡ Some b → a ≡ b
-some_is a b h = cc
-
 -- no fault, so no place
 pub no_place : (fault : ℕ → TopologyFault) (place : Option ℕ) → fault_at fault place ≡ None → place ≡ None
 no_place fault None h = refl
-no_place fault (Some i) h = absurd (no_some (fault (i + 1)) (sym h))
-
-not_some : (o : Option ℕ) → is_some o ≡ false → o ≡ None
-not_some None h = refl
-not_some (Some n) h = absurd (false≢true (sym h))
+no_place fault (Some i) h = absurd (none-some (fault (i + 1)) (sym h))
 
 some_of : (o : Option ℕ) → is_none o ≡ false → (n : ℕ) × (o ≡ Some n)
 some_of None h = absurd (false≢true (sym h))
@@ -43,8 +36,8 @@ apart nodes none n within =
     let name : List ℕ = get_or names n [] in
     let again : is_some (place_of name (take n names)) ≡ false = none_below (is_name_again names) (length nodes) n
     (no_place NodeTwice _ none) (omega (arith, length-names_of nodes)) in
-    position_from-some (bytes_eq name) 0 names n [] (not_some (place_of name (take n names)) again) within
-    ((bytes_eq-Decides name name).1 refl)
+    position_from-some (bytes_eq name) 0 names n [] (is_some-false (place_of name (take n names)) again) within
+    (bytes_eq-same name)
     ∙ ap Some (omega arith)
 
 -- the place where a name is found has that name
@@ -54,7 +47,7 @@ name_there names name i at =
     let f : IsFound (bytes_eq name) names [] 0 i = found (bytes_eq name) 0 names i [] at in
     let same : i ≡ f.place = omega (arith, f.is) in (
       omega (arith, f.within),
-      (bytes_eq-Decides name (get_or names f.place [])).0 f.passes
+      bytes_eq-true name (get_or names f.place []) f.passes
           ∙ ap (λ (n : ℕ). get_or names n []) (sym same),
     )
 
@@ -63,8 +56,8 @@ pub number_is : (names : List (List ℕ)) → AreApart names → (name : List �
     → n < length names → eqb i n ≡ bytes_eq name (get_or names n [])
 number_is names separate name i n at within =
     same_from_decides (eqb i n) (bytes_eq name (get_or names n [])) (Decides-eqb i n) (
-      λ h. let same : name ≡ get_or names n [] = (bytes_eq-Decides name (get_or names n [])).0 h in
-          some_is i n (sym at ∙ ap (λ (x : List ℕ). place_of x names) same ∙ separate n within),
+      λ h. let same : name ≡ get_or names n [] = bytes_eq-true name (get_or names n []) h in
+          same_Some i n (sym at ∙ ap (λ (x : List ℕ). place_of x names) same ∙ separate n within),
       λ h. (bytes_eq-Decides name (get_or names n [])).1
           ((name_there names name i at).1 ∙ ap (λ (k : ℕ). get_or names k []) h),
     )
@@ -122,8 +115,8 @@ table_open table nodes links e known self i link within read =
     (all_open nodes links known self i link within))
 
 pub is_there : (o p : Option ℕ) (n : ℕ) → o ≡ p → p ≡ Some n → IsSome o
-is_there None p n e h = absurd (no_some n (e ∙ h))
+is_there None p n e h = absurd (none-some n (e ∙ h))
 is_there (Some m) p n e h = refl
 
 pub is_number : (o p : Option ℕ) (m n : ℕ) → o ≡ Some m → o ≡ p → p ≡ Some n → m ≡ n
-is_number o p m n h e g = some_is m n (sym h ∙ e ∙ g)
+is_number o p m n h e g = same_Some m n (sym h ∙ e ∙ g)

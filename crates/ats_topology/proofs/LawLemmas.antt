@@ -8,6 +8,7 @@ use Rattle.std.specs.declared.cmp.Ordering.{Ordering}
 use Rattle.std.specs.declared.cmp.Ordering.TheVariants.{Equal, Greater}
 use Rattle.std.proofs.lemmas.Bool.{cases_order, false≢true}
 use Rattle.std.proofs.lemmas.Bool.Decides.{nat_tests}
+use Rattle.std.proofs.lemmas.Option.{same_Some, none-some}
 use Rattle.ats_topology.specs.Laws.{LeastWalkIsOne, IsLeastBelow, FirstIsLeast}
 use Rattle.ats_topology.specs.Faults.{first_below}
 use Rattle.ats_topology.proofs.FirstBelow.{none_below}
@@ -43,26 +44,20 @@ walk_is_one ports a b walk other l m =
     let long : length walk ≡ length other = omega (arith, l.least other m.walk_is, m.least walk l.walk_is) in
     both_first walk other long (l.first other m.walk_is (sym long)) (m.first walk l.walk_is long)
 
-some_is : (a b : ℕ) → Some a ≡ Some b → a ≡ b
-some_is a b h = cc
-
-no_some : (n : ℕ) → None ≡ Some n → ⊥
-no_some n h = cc
-
 least_below : (test : ℕ → Bool) (n least : ℕ) → first_below test n ≡ Some least → IsLeastBelow test n least
-least_below test zero least h = absurd (no_some least h)
+least_below test zero least h = absurd (none-some least h)
 least_below test (suc n) least h = by (first_below test n) refl h (least_below test n least)
   where
     here : (b : Bool) → test n ≡ b → first_below test n ≡ None → cond b (Some n) None ≡ Some least
         → IsLeastBelow test (suc n) least
     here true e none g =
-        let same : n ≡ least = some_is n least g in
+        let same : n ≡ least = same_Some n least g in
         record {
           below = omega arith;
           passes = sym (ap test same) ∙ e;
           before = λ k below. none_below test n k none (omega arith);
         }
-    here false e none g = absurd (no_some least g)
+    here false e none g = absurd (none-some least g)
 
     by : (o : Option ℕ) → first_below test n ≡ o → option_or o (cond (test n) (Some n) None) ≡ Some least
         → (first_below test n ≡ Some least → IsLeastBelow test n least) → IsLeastBelow test (suc n) least

@@ -9,21 +9,21 @@ use Rattle.std.specs.declared.cmp.Ordering.TheVariants.{Less, Equal}
 use Rattle.std.specs.Cmp.Lexicographic.{slice_cmp}
 use Rattle.std.proofs.lemmas.Bool.{cases_eq, true≢false, eqb-true, eq-eqb}
 use Rattle.std.proofs.lemmas.Bool.Decides.{nat_tests}
+use Rattle.std.proofs.lemmas.Option.{same_Some, none-some}
 use Rattle.ats_topology.specs.Port.{port_at, leaving}
 use Rattle.ats_topology.specs.Walks.{IsPortFrom, IsWalk, IsLeastWalk, NoWalk, ArePorts}
 use Rattle.std.proofs.lemmas.List.Elements.{All-nil, All-cons}
 use Rattle.ats_topology.specs.Search.{distance, is_at, HasWalk, IsWithin, AreDistances}
 use Rattle.ats_topology.specs.declared.port.Port.{Port}
 use Rattle.ats_topology.proofs.Leaving.{IsLeastPort, find-leaving, find-leaving_some}
-use Rattle.ats_topology.proofs.Spreading.{some_is, no_some}
 
 at_is : (far : ℕ) (o : Option ℕ) → is_at far o ≡ true → o ≡ Some far
 at_is far None h = absurd (true≢false (sym h))
 at_is far (Some e) h = ap Some (eqb-true e far h)
 
 is_at_of : (far : ℕ) (o : Option ℕ) → o ≡ Some far → is_at far o ≡ true
-is_at_of far None h = absurd (no_some far h)
-is_at_of far (Some e) h = eq-eqb e far (some_is e far h)
+is_at_of far None h = absurd (none-some far h)
+is_at_of far (Some e) h = eq-eqb e far (same_Some e far h)
 
 -- the first port of a walk leads to a node that is at most one nearer
 pub one_nearer : (ports : List Port) (to : ℕ) (distances : List (Option ℕ)) (at far p e : ℕ)
@@ -32,7 +32,7 @@ pub one_nearer : (ports : List Port) (to : ℕ) (distances : List (Option ℕ)) 
 one_nearer ports to distances at far p e d is from end =
     let w : HasWalk ports (port_at ports p).to to e = d.reached (port_at ports p).to e end in
     let b : IsWithin distances at (length (p ∷ w.walk)) = d.least at (p ∷ w.walk) (from, w.is) in
-    let same : b.far ≡ far = some_is b.far far (sym b.is ∙ is) in
+    let same : b.far ≡ far = same_Some b.far far (sym b.is ∙ is) in
     omega (arith, b.within, w.long)
 
 -- the first port of a shortest walk leads to a node that is one nearer
@@ -106,13 +106,13 @@ least_step ports to distances at far p rest d is apart found l = record {
     long =
         let w : HasWalk ports (port_at ports p).to to (far - 1) = d.reached (port_at ports p).to (far - 1) end in
         let b : IsWithin distances (port_at ports p).to (length rest) = d.least (port_at ports p).to rest l.walk_is in
-        let same : b.far ≡ far - 1 = some_is b.far (far - 1) (sym b.is ∙ end) in
+        let same : b.far ≡ far - 1 = same_Some b.far (far - 1) (sym b.is ∙ end) in
         omega (arith, l.least w.walk w.is, w.long, b.within)
 
     least : (other : List ℕ) → IsWalk ports at to other → length (p ∷ rest) ≤ length other
     least other walk =
         let b : IsWithin distances at (length other) = d.least at other walk in
-        let same : b.far ≡ far = some_is b.far far (sym b.is ∙ is) in
+        let same : b.far ≡ far = same_Some b.far far (sym b.is ∙ is) in
         omega (arith, b.within, long, positive)
 
     first : (other : List ℕ) → IsWalk ports at to other → length other ≡ length (p ∷ rest)
@@ -147,12 +147,20 @@ pub no_walk : (ports : List Port) (to : ℕ) (distances : List (Option ℕ)) (at
     → distance distances at ≡ None → NoWalk ports at to
 no_walk ports to distances at d none walk is =
     let b : IsWithin distances at (length walk) = d.least at walk is in
-    no_some b.far (sym none ∙ b.is)
+    none-some b.far (sym none ∙ b.is)
 
 -- the test that the code makes
 pub is_at_eq : (far : ℕ) (o : Option ℕ) → is_at far o ≡ option_eq eqb o (Some far)
 is_at_eq far None = refl
 is_at_eq far (Some e) = refl
+
+-- so what it gives of the port at a place is what the definition gives
+pub is_far_as : (far p : ℕ) (distances : List (Option ℕ)) (ports given : List Port) (tested passes : Bool)
+    → given ≡ ports → tested ≡ option_eq eqb (distance distances (port_at given p).to) (Some far) → tested ≡ passes
+    → is_at far (distance distances (port_at ports p).to) ≡ passes
+is_far_as far p distances ports given tested passes same test h =
+    ap (λ (ps : List Port). is_at far (distance distances (port_at ps p).to)) (sym same)
+    ∙ is_at_eq far (distance distances (port_at given p).to) ∙ sym test ∙ h
 
 -- the port that is found leads one nearer
 pub nearer_end : (ports : List Port) (distances : List (Option ℕ)) (at far p : ℕ)
@@ -171,7 +179,7 @@ not_none None h = absurd (h refl)
 not_none (Some n) h = refl
 
 pub some_there : (o : Option ℕ) (n : ℕ) → o ≡ Some n → IsSome o
-some_there None n h = absurd (no_some n h)
+some_there None n h = absurd (none-some n h)
 some_there (Some m) n h = refl
 
 -- the number falls

@@ -6,15 +6,10 @@ use Rattle.std.proofs.lemmas.List.{take-append-drop, drop_more, take_more}
 use Rattle.std.proofs.lemmas.List.Folds.{find-append}
 use Rattle.std.proofs.lemmas.Bool.{eqb-true, eq-eqb, true≢false}
 use Rattle.std.proofs.lemmas.List.Elements.{All-nil, All-cons, All-weaker}
+use Rattle.std.proofs.lemmas.Option.{same_Some, none-some}
 use Rattle.ats_topology.specs.Port.{leaves, leaving, leaving_from, port_at}
 use Rattle.ats_topology.specs.Walks.{IsPortFrom}
 use Rattle.ats_topology.specs.declared.port.Port.{Port}
-
-some_is : (a b : ℕ) → Some a ≡ Some b → a ≡ b
-some_is a b h = cc
-
-no_some : (n : ℕ) → None ≡ Some n → ⊥
-no_some n h = cc
 
 -- the number p, where the list begins with port k, is that of a port that leaves the node
 record LeavesAt (node k : ℕ) (ports : List Port) (p : ℕ) : Type 0 where
@@ -96,14 +91,14 @@ behind_least t node k port ports p not_first h = record {
 
 least_at : (t : ℕ → Bool) (node k : ℕ) (ports : List Port) (p : ℕ) → find t (leaving_from node k ports) ≡ Some p
     → IsLeastAt t node k ports p
-least_at t node k [] p h = absurd (no_some p h)
+least_at t node k [] p h = absurd (none-some p h)
 least_at t node k (port ∷ ports) p h = by (leaves node port) refl h (least_at t node (k + 1) ports p)
   where
     here : (b : Bool) → t k ≡ b → leaves node port ≡ true → cond b (Some k) (find t (leaving_from node (k + 1) ports))
         ≡ Some p → (find t (leaving_from node (k + 1) ports) ≡ Some p → IsLeastAt t node (k + 1) ports p)
         → IsLeastAt t node k (port ∷ ports) p
     here true e from g more =
-        let same : k ≡ p = some_is k p g in
+        let same : k ≡ p = same_Some k p g in
         record {
           leaves = record { place = zero; is = omega arith; within = omega arith; from = eqb-true port.from node from };
           passes = sym (ap t same) ∙ e;
@@ -150,7 +145,7 @@ find-leaving_some t node ports q from passes none =
         by : (b : Bool) → t x ≡ b → cond b (Some x) (find t xs) ≡ None
             → (i : ℕ) → i < length (x ∷ xs) → t (get_or (x ∷ xs) i d) ≡ true
             → (find t xs ≡ None → (i d : ℕ) → i < length xs → t (get_or xs i d) ≡ true → ⊥) → ⊥
-        by true e g i within passes more = no_some x (sym g)
+        by true e g i within passes more = none-some x (sym g)
         by false e g zero within passes more = true≢false (sym passes ∙ e)
         by false e g (suc i) within passes more = more g i d (omega arith) passes
 

@@ -7,6 +7,7 @@ use Rattle.std.specs.Str.{bytes_eq}
 use Rattle.std.proofs.lemmas.Bool.{ne_eqb, and_left, or_parts}
 use Rattle.std.proofs.lemmas.List.{take_more, flat_map_more}
 use Rattle.std.proofs.lemmas.List.Elements.{All-head, All-tail, All-take}
+use Rattle.ats_facts.proofs.Lists.{position_from-push}
 use Rattle.ats_num.specs.Places.{place_of}
 use Rattle.ats_topology.specs.Node.{names_of, AreApart}
 use Rattle.ats_topology.specs.Link.{joins}
@@ -23,7 +24,6 @@ use Rattle.ats_topology.proofs.PositionLemmas.{all_fail}
 use Rattle.ats_topology.proofs.NameLemmas.{length-names_of}
 use Rattle.ats_topology.proofs.Known.{IsOpen, no_place, name_there, number_is}
 use Rattle.ats_topology.proofs.LinkLemmas.{link_at, and_comm}
-use Rattle.ats_topology.proofs.TableLemmas.{position_from-push}
 
 -- the number of a name that is found
 pub node_number_is : (nodes : List Node) (name : List ℕ) (n : ℕ) → place_of name (names_of nodes) ≡ Some n

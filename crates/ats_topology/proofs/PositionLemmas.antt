@@ -2,16 +2,11 @@ use Rattle.std.proofs.Common.{◌≡◌, ℕ, zero, suc, ◌+◌, ◌<◌, Bool,
 use Rattle.std.proofs.Common.{Option, Some, None, refl, sym, ap, ◌∙◌, arith}
 use Rattle.std.specs.List.{position_from, All}
 use Rattle.std.proofs.lemmas.List.Elements.{All-nil, All-cons}
-
-some_is : (a b : ℕ) → Some a ≡ Some b → a ≡ b
-some_is a b h = cc
-
-no_some : (n : ℕ) → None ≡ Some n → ⊥
-no_some n h = cc
+use Rattle.std.proofs.lemmas.Option.{same_Some, none-some}
 
 -- a search that found nothing passed over its first element
 next : (b : Bool) (k : ℕ) (o : Option ℕ) → cond b (Some k) o ≡ None → (b ≡ false) × (o ≡ None)
-next true k o h = absurd (no_some k (sym h))
+next true k o h = absurd (none-some k (sym h))
 next false k o h = (refl, h)
 
 -- where no element before a place passes and the one there does, it is the first that passes
@@ -64,12 +59,12 @@ pub record IsFound {X : Type 0} (t : X → Bool) (xs : List X) (d : X) (k i : �
 
 pub found : {X : Type 0} (t : X → Bool) (k : ℕ) (xs : List X) (i : ℕ) (d : X) → position_from t k xs ≡ Some i
     → IsFound t xs d k i
-found t k [] i d h = absurd (no_some i h)
+found t k [] i d h = absurd (none-some i h)
 found t k (x ∷ xs) i d h = by (t x) refl h (found t (k + 1) xs i d)
   where
     by : (b : Bool) → t x ≡ b → cond b (Some k) (position_from t (k + 1) xs) ≡ Some i
         → (position_from t (k + 1) xs ≡ Some i → IsFound t xs d (k + 1) i) → IsFound t (x ∷ xs) d k i
-    by true e h more = let here : k ≡ i = some_is k i h in
+    by true e h more = let here : k ≡ i = same_Some k i h in
         record { place = zero; is = omega arith; within = omega arith; passes = e }
     by false e h more =
         let f : IsFound t xs d (k + 1) i = more h in

@@ -4,7 +4,6 @@ use Rattle.std.proofs.Common.{IsTrue}
 use Rattle.std.specs.Prelude.{unwrap_or, ◌==◌, nat_lt}
 use Rattle.std.specs.List.{All, list_any, count_by, AllByRecursion}
 use Rattle.std.specs.Map.{lookup}
-use Rattle.std.specs.Option.{option_or}
 use Rattle.std.specs.Str.{bytes_eq}
 use Rattle.std.proofs.lemmas.Bool.{cases_lt, false≢true, true≢false, or_parts, eqb-true, ltb-false, not-false}
 use Rattle.std.proofs.lemmas.Bool.{and_cases}
@@ -12,6 +11,7 @@ use Rattle.std.proofs.lemmas.List.{get_or_past, get_or_default}
 use Rattle.std.proofs.lemmas.List.Sums.{sum_by-cons}
 use Rattle.std.proofs.lemmas.List.Elements.{All-nil, All-cons, All-head, All-tail, All-weaker}
 use Rattle.std.proofs.lemmas.Slice.Eq.{bytes_eq-Decides}
+use Rattle.ats_facts.proofs.Options.{option_or-none, cond-none}
 use Rattle.ats_num.specs.Places.{place_of}
 use Rattle.ats_topology.specs.Node.{names_of, is_station, least_processing_of, greatest_processing_of, residence_of}
 use Rattle.ats_topology.specs.Node.{AreApart}
@@ -47,26 +47,15 @@ pub record HasNoFault (nodes : List Node) (links : List Link) : Type 0 where
   pub within : is_over nodes links ≡ false
   pub ordered : bad_processing nodes ≡ None
 
-some_fault : (fault : TopologyFault) → None ≡ Some fault → ⊥
-some_fault fault h = cc
-
-none_parts : (o p : Option TopologyFault) → option_or o p ≡ None → (o ≡ None) × (p ≡ None)
-none_parts None p h = (refl, h)
-none_parts (Some f) p h = absurd (some_fault f (sym h))
-
-not_over : (b : Bool) → cond b (Some Limit) None ≡ None → b ≡ false
-not_over true h = absurd (some_fault Limit (sym h))
-not_over false h = refl
-
 pub no_fault : (nodes : List Node) (links : List Link) → topology_fault nodes links ≡ None → HasNoFault nodes links
 no_fault nodes links h =
-    let one = none_parts (node_twice nodes) _ h in
-    let two = none_parts (link_twice links) _ one.1 in
-    let three = none_parts (self_link links) _ two.1 in
-    let four = none_parts (unknown_node nodes links) _ three.1 in
-    let five = none_parts (station_links nodes links) _ four.1 in
-    let six = none_parts (bad_rate links) _ five.1 in
-    let seven = none_parts (limit nodes links) _ six.1 in
+    let one = option_or-none (node_twice nodes) _ h in
+    let two = option_or-none (link_twice links) _ one.1 in
+    let three = option_or-none (self_link links) _ two.1 in
+    let four = option_or-none (unknown_node nodes links) _ three.1 in
+    let five = option_or-none (station_links nodes links) _ four.1 in
+    let six = option_or-none (bad_rate links) _ five.1 in
+    let seven = option_or-none (limit nodes links) _ six.1 in
     record {
       apart = one.0;
       joined = two.0;
@@ -74,7 +63,7 @@ no_fault nodes links h =
       known = four.0;
       stations = five.0;
       rated = six.0;
-      within = not_over (is_over nodes links) seven.0;
+      within = cond-none (is_over nodes links) Limit seven.0;
       ordered = seven.1;
     }
 

@@ -8,12 +8,13 @@ use Rattle.std.proofs.lemmas.List.{drop-append-le}
 use Rattle.std.proofs.lemmas.List.Elements.{All-nil, All-cons, All-head, All-tail, All-append, All-weaker, All-same}
 use Rattle.std.proofs.lemmas.List.Elements.{All-contains, Contains-append_left, Contains-append_right}
 use Rattle.std.proofs.lemmas.List.Sums.{sum_by-cons}
+use Rattle.std.proofs.lemmas.Option.{same_Some, none-some}
 use Rattle.ats_topology.specs.Port.{port_at, leaving, HasBack, ArePaired}
 use Rattle.ats_topology.specs.Walks.{IsPortFrom, IsWalk}
 use Rattle.ats_topology.specs.Search.{distance, unreached, Spreads, IsAdded, HasWalk, IsWithin, AreDistances}
 use Rattle.ats_topology.specs.declared.port.Port.{Port}
 use Rattle.ats_topology.proofs.Leaving.{leaving-all, leaving-has}
-use Rattle.ats_topology.proofs.Spreading.{some_is, no_some, counts, unreached-set}
+use Rattle.ats_topology.proofs.Spreading.{counts, unreached-set}
 
 -- each port of a node leads to one with a distance at most one greater
 abbrev pub IsSettled : List Port → List (Option ℕ) → ℕ → ℕ → Type 0
@@ -163,7 +164,7 @@ after ports to old new head node rest queue longer paired t s = record {
     old_one other e h =
         ⊎_elim (λ ok. inl (λ p from. still_within old new s.kept (port_at ports p).to (e + 1) (ok p from)))
         (λ waits. ⊎_elim
-        (λ same. let is : t.far ≡ e = some_is t.far e (sym t.at ∙ ap (distance old) (sym same) ∙ h) in
+        (λ same. let is : t.far ≡ e = same_Some t.far e (sym t.at ∙ ap (distance old) (sym same) ∙ h) in
         inl (subst (λ (n : ℕ). IsSettled ports new n e) (sym same) (subst (IsSettled ports new node) is here_settled)))
         (λ later. inr (Contains-append_left rest s.added other later)) (contains_cases node rest other waits))
         (t.settled other e h)
@@ -226,8 +227,8 @@ search_start ports nodes to within = record {
         (λ h. get_or_past blank node None (omega (arith, length-replicate nodes nothing))) (cases_lt node nodes)
 
     only : (node e : ℕ) → distance first node ≡ Some e → (node ≡ to) × (e ≡ 0)
-    only node e h = ⊎_elim (λ same. (same, some_is e 0 (sym h ∙ ap (distance first) same ∙ here)))
-        (λ apart. absurd (no_some e (sym (get_or-set_other blank to node (Some 0) None apart ∙ nowhere node) ∙ h)))
+    only node e h = ⊎_elim (λ same. (same, same_Some e 0 (sym h ∙ ap (distance first) same ∙ here)))
+        (λ apart. absurd (none-some e (sym (get_or-set_other blank to node (Some 0) None apart ∙ nowhere node) ∙ h)))
         (cases_eq node to)
 
 -- the node at the head of the queue
@@ -266,7 +267,7 @@ pub search_on : (ports : List Port) (to : ℕ) (old new : List (Option ℕ)) (he
 search_on ports to old new head node far queue longer paired within read s is spread =
     let t : IsTurn ports to old head node (drop (head + 1) queue) =
     turn_at ports to old head node queue within read s in
-    let same : far ≡ t.far = some_is far t.far (sym is ∙ t.at) in
+    let same : far ≡ t.far = same_Some far t.far (sym is ∙ t.at) in
     let from_turn : Spreads ports (leaving node ports) (t.far + 1) old new queue longer =
     subst (λ (n : ℕ). Spreads ports (leaving node ports) (n + 1) old new queue longer) same spread in
     subst (IsSearch ports to new (head + 1)) (queue_after head queue longer from_turn.added within from_turn.queued)

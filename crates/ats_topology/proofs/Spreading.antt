@@ -8,21 +8,17 @@ use Rattle.std.proofs.lemmas.List.{append-nil, get_or_past, get_or_default, take
 use Rattle.std.proofs.lemmas.List.Sums.{sum_by-cons}
 use Rattle.std.proofs.lemmas.List.Elements.{All-nil, All-push, All-weaker, Contains-append_left, Contains-push}
 use Rattle.std.proofs.lemmas.List.Elements.{Contains-push_cases}
+use Rattle.std.proofs.lemmas.Option.{same_Some, none-some}
+use Rattle.ats_facts.proofs.Options.{is_some-false}
 use Rattle.ats_topology.specs.Port.{port_at, leaving, no_port, IsBetween}
 use Rattle.ats_topology.specs.Search.{distance, unreached, Spreads, IsAdded}
 use Rattle.ats_topology.specs.declared.port.Port.{Port}
-
-pub some_is : (a b : ℕ) → Some a ≡ Some b → a ≡ b
-some_is a b h = cc
-
-pub no_some : (n : ℕ) → None ≡ Some n → ⊥
-no_some n h = cc
 
 -- a node with a distance is one of the list
 pub distance_within : (distances : List (Option ℕ)) (node e : ℕ) → distance distances node ≡ Some e
     → node < length distances
 distance_within distances node e is = ⊎_elim (λ h. h)
-    (λ h. absurd (no_some e (sym (get_or_past distances node None h) ∙ is))) (cases_lt node (length distances))
+    (λ h. absurd (none-some e (sym (get_or_past distances node None h) ∙ is))) (cases_lt node (length distances))
 
 abbrev pub counts : Option ℕ → ℕ
 counts o = cond (is_none o) 1 0
@@ -32,7 +28,7 @@ pub unreached-set : (distances : List (Option ℕ)) (node e : ℕ) → node < le
     → distance distances node ≡ None → unreached (set distances node (Some e)) + 1 ≡ unreached distances
 unreached-set [] node e within none = absurd (omega arith)
 unreached-set (None ∷ xs) zero e within none = omega (arith, sum_by-cons counts (Some e) xs, sum_by-cons counts None xs)
-unreached-set (Some y ∷ xs) zero e within none = absurd (no_some y (sym none))
+unreached-set (Some y ∷ xs) zero e within none = absurd (none-some y (sym none))
 unreached-set (x ∷ xs) (suc node) e within none = omega (
   arith,
   unreached-set xs node e (omega arith) none,
@@ -104,13 +100,13 @@ spreads_to ports list far p node old new queue longer s to within none = record 
 
     stays : (other e : ℕ) → distance new other ≡ Some e → distance later other ≡ Some e
     stays other e h =
-        let apart : other ≡ node → ⊥ = λ same. no_some e (sym none ∙ ap (distance new) (sym same) ∙ h) in
+        let apart : other ≡ node → ⊥ = λ same. none-some e (sym none ∙ ap (distance new) (sym same) ∙ h) in
         get_or-set_other new node other (Some far) None apart ∙ h
 
     new_one : (other e : ℕ) → distance later other ≡ Some e → other ≡ node
         → (distance old other ≡ Some e) ⊎ ((e ≡ far) × IsAdded ports (list ++ p ∷ []) (s.added ++ node ∷ []) other)
     new_one other e h same = inr (
-      some_is e far (sym h ∙ ap (distance later) same ∙ here),
+      same_Some e far (sym h ∙ ap (distance later) same ∙ here),
       record {
         port = p;
         listed = Contains-push list p;
@@ -153,10 +149,6 @@ some_value : (o : Option ℕ) → is_some o ≡ true → (e : ℕ) × (o ≡ Som
 some_value None h = absurd (true≢false (sym h))
 some_value (Some e) h = (e, refl)
 
-no_value : (o : Option ℕ) → is_some o ≡ false → o ≡ None
-no_value None h = refl
-no_value (Some e) h = absurd (true≢false h)
-
 -- one port more of a node, as the code reads it
 pub step_over : (node far i : ℕ) (all ports : List Port) (items : List ℕ) (old new : List (Option ℕ))
     (queue longer : List ℕ) (read : Option ℕ) → ports ≡ all → items ≡ leaving node all → i < length items
@@ -188,7 +180,7 @@ step_to node far i all ports items old new queue longer after read same is withi
     (list_more node all items i is within)
     (spreads_to all (take i (leaving node all)) far p to old new queue longer s
     (ap (λ (ps : List Port). (port_at ps p).to) (sym same)) inside
-    (read_is new to read inside reads ∙ no_value read none)))
+    (read_is new to read inside reads ∙ is_some-false read none)))
 
 -- a port leads to a node of the list
 pub to_within : (nodes : ℕ) (all ports : List Port) (p : ℕ) (distances : List (Option ℕ)) → All (IsBetween nodes) all

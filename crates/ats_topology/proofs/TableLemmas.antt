@@ -3,34 +3,15 @@ use Rattle.std.proofs.Common.{Option, Some, None, refl, sym, ap, ◌∙◌, arit
 use Rattle.std.proofs.Common.{get_or-set_other, length-set, ⊎_elim}
 use Rattle.std.specs.Prelude.{is_some}
 use Rattle.std.specs.Global.{Vec}
-use Rattle.std.specs.List.{position_from}
 use Rattle.std.specs.BTreeMap.{BTreeMap, get, Updates}
 use Rattle.std.proofs.lemmas.Bool.{cases_eq, eqb-true, eq-eqb, ne_eqb, and_parts}
 use Rattle.std.proofs.lemmas.List.{append-nil}
+use Rattle.ats_facts.proofs.Options.{cond-is_some}
+use Rattle.ats_facts.proofs.Lists.{position_from-push}
 use Rattle.ats_topology.specs.Port.{goes, leaves, port_between, leaving, leaving_from}
 use Rattle.ats_topology.specs.PortTable.{AreIndexed}
 use Rattle.ats_topology.specs.declared.port.Port.{Port}
 use Rattle.ats_topology.proofs.Pairs.{pair_cmp, is_eq-pair_cmp}
-
--- a search goes on to an element at the end only where nothing before it passed
-pub position_from-push : {X : Type 0} (t : X → Bool) (i : ℕ) (xs : List X) (x : X)
-    → position_from t i (xs ++ x ∷ [])
-    ≡ cond (is_some (position_from t i xs)) (position_from t i xs) (cond (t x) (Some (i + length xs)) None)
-position_from-push t i [] x = ap (λ n. cond (t x) (Some n) None) (omega arith)
-position_from-push t i (y ∷ ys) x = by (t y) (position_from-push t (i + 1) ys x ∙ ap (λ n.
-    cond (is_some (position_from t (i + 1) ys)) (position_from t (i + 1) ys) (cond (t x) (Some n) None)) (omega arith))
-  where
-    by : (b : Bool) → position_from t (i + 1) (ys ++ x ∷ []) ≡ cond (is_some (position_from t (i + 1) ys))
-        (position_from t (i + 1) ys) (cond (t x) (Some (i + length (y ∷ ys))) None)
-        → cond b (Some i) (position_from t (i + 1) (ys ++ x ∷ []))
-        ≡ cond (is_some (cond b (Some i) (position_from t (i + 1) ys)))
-        (cond b (Some i) (position_from t (i + 1) ys)) (cond (t x) (Some (i + length (y ∷ ys))) None)
-    by true h = refl
-    by false h = h
-
-chosen : (o : Option ℕ) → cond (is_some o) o None ≡ o
-chosen None = refl
-chosen (Some n) = refl
 
 -- a port at the end is the last that leaves its node, and leaves the other nodes' lists as they are
 pub leaving_from-push : (node k : ℕ) (ports : List Port) (port : Port) → leaving_from node k (ports ++ port ∷ [])
@@ -69,7 +50,7 @@ found_push ports port old new found absent updates a b = by (goes a b port) refl
         updates.0 (a, b) ∙ ap (λ (t : Bool). cond t (Some (length ports)) (get pair_cmp old (a, b)))
         (is_eq-pair_cmp (port.from, port.to) (a, b) ∙ e) ∙ found a b
         ∙ sym (position_from-push (goes a b) 0 ports port ∙ ap (λ (t : Bool). cond (is_some (port_between a b ports))
-        (port_between a b ports) (cond t (Some (0 + length ports)) None)) e ∙ chosen (port_between a b ports))
+        (port_between a b ports) (cond t (Some (0 + length ports)) None)) e ∙ cond-is_some (port_between a b ports))
 
 -- the lists with one port more, of which the list of its node is written twice
 lists_push : (ports : List Port) (port : Port) (lists : List (Vec ℕ)) (one two : Vec ℕ) → port.from < length lists

@@ -3,29 +3,29 @@ use Rattle.std.specs.Prelude.{◌==◌, Option, Some, None}
 use Rattle.std.proofs.lemmas.Bool.{eqb-true, eq-eqb}
 use Rattle.std.proofs.lemmas.List.Elements.{All-nil, All-cons, All-head, All-tail, All-append, All-filter}
 use Rattle.std.proofs.lemmas.List.Elements.{filter_passes}
+use Rattle.ats_facts.proofs.Lists.{all_left, all_right, All-from_filter}
 use Rattle.ats_num.specs.declared.time.Ps.{Ps}
-use Rattle.ats_topology.specs.Port.{port_at}
+use Rattle.ats_topology.specs.Port.{port_at, no_port}
 use Rattle.ats_topology.specs.declared.port.Port.{Port}
 use Rattle.ats_network.specs.Sender.{Sender}
 use Rattle.ats_network.specs.Network.{DeclaredNetwork, IsNetwork}
 use Rattle.ats_network.specs.Senders.{sender_at, no_sender, IsSender}
-use Rattle.ats_network.proofs.Appended.{all_left, all_right}
 use Rattle.ats_network.proofs.SenderLemmas.{each_is_sender}
 use Rattle.ats_group.specs.declared.verdict.Verdict.{Verdict}
 use Rattle.ats_group.specs.declared.verdict.Verdict.TheVariants.{Eligible, Late, Size}
-use Rattle.ats_trace.specs.Journey.{Travel, GoesOn, IsWay, IsReleased, IsJourney, class_at}
+use Rattle.ats_trace.specs.Journey.{Travel, IsSentOrEnds, IsWay, IsReleased, IsJourney, class_at}
 use Rattle.ats_trace.specs.Projections.{Crossing, transmission_by, transmission_of, crossing_at, crossings_along}
 use Rattle.ats_trace.specs.Projections.{journey_crossings, crossings_from, crossings_by}
-use Rattle.ats_trace.specs.Links.{earliest_of, ArrivesWithin, KeepsLinkRule}
+use Rattle.ats_trace.specs.Links.{ArrivesWithin, KeepsLinkRule}
 use Rattle.ats_trace.specs.Run.{IsLegal}
-use Rattle.ats_trace.specs.ExactLinks.{AreExact, arrival_after, GoesOnAt, IsWayAt, IsEligibleAtRelease, IsJourneyAt}
+use Rattle.ats_trace.specs.ExactLinks.{HaveOneLatency, arrival_after, IsSentOrEndsAt, IsWayAt, IsEligibleAtRelease}
+use Rattle.ats_trace.specs.ExactLinks.{IsJourneyAt}
 use Rattle.ats_trace.specs.ExactLinks.{IsLegalAt}
 use Rattle.ats_trace.specs.ExactLinks.{LinksAreExact}
 use Rattle.ats_trace.specs.declared.journey.Release.{Release}
 use Rattle.ats_trace.specs.declared.journey.HopRecord.{HopRecord}
 use Rattle.ats_trace.specs.declared.journey.Ending.{Ending}
 use Rattle.ats_trace.specs.declared.journey.Ending.TheVariants.{Sink, Discard}
-use Rattle.ats_trace.proofs.Filtered.{All-from_filter}
 
 -- a frame takes exactly the latency of the port, where that is one of these
 abbrev IsExact : List Port → Crossing → Type 0
@@ -43,10 +43,10 @@ exact_here : (ports : List Port) (frame : ℕ) (release : Release) (class came p
     (sent : Option (Ps × Ps)) (hops : List HopRecord) (ending : Ending)
     → p < length ports
     → ((due : ℕ) → IsWay path hops ending → comes_at hops ending ≡ due → IsWayAt ports due path hops ending)
-    → GoesOn (IsWay path hops ending) verdict sent hops ending
+    → IsSentOrEnds (IsWay path hops ending) verdict sent hops ending
     → All (IsExact ports)
     (crossing_at release.octets came p (transmission_by frame release class verdict sent) hops ending)
-    → GoesOnAt (λ at. IsWayAt ports at path hops ending) (port_at ports p) verdict sent hops ending
+    → IsSentOrEndsAt (λ at. IsWayAt ports at path hops ending) (port_at ports p) verdict sent hops ending
 exact_here ports frame release class came p path (Eligible e) (Some times) (next ∷ hops) ending within rest way all =
     rest (arrival_after (port_at ports p) times.1.0) way (All-head (IsExact ports) _ [] all within)
 exact_here ports frame release class came p path (Eligible e) (Some times) [] (Sink at) within rest way all =
@@ -116,18 +116,20 @@ exact_journeys network net n (j ∷ run) all exact =
     (exact_journeys network net (n + 1) run (All-tail (IsJourney network) j run all)
     (all_right Exact (journey_crossings network n j) (crossings_from network (n + 1) run) exact))
 
-all_exact : (network : DeclaredNetwork) (run : List Travel) → AreExact network.topology.ports → IsLegal network run
+all_exact : (network : DeclaredNetwork) (run : List Travel) → HaveOneLatency network.topology.ports
+    → IsLegal network run
     → All (IsExact network.topology.ports) (crossings_from network 0 run)
 all_exact network run exact legal k d h within =
     let crossings : List Crossing = crossings_from network 0 run in
     let one : Crossing = get_or crossings k d in
     let port : Port = port_at network.topology.ports one.port in
-    let in_time : ArrivesWithin (earliest_of port) port.latency.0 one =
-    All-from_filter (λ (c : Crossing). c.port == one.port) (ArrivesWithin (earliest_of port) port.latency.0) crossings
+    let in_time : ArrivesWithin port.earliest.0 port.latency.0 one =
+    All-from_filter (λ (c : Crossing). c.port == one.port) (ArrivesWithin port.earliest.0 port.latency.0) crossings
     (legal.links one.port within).within k d h (eq-eqb one.port one.port refl) in
-    omega (arith, in_time.earliest, in_time.latest, exact one.port within)
+    omega (arith, in_time.earliest, in_time.latest, ap (λ (t : Ps). t.0) (exact one.port no_port within))
 
-at_from_legal : (network : DeclaredNetwork) (run : List Travel) → IsNetwork network → AreExact network.topology.ports
+at_from_legal : (network : DeclaredNetwork) (run : List Travel) → IsNetwork network
+    → HaveOneLatency network.topology.ports
     → IsLegal network run
     → IsLegalAt network run
 at_from_legal network run net exact legal = record {
@@ -143,8 +145,8 @@ at_from_legal network run net exact legal = record {
 form_here : (ports : List Port) (p : ℕ) (path : List ℕ) (verdict : Verdict) (sent : Option (Ps × Ps))
     (hops : List HopRecord) (ending : Ending)
     → ((due : ℕ) → IsWayAt ports due path hops ending → IsWay path hops ending)
-    → GoesOnAt (λ at. IsWayAt ports at path hops ending) (port_at ports p) verdict sent hops ending
-    → GoesOn (IsWay path hops ending) verdict sent hops ending
+    → IsSentOrEndsAt (λ at. IsWayAt ports at path hops ending) (port_at ports p) verdict sent hops ending
+    → IsSentOrEnds (IsWay path hops ending) verdict sent hops ending
 form_here ports p path (Eligible e) (Some times) hops ending rest way =
     rest (arrival_after (port_at ports p) times.1.0) way
 form_here ports p path (Eligible e) None hops ending rest way = absurd way
@@ -165,7 +167,7 @@ form_way ports due (p ∷ path) (hop ∷ hops) ending way =
 -- the crossing at a port is exact
 crossed_here : (ports : List Port) (frame : ℕ) (release : Release) (class came p : ℕ) (path : List ℕ)
     (verdict : Verdict) (sent : Option (Ps × Ps)) (hops : List HopRecord) (ending : Ending)
-    → GoesOnAt (λ at. IsWayAt ports at path hops ending) (port_at ports p) verdict sent hops ending
+    → IsSentOrEndsAt (λ at. IsWayAt ports at path hops ending) (port_at ports p) verdict sent hops ending
     → All (IsExact ports)
     (crossing_at release.octets came p (transmission_by frame release class verdict sent) hops ending)
 crossed_here ports frame release class came p [] (Eligible e) (Some times) (next ∷ hops) ending way = absurd way
@@ -190,7 +192,7 @@ crossed_on : (ports : List Port) (frame : ℕ) (release : Release) (sender : Sen
     (verdict : Verdict) (sent : Option (Ps × Ps)) (hops : List HopRecord) (ending : Ending)
     → ((due : ℕ) → IsWayAt ports due path hops ending
     → All (IsExact ports) (crossings_along frame release sender path hops ending))
-    → GoesOnAt (λ at. IsWayAt ports at path hops ending) (port_at ports p) verdict sent hops ending
+    → IsSentOrEndsAt (λ at. IsWayAt ports at path hops ending) (port_at ports p) verdict sent hops ending
     → All (IsExact ports) (crossings_along frame release sender path hops ending)
 crossed_on ports frame release sender p path (Eligible e) (Some times) hops ending rest way =
     rest (arrival_after (port_at ports p) times.1.0) way
@@ -243,7 +245,7 @@ form_journey network j is =
     }
 
 -- exact arrivals are in time, and in the order of the ends
-exact_links : (network : DeclaredNetwork) (run : List Travel) → AreExact network.topology.ports
+exact_links : (network : DeclaredNetwork) (run : List Travel) → HaveOneLatency network.topology.ports
     → All (IsExact network.topology.ports) (crossings_from network 0 run)
     → (port : ℕ) → port < length network.topology.ports
     → KeepsLinkRule (port_at network.topology.ports port) (crossings_by network run port)
@@ -261,11 +263,14 @@ exact_links network run one all port within =
     (All-filter (λ (c : Crossing). c.port == port) (IsExact ports) crossings all k d h) within) in
     record {
       within = λ k d h.
-          (let e = exact k d h in record { earliest = omega (arith, e, one port within); latest = omega (arith, e) });
+          (let e = exact k d h in
+          let same : (port_at ports port).earliest.0 ≡ (port_at ports port).latency.0 =
+          ap (λ (t : Ps). t.0) (one port no_port within) in
+          record { earliest = omega (arith, e, same); latest = omega (arith, e) });
       order = λ k d h l b i before. (let e = exact k d h in let f = exact l b i in omega (arith, e, f, before));
     }
 
-legal_from_at : (network : DeclaredNetwork) (run : List Travel) → AreExact network.topology.ports
+legal_from_at : (network : DeclaredNetwork) (run : List Travel) → HaveOneLatency network.topology.ports
     → IsLegalAt network run → IsLegal network run
 legal_from_at network run one legal = record {
   in_order = legal.in_order;

@@ -1,16 +1,3 @@
-pub mod ArrivalTest
-pub mod BridgeProofs
-pub mod ChangeProofs
 pub mod ExactLinks
-pub mod Filtered
-pub mod LegalProofs
-pub mod LegalTest
-pub mod LinkExamples
-pub mod MoreChangeProofs
 pub mod PartProofs
-pub mod PartTest
-pub mod PortTest
-pub mod RegulatedProofs
 pub mod RowLemmas
-pub mod TalkerProofs
-pub mod Tests

@@ -5,7 +5,7 @@ use Rattle.ats_network.specs.Network.{DeclaredNetwork}
 use Rattle.ats_network.specs.Senders.{sender_at}
 use Rattle.ats_network.specs.Residence.{residence_after}
 use Rattle.ats_group.specs.Group.{Offer, is_declared_size}
-use Rattle.ats_group_law.specs.Regulator.{Judge}
+use Rattle.ats_group.specs.Judge.{Judge}
 use Rattle.ats_group.specs.declared.member.Declared.{Declared}
 use Rattle.ats_group.specs.declared.verdict.Verdict.TheVariants.{Eligible, Size}
 use Rattle.ats_trace.specs.Projections.{Handed}
@@ -31,9 +31,9 @@ pub record IsJudged (judge : Judge) (network : DeclaredNetwork) (residence_ns : 
   pub verdicts : map (λ (h : Handed). h.verdict) arrivals
       ≡ judge (declared_by network) residence_ns (map offer_of arrivals)
 
--- the maximum residence time behind a port, in nanoseconds; 0 behind a port to a station
-abbrev pub residence_behind : DeclaredNetwork → ℕ → ℕ
-residence_behind network port = unwrap_or (residence_after network.topology port) 0
+-- the maximum residence time of the groups behind a port, in nanoseconds; 0 behind a port to a station
+abbrev pub residence_of_groups : DeclaredNetwork → ℕ → ℕ
+residence_of_groups network port = unwrap_or (residence_after network.topology port) 0
 
 -- a flow's frame behind a port: eligible at its arrival where it has a declared size, else discarded for its size
 abbrev pub IsPassed : DeclaredNetwork → Handed → Type 0

@@ -8,12 +8,11 @@ use Rattle.ats_network.specs.Network.{DeclaredNetwork, IsNetwork, senders_of}
 use Rattle.ats_network.specs.Senders.{sender_at}
 use Rattle.ats_group.specs.declared.verdict.Verdict.{Verdict}
 use Rattle.ats_group.specs.declared.verdict.Verdict.TheVariants.{Eligible}
-use Rattle.ats_group_law.specs.Regulator.{ats_judge}
+use Rattle.ats_group.specs.Judge.{ats_judge}
 use Rattle.ats_port_rule.specs.PortRule.{KeepsPortRule}
 use Rattle.ats_trace.specs.Journey.{Travel}
 use Rattle.ats_trace.specs.Projections.{sent_by, handed_by}
-use Rattle.ats_trace.specs.Links.{earliest_of}
-use Rattle.ats_trace.specs.Eligibility.{IsJudged, IsPassed, residence_behind}
+use Rattle.ats_trace.specs.Eligibility.{IsJudged, IsPassed, residence_of_groups}
 use Rattle.ats_trace.specs.Run.{IsLegal, releases_of}
 use Rattle.ats_trace.specs.declared.journey.Release.{Release}
 use Rattle.ats_trace.specs.declared.journey.HopRecord.{HopRecord}
@@ -29,11 +28,11 @@ arrival_after port end = end + port.latency.0
 
 -- what follows a verdict and the times of a transmission at a port: an eligible frame is sent, arrives behind the port
 -- and goes on from there; a frame with another verdict is not sent, and its way ends
-abbrev pub GoesOnAt : (ℕ → Type 0) → Port → Verdict → Option (Ps × Ps) → List HopRecord → Ending → Type 0
-GoesOnAt onward port (Eligible e) (Some times) hops ending = onward (arrival_after port times.1.0)
-GoesOnAt onward port (Eligible e) None hops ending = ⊥
-GoesOnAt onward port verdict (Some times) hops ending = ⊥
-GoesOnAt onward port verdict None hops ending = (hops ≡ []) × (ending ≡ Discard)
+abbrev pub IsSentOrEndsAt : (ℕ → Type 0) → Port → Verdict → Option (Ps × Ps) → List HopRecord → Ending → Type 0
+IsSentOrEndsAt onward port (Eligible e) (Some times) hops ending = onward (arrival_after port times.1.0)
+IsSentOrEndsAt onward port (Eligible e) None hops ending = ⊥
+IsSentOrEndsAt onward port verdict (Some times) hops ending = ⊥
+IsSentOrEndsAt onward port verdict None hops ending = (hops ≡ []) × (ending ≡ Discard)
 
 -- the way of a frame that comes at this time to the first port of what is left of its path, with the records from there
 -- on: one for each port that it comes to, and after the last port the listener's arrival
@@ -44,7 +43,7 @@ IsWayAt ports due [] (hop ∷ hops) ending = ⊥
 IsWayAt ports due (p ∷ path) [] ending = ⊥
 IsWayAt ports due (p ∷ path) (hop ∷ hops) ending =
     (hop.arrival.0 ≡ due)
-    × GoesOnAt (λ at. IsWayAt ports at path hops ending) (port_at ports p) hop.verdict hop.sent hops ending
+    × IsSentOrEndsAt (λ at. IsWayAt ports at path hops ending) (port_at ports p) hop.verdict hop.sent hops ending
 
 -- the first hop of a journey: a station's own frame is eligible at its release
 abbrev pub IsEligibleAtRelease : Release → List HopRecord → Type 0
@@ -66,14 +65,15 @@ pub record IsLegalAt (network : DeclaredNetwork) (run : List Travel) : Type 0 wh
   pub ports : (port : ℕ) → port < length network.topology.ports
       → KeepsPortRule (port_at network.topology.ports port).ps_per_bit (sent_by network run port)
   pub groups : (port class : ℕ) → port < length network.topology.ports → 1 ≤ class
-      → IsJudged ats_judge network (residence_behind network port) (handed_by network run port class)
+      → IsJudged ats_judge network (residence_of_groups network port) (handed_by network run port class)
   pub flows : (port : ℕ) → port < length network.topology.ports → All (IsPassed network) (handed_by network run port 0)
 
--- each port has one latency
-abbrev pub AreExact : List Port → Type 0
-AreExact ports = (port : ℕ) → port < length ports → earliest_of (port_at ports port) ≡ (port_at ports port).latency.0
+-- each port's earliest latency is its latency, as where each bridge takes one time to process a frame
+abbrev pub HaveOneLatency : List Port → Type 0
+HaveOneLatency ports = All (λ (port : Port). port.earliest ≡ port.latency) ports
 
--- where they do, those are the legal runs
+-- where that is so, those are the legal runs
 abbrev pub LinksAreExact : Type 0
-LinksAreExact = (network : DeclaredNetwork) (run : List Travel) → IsNetwork network → AreExact network.topology.ports
+LinksAreExact = (network : DeclaredNetwork) (run : List Travel) → IsNetwork network
+    → HaveOneLatency network.topology.ports
     → IsLegal network run ↔ IsLegalAt network run

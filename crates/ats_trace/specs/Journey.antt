@@ -19,11 +19,11 @@ pub record Travel : Type 0 where
 
 -- what follows a verdict and the times of a transmission: an eligible frame is sent and goes on; a frame with another
 -- verdict is not sent, and its way ends
-abbrev pub GoesOn : Type 0 → Verdict → Option (Ps × Ps) → List HopRecord → Ending → Type 0
-GoesOn onward (Eligible e) (Some times) hops ending = onward
-GoesOn onward (Eligible e) None hops ending = ⊥
-GoesOn onward verdict (Some times) hops ending = ⊥
-GoesOn onward verdict None hops ending = (hops ≡ []) × (ending ≡ Discard)
+abbrev pub IsSentOrEnds : Type 0 → Verdict → Option (Ps × Ps) → List HopRecord → Ending → Type 0
+IsSentOrEnds onward (Eligible e) (Some times) hops ending = onward
+IsSentOrEnds onward (Eligible e) None hops ending = ⊥
+IsSentOrEnds onward verdict (Some times) hops ending = ⊥
+IsSentOrEnds onward verdict None hops ending = (hops ≡ []) × (ending ≡ Discard)
 
 -- the way of a frame over what is left of its path: a record for each port that it comes to, and behind the last port
 -- its listener. When it comes there the links say
@@ -32,7 +32,7 @@ IsWay [] [] (Sink at) = Unit {0}
 IsWay [] [] Discard = ⊥
 IsWay [] (hop ∷ hops) ending = ⊥
 IsWay (p ∷ path) [] ending = ⊥
-IsWay (p ∷ path) (hop ∷ hops) ending = GoesOn (IsWay path hops ending) hop.verdict hop.sent hops ending
+IsWay (p ∷ path) (hop ∷ hops) ending = IsSentOrEnds (IsWay path hops ending) hop.verdict hop.sent hops ending
 
 -- the first hop of a journey: a station's own frame comes to its port at its release, and is eligible then
 abbrev pub IsReleased : Release → List HopRecord → Type 0

@@ -6,13 +6,4 @@ pub mod Run
 pub mod ExactLinks
 pub mod Stored
 pub mod Talker
-pub mod Examples
-pub mod LegalExamples
-pub mod Changes
 pub mod Parts
-pub mod Regulated
-pub mod MoreChanges
-pub mod TalkerExamples
-pub mod LinkExamples
-pub mod BridgeExamples
-pub mod Babbler

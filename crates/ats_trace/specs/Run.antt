@@ -4,10 +4,10 @@ use Rattle.ats_topology.specs.Port.{port_at}
 use Rattle.ats_network.specs.Network.{DeclaredNetwork}
 use Rattle.ats_port_rule.specs.PortRule.{KeepsPortRule, KeepsTie}
 use Rattle.ats_trace.specs.Journey.{Travel, IsJourney}
-use Rattle.ats_group_law.specs.Regulator.{Judge, ats_judge}
+use Rattle.ats_group.specs.Judge.{Judge, ats_judge}
 use Rattle.ats_trace.specs.Projections.{sent_by, crossings_by, handed_by}
 use Rattle.ats_trace.specs.Links.{KeepsLinkRule, KeepsPace}
-use Rattle.ats_trace.specs.Eligibility.{IsJudged, IsPassed, residence_behind}
+use Rattle.ats_trace.specs.Eligibility.{IsJudged, IsPassed, residence_of_groups}
 use Rattle.ats_trace.specs.declared.journey.Release.{Release}
 
 -- the releases of a run, by frame number
@@ -26,7 +26,7 @@ pub record IsLegalBy (judge : Judge) (network : DeclaredNetwork) (run : List Tra
   pub links : (port : ℕ) → port < length network.topology.ports
       → KeepsLinkRule (port_at network.topology.ports port) (crossings_by network run port)
   pub groups : (port class : ℕ) → port < length network.topology.ports → 1 ≤ class
-      → IsJudged judge network (residence_behind network port) (handed_by network run port class)
+      → IsJudged judge network (residence_of_groups network port) (handed_by network run port class)
   pub flows : (port : ℕ) → port < length network.topology.ports → All (IsPassed network) (handed_by network run port 0)
 
 -- and the groups are those of Asynchronous Traffic Shaping

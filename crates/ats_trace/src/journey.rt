@@ -39,10 +39,15 @@ pub enum Ending {
 pub struct Journey {
     /// Its release.
     pub release: Release,
-    /// The place of its first hop record among those of the run.
-    pub first: u32,
-    /// How many hop records it has: one for each port of its path that it came to.
-    pub count: u32,
     /// How it ended.
     pub ending: Ending,
+}
+
+/// Where the hop records of one frame stand among those of a run.
+#[derive(Clone, Copy, Debug, PartialEq, Eq)]
+pub struct Span {
+    /// The place of the first.
+    pub first: u32,
+    /// How many there are: one for each port of the frame's path that it came to.
+    pub count: u32,
 }

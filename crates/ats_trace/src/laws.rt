@@ -1,66 +1,16 @@
-//! What is proved of the definitions themselves: runs of small networks, written out in full, that are legal or not.
+//! What is proved of the definition of a legal run.
 
-ghost use Rattle.ats_trace.specs.Babbler.{BabblerIsLegal};
-ghost use Rattle.ats_trace.specs.BridgeExamples.{BridgedAreLegal};
-ghost use Rattle.ats_trace.specs.Changes.{ChangedExamplesAreNot};
 ghost use Rattle.ats_trace.specs.ExactLinks.{LinksAreExact};
-ghost use Rattle.ats_trace.specs.LegalExamples.{ExamplesAreLegal};
-ghost use Rattle.ats_trace.specs.LinkExamples.{LinkExamples};
-ghost use Rattle.ats_trace.specs.MoreChanges.{EachBreaksAlone};
-ghost use Rattle.ats_trace.specs.Parts.{EachPartCounts, LegalIsEachPart};
-ghost use Rattle.ats_trace.specs.Regulated.{RegulatedAreLegal};
-ghost use Rattle.ats_trace.specs.TalkerExamples.{TalkersOfExamples};
-
-/// One frame over one bridge, a frame that is discarded for its size, a frame behind one of a flow,
-/// and two frames that become eligible at the same time, in either order. And a frame that the
-/// bridge holds back, one that is late, and what becomes of another stream's frame behind each: it
-/// waits for one of its group that is held back, and for no late one and none of another class.
-pub fn examples_are_legal()
-    ensures plain { ExamplesAreLegal }
-    ensures regulated { RegulatedAreLegal }
-{}
-
-/// One frame over two bridges and over three, and behind it one more of its talker at once, which
-/// the first bridge holds back and no later one. And a station that babbles: of 23 small frames at
-/// once the bridge sends most on as they come, holds some back and discards the last; another
-/// station's frame goes between them.
-pub fn bridged_are_legal()
-    ensures bridged { BridgedAreLegal }
-    ensures babbler { BabblerIsLegal }
-{}
-
-/// Runs that are not legal: for each field of a legal run, of a journey and of the port rule one of
-/// the legal examples with one number changed, and runs that break one part alone.
-pub fn changed_examples_are_not()
-    ensures changed { ChangedExamplesAreNot }
-    ensures alone { EachBreaksAlone }
-{}
+ghost use Rattle.ats_trace.specs.Parts.{LegalIsEachPart};
 
 /// A run is legal exactly where it keeps each of the parts that are listed.
 pub fn legal_is_each_part()
     ensures { LegalIsEachPart }
 {}
 
-/// No part follows from the others: for each there is a run that breaks it alone.
-pub fn each_part_counts()
-    ensures { EachPartCounts }
-{}
-
-/// Where each port has one latency, as in each network so far, a run is legal exactly where each
-/// frame arrives behind each port that sends it when its transmission has ended and the port's
-/// latency is over.
+/// Where each port has one latency, as where each bridge takes one time to process a frame, a run is
+/// legal exactly where each frame arrives behind each port that sends it when its transmission has
+/// ended and the port's latency is over.
 pub fn links_are_exact()
     ensures { LinksAreExact }
-{}
-
-/// A talker that sends its burst, and again as soon as its rate allows, keeps its bucket; 1 ps
-/// sooner it breaks it, as does one with a frame that is too long.
-pub fn talkers_of_examples()
-    ensures { TalkersOfExamples }
-{}
-
-/// A link that takes no fixed time: a frame may arrive as soon as the one sent before it has, in
-/// its own time, and neither with it nor before.
-pub fn link_examples()
-    ensures { LinkExamples }
 {}

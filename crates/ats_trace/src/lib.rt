@@ -5,5 +5,5 @@ pub mod journey;
 pub mod laws;
 pub mod run;
 
-pub use journey::{Ending, HopRecord, Journey, Release};
+pub use journey::{Ending, HopRecord, Journey, Release, Span};
 pub use run::Run;

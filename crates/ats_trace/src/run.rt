@@ -1,10 +1,9 @@
 //! A run: what happened to all frames.
 
 ghost use Rattle.std.specs.Prelude.{◌≡◌, ◌↔◌, ◌<◌, ◌≤◌, [], IsTrue, length, map};
-ghost use Rattle.ats_trace.specs.Run.{releases_of};
-ghost use Rattle.ats_trace.specs.Stored.{AreRows, travel_at, travels_of};
+ghost use Rattle.ats_trace.specs.Stored.{AreRows, journey_of, travel_at, travels_of};
 
-use crate::journey::{HopRecord, Journey};
+use crate::journey::{HopRecord, Journey, Span};
 use std::marker::Model;
 
 /// The most frames of a run.
@@ -14,7 +13,8 @@ pub const MAX_FRAMES: usize = 200_000;
 /// the ending of each frame.
 #[derive(Drop)]
 pub struct Run {
-    rows: Vec<Journey>,
+    journeys: Vec<Journey>,
+    spans: Vec<Span>,
     hops: Vec<HopRecord>,
 }
 
@@ -26,20 +26,22 @@ impl Model for Run {
 
     ghost use Rattle.ats_trace.specs.Stored.{AreRows, travels_of};
 
-    ghost view = { λ r. travels_of r.rows.items r.hops.items };
+    ghost view = { λ r. travels_of r.journeys.items r.spans.items r.hops.items };
 
-    ghost invariant = { λ r. AreRows r.rows.items r.hops.items };
+    ghost invariant = { λ r. AreRows r.journeys.items r.spans.items r.hops.items };
 }
 
 impl Run {
-    /// The run of these journeys, at most 200,000, whose hop records are in `hops`: for each
-    /// journey the `count` of them from `first` on. It takes no memory.
-    pub fn new(journeys: Vec<Journey>, hops: Vec<HopRecord>) -> Run
-        requires { AreRows journeys.items hops.items }
-        ensures { result ≡ travels_of journeys.items hops.items }
+    /// The run of these rows, at most 200,000, whose hop records are in `hops`: for each row those
+    /// that its span names. Conditions: there are as many spans as rows, and each lies within
+    /// `hops`. It takes no memory.
+    pub fn new(rows: Vec<Journey>, spans: Vec<Span>, hops: Vec<HopRecord>) -> Run
+        requires { AreRows rows.items spans.items hops.items }
+        ensures { result ≡ travels_of rows.items spans.items hops.items }
     {
         Run {
-            rows: journeys,
+            journeys: rows,
+            spans,
             hops,
         }
     }
@@ -49,24 +51,21 @@ impl Run {
         ensures value { result ≡ length self.now }
         ensures bounded { length self.now ≤ MAX_FRAMES }
     {
-        self.rows.len()
+        self.journeys.len()
     }
 
     /// Whether there is no frame.
     pub fn is_empty(&self) -> bool
         ensures { IsTrue result ↔ (self.now ≡ []) }
     {
-        self.rows.is_empty()
+        self.journeys.is_empty()
     }
 
-    /// The journeys, by frame number. Contracts see of each what is the frame's own: its release, how many hop records
-    /// it has, and its ending. Where these records are kept, `hops_of` knows.
+    /// The rows, by frame number: the release of each frame, and its ending. Its hop records are those of `hops_of`.
     pub fn journeys(&self) -> &[Journey]
-        ensures releases { map (λ row. row.release) result.now ≡ releases_of self.now }
-        ensures counts { map (λ row. row.count) result.now ≡ map (λ j. length j.hops) self.now }
-        ensures endings { map (λ row. row.ending) result.now ≡ map (λ j. j.ending) self.now }
+        ensures { result.now ≡ map journey_of self.now }
     {
-        &self.rows
+        &self.journeys
     }
 
     /// The hop records of a frame of the run, in the order of its path.
@@ -74,8 +73,8 @@ impl Run {
         requires { frame < length self.now }
         ensures { result.now ≡ (travel_at self.now frame).hops }
     {
-        let row = self.rows[frame as usize];
-        let first = row.first as usize;
-        &self.hops[first..first + row.count as usize]
+        let span = self.spans[frame as usize];
+        let first = span.first as usize;
+        &self.hops[first..first + span.count as usize]
     }
 }

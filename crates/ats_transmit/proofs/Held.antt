@@ -1,28 +1,17 @@
 use Rattle.std.proofs.Common.{◌≡◌, ℕ, zero, suc, ◌+◌, ◌<◌, ◌≤◌, Bool, true, List, [], ◌∷◌, ◌++◌, length, get_or, set}
-use Rattle.std.proofs.Common.{All, sym, ◌∙◌, ap, subst, refl, arith, length-append}
+use Rattle.std.proofs.Common.{All, sym, ◌∙◌, ap, subst, refl, arith}
 use Rattle.std.specs.Prelude.{◌==◌, IsPermutation, count_by, map}
-use Rattle.std.proofs.Math.ListN.{get_or-append}
 use Rattle.std.proofs.lemmas.Bool.{eq-eqb}
-use Rattle.std.proofs.lemmas.List.{length-map, get_or-map, map-append, get_or-append-add}
+use Rattle.std.proofs.lemmas.List.{length-map, get_or-map, map-append}
 use Rattle.std.proofs.lemmas.List.Elements.{All-append, All-map}
 use Rattle.std.proofs.lemmas.List.Sorted.{IsPermutation-append_left, IsPermutation-append_right, IsPermutation-map}
 use Rattle.std.proofs.lemmas.List.Sorted.{IsPermutation-middle, IsPermutation-trans, IsPermutation-sym}
+use Rattle.ats_facts.proofs.Lists.{all_left, all_right, all_unmapped}
 use Rattle.ats_queue.specs.declared.queued.Queued.{Queued}
 use Rattle.ats_queue.specs.Contents.{Contents}
 use Rattle.ats_transmit.specs.declared.offer.Offer.{Offer}
 use Rattle.ats_transmit.specs.Inside.{offer_in, held_from, held_of, queued_of, EachQueued}
 use Rattle.ats_transmit.proofs.Totals.{count_by-append, count_by-map, count_by-all}
-
-all-left : {X : Type 0} (P : X → Type 0) (xs ys : List X) → All P (xs ++ ys) → All P xs
-all-left P xs ys all i d h = subst P (get_or-append xs ys d i h) (all i d (omega (arith, length-append xs ys)))
-
-all-right : {X : Type 0} (P : X → Type 0) (xs ys : List X) → All P (xs ++ ys) → All P ys
-all-right P xs ys all i d h =
-    subst P (get_or-append-add xs ys i d) (all (length xs + i) d (omega (arith, length-append xs ys)))
-
-all-unmapped : {X Y : Type 0} (P : Y → Type 0) (f : X → Y) (xs : List X) → All P (map f xs)
-    → All (λ (x : X). P (f x)) xs
-all-unmapped P f xs all i d h = subst P (get_or-map f xs i d (f d) h) (all i (f d) (omega (arith, length-map xs f)))
 
 -- what holds of each frame in each queue holds of all that these queues hold
 each_from : {T : Type 0} (P : Offer → Type 0) (base : ℕ) (qs : List (Contents T))
@@ -52,9 +41,9 @@ from_held P base (x ∷ qs) all zero k d e h =
     let At : ℕ → Type 0 = λ (n : ℕ). All (λ (q : Queued). P (offer_in n q)) x.held in
     let same : base ≡ k = omega arith in
     subst At same
-    (all-unmapped P (offer_in base) x.held (all-left P (map (offer_in base) x.held) (held_from (suc base) qs) all))
+    (all_unmapped P (offer_in base) x.held (all_left P (map (offer_in base) x.held) (held_from (suc base) qs) all))
 from_held P base (x ∷ qs) all (suc c) k d e h =
-    from_held P (suc base) qs (all-right P (map (offer_in base) x.held) (held_from (suc base) qs) all) c k d
+    from_held P (suc base) qs (all_right P (map (offer_in base) x.held) (held_from (suc base) qs) all) c k d
     (omega arith) (omega arith)
 
 pub each_held : {T : Type 0} (P : Offer → Type 0) (qs : List (Contents T)) → All P (held_of qs)

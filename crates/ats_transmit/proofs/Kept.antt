@@ -6,6 +6,7 @@ use Rattle.std.proofs.lemmas.List.{length-map, get_or-map}
 use Rattle.std.proofs.Math.Seq.{map-set_same}
 use Rattle.std.proofs.lemmas.List.Elements.{All-cons, All-set}
 use Rattle.std.proofs.lemmas.List.Sorted.{All-permutation, sum_by-IsPermutation}
+use Rattle.ats_facts.proofs.Lists.{count_by-cons}
 use Rattle.ats_num.specs.Wire.{IsFrameSize}
 use Rattle.ats_queue.specs.declared.queued.Queued.{Queued}
 use Rattle.ats_queue.specs.Contents.{Contents}
@@ -16,7 +17,6 @@ use Rattle.ats_transmit.specs.Standing.{Standing, offered_of, opened}
 use Rattle.ats_transmit.specs.Inside.{queued_as, held_of, standing_of, IsKept, AreEmpty}
 use Rattle.ats_transmit.proofs.Held.{each_held, all_held, held-insert, length-held-le, none-held}
 use Rattle.ats_transmit.proofs.Lawful.{lawful-open, lawful-offer}
-use Rattle.ats_transmit.proofs.Totals.{count_by-cons}
 
 -- what is asked of an offer
 pub record MayOffer {T : Type 0} (old : Standing T) (o : Offer) : Type 0 where

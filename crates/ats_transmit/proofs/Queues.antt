@@ -1,14 +1,16 @@
 use Rattle.std.proofs.Common.{◌≡◌, ℕ, suc, ◌<◌, ◌≤◌, List, [], ◌∷◌, ◌++◌, length, get_or, set, All, sym, ap, subst}
-use Rattle.std.proofs.Common.{refl, inl, inr, arith}
+use Rattle.std.proofs.Common.{refl, inl, inr, arith, take, ◌+◌}
 use Rattle.std.specs.Prelude.{◌≢◌, Any, min, Option, Some, None, IsNone, IsSome}
 use Rattle.std.proofs.lemmas.Bool.{cases_eq, cases_lt}
 use Rattle.std.proofs.lemmas.List.{length-set, get_or-set_same, get_or-set_other}
-use Rattle.std.proofs.lemmas.List.Elements.{All-append}
+use Rattle.std.proofs.lemmas.List.{map-append, take_more}
+use Rattle.std.proofs.lemmas.List.Elements.{All-append, All-push}
+use Rattle.std.proofs.lemmas.Grind.{flat_map-append}
 use Rattle.std.proofs.Math.Nat.{min-eq_left, min-eq_right}
 use Rattle.ats_queue.specs.declared.queued.Queued.{Queued}
 use Rattle.ats_queue.specs.Contents.{Contents}
 use Rattle.ats_queue.specs.Order.{IsNextTime, Takes}
-use Rattle.ats_transmit.specs.Inside.{offer_in, queued_of, EachQueued, NoneFrom, TakesFrom}
+use Rattle.ats_transmit.specs.Inside.{offer_in, queued_of, EachQueued, NoneFrom, TakesFrom, AreEmpty}
 use Rattle.ats_transmit.specs.declared.offer.Offer.{Offer}
 use Rattle.ats_transmit.proofs.Anys.{any-left, any-right}
 
@@ -85,3 +87,16 @@ takes_from {T} key now class old before after queued o same s e t =
       named = refl;
       takes = t;
     })
+
+-- one empty queue more
+pub empty_more : {T : Type 0} (qs : List (Contents T)) (q : Contents T) (rooms : List ℕ) (i : ℕ) (tie : T)
+    → i < length rooms → q ≡ record { held = []; capacity = get_or rooms i 0; tie = tie }
+    → AreEmpty qs (take i rooms) tie → AreEmpty (qs ++ q ∷ []) (take (i + 1) rooms) tie
+empty_more {T} qs q rooms i tie h is empty =
+    let capacity : Contents T → ℕ = λ (c : Contents T). c.capacity in
+    let held : Contents T → List Queued = λ (c : Contents T). c.held in
+    record {
+      capacities = rw (map-append capacity qs (q ∷ []), take_more rooms i 0 h, empty.capacities, is) refl;
+      ties = All-push (λ (c : Contents T). c.tie ≡ tie) qs q empty.ties (ap (λ (c : Contents T). c.tie) is);
+      empty = rw (flat_map-append held qs (q ∷ []), empty.empty, is) refl;
+    }

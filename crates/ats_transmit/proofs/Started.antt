@@ -6,6 +6,7 @@ use Rattle.std.proofs.Math.Seq.{map-set_same}
 use Rattle.std.proofs.lemmas.List.Elements.{All-head, All-tail, All-push, All-set}
 use Rattle.std.proofs.lemmas.List.Sorted.{All-permutation, length_permutation, sum_by-IsPermutation}
 use Rattle.std.proofs.lemmas.List.Sums.{sum_by_push}
+use Rattle.ats_facts.proofs.Lists.{count_by-cons}
 use Rattle.ats_num.specs.Wire.{IsFrameSize}
 use Rattle.ats_queue.specs.declared.queued.Queued.{Queued}
 use Rattle.ats_queue.specs.Contents.{Contents}
@@ -21,7 +22,7 @@ use Rattle.ats_transmit.proofs.Held.{all_held, held-take}
 use Rattle.ats_transmit.proofs.Kept.{eight-queues, held_classes}
 use Rattle.ats_transmit.proofs.Lawful.{lawful-start}
 use Rattle.ats_transmit.proofs.Queues.{each-set}
-use Rattle.ats_transmit.proofs.Totals.{count_by-cons, both-within}
+use Rattle.ats_transmit.proofs.Totals.{both-within}
 
 -- what a selection finds and changes: the highest class, and its queue without the frame that starts
 pub record Selected {T : Type 0} (key : T → ℕ → ℕ → ℕ) (now class : ℕ) (s : Standing T) (qs new : List (Contents T))

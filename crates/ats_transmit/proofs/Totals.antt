@@ -4,15 +4,12 @@ use Rattle.std.specs.Prelude.{count_by, map, take, ◌==◌}
 use Rattle.std.proofs.lemmas.Bool.{cases_eq, eq-eqb, ne_eqb, cond-true, cond-false}
 use Rattle.std.proofs.lemmas.List.{take_all}
 use Rattle.std.proofs.lemmas.List.Elements.{All-head, All-tail}
-use Rattle.std.proofs.lemmas.List.Sums.{sum_by-append, sum_by-cons, sum_by_more}
+use Rattle.std.proofs.lemmas.List.Sums.{sum_by-append, sum_by_more}
+use Rattle.ats_facts.proofs.Lists.{count_by-cons}
 
 pub count_by-append : {X : Type 0} (test : X → Bool) (xs ys : List X)
     → count_by test (xs ++ ys) ≡ count_by test xs + count_by test ys
 count_by-append test xs ys = sum_by-append _ xs ys
-
-pub count_by-cons : {X : Type 0} (test : X → Bool) (x : X) (xs : List X)
-    → count_by test (x ∷ xs) ≡ cond (test x) 1 0 + count_by test xs
-count_by-cons {X} test x xs = sum_by-cons (λ (y : X). cond (test y) 1 0) x xs
 
 pub count_by-all : {X : Type 0} (test : X → Bool) (xs : List X) → All (λ (x : X). test x ≡ true) xs
     → count_by test xs ≡ length xs

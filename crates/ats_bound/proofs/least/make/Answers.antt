@@ -7,8 +7,8 @@ use Rattle.ats_bound.proofs.LeastHolds.{least_certificate_holds, ports_exist}
 use Rattle.ats_bound.proofs.NoneHolds.{reason_of-none}
 use Rattle.ats_bound.proofs.least.make.Goals as goal
 
-pub first_overstay-requires : goal.first_overstay-requires
-first_overstay-requires c =
+pub first_overstay-requires-clause-ports : goal.first_overstay-requires-clause-ports
+first_overstay-requires-clause-ports c =
     subst (λ (rows : List Row). All (λ (row : Row). row.port < length c.args.network.now.topology.ports) rows)
     (sym (c.rows.ensures.value ∙ c.in_ok-certificate.ensures.ok))
     (ports_exist c.args.network.now c.in_ok-certificate.ensures.rules)

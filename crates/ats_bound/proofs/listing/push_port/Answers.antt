@@ -1,5 +1,5 @@
 use Rattle.std.proofs.Common.{◌+◌, ℕ, get_or, subst, refl}
-use Rattle.ats_certificate.specs.Used.{classes}
+use Rattle.ats_certificate.specs.Used.{stream_classes}
 use Rattle.ats_bound.specs.Begun.{IsBegun}
 use Rattle.ats_bound.proofs.Beginnings.{begun_next, begun_after, places_left, places_left-first, places_left-more}
 use Rattle.ats_bound.proofs.listing.push_port.Goals as goal
@@ -13,7 +13,7 @@ loop-class-init c =
 pub push_row-requires-clause-after : goal.push_row-requires-clause-after
 push_row-requires-clause-after c used =
     let i : ℕ = c.loop-class.class-index in
-    let class : ℕ = get_or classes i 0 in
+    let class : ℕ = get_or stream_classes i 0 in
     begun_after c.args.tallies.now (c.args.port, class) c.loop-class.certificate
     (places_left c.args.tallies.now c.args.port (i + 1)) c.requires.network
     (subst (IsBegun c.args.tallies.now c.loop-class.certificate)
@@ -23,7 +23,7 @@ push_row-requires-clause-after c used =
 pub loop-class-preserved : goal.loop-class-preserved
 loop-class-preserved c =
     let i : ℕ = c.loop-class.class-index in
-    let class : ℕ = get_or classes i 0 in
+    let class : ℕ = get_or stream_classes i 0 in
     begun_next c.args.tallies.now (c.args.port, class) c.loop-class.certificate c.push_row.new.certificate
     (places_left c.args.tallies.now c.args.port (i + 1))
     (subst (IsBegun c.args.tallies.now c.loop-class.certificate)

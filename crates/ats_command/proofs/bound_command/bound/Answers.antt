@@ -1,10 +1,11 @@
 use Rattle.std.proofs.Common.{ℕ, List, [], Option, lit<}
 use Rattle.std.specs.Global.{Vec}
 use Rattle.ats_num.specs.Failure.{◌>>=◌}
-use Rattle.ats_command.specs.Input.{network_in}
+use Rattle.ats_answer.specs.Input.{network_in}
 use Rattle.ats_command.specs.Judged.{bound_judged}
 use Rattle.ats_command.specs.Due.{told_bytes, bound_answer}
-use Rattle.ats_command.proofs.Steps.{told_is, err_is, goes_on, step_settles, result_settles}
+use Rattle.ats_answer.proofs.Steps.{err_is, goes_on}
+use Rattle.ats_command.proofs.Steps.{told_is, step_settles, result_settles}
 use Rattle.ats_command.proofs.bound_command.bound.Goals as goal
 
 pub returns-in_err-network-clause-due : goal.returns-in_err-network-clause-due

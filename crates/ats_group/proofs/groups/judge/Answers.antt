@@ -5,11 +5,11 @@ use Rattle.ats_group.proofs.groups.judge.Goals as goal
 
 pub returns-in-Eligible-clause-value : goal.returns-in-Eligible-clause-value
 returns-in-Eligible-clause-value c =
-    value_after-is _ _ _ _ _ _ c.index-seats-member.result c.after.result c.in-Eligible.eligible c.requires.member
-    c.index-seats-member.is c.requires.kept.seated c.after.ensures.value (grind (arith, common_steps))
+    value_after-is _ _ _ _ _ _ c.index-schedulers-member.result c.after.result c.in-Eligible.eligible c.requires.member
+    c.index-schedulers-member.is c.requires.kept.ruled c.after.ensures.value (grind (arith, common_steps))
 
 pub returns-in-Eligible-clause-kept : goal.returns-in-Eligible-clause-kept
 returns-in-Eligible-clause-kept c =
-    kept-after _ _ _ _ c.args.octets c.index-seats-member.result c.after.result c.in-Eligible.eligible
-    c.requires.kept c.requires.member c.index-seats-member.is c.after.ensures.value c.after.ensures.seat
+    kept-after _ _ _ _ c.args.octets c.index-schedulers-member.result c.after.result c.in-Eligible.eligible
+    c.requires.kept c.requires.member c.index-schedulers-member.is c.after.ensures.value c.after.ensures.scheduler
     c.in-Eligible.ensures.acceptable.time

@@ -1,4 +1,5 @@
-use Rattle.std.proofs.Common.{◌≡◌, true, false, ℕ, List, Some, None, sym, ap, subst, ◌∙◌}
+use Rattle.std.proofs.Common.{◌≡◌, false, ℕ, List, Some, None, sym, ap, subst, ◌∙◌}
+use Rattle.std.proofs.lemmas.Bool.{false≢true}
 use Rattle.ats_topology.specs.declared.port.Port.{Port}
 use Rattle.ats_network.specs.Path.{IsStationAt}
 use Rattle.ats_network.specs.PathSteps.{ends_of, comes_to, part_ways}
@@ -6,27 +7,24 @@ use Rattle.ats_network.proofs.PathLemmas.{AreEnds, ends_are, walk_ports, no_ends
 use Rattle.ats_network.proofs.PathLemmas.{valid_from_parts, valid_parts, valid_never_back}
 use Rattle.ats_network.proofs.paths.is_valid_path.Goals as goal
 
-false_true : false ≡ true → ⊥
-false_true h = cc
-
 pub returns-in_default : goal.returns-in_default
 returns-in_default c =
     let none : ends_of c.args.topology.now.ports c.args.path.now ≡ None =
     sym (c.ends.ensures ∙ ap (λ (ports : List Port). ends_of ports c.args.path.now) c.ports-ports.ensures.value)
     ∙ c.in_default.is in
-    (λ h. absurd (false_true h), λ valid. absurd (no_ends c.args.topology.now c.args.path.now none valid))
+    (λ h. absurd (false≢true h), λ valid. absurd (no_ends c.args.topology.now c.args.path.now none valid))
 
 pub returns-then-not-is_station_at-2 : goal.returns-then-not-is_station_at-2
 returns-then-not-is_station_at-2 c =
     let found : ends_of c.args.topology.now.ports c.args.path.now ≡ Some (c.in-Some.talker, c.in-Some.listener) =
     sym (c.ends.ensures ∙ ap (λ (ports : List Port). ends_of ports c.args.path.now) c.ports-ports.ensures.value)
     ∙ c.in-Some.is in (
-      λ h. absurd (false_true h),
+      λ h. absurd (false≢true h),
       λ valid.
           let ends : IsStationAt c.args.topology.now c.in-Some.listener = subst (IsStationAt c.args.topology.now)
           (listener_is c.args.topology.now c.args.path.now c.in-Some.talker c.in-Some.listener found valid)
           valid.ends in
-          absurd (false_true (sym c.if-not-is_station_at-2.true ∙ c.is_station_at-2.ensures.1 ends)),
+          absurd (false≢true (sym c.if-not-is_station_at-2.true ∙ c.is_station_at-2.ensures.1 ends)),
     )
 
 pub comes_to-requires : goal.comes_to-requires
@@ -48,13 +46,13 @@ returns-then-comes_to c =
     let found : ends_of c.args.topology.now.ports c.args.path.now ≡ Some (c.in-Some.talker, c.in-Some.listener) =
     sym (c.ends.ensures ∙ ap (λ (ports : List Port). ends_of ports c.args.path.now) c.ports-ports.ensures.value)
     ∙ c.in-Some.is in (
-      λ h. absurd (false_true h),
+      λ h. absurd (false≢true h),
       λ valid.
           let away : comes_to c.args.topology.now.ports c.in-Some.talker c.args.path.now ≡ false =
           subst (λ (n : ℕ). comes_to c.args.topology.now.ports n c.args.path.now ≡ false)
           (talker_is c.args.topology.now c.args.path.now c.in-Some.talker c.in-Some.listener found valid)
           (valid_never_back c.args.topology.now c.args.path.now valid) in
-          absurd (false_true (sym away ∙ sym (c.comes_to.ensures ∙ ap (λ (ports : List Port).
+          absurd (false≢true (sym away ∙ sym (c.comes_to.ensures ∙ ap (λ (ports : List Port).
           comes_to ports c.in-Some.talker c.args.path.now) c.ports-ports.ensures.value) ∙ c.if-comes_to.true)),
     )
 

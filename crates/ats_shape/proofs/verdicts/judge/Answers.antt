@@ -1,6 +1,6 @@
 use Rattle.std.proofs.Common.{List, map, length, subst, sym, ◌∙◌, ap}
 use Rattle.std.proofs.lemmas.List.{length-map}
-use Rattle.ats_group.specs.Standing.{AreMembers, Standing}
+use Rattle.ats_group.specs.GroupsState.{AreMembers, GroupsState}
 use Rattle.ats_group.specs.declared.member.Member.{Member}
 use Rattle.ats_group.specs.declared.verdict.Verdict.{Verdict}
 use Rattle.ats_shape.specs.Verdicts.{member_of}
@@ -26,6 +26,6 @@ loop-frame-init c =
         c.frames-frames.ensures.value,
       ) (all_verdicts c.args.shape.now c.residence_ns.ensures.shape);
       each = ap (λ (vs : List Verdict). length vs) c.in_ok-verdicts.ensures.items;
-      members = ap (λ (s : Standing). length s.members) opened ∙ ap (λ (ms : List Member). length ms) members
+      members = ap (λ (s : GroupsState). length s.members) opened ∙ ap (λ (ms : List Member). length ms) members
           ∙ length-map c.args.shape.now.streams member_of;
     }

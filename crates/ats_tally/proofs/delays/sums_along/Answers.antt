@@ -1,11 +1,11 @@
-use Rattle.std.proofs.Common.{◌≡◌, ◌<◌, ℕ, List, length, slice_index_or, ap, sym, subst, ◌∙◌, arith}
-use Rattle.std.specs.List.{All}
+use Rattle.std.proofs.Common.{◌≡◌, ◌≢◌, ◌<◌, ℕ, List, length, slice_index_or, ap, sym, subst, ◌∙◌, arith}
+use Rattle.std.specs.List.{All, AllPairs}
 use Rattle.ats_streams.specs.Stream.{DeclaredStream}
-use Rattle.ats_tally.proofs.Paths.{paths_inside}
+use Rattle.ats_tally.proofs.Paths.{paths_inside, paths_apart}
 use Rattle.ats_tally.proofs.delays.sums_along.Goals as goal
 
-pub along-requires : goal.along-requires
-along-requires c =
+pub along-requires-clause-ports : goal.along-requires-clause-ports
+along-requires-clause-ports c =
     let long : length c.streams-streams.result.now ≡ length c.args.network.now.streams =
     ap (λ (streams : List DeclaredStream). length streams) c.streams-streams.ensures.value in
     let item : c.stream-item.result
@@ -18,3 +18,15 @@ along-requires c =
     (sym c.requires)
     (paths_inside c.args.network.now c.streams-streams.ensures.rules c.loop-stream.stream-index c.stream-item.result
     (omega (arith, long))))
+
+pub along-requires-clause-apart : goal.along-requires-clause-apart
+along-requires-clause-apart c =
+    let long : length c.streams-streams.result.now ≡ length c.args.network.now.streams =
+    ap (λ (streams : List DeclaredStream). length streams) c.streams-streams.ensures.value in
+    let item : c.stream-item.result
+    ≡ slice_index_or c.args.network.now.streams c.loop-stream.stream-index c.stream-item.result =
+    c.stream-item.is ∙ ap (λ (streams : List DeclaredStream).
+    slice_index_or streams c.loop-stream.stream-index c.stream-item.result) c.streams-streams.ensures.value in
+    subst (λ (s : DeclaredStream). AllPairs (λ p q. p ≢ q) s.path) (sym item)
+    (paths_apart c.args.network.now c.streams-streams.ensures.rules c.loop-stream.stream-index c.stream-item.result
+    (omega (arith, long)))

@@ -1,5 +1,6 @@
 use Rattle.std.proofs.Common.{◌≡◌, ℕ, ◌<◌, ◌*◌, ◌+◌, List, length, take, slice_index_or, ap, sym, subst, arith}
 use Rattle.std.proofs.lemmas.List.{take_all}
+use Rattle.ats_network.specs.Class.{PortSender, seen_at}
 use Rattle.ats_network.specs.Network.{senders_of}
 use Rattle.ats_network.specs.Senders.{IsSender, sender_at, no_sender}
 use Rattle.ats_network.proofs.SenderLemmas.{each_is_sender}
@@ -10,57 +11,69 @@ use Rattle.ats_tally.specs.Tallies.{AddsSender}
 use Rattle.ats_tally.proofs.Counted.{AreCounting, before_port, counted_all, counting_more}
 use Rattle.ats_tally.proofs.tallies.count_sender.Goals as goal
 
+pub overflow_cast-hop : goal.overflow_cast-hop
+overflow_cast-hop c =
+    let path : List ℕ = (sender_at c.args.network.now c.args.sender).path in
+    let is : IsSender c.args.network.now.topology (sender_at c.args.network.now c.args.sender) = each_is_sender
+    c.args.network.now c.sender_path-port-items.ensures.rules c.args.sender no_sender c.requires.sender in
+    let long : length c.sender_path-port-items.result.now ≡ length path =
+    ap (λ (ports : List ℕ). length ports) c.sender_path-port-items.ensures.value in
+    omega (arith, long, is.path.most)
+
 pub count_at-requires-clause-port : goal.count_at-requires-clause-port
 count_at-requires-clause-port c =
     let path : List ℕ = (sender_at c.args.network.now c.args.sender).path in
     let is : IsSender c.args.network.now.topology (sender_at c.args.network.now c.args.sender) = each_is_sender
     c.args.network.now c.sender_path-port-items.ensures.rules c.args.sender no_sender c.requires.sender in
-    let here : slice_index_or c.sender_path-port-items.result.now c.loop-port.port-index 0
-    ≡ slice_index_or path c.loop-port.port-index 0 =
-    ap (λ (ports : List ℕ). slice_index_or ports c.loop-port.port-index 0) c.sender_path-port-items.ensures.value in
+    let here : slice_index_or c.sender_path-port-items.result.now c.loop-hop.hop 0
+    ≡ slice_index_or path c.loop-hop.hop 0 =
+    ap (λ (ports : List ℕ). slice_index_or ports c.loop-hop.hop 0) c.sender_path-port-items.ensures.value in
     let long : length c.sender_path-port-items.result.now ≡ length path =
     ap (λ (ports : List ℕ). length ports) c.sender_path-port-items.ensures.value in
-    let within : slice_index_or path c.loop-port.port-index 0 < length c.args.network.now.topology.ports =
-    is.ports c.loop-port.port-index 0 (omega (arith, long)) in
-    omega (arith, here, within, c.loop-port.invariant.count)
+    let within : slice_index_or path c.loop-hop.hop 0 < length c.args.network.now.topology.ports =
+    is.ports c.loop-hop.hop 0 (omega (arith, long)) in
+    omega (arith, here, within, c.loop-hop.invariant.count)
 
 pub count_at-requires-clause-room : goal.count_at-requires-clause-room
 count_at-requires-clause-room c class d least most =
     let path : List ℕ = (sender_at c.args.network.now c.args.sender).path in
     let is : IsSender c.args.network.now.topology (sender_at c.args.network.now c.args.sender) = each_is_sender
     c.args.network.now c.sender_path-port-items.ensures.rules c.args.sender no_sender c.requires.sender in
-    let here : slice_index_or c.sender_path-port-items.result.now c.loop-port.port-index 0
-    ≡ slice_index_or path c.loop-port.port-index 0 =
-    ap (λ (ports : List ℕ). slice_index_or ports c.loop-port.port-index 0) c.sender_path-port-items.ensures.value in
+    let here : slice_index_or c.sender_path-port-items.result.now c.loop-hop.hop 0
+    ≡ slice_index_or path c.loop-hop.hop 0 =
+    ap (λ (ports : List ℕ). slice_index_or ports c.loop-hop.hop 0) c.sender_path-port-items.ensures.value in
     let long : length c.sender_path-port-items.result.now ≡ length path =
     ap (λ (ports : List ℕ). length ports) c.sender_path-port-items.ensures.value in
-    let short : c.loop-port.port-index < length path = omega (arith, long) in
-    subst (λ (p : ℕ). IsWithin MAX_SENDERS (slice_index_or c.loop-port.table.items (8 * p + class) d)) (sym here)
-    (first_within c.args.network.now (slice_index_or path c.loop-port.port-index 0)
+    let short : c.loop-hop.hop < length path = omega (arith, long) in
+    subst (λ (p : ℕ). IsWithin MAX_SENDERS (slice_index_or c.loop-hop.table.items (8 * p + class) d)) (sym here)
+    (first_within c.args.network.now (slice_index_or path c.loop-hop.hop 0)
     class c.args.sender _ c.sender_path-port-items.ensures.rules least
     (before_port (length c.args.network.now.topology.ports) (take c.args.sender (senders_of c.args.network.now))
-    (sender_at c.args.network.now c.args.sender) path c.loop-port.port-index c.loop-port.table.items
-    is.apart short (is.ports c.loop-port.port-index 0 short) c.loop-port.invariant class d least most))
+    (sender_at c.args.network.now c.args.sender) path c.loop-hop.hop c.loop-hop.table.items
+    is.apart short (is.ports c.loop-hop.hop 0 short) c.loop-hop.invariant class d least most))
 
-pub loop-port-preserved : goal.loop-port-preserved
-loop-port-preserved c =
+pub loop-hop-preserved : goal.loop-hop-preserved
+loop-hop-preserved c =
     let path : List ℕ = (sender_at c.args.network.now c.args.sender).path in
     let is : IsSender c.args.network.now.topology (sender_at c.args.network.now c.args.sender) = each_is_sender
     c.args.network.now c.sender_path-port-items.ensures.rules c.args.sender no_sender c.requires.sender in
-    let here : slice_index_or c.sender_path-port-items.result.now c.loop-port.port-index 0
-    ≡ slice_index_or path c.loop-port.port-index 0 =
-    ap (λ (ports : List ℕ). slice_index_or ports c.loop-port.port-index 0) c.sender_path-port-items.ensures.value in
+    let here : slice_index_or c.sender_path-port-items.result.now c.loop-hop.hop 0
+    ≡ slice_index_or path c.loop-hop.hop 0 =
+    ap (λ (ports : List ℕ). slice_index_or ports c.loop-hop.hop 0) c.sender_path-port-items.ensures.value in
     let long : length c.sender_path-port-items.result.now ≡ length path =
     ap (λ (ports : List ℕ). length ports) c.sender_path-port-items.ensures.value in
-    let short : c.loop-port.port-index < length path = omega (arith, long) in
-    let adds : AddsSender (sender_at c.args.network.now c.args.sender)
-    (8 * slice_index_or path c.loop-port.port-index 0) 8 c.loop-port.table.items c.count_at.new.table.items =
-    subst (λ (p : ℕ). AddsSender (sender_at c.args.network.now c.args.sender) (8 * p)
-    8 c.loop-port.table.items c.count_at.new.table.items) here c.count_at.ensures in
+    let short : c.loop-hop.hop < length path = omega (arith, long) in
+    let seen : PortSender =
+    seen_at (slice_index_or path c.loop-hop.hop 0) (sender_at c.args.network.now c.args.sender) in
+    let adds : AddsSender seen
+    (8 * slice_index_or path c.loop-hop.hop 0) 8 c.loop-hop.table.items c.count_at.new.table.items =
+    subst (λ (p : ℕ). AddsSender seen (8 * p) 8 c.loop-hop.table.items c.count_at.new.table.items) here
+    (subst (λ (s : PortSender). AddsSender s (8 * slice_index_or c.sender_path-port-items.result.now c.loop-hop.hop 0)
+    8 c.loop-hop.table.items c.count_at.new.table.items) c.at.ensures.seen c.count_at.ensures) in
     counting_more (length c.args.network.now.topology.ports)
     (take c.args.sender (senders_of c.args.network.now)) (sender_at c.args.network.now c.args.sender)
-    path c.loop-port.port-index c.loop-port.table.items c.count_at.new.table.items
-    is.apart short (is.ports c.loop-port.port-index 0 short) c.loop-port.invariant adds
+    path c.loop-hop.hop c.loop-hop.table.items c.count_at.new.table.items
+    is.apart short (is.ports c.loop-hop.hop 0 short) c.loop-hop.invariant adds
 
 pub returns : goal.returns
 returns c =
@@ -68,7 +81,7 @@ returns c =
     let long : length c.sender_path-port-items.result.now ≡ length path =
     ap (λ (ports : List ℕ). length ports) c.sender_path-port-items.ensures.value in
     counted_all c.args.network.now (length c.args.network.now.topology.ports)
-    c.args.sender c.loop-port.table.items c.requires.sender
+    c.args.sender c.loop-hop.table.items c.requires.sender
     (subst (λ (ports : List ℕ). AreCounting (length c.args.network.now.topology.ports) (take c.args.sender
-    (senders_of c.args.network.now)) (sender_at c.args.network.now c.args.sender) ports c.loop-port.table.items)
-    (take_all c.loop-port.port-index path (omega (arith, long))) c.loop-port.invariant)
+    (senders_of c.args.network.now)) (sender_at c.args.network.now c.args.sender) ports c.loop-hop.table.items)
+    (take_all c.loop-hop.hop path (omega (arith, long))) c.loop-hop.invariant)

@@ -1,7 +1,8 @@
 use Rattle.std.proofs.Common.{◌≡◌, ℕ, ◌<◌, ◌≤◌, List, length, replicate, sym, ap, ◌∙◌, arith, rules, Option, Some, None}
 use Rattle.std.proofs.Common.{subst, length-set, length-append}
 use Rattle.std.proofs.lemmas.List.{length-replicate, drop_all}
-use Rattle.ats_topology.proofs.Spreading.{distance_within, read_is, some_is}
+use Rattle.std.proofs.lemmas.Option.{same_Some}
+use Rattle.ats_topology.proofs.Spreading.{distance_within, read_is}
 use Rattle.ats_topology.proofs.Searching.{IsSearch, turn_at, turn_small, search_on, search_start, found_all}
 use Rattle.ats_topology.proofs.Searching.{unreached_start}
 use Rattle.ats_topology.proofs.LeastWalks.{some_there}
@@ -55,7 +56,7 @@ overflow_add-far c =
     let t = turn_at c.args.table.now.ports c.args.to c.loop-head.distances.items c.loop-head.head
     c.index-node.result.now queue inside c.index-node.ensures c.loop-head.invariant.search in
     let known = distance_within c.loop-head.distances.items c.index-node.result.now t.far t.at in
-    let same = some_is c.unwrap-far.result t.far (sym c.unwrap-far.ensures ∙ sym (read_is c.loop-head.distances.items
+    let same = same_Some c.unwrap-far.result t.far (sym c.unwrap-far.ensures ∙ sym (read_is c.loop-head.distances.items
     c.index-node.result.now c.index.result.now known c.index.ensures) ∙ t.at) in
     omega (
       arith,

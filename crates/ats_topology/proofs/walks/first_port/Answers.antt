@@ -1,10 +1,10 @@
-use Rattle.std.proofs.Common.{ℕ, ◌+◌, Bool, List, length, get_or, take, sym, ap, ◌∙◌, arith}
+use Rattle.std.proofs.Common.{ℕ, ◌+◌, Bool, true, false, List, Option, length, get_or, take, sym, ap, ◌∙◌, arith}
 use Rattle.std.specs.List.{find}
 use Rattle.ats_topology.specs.declared.port.Port.{Port}
 use Rattle.ats_topology.specs.Port.{port_at}
 use Rattle.ats_topology.specs.Search.{distance, is_at}
 use Rattle.ats_topology.proofs.Leaving.{leaving_at, find-here, find-over}
-use Rattle.ats_topology.proofs.LeastWalks.{is_at_eq}
+use Rattle.ats_topology.proofs.LeastWalks.{is_far_as}
 use Rattle.ats_topology.proofs.walks.first_port.Goals as goal
 
 pub bounds-ports-port : goal.bounds-ports-port
@@ -15,30 +15,26 @@ bounds-ports-port c =
 
 pub returns-then-eq : goal.returns-then-eq
 returns-then-eq c =
-    let ports = c.args.table.now.ports in
-    let items = c.leaving-port-items.result.now in
-    let test : ℕ → Bool = λ p. is_at c.args.far (distance c.args.distances.now (port_at ports p).to) in
-    let p = get_or items c.loop-port.port-index 0 in
-    let passes = ap (λ (ps : List Port). is_at c.args.far (distance c.args.distances.now (port_at ps p).to))
-    (sym c.ports-ports.ensures)
-    ∙ is_at_eq c.args.far (distance c.args.distances.now (port_at c.ports-ports.result.now p).to) ∙ sym c.eq.ensures
-    ∙ c.if-eq.true in
-    let none = ap (λ (xs : List ℕ). find test (take c.loop-port.port-index xs)) c.leaving-port-items.ensures
-    ∙ c.loop-port.invariant in
+    let ports : List Port = c.args.table.now.ports in
+    let distances : List (Option ℕ) = c.args.distances.now in
+    let items : List ℕ = c.leaving-port-items.result.now in
+    let place : ℕ = c.loop-port.port-index in
+    let test : ℕ → Bool = λ p. is_at c.args.far (distance distances (port_at ports p).to) in
     sym (ap (find test) (sym c.leaving-port-items.ensures)
-    ∙ find-here test items c.loop-port.port-index 0 none c.loop-port-test.true passes)
+    ∙ find-here test items place 0
+    (ap (λ (xs : List ℕ). find test (take place xs)) c.leaving-port-items.ensures ∙ c.loop-port.invariant)
+    c.loop-port-test.true
+    (is_far_as c.args.far (get_or items place 0) distances ports c.ports-ports.result.now c.eq.result true
+    c.ports-ports.ensures c.eq.ensures c.if-eq.true))
 
 pub loop-port-preserved : goal.loop-port-preserved
 loop-port-preserved c =
-    let ports = c.args.table.now.ports in
-    let items = c.leaving-port-items.result.now in
-    let test : ℕ → Bool = λ p. is_at c.args.far (distance c.args.distances.now (port_at ports p).to) in
-    let p = get_or items c.loop-port.port-index 0 in
-    let fails = ap (λ (ps : List Port). is_at c.args.far (distance c.args.distances.now (port_at ps p).to))
-    (sym c.ports-ports.ensures)
-    ∙ is_at_eq c.args.far (distance c.args.distances.now (port_at c.ports-ports.result.now p).to) ∙ sym c.eq.ensures
-    ∙ c.if-eq.false in
-    let none = ap (λ (xs : List ℕ). find test (take c.loop-port.port-index xs)) c.leaving-port-items.ensures
-    ∙ c.loop-port.invariant in
-    ap (λ (xs : List ℕ). find test (take (c.loop-port.port-index + 1) xs)) (sym c.leaving-port-items.ensures)
-    ∙ find-over test items c.loop-port.port-index 0 none c.loop-port-test.true fails
+    let items : List ℕ = c.leaving-port-items.result.now in
+    let place : ℕ = c.loop-port.port-index in
+    let test : ℕ → Bool = λ p. is_at c.args.far (distance c.args.distances.now (port_at c.args.table.now.ports p).to) in
+    ap (λ (xs : List ℕ). find test (take (place + 1) xs)) (sym c.leaving-port-items.ensures)
+    ∙ find-over test items place 0
+    (ap (λ (xs : List ℕ). find test (take place xs)) c.leaving-port-items.ensures ∙ c.loop-port.invariant)
+    c.loop-port-test.true
+    (is_far_as c.args.far (get_or items place 0) c.args.distances.now c.args.table.now.ports
+    c.ports-ports.result.now c.eq.result false c.ports-ports.ensures c.eq.ensures c.if-eq.false)

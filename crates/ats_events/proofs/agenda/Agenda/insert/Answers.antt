@@ -1,19 +1,14 @@
-use Rattle.std.proofs.Common.{◌≡◌, [], ◌∷◌, ◌++◌, refl, arith}
-use Rattle.std.proofs.lemmas.Grind.{common_steps}
-use Rattle.std.proofs.lemmas.List.Sorted.{IsPermutation-sym, IsPermutation-to_front}
+use Rattle.std.proofs.Common.{◌≡◌, arith}
+use Rattle.ats_events.specs.Order.{IsInRange}
+use Rattle.ats_events.proofs.Popped.{kept-insert}
 use Rattle.ats_events.proofs.agenda.Agenda.insert.Goals as goal
 
-pub returns-clause-inserted : goal.returns-clause-inserted
-returns-clause-inserted g c =
-    let before = c.self.inside.entries.items in
-    let e : c.push.new.self.items ≡ before ++ (c.args.moment, c.args.event) ∷ [] = grind (arith, common_steps) in
-    rw (e, ← c.self.view_is)
-    record {
-      room = rw (← c.self.view_is) at c.requires.room;
-      apart = rw (← c.self.view_is) at c.requires.apart;
-      after = rw (← c.self.view_is) at c.requires.after;
-      entries = IsPermutation-sym _ _ (IsPermutation-to_front before (c.args.moment, c.args.event));
-      last = refl {a = c.self.inside.last};
-      capacity = refl {a = c.self.inside.capacity};
-      order = refl {a = c.self.inside.order};
-    }
+pub invariant_of-self : goal.invariant_of-self
+invariant_of-self g c =
+    let order = c.self.inside.entries.order.order in
+    let range : IsInRange c.args.moment = record { at = omega arith; phase = omega arith; id = omega arith } in
+    let same : c.insert.new.self.order.order ≡ order = cc in
+    rw same
+    (kept-insert (g.O.TimeOrder.before order) c.self.inside.entries.items c.insert.new.self.items
+    (c.args.moment, c.args.event) c.self.inside.last c.insert.ensures.items range
+    (rw (← c.self.view_is) at c.requires.apart) (rw (← c.self.view_is) at c.requires.after) c.self.invariant)

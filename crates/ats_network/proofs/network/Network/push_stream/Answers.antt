@@ -11,13 +11,10 @@ use Rattle.ats_network.proofs.network.Network.push_stream.Goals as goal
 
 pub push-requires-clause-absent : goal.push-requires-clause-absent
 push-requires-clause-absent c =
-    let inside : DeclaredNetwork =
-    declared_network c.self.inside.shape c.self.inside.stream_table c.self.inside.flow_table in
-    none_first c.args.stream.name inside
-    (not_found c.sender_named.result c.args.stream.name inside
-    (c.sender_named.ensures.number ∙ ap (λ name. place_of name (names_of (senders_of c.args.self.now))) c.name.ensures
-    ∙ sym (ap (λ (n : DeclaredNetwork). place_of c.args.stream.name (names_of (senders_of n))) c.self.view_is))
-    (sym c.is_some.ensures ∙ c.if-is_some.false))
+    none_first c.args.stream.name
+    (declared_network c.self.inside.shape c.self.inside.stream_table c.self.inside.flow_table)
+    (not_found c.sender_named.result _ c.args.stream.name _ c.args.self.now c.self.view_is
+    c.name.ensures c.sender_named.ensures.number (sym c.is_some.ensures ∙ c.if-is_some.false))
 
 pub invariant_of-self-2 : goal.invariant_of-self-2
 invariant_of-self-2 c =
@@ -27,10 +24,8 @@ invariant_of-self-2 c =
     let valid : IsValidPath inside.topology c.args.stream.path =
     subst (λ (n : DeclaredNetwork). IsValidPath n.topology c.args.stream.path) (sym c.self.view_is) c.requires in
     let absent : place_of c.args.stream.name (names_of (senders_of inside)) ≡ None =
-    not_found c.sender_named.result c.args.stream.name inside
-    (c.sender_named.ensures.number ∙ ap (λ name. place_of name (names_of (senders_of c.args.self.now))) c.name.ensures
-    ∙ sym (ap (λ (n : DeclaredNetwork). place_of c.args.stream.name (names_of (senders_of n))) c.self.view_is))
-    (sym c.is_some.ensures ∙ c.if-is_some.false) in
+    not_found c.sender_named.result _ c.args.stream.name inside c.args.self.now c.self.view_is
+    c.name.ensures c.sender_named.ensures.number (sym c.is_some.ensures ∙ c.if-is_some.false) in
     let free : is_identity_taken inside.streams c.args.stream.identity ≡ false =
     ap (λ (n : DeclaredNetwork). is_identity_taken n.streams c.args.stream.identity) c.self.view_is
     ∙ sym (c.is_identity_taken.ensures ∙ ap (is_identity_taken c.args.self.now.streams) c.identity.ensures.value)

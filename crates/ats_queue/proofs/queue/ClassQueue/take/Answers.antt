@@ -1,19 +1,17 @@
-use Rattle.std.proofs.Common.{◌≡◌, ◌≤◌, ◌∙◌, get_or, sym}
-use Rattle.std.proofs.lemmas.List.{get_or_default}
-use Rattle.ats_queue.specs.declared.queued.Queued.{Queued}
-use Rattle.ats_queue.proofs.Taken.{takes_first}
+use Rattle.std.proofs.lemmas.Option.{IfSome_then}
+use Rattle.ats_queue.proofs.Taken.{kept-take, takes_first}
 use Rattle.ats_queue.proofs.queue.ClassQueue.take.Goals as goal
+
+pub invariant_of-self : goal.invariant_of-self
+invariant_of-self g c =
+    kept-take c.pop.result _ c.self.inside.held c.pop.new.self c.pop.ensures.popped c.pop.ensures.unchanged
+    c.self.invariant
 
 pub returns-clause-taken : goal.returns-clause-taken
 returns-clause-taken g c =
-    let held = c.self.inside.held.items in
-    let x : Queued = c.remove.result in
-    let y : Queued = c.index.result.now in
-    let i = c.first_of-first.result in
-    let first = rw c.deref.ensures.value at c.first_of-first.ensures in
-    let at : get_or held i y ≡ x = get_or_default held i y x first.within ∙ sym c.remove.ensures.value in
-    let same : y ≡ x = c.index.ensures ∙ at in
-    let eligible : x.eligible.0 ≤ c.args.now.0 = rw (← same) c.if-now-index.false in
-    let key = g.T.Tie.key c.self.inside.tie in
-    rw (c.remove.ensures.items, ← c.self.view_is)
-    (takes_first key c.args.now.0 held i x first.within c.remove.ensures.value eligible first.first)
+    let tie = c.self.inside.held.order.tie in
+    rw (← c.self.view_is)
+    (IfSome_then c.pop.result c.pop.ensures.popped
+    (λ x pops. takes_first (g.T.Tie.key tie) c.args.now.0 c.self.inside.held.items c.pop.new.self.items
+    c.in_ok-first.first x (g.met.T.Tie.distinct tie) c.self.invariant c.in_ok-first.ensures.first c.if-now-first.false
+    pops))

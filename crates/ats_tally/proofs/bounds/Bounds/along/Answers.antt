@@ -1,42 +1,46 @@
-use Rattle.std.proofs.Common.{◌≡◌, ℕ, ◌≤◌, ◌+◌, List, length, Option, sum_by, take, slice_index_or, ap, sym, ◌∙◌, arith}
+use Rattle.std.proofs.Common.{◌≡◌, ◌≤◌, ◌<◌, ◌+◌, ℕ, List, length, Option, sum_by, take, slice_index_or, ap, sym, ◌∙◌}
+use Rattle.std.proofs.Common.{arith}
 use Rattle.std.specs.Prelude.{unwrap_or}
 use Rattle.std.proofs.lemmas.List.Sums.{sum_by_more}
-use Rattle.ats_certificate.specs.Certificate.{bound_at}
+use Rattle.ats_streams.specs.Stream.{DeclaredStream}
+use Rattle.ats_network.specs.Sender.{stream_sender}
+use Rattle.ats_certificate.specs.Certificate.{bound_at, bound_of_hop}
+use Rattle.ats_tally.proofs.Paths.{hop_bound}
 use Rattle.ats_tally.proofs.Placed.{bound_most}
 use Rattle.ats_tally.proofs.bounds.Bounds.along.Goals as goal
 
 pub overflow_add-sum : goal.overflow_add-sum
 overflow_add-sum c =
-    let port : ℕ = slice_index_or c.path-port-items.result.now c.loop-port.port-index 0 in
-    let value : c.unwrap_or-sum.result ≡ bound_at c.args.self.now.rows port c.class.result =
+    let port : ℕ = slice_index_or c.path-port-items.result.now c.loop-hop.hop 0 in
+    let class : ℕ = slice_index_or c.classes-classes.result.now c.loop-hop.hop 0 in
+    let value : c.unwrap_or-sum.result ≡ bound_at c.args.self.now.rows port class =
     c.unwrap_or-sum.ensures ∙ ap (λ (o : Option ℕ). unwrap_or o 0) c.given.ensures.value in
-    let small = bound_most c.args.self.now.rows port c.class.result c.given.ensures.form.each in
+    let small = bound_most c.args.self.now.rows port class c.given.ensures.form.each in
     let long : length c.path-port-items.result.now ≡ length c.args.stream.now.path =
     ap (λ (ports : List ℕ). length ports) c.path-port-items.ensures.value in
     let short : length c.args.stream.now.path ≤ 16 = c.path-port-items.ensures.rules.path.most in
     omega (arith, value, small, long, short)
 
-pub loop-port-preserved : goal.loop-port-preserved
-loop-port-preserved c =
-    let port : ℕ = slice_index_or c.path-port-items.result.now c.loop-port.port-index 0 in
-    let value : c.unwrap_or-sum.result ≡ bound_at c.args.self.now.rows port c.class.result =
+pub loop-hop-preserved : goal.loop-hop-preserved
+loop-hop-preserved c =
+    let stream : DeclaredStream = c.args.stream.now in
+    let rows = c.args.self.now.rows in
+    let hop : ℕ = c.loop-hop.hop in
+    let port : ℕ = slice_index_or c.path-port-items.result.now hop 0 in
+    let class : ℕ = slice_index_or c.classes-classes.result.now hop 0 in
+    let value : c.unwrap_or-sum.result ≡ bound_at rows port class =
     c.unwrap_or-sum.ensures ∙ ap (λ (o : Option ℕ). unwrap_or o 0) c.given.ensures.value in
-    let class : bound_at c.args.self.now.rows port c.class.result ≡ bound_at c.args.self.now.rows port
-    c.args.stream.now.class = ap (bound_at c.args.self.now.rows port) c.class.ensures.value in
-    let small = bound_most c.args.self.now.rows port c.class.result c.given.ensures.form.each in
-    let here : port ≡ slice_index_or c.args.stream.now.path c.loop-port.port-index 0 =
-    ap (λ (ports : List ℕ). slice_index_or ports c.loop-port.port-index 0) c.path-port-items.ensures.value in
-    let moved : bound_at c.args.self.now.rows port c.args.stream.now.class ≡ bound_at c.args.self.now.rows
-    (slice_index_or c.args.stream.now.path c.loop-port.port-index 0) c.args.stream.now.class =
-    ap (λ (p : ℕ). bound_at c.args.self.now.rows p c.args.stream.now.class) here in
-    let long : length c.path-port-items.result.now ≡ length c.args.stream.now.path =
+    let small = bound_most rows port class c.given.ensures.form.each in
+    let long : length c.path-port-items.result.now ≡ length stream.path =
     ap (λ (ports : List ℕ). length ports) c.path-port-items.ensures.value in
-    let so_far : ℕ = sum_by (λ (p : ℕ). bound_at c.args.self.now.rows p c.args.stream.now.class)
-    (take c.loop-port.port-index c.args.stream.now.path) in
-    let more = sum_by_more (λ (p : ℕ). bound_at c.args.self.now.rows p c.args.stream.now.class)
-    c.args.stream.now.path c.loop-port.port-index 0 (omega (arith, long)) in
+    let within : hop < length stream.path = omega (arith, long) in
+    let here = hop_bound rows stream hop port class c.path-port-items.ensures.rules c.requires.apart within
+    (ap (λ (ports : List ℕ). slice_index_or ports hop 0) c.path-port-items.ensures.value)
+    (ap (λ (classes : List ℕ). slice_index_or classes hop 0) c.classes-classes.ensures.value) in
+    let so_far : ℕ = sum_by (bound_of_hop rows (stream_sender stream)) (take hop stream.path) in
+    let more = sum_by_more (bound_of_hop rows (stream_sender stream)) stream.path hop 0 within in
     record {
-      sum = ap (λ (n : ℕ). n + c.unwrap_or-sum.result) c.loop-port.invariant.sum
-          ∙ ap (λ (n : ℕ). so_far + n) (value ∙ class ∙ moved) ∙ sym more;
+      sum = ap (λ (n : ℕ). n + c.unwrap_or-sum.result) c.loop-hop.invariant.sum
+          ∙ ap (λ (n : ℕ). so_far + n) (value ∙ here) ∙ sym more;
       most = omega (arith, value, small);
     }

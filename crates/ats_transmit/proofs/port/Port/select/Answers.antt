@@ -40,15 +40,11 @@ pub unwrap-requires : goal.unwrap-requires
 unwrap-requires g c =
     let i = c.self.inside in
     let s : Standing g.row.T.Denot = standing_of i.ps_per_bit i.rooms i.tie i.queues.items i.sent.items i.is_sending in
-    let started : Offer = c.take_from-started.result in
-    let now = c.args.now.0 in
-    let class = c.in-Some.class in
     let new = c.take_from-started.new.queues.items in
-    let found = c.in-Some.ensures.found in
-    let x = selected g.T.Tie.key now class s i.queues.items _ new started refl c.deref-2.ensures.value found
-    c.take_from-started.ensures in
-    let room : length i.sent.items < vec_capacity i.sent =
-    sent-room g.T.Tie.key now class s i.queues.items new started _ c.self.invariant x in
+    let x = selected g.T.Tie.key c.args.now.0 c.in-Some.class s i.queues.items _ new c.take_from-started.result refl
+    c.deref-2.ensures.value c.in-Some.ensures.found c.take_from-started.ensures in
+    let room : length i.sent.items < vec_capacity i.sent = sent-room g.T.Tie.key c.args.now.0 c.in-Some.class s
+    i.queues.items new c.take_from-started.result _ c.self.invariant x in
     c.push.ensures.succeeds (omega (arith, i.sent.ok.0))
 
 pub invariant_of-self : goal.invariant_of-self
@@ -79,18 +75,16 @@ pub returns-clause-pick : goal.returns-clause-pick
 returns-clause-pick g c =
     let i = c.self.inside in
     let s : Standing g.row.T.Denot = standing_of i.ps_per_bit i.rooms i.tie i.queues.items i.sent.items i.is_sending in
-    let started : Offer = c.take_from-started.result in
     let now = c.args.now.0 in
     let class = c.in-Some.class in
+    let started : Offer = c.take_from-started.result in
     let new = c.take_from-started.new.queues.items in
-    let found = c.in-Some.ensures.found in
-    let x = selected g.T.Tie.key now class s i.queues.items _ new started refl c.deref-2.ensures.value found
-    c.take_from-started.ensures in
-    let pushed : c.push.new.self.items ≡ i.sent.items ++ c.sent_at-sent.result ∷ [] = grind (arith, common_steps) in
-    let sent : c.push.new.self.items ≡ i.sent.items ++ sent_at i.ps_per_bit started now ∷ [] =
-    rw c.sent_at-sent.ensures at pushed in
-    let starts = starts-select g.T.Tie.key now class s i.queues.items new started c.push.new.self.items _
-    c.self.invariant x sent in
+    let after = c.push.new.self.items in
+    let pushed : after ≡ i.sent.items ++ c.sent_at-sent.result ∷ [] = grind (arith, common_steps) in
+    let sent : after ≡ i.sent.items ++ sent_at i.ps_per_bit started now ∷ [] = rw c.sent_at-sent.ensures at pushed in
+    let starts = starts-select g.T.Tie.key now class s i.queues.items new started after _ c.self.invariant
+    (selected g.T.Tie.key now class s i.queues.items _ new started refl c.deref-2.ensures.value c.in-Some.ensures.found
+    c.take_from-started.ensures) sent in
     rw (← c.self.view_is, c.sent_at-sent.ensures) (c.if-self.false, starts)
 
 pub returns-clause-lawful : goal.returns-clause-lawful

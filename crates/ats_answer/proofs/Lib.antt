@@ -1,0 +1,3 @@
+pub mod RowSteps
+pub mod RowPorts
+pub mod Steps

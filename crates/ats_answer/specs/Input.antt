@@ -1,0 +1,40 @@
+use Rattle.std.specs.Prelude.{ℕ, nat_lt, List, length, codes, Result, Ok, Err, if◌then◌else◌}
+use Rattle.ats_shape.specs.Shape.{DeclaredShape}
+use Rattle.ats_shape.specs.Reading.{shape_of}
+use Rattle.ats_shape.specs.FaultText as shape
+use Rattle.ats_network.specs.Network.{DeclaredNetwork}
+use Rattle.ats_network_file.specs.Reading.{network_of}
+use Rattle.ats_network_file.specs.FaultText as network
+use Rattle.ats_topology.specs.Topology.{DeclaredTopology}
+use Rattle.ats_certificate.specs.declared.row.Row.{Row}
+use Rattle.ats_certificate_file.specs.Reading.{rows_of}
+use Rattle.ats_certificate_file.specs.FaultText as certificate
+use Rattle.ats_num.specs.Failure.{◌>>=◌}
+use Rattle.ats_answer.specs.Answer.{Answer, input_answer}
+
+-- the bytes of a file: more than 16,777,216 are too long, whatever they are
+abbrev pub bytes_in : List ℕ → List ℕ → Result (List ℕ) Answer
+bytes_in file bytes = if nat_lt 16777216 (length bytes) then Err (input_answer file (codes "too-long")) else Ok bytes
+
+-- what a file declares, or the answer to its first fault, for which there are these words
+abbrev pub declared_in : {A F : Type 0} → List ℕ → (F → List ℕ) → Result A F → Result A Answer
+declared_in file words (Ok value) = Ok value
+declared_in file words (Err fault) = Err (input_answer file (words fault))
+
+-- the shape that a file of these bytes declares
+unfoldable pub shape_in : List ℕ → List ℕ → Result DeclaredShape Answer
+shape_in file bytes = do
+  text ← bytes_in file bytes
+  declared_in file shape.fault_text (shape_of text)
+
+-- the network that a file of these bytes declares
+unfoldable pub network_in : List ℕ → List ℕ → Result DeclaredNetwork Answer
+network_in file bytes = do
+  text ← bytes_in file bytes
+  declared_in file network.fault_text (network_of text)
+
+-- the rows that a certificate's file of these bytes declares for the ports of a topology
+unfoldable pub rows_in : DeclaredTopology → List ℕ → List ℕ → Result (List Row) Answer
+rows_in topology file bytes = do
+  text ← bytes_in file bytes
+  declared_in file certificate.fault_text (rows_of topology text)

@@ -1,0 +1,6 @@
+pub mod Command
+pub mod Answer
+pub mod Input
+pub mod Named
+pub mod Outcome
+pub mod Status

@@ -1,0 +1,57 @@
+//! The command table.
+
+ghost use Rattle.std.specs.Prelude.{◌≡◌};
+ghost use Rattle.ats_answer.specs.Command.{command_of, command_on, command_on_two};
+ghost use Rattle.ats_answer.specs.Named.{texts_of, view_of};
+
+/// A line of the command table, with its words.
+#[derive(Clone, Copy)]
+pub enum Command<'a> {
+    /// `shape FILE`: one group of schedulers, from arrivals to verdicts.
+    Shape(&'a str),
+    /// `show NET`: the ports of a network, and the routes of its streams and flows.
+    Show(&'a str),
+    /// `bound NET`: the certificate of a network with the least waits.
+    Bound(&'a str),
+    /// `check NET CERT`: judges a certificate of a network, and gives the sums.
+    Check(&'a str, &'a str),
+}
+
+/// The command that words name; `None` exactly where they are not in the table.
+pub fn named_by(words: &[String]) -> Option<Command<'_>>
+    ensures { view_of result ≡ command_of (texts_of words.now) }
+{
+    if words.len() == 2 {
+        on_file(words[0].as_str(), words[1].as_str())
+    } else if words.len() == 3 {
+        on_two(words[0].as_str(), words[1].as_str(), words[2].as_str())
+    } else {
+        None
+    }
+}
+
+// The command of a verb and a file.
+fn on_file<'a>(verb: &str, file: &'a str) -> Option<Command<'a>>
+    ensures { view_of result ≡ command_on verb.now file.now }
+{
+    if verb == "shape" {
+        Some(Command::Shape(file))
+    } else if verb == "show" {
+        Some(Command::Show(file))
+    } else if verb == "bound" {
+        Some(Command::Bound(file))
+    } else {
+        None
+    }
+}
+
+// The command of a verb and two files.
+fn on_two<'a>(verb: &str, file: &'a str, second: &'a str) -> Option<Command<'a>>
+    ensures { view_of result ≡ command_on_two verb.now file.now second.now }
+{
+    if verb == "check" {
+        Some(Command::Check(file, second))
+    } else {
+        None
+    }
+}

@@ -1,0 +1,107 @@
+//! What the files of a call declare.
+
+ghost use Rattle.std.specs.Prelude.{◌≡◌, ℕ, ◌<◌, ◌≤◌, List, length, Some, All, IfOk, IsErrOf};
+ghost use Rattle.ats_io.specs.Outside.{Rose, IfTold, Continues};
+ghost use Rattle.ats_answer.specs.Answer.{input_text};
+ghost use Rattle.ats_answer.specs.Input.{bytes_in, shape_in, network_in, rows_in};
+ghost use Rattle.ats_answer.specs.Outcome.{Gives, PassesOn};
+
+use crate::outcome::Stop;
+use ats_certificate::Certificate;
+use ats_certificate_file::read_certificate;
+use ats_io::{Files, ReadFault, read_whole};
+use ats_network::Network;
+use ats_network_file::read_network;
+use ats_num::{Failure, Fault};
+use ats_shape::{Shape, read_shape};
+use ats_topology::Topology;
+use std::alloc::{AllocError, Global};
+use std::fmt::Display;
+
+/// The most bytes of a file that declares a shape, a network or a certificate.
+pub const MAX_BYTES: u64 = 16_777_216;
+
+/// The shape that a file declares. `Input` exactly where the file is too long or has a fault, and
+/// `ReadFailed` only where a fault came at it.
+pub fn shape_in<F: Files>(alloc: Global, file: &str, files: &mut F) -> Result<Shape, Stop>
+    ensures due { IfTold (F.told files.old file.now)
+        (λ bytes. Gives (λ shape. shape) result (shape_in file.now bytes)) }
+    ensures failed { IsErrOf result Stop.ReadFailed → Rose (F.faults files.old file.now) (F.faults files.new file.now) }
+    ensures continues { Continues F.told F.faults files.old files.new }
+{
+    let bytes = bytes_in(alloc, file, files)?;
+    declared(alloc, file, read_shape(alloc, &bytes))
+}
+
+/// The network that a file declares. `Input` exactly where the file is too long or has a fault, and
+/// `ReadFailed` only where a fault came at it.
+pub fn network_in<F: Files>(alloc: Global, file: &str, files: &mut F) -> Result<Network, Stop>
+    ensures due { IfTold (F.told files.old file.now)
+        (λ bytes. Gives (λ network. network) result (network_in file.now bytes)) }
+    ensures failed { IsErrOf result Stop.ReadFailed → Rose (F.faults files.old file.now) (F.faults files.new file.now) }
+    ensures continues { Continues F.told F.faults files.old files.new }
+{
+    let bytes = bytes_in(alloc, file, files)?;
+    declared(alloc, file, read_network(alloc, &bytes))
+}
+
+/// The certificate that a file declares for the ports of a topology, each row for one of them.
+/// `Input` exactly where the file is too long or has a fault, and `ReadFailed` only where a fault
+/// came at it.
+pub fn certificate_in<F: Files>(
+    alloc: Global,
+    file: &str,
+    topology: &Topology,
+    files: &mut F,
+) -> Result<Certificate, Stop>
+    ensures due { IfTold (F.told files.old file.now)
+        (λ bytes. Gives (λ rows. rows) result (rows_in topology.now file.now bytes)) }
+    ensures inside { IfOk result (All (λ row. row.port < length topology.now.ports)) }
+    ensures failed { IsErrOf result Stop.ReadFailed → Rose (F.faults files.old file.now) (F.faults files.new file.now) }
+    ensures continues { Continues F.told F.faults files.old files.new }
+{
+    let bytes = bytes_in(alloc, file, files)?;
+    declared(alloc, file, read_certificate(alloc, &bytes, topology))
+}
+
+// The bytes of a file that is not too long.
+fn bytes_in<F: Files>(alloc: Global, file: &str, files: &mut F) -> Result<Vec<u8>, Stop>
+    ensures few { IfOk result (λ bytes. length bytes.items ≤ MAX_BYTES) }
+    ensures due { IfTold (F.told files.old file.now)
+        (λ bytes. Gives (λ whole. whole.items) result (bytes_in file.now bytes)) }
+    ensures failed { IsErrOf result Stop.ReadFailed → Rose (F.faults files.old file.now) (F.faults files.new file.now) }
+    ensures continues { Continues F.told F.faults files.old files.new }
+{
+    match read_whole(alloc, files, file, MAX_BYTES) {
+        Ok(bytes) => Ok(bytes),
+        Err(Failure::Fault(ReadFault::TooLong)) => {
+            Err(Stop::Input(input_line(alloc, file, &"too-long")?))
+        }
+        Err(Failure::Fault(ReadFault::Failed)) => Err(Stop::ReadFailed),
+        Err(Failure::NoMemory) => Err(Stop::NoMemory),
+    }
+}
+
+// What was read from the bytes of a file, or the line that tells its fault.
+fn declared<T, E: Fault + Display>(
+    alloc: Global,
+    file: &str,
+    read: Result<T, Failure<E>>,
+) -> Result<T, Stop>
+    ensures due { PassesOn E.output file.now read result }
+    ensures was_read { ¬ IsErrOf result Stop.ReadFailed }
+{
+    match read {
+        Ok(value) => Ok(value),
+        Err(Failure::Fault(fault)) => Err(Stop::Input(input_line(alloc, file, &fault)?)),
+        Err(Failure::NoMemory) => Err(Stop::NoMemory),
+    }
+}
+
+// The line that tells the fault of a file.
+fn input_line<E: Display>(alloc: Global, file: &str, fault: &E) -> Result<Vec<u8>, AllocError>
+    ensures { IfOk result
+        (λ text. (words : List ℕ) → E.output fault.now ≡ Some words → text.items ≡ input_text file.now words) }
+{
+    Ok(format!(in alloc; "input {file} {fault}\n")?.into_bytes())
+}

@@ -1,0 +1,13 @@
+//! What any command's answer is made of: the command table, what the files of a call declare or the
+//! stop in its place, the status, and how a text or a stop is printed.
+#![tactic(auto)]
+
+pub mod command;
+pub mod input_file;
+pub mod outcome;
+pub mod status;
+
+pub use command::{Command, named_by};
+pub use input_file::{certificate_in, network_in, shape_in};
+pub use outcome::{Stop, finish, print};
+pub use status::Status;

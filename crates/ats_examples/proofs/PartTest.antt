@@ -1,0 +1,215 @@
+use Rattle.std.proofs.Common.{◌≡◌, ◌≢◌, ℕ, ◌<◌, ◌≤◌, Bool, true, false, ◌&&◌, ◌||◌, List, [], ◌∷◌, length, map, get_or}
+use Rattle.std.proofs.Common.{lit<, Option, Some, None, All, refl, sym, ap, subst, ◌∙◌, inl, inr}
+use Rattle.std.specs.Prelude.{nat_le, nat_lt, ◌==◌}
+use Rattle.std.specs.List.{list_all}
+use Rattle.std.proofs.lemmas.Bool.{and_parts, false≢true}
+use Rattle.std.proofs.lemmas.List.Sums.{AllPass-from_list_all}
+use Rattle.ats_num.specs.declared.time.Ps.{Ps}
+use Rattle.ats_num.specs.Wire.{IsFrameSize}
+use Rattle.ats_network.specs.Network.{DeclaredNetwork, senders_of}
+use Rattle.ats_network.specs.Senders.{sender_at}
+use Rattle.ats_port_rule.specs.Transmission.{Transmission}
+use Rattle.ats_group.specs.declared.verdict.Verdict.{Verdict}
+use Rattle.ats_group.specs.declared.verdict.Verdict.TheVariants.{Eligible, Late, Size}
+use Rattle.ats_trace.specs.Journey.{Travel, IsWay, IsSentOrEnds, IsReleased}
+use Rattle.ats_trace.specs.Run.{releases_of, IsLegal}
+use Rattle.ats_trace.specs.declared.journey.Release.{Release}
+use Rattle.ats_trace.specs.declared.journey.HopRecord.{HopRecord}
+use Rattle.ats_trace.specs.declared.journey.Ending.{Ending}
+use Rattle.ats_trace.specs.declared.journey.Ending.TheVariants.{Sink, Discard}
+use Rattle.ats_trace.specs.Parts.{Part, in_order, octets, way, released, links, waits, takes, apart, chosen, prompt}
+use Rattle.ats_trace.specs.Parts.{groups, flows, Keeps}
+use Rattle.ats_trace.proofs.PartProofs.{legal_is_each_part}
+use Rattle.ats_examples.proofs.Tests.{le_of, lt_of, eq_of, either, all_by, pairs_pass}
+use Rattle.ats_examples.proofs.PortTest.{waits_pass, takes_pass, apart_pass, chosen_pass, prompt_pass, waits_by}
+use Rattle.ats_examples.proofs.PortTest.{takes_by, all_apart_by, all_chosen_by, all_prompt_by}
+use Rattle.ats_examples.proofs.LegalTest.{ascending_by, each_port_passes, each_port_by, links_pass, links_by}
+use Rattle.ats_examples.proofs.LegalTest.{groups_pass, groups_by, flows_pass, flows_by, same_verdict, verdict_is}
+
+-- Tests of the parts of a legal run on closed networks and runs.
+
+-- what follows from a verdict, and a frame's way
+abbrev pub goes_on : Bool → Verdict → Option (Ps × Ps) → List HopRecord → Ending → Bool
+goes_on onward (Eligible e) (Some times) hops ending = onward
+goes_on onward (Late e) None [] Discard = true
+goes_on onward Size None [] Discard = true
+goes_on onward verdict times hops ending = false
+
+abbrev pub goes_way : List ℕ → List HopRecord → Ending → Bool
+goes_way [] [] (Sink at) = true
+goes_way [] [] Discard = false
+goes_way [] (hop ∷ hops) ending = false
+goes_way (p ∷ path) [] ending = false
+goes_way (p ∷ path) (hop ∷ hops) ending = goes_on (goes_way path hops ending) hop.verdict hop.sent hops ending
+
+goes_on_by : (Onward : Type 0) (onward : Bool) → (onward ≡ true → Onward)
+    → (verdict : Verdict) (sent : Option (Ps × Ps)) (hops : List HopRecord) (ending : Ending)
+    → goes_on onward verdict sent hops ending ≡ true → IsSentOrEnds Onward verdict sent hops ending
+goes_on_by Onward onward shows (Eligible e) (Some times) hops ending h = shows h
+goes_on_by Onward onward shows (Eligible e) None hops ending h = absurd (false≢true h)
+goes_on_by Onward onward shows (Late e) (Some times) hops ending h = absurd (false≢true h)
+goes_on_by Onward onward shows Size (Some times) hops ending h = absurd (false≢true h)
+goes_on_by Onward onward shows (Late e) None [] Discard h = (refl, refl)
+goes_on_by Onward onward shows Size None [] Discard h = (refl, refl)
+goes_on_by Onward onward shows (Late e) None [] (Sink at) h = absurd (false≢true h)
+goes_on_by Onward onward shows Size None [] (Sink at) h = absurd (false≢true h)
+goes_on_by Onward onward shows (Late e) None (hop ∷ hops) ending h = absurd (false≢true h)
+goes_on_by Onward onward shows Size None (hop ∷ hops) ending h = absurd (false≢true h)
+
+way_by : (path : List ℕ) (hops : List HopRecord) (ending : Ending) → goes_way path hops ending ≡ true
+    → IsWay path hops ending
+way_by [] [] (Sink at) h = tt
+way_by [] [] Discard h = absurd (false≢true h)
+way_by [] (hop ∷ hops) ending h = absurd (false≢true h)
+way_by (p ∷ path) [] ending h = absurd (false≢true h)
+way_by (p ∷ path) (hop ∷ hops) ending h =
+    goes_on_by (IsWay path hops ending) (goes_way path hops ending) (way_by path hops ending)
+    hop.verdict hop.sent hops ending h
+
+same_time : (s t : Ps) → (s.0 == t.0) ≡ true → s ≡ t
+same_time s t h = ap (λ (n : ℕ). record { 0 = n }) (eq_of s.0 t.0 h)
+
+abbrev pub is_released : Release → List HopRecord → Bool
+is_released release [] = false
+is_released release (hop ∷ hops) = hop.arrival.0 == release.at.0 && same_verdict hop.verdict (Eligible release.at)
+
+released_by : (release : Release) (hops : List HopRecord) → is_released release hops ≡ true → IsReleased release hops
+released_by release [] h = absurd (false≢true h)
+released_by release (hop ∷ hops) h =
+    let parts = and_parts (hop.arrival.0 == release.at.0) (same_verdict hop.verdict (Eligible release.at)) h in
+    (same_time hop.arrival release.at parts.0, verdict_is hop.verdict (Eligible release.at) parts.1)
+
+abbrev pub has_way : DeclaredNetwork → Travel → Bool
+has_way network j =
+    nat_lt j.release.sender (length (senders_of network))
+    && goes_way (sender_at network j.release.sender).path j.hops j.ending
+
+has_way_by : (network : DeclaredNetwork) (j : Travel) → has_way network j ≡ true
+    → (j.release.sender < length (senders_of network)) × IsWay (sender_at network j.release.sender).path j.hops j.ending
+has_way_by network j h =
+    let goes : Bool = goes_way (sender_at network j.release.sender).path j.hops j.ending in
+    let parts = and_parts (nat_lt j.release.sender (length (senders_of network))) goes h in (
+      lt_of j.release.sender (length (senders_of network)) parts.0,
+      way_by (sender_at network j.release.sender).path j.hops j.ending parts.1,
+    )
+
+abbrev pub is_frame : Travel → Bool
+is_frame j = nat_le 64 j.release.octets && nat_le j.release.octets 2000
+
+frame_by : (j : Travel) → is_frame j ≡ true → IsFrameSize j.release.octets
+frame_by j h =
+    let parts : (nat_le 64 j.release.octets ≡ true) × (nat_le j.release.octets 2000 ≡ true) =
+    and_parts (nat_le 64 j.release.octets) (nat_le j.release.octets 2000) h in
+    record { least = le_of 64 j.release.octets parts.0; most = le_of j.release.octets 2000 parts.1 }
+
+-- the run keeps a part
+abbrev pub passes : Part → DeclaredNetwork → List Travel → Bool
+passes in_order network run = pairs_pass nat_le (map (λ (r : Release). r.at.0) (releases_of run))
+passes octets network run = list_all is_frame run
+passes way network run = list_all (has_way network) run
+passes released network run = list_all (λ (j : Travel). is_released j.release j.hops) run
+passes links network run = links_pass network run
+passes waits network run = each_port_passes waits_pass network run
+passes takes network run = each_port_passes takes_pass network run
+passes apart network run = each_port_passes apart_pass network run
+passes chosen network run = each_port_passes chosen_pass network run
+passes prompt network run = each_port_passes prompt_pass network run
+passes groups network run = groups_pass network run
+passes flows network run = flows_pass network run
+
+pub kept_by : (part : Part) (network : DeclaredNetwork) (run : List Travel) → passes part network run ≡ true
+    → Keeps part network run
+kept_by in_order network run h = ascending_by (map (λ (r : Release). r.at.0) (releases_of run)) h
+kept_by octets network run h = all_by (λ (j : Travel). IsFrameSize j.release.octets) is_frame frame_by run h
+kept_by way network run h =
+    all_by (λ (j : Travel). (j.release.sender < length (senders_of network))
+    × IsWay (sender_at network j.release.sender).path j.hops j.ending) (has_way network) (has_way_by network) run h
+kept_by released network run h = all_by (λ (j : Travel). IsReleased j.release j.hops)
+    (λ (j : Travel). is_released j.release j.hops) (λ j. released_by j.release j.hops) run h
+kept_by links network run h = links_by network run h
+kept_by waits network run h =
+    each_port_by (λ ps sent. All (λ (x : Transmission). x.eligible ≤ x.start) sent) waits_pass waits_by network run h
+kept_by takes network run h = each_port_by _ takes_pass takes_by network run h
+kept_by apart network run h = each_port_by _ apart_pass all_apart_by network run h
+kept_by chosen network run h = each_port_by _ chosen_pass all_chosen_by network run h
+kept_by prompt network run h = each_port_by _ prompt_pass all_prompt_by network run h
+kept_by groups network run h = groups_by network run h
+kept_by flows network run h = flows_by network run h
+
+-- the parts in their order
+abbrev pub parts : List Part
+parts = in_order ∷ octets ∷ way ∷ released ∷ links ∷ waits ∷ takes ∷ apart ∷ chosen ∷ prompt ∷ groups ∷ flows ∷ []
+
+abbrev pub number_of : Part → ℕ
+number_of in_order = 0
+number_of octets = 1
+number_of way = 2
+number_of released = 3
+number_of links = 4
+number_of waits = 5
+number_of takes = 6
+number_of apart = 7
+number_of chosen = 8
+number_of prompt = 9
+number_of groups = 10
+number_of flows = 11
+
+own : (part : Part) → get_or parts (number_of part) flows ≡ part
+own in_order = refl
+own octets = refl
+own way = refl
+own released = refl
+own links = refl
+own waits = refl
+own takes = refl
+own apart = refl
+own chosen = refl
+own prompt = refl
+own groups = refl
+own flows = refl
+
+below : (part : Part) → number_of part < length parts
+below in_order = lit< tt
+below octets = lit< tt
+below way = lit< tt
+below released = lit< tt
+below links = lit< tt
+below waits = lit< tt
+below takes = lit< tt
+below apart = lit< tt
+below chosen = lit< tt
+below prompt = lit< tt
+below groups = lit< tt
+below flows = lit< tt
+
+-- the run keeps each part
+abbrev pub all_pass : DeclaredNetwork → List Travel → Bool
+all_pass network run = list_all (λ part. passes part network run) parts
+
+pub all_kept : (network : DeclaredNetwork) (run : List Travel) → all_pass network run ≡ true → (part : Part)
+    → Keeps part network run
+all_kept network run h part =
+    let test : Part → Bool = λ part. passes part network run in
+    let there : test (get_or parts (number_of part) flows) ≡ true =
+    AllPass-from_list_all test parts h (number_of part) flows (below part) in
+    kept_by part network run (subst (λ (q : Part). test q ≡ true) (own part) there)
+
+-- the run keeps each part but this one
+abbrev pub others_pass : Part → DeclaredNetwork → List Travel → Bool
+others_pass part network run = list_all (λ other. number_of other == number_of part || passes other network run) parts
+
+pub others_by : (part : Part) (network : DeclaredNetwork) (run : List Travel) → others_pass part network run ≡ true
+    → (other : Part) → other ≢ part → Keeps other network run
+others_by part network run h other differ =
+    let test : Part → Bool = λ other. number_of other == number_of part || passes other network run in
+    let there : test (get_or parts (number_of other) flows) ≡ true =
+    AllPass-from_list_all test parts h (number_of other) flows (below other) in
+    let here : test other ≡ true = subst (λ (q : Part). test q ≡ true) (own other) there in
+    elim (either (number_of other == number_of part) (passes other network run) here) [
+      | inl same ↦ absurd (differ (sym (own other)
+          ∙ ap (λ (n : ℕ). get_or parts n flows) (eq_of (number_of other) (number_of part) same) ∙ own part))
+      | inr passed ↦ kept_by other network run passed
+    ]
+
+pub legal_by : (network : DeclaredNetwork) (run : List Travel) → all_pass network run ≡ true → IsLegal network run
+legal_by network run h = (legal_is_each_part network run).1 (all_kept network run h)

@@ -1,0 +1,53 @@
+use Rattle.std.specs.Prelude.{ℕ, List, [], ◌∷◌}
+use Rattle.ats_trace.specs.Journey.{Travel}
+use Rattle.ats_examples.specs.Runs.{hop, sunk}
+
+-- Runs over more than one bridge.
+
+-- one frame, which each bridge sends when it comes
+abbrev pub one_over_two : Travel
+one_over_two =
+    sunk 0 0 1522
+    (hop 0 0 0 12336000 ∷ hop 13836000 13836000 13836000 26172000 ∷ hop 27672000 27672000 27672000 40008000 ∷ [])
+    40508000
+
+abbrev pub one_over_three : Travel
+one_over_three =
+    sunk 0 0 1522
+    (
+    hop 0 0 0 12336000 ∷ hop 13836000 13836000 13836000 26172000
+    ∷ hop 27672000 27672000 27672000 40008000 ∷ hop 41508000 41508000 41508000 53844000 ∷ []
+    )
+    54344000
+
+-- and a second one at once, each as large as the burst, which its listener gets at this time: the first bridge holds
+-- the second back until the rate has given the burst again, 123360000 ps after the first, and no later one has to
+abbrev pub two_over_two : ℕ → List Travel
+two_over_two arrival =
+    one_over_two
+    ∷ sunk 0 0 1522
+    (hop 0 0 12336000 24672000 ∷ hop 26172000 137196000 137196000 149532000
+    ∷ hop 151032000 151032000 151032000 163368000 ∷ [])
+    arrival
+    ∷ []
+
+abbrev pub two_over_three : ℕ → List Travel
+two_over_three arrival =
+    one_over_three
+    ∷ sunk 0 0 1522
+    (
+    hop 0 0 12336000 24672000 ∷ hop 26172000 137196000 137196000 149532000
+    ∷ hop 151032000 151032000 151032000 163368000 ∷ hop 164868000 164868000 164868000 177204000 ∷ []
+    )
+    arrival
+    ∷ []
+
+-- the second frame over two bridges where the second of them makes it eligible 1 ps later, and all else is the same
+abbrev pub eligible_later : List Travel
+eligible_later =
+    one_over_two
+    ∷ sunk 0 0 1522
+    (hop 0 0 12336000 24672000 ∷ hop 26172000 137196000 137196000 149532000
+    ∷ hop 151032000 151032001 151032000 163368000 ∷ [])
+    163868000
+    ∷ []

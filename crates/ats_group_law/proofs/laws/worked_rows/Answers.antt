@@ -1,5 +1,0 @@
-use Rattle.ats_group_law.proofs.RowProofs.{bucket_emptied, rounded_up, order_counts}
-use Rattle.ats_group_law.proofs.laws.worked_rows.Goals as goal
-
-pub returns : goal.returns
-returns c = record { bucket_emptied = bucket_emptied; rounded_up = rounded_up; order_counts = order_counts }

@@ -1,0 +1,50 @@
+use Rattle.std.specs.Prelude.{◌≢◌, ℕ, ◌+◌, ◌*◌, ◌<◌, ◌≤◌, List, length, slice_index_or, All}
+
+-- the order covers both items, and y does not go before x
+pub record Leads {T : Type 0} (covers : T → Type 0) (before : T → T → Type 0) (x y : T) : Type 0 where
+  pub first : covers x
+  pub second : covers y
+  pub after : ¬ before y x
+
+-- k is one of the two places below j
+pub record IsBelow (j k : ℕ) : Type 0 where
+  pub least : 2 * j + 1 ≤ k
+  pub most : k ≤ 2 * j + 2
+
+-- each item leads those below it
+abbrev pub IsHeap : {T : Type 0} → (T → T → Type 0) → List T → Type 0
+IsHeap {T} leads xs =
+    (j k : ℕ) (d : T) → IsBelow j k → k < length xs → leads (slice_index_or xs j d) (slice_index_or xs k d)
+
+-- a heap but for what stands at the hole: each other item leads those below it, and what is above the hole leads what
+-- is below
+pub record IsHeapAround {T : Type 0} (leads : T → T → Type 0) (xs : List T) (hole : ℕ) : Type 0 where
+  pub edges : (j k : ℕ) (d : T) → IsBelow j k → k < length xs → j ≢ hole → k ≢ hole
+      → leads (slice_index_or xs j d) (slice_index_or xs k d)
+  pub across : (j k : ℕ) (d : T) → IsBelow j hole → IsBelow hole k → k < length xs
+      → leads (slice_index_or xs j d) (slice_index_or xs k d)
+
+-- at the hole this item would lead what is below
+abbrev pub Fits : {T : Type 0} → (T → T → Type 0) → List T → ℕ → T → Type 0
+Fits {T} leads xs hole item = (k : ℕ) (d : T) → IsBelow hole k → k < length xs → leads item (slice_index_or xs k d)
+
+-- the hole is below this place, and the item leads what stands here
+pub record IsLaterAbove {T : Type 0} (leads : T → T → Type 0) (xs : List T) (hole : ℕ) (item : T) (place : ℕ) : Type 0
+  where
+    pub below : IsBelow place hole
+    pub later : (d : T) → leads item (slice_index_or xs place d)
+
+-- of the items below a place, the one that stands here leads the other
+pub record IsFirstBelow {T : Type 0} (leads : T → T → Type 0) (xs : List T) (above place : ℕ) : Type 0 where
+  pub below : IsBelow above place
+  pub within : place < length xs
+  pub first : (k : ℕ) (d : T) → IsBelow above k → k < length xs → k ≢ place
+      → leads (slice_index_or xs place d) (slice_index_or xs k d)
+
+-- there is room for all that may come, the order covers each item, and the items form a heap
+pub record IsKept {T : Type 0} (covers : T → Type 0) (before : T → T → Type 0) (items : List T) (capacity room : ℕ)
+    : Type 0 where
+  pub reserved : capacity ≤ room
+  pub within : length items ≤ capacity
+  pub covered : All covers items
+  pub heap : IsHeap (Leads covers before) items

@@ -1,5 +1,0 @@
-use Rattle.ats_port_law.proofs.RowProofs.{behind_flow, at_once, in_turn}
-use Rattle.ats_port_law.proofs.laws.worked_rows.Goals as goal
-
-pub returns : goal.returns
-returns c = record { behind_flow = behind_flow; at_once = at_once; in_turn = in_turn }

@@ -1,0 +1,137 @@
+//! Whole calls over files and a sink in memory: each read and each write failing in turn, a sink that
+//! takes few bytes at a time, one without room for the text, and files and a sink that never fail.
+
+use ats_answer::Status;
+use ats_command::{ats, ats_surely};
+use ats_io::{MemFiles, MemSink, SureFiles, SureSink};
+use std::alloc::AllocGlobal;
+use std::process::Abort;
+
+const SHAPE: &[u8] = b"residence 1000000\nstream x 100000000 12336 64 1522\nframe 0 x 1522\n";
+
+const NETWORK: &[u8] =
+    b"format = 1\n[[station]]\nname = \"s1\"\n[[station]]\nname = \"s2\"\n[[link]]\na = \"s1\"\nb = \"s2\"\n\
+    mbps = 1000\npropagation_ns = 500\n[[stream]]\nname = \"a\"\npath = [\"s1\", \"s2\"]\nclass = 6\n\
+    rate_bps = 100000000\nburst_bits = 12336\nmin_octets = 64\nmax_octets = 1522\n";
+
+const CERTIFICATE: &[u8] =
+    b"port,class,higher,equal,bursts,lower,least,wait,bound\ns1>s2,6,0,100000000000,12336,0,672,11664000,12836000\n";
+
+// The most bytes that a write takes.
+const MOST: usize = 16;
+
+// Each command with the number of its reads and the text that is due.
+const COMMANDS: &[(&[&str], u32, &[u8])] = &[
+    (
+        &["shape", "s"],
+        2,
+        b"frame 0 x 1522 0 eligible 0\ntotal frames 1 eligible 1 late 0 size 0\n",
+    ),
+    (
+        &["show", "n"],
+        2,
+        b"port 0 s1>s2 1000 500000\nport 1 s2>s1 1000 500000\nstream a 6 s1>s2\ntotal ports 2 streams 1 flows 0\n",
+    ),
+    (&["bound", "n"], 2, CERTIFICATE),
+    (
+        &["check", "n", "c"],
+        4,
+        b"hop a s1>s2 12836000\nsum a 12836000\naccepted 1\n",
+    ),
+];
+
+// The words, owned.
+fn owned(rt: &(impl Abort + AllocGlobal), words: &[&str]) -> Vec<String> {
+    let mut strings = Vec::new(rt.alloc());
+    for word in words {
+        let text = String::from_str(rt.alloc(), word).expect(rt, "room");
+        strings.push(text).expect(rt, "room");
+    }
+    strings
+}
+
+// A file of this name that holds this text.
+fn file(rt: &(impl Abort + AllocGlobal), name: &str, text: &[u8]) -> (String, Vec<u8>) {
+    (
+        String::from_str(rt.alloc(), name).expect(rt, "room"),
+        Vec::from_slice(rt.alloc(), text).expect(rt, "room"),
+    )
+}
+
+// The files that the commands name.
+fn files(rt: &(impl Abort + AllocGlobal)) -> Vec<(String, Vec<u8>)> {
+    let (shape, network) = (file(rt, "s", SHAPE), file(rt, "n", NETWORK));
+    vec![in rt.alloc(); shape, network, file(rt, "c", CERTIFICATE)].expect(rt, "room")
+}
+
+// The end of a call with these words over these files and a sink with so much room, and the sink after it. The read and
+// the write of these numbers fail, or none where it is 0.
+fn call(
+    rt: &(impl Abort + AllocGlobal),
+    words: &[&str],
+    read: u32,
+    write: u32,
+    room: usize,
+) -> (Status, MemSink) {
+    let words = owned(rt, words);
+    let reads = vec![in rt.alloc(); read].expect(rt, "room");
+    let writes = vec![in rt.alloc(); write].expect(rt, "room");
+    let mut files = MemFiles::new(rt.alloc(), files(rt), reads).expect(rt, "room");
+    let mut out = MemSink::new(rt.alloc(), room, MOST, writes).expect(rt, "room");
+    let status = ats(rt.alloc(), &words, &mut files, &mut out);
+    (status, out)
+}
+
+#[test]
+fn each_read_fails(rt: HostRuntime) {
+    for (words, reads, text) in COMMANDS {
+        for read in 1..7u32 {
+            let (status, out) = call(&rt, words, read, 0, 4096);
+            if read <= *reads {
+                assert!(rt; status == Status::ReadFailed);
+                assert!(rt; out.bytes().is_empty());
+            } else {
+                assert!(rt; status == Status::Done);
+                assert!(rt; out.bytes() == *text);
+            }
+        }
+    }
+}
+
+#[test]
+fn each_write_fails(rt: HostRuntime) {
+    for (words, _, text) in COMMANDS {
+        for taken in 0..8u32 {
+            let front = text.len().min(taken as usize * MOST);
+            let is_whole = front == text.len();
+            let (status, out) = call(&rt, words, 0, taken + 1, 4096);
+            assert!(rt; is_whole || status == Status::WriteFailed);
+            assert!(rt; !is_whole || status == Status::Done);
+            assert!(rt; out.bytes() == &text[..front]);
+        }
+    }
+}
+
+#[test]
+fn words_are_not_written(rt: HostRuntime) {
+    let (status, out) = call(&rt, &[], 0, 1, 4096);
+    assert!(rt; status == Status::WriteFailed);
+    assert!(rt; out.bytes().is_empty());
+}
+
+#[test]
+fn room_ends(rt: HostRuntime) {
+    let (status, out) = call(&rt, &["bound", "n"], 0, 0, 20);
+    assert!(rt; status == Status::WriteFailed);
+    assert!(rt; out.bytes() == &CERTIFICATE[..20]);
+}
+
+#[test]
+fn surely_answers(rt: HostRuntime) {
+    for (words, _, _) in COMMANDS {
+        let words = owned(&rt, words);
+        let mut files = SureFiles::new(files(&rt));
+        let status = ats_surely(rt.alloc(), &words, &mut files, &mut SureSink::new());
+        assert!(rt; status == Status::Done);
+    }
+}

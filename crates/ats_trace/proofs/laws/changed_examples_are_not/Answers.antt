@@ -1,6 +1,0 @@
-use Rattle.ats_trace.proofs.ChangeProofs.{changed_are_not}
-use Rattle.ats_trace.proofs.MoreChangeProofs.{each_breaks_alone}
-use Rattle.ats_trace.proofs.laws.changed_examples_are_not.Goals as goal
-
-pub returns : goal.returns
-returns c = record { changed = changed_are_not; alone = each_breaks_alone }
