@@ -1,6 +1,6 @@
-use Rattle.std.proofs.Common.{◌≡◌, ◌≢◌, ℕ, ◌<◌, ◌≤◌, Bool, true, false, ◌&&◌, List, [], ◌∷◌, map, length, refl, sym, ap}
+use Rattle.std.proofs.Common.{◌≡◌, ◌≢◌, ℕ, ◌≤◌, Bool, true, false, ◌&&◌, List, [], ◌∷◌, length, refl, sym, ap}
 use Rattle.std.proofs.Common.{◌∙◌, Option, Some, None}
-use Rattle.std.specs.Prelude.{nat_le, nat_lt, not, ◌==◌, is_none, slice_index_or, All, AllPairs}
+use Rattle.std.specs.Prelude.{nat_le, nat_lt, not, ◌==◌, is_none, slice_index_or}
 use Rattle.std.specs.List.{list_all}
 use Rattle.std.proofs.lemmas.Bool.{and_parts, false≢true, true≢false, eq-eqb}
 use Rattle.std.proofs.lemmas.Option.{none-some}
@@ -9,7 +9,7 @@ use Rattle.ats_num.specs.Wire.{bits_of}
 use Rattle.ats_num.specs.declared.rate.TheConstants.{MAX_BPS, MAX_BURST_BITS}
 use Rattle.ats_num.specs.declared.wire.TheConstants.{MIN_OCTETS, MAX_OCTETS}
 use Rattle.ats_topology.specs.Faults.{topology_fault}
-use Rattle.ats_topology.specs.Node.{is_station, AreApart}
+use Rattle.ats_topology.specs.Node.{is_station}
 use Rattle.ats_topology.specs.Port.{port_at}
 use Rattle.ats_topology.specs.Topology.{DeclaredTopology, topology_of, node_at}
 use Rattle.ats_topology.specs.Walks.{IsWalk}
@@ -26,7 +26,6 @@ use Rattle.ats_streams.specs.declared.stream.TheConstants.{MAX_CLASS, MAX_DEADLI
 use Rattle.ats_network.specs.Sender.{Sender}
 use Rattle.ats_network.specs.Path.{IsStationAt, IsValidPath, nodes_along}
 use Rattle.ats_network.specs.Network.{DeclaredNetwork, IsNetwork, declared_network, senders_of, names_of, Share}
-use Rattle.ats_network.specs.Network.{AreIdentified}
 use Rattle.ats_network.specs.declared.network.TheConstants.{MAX_STREAMS, MAX_FLOWS}
 use Rattle.ats_examples.proofs.Tests.{le_of, lt_of, eq_of, all_by, pairs_pass, pairs_by, each_below, below_by}
 
