@@ -2,7 +2,7 @@ use Rattle.std.proofs.Common.{◌≡◌, ◌≢◌, ℕ, ◌≤◌, Bool, true, 
 use Rattle.std.proofs.Common.{◌∙◌, Option, Some, None}
 use Rattle.std.specs.Prelude.{nat_le, nat_lt, not, ◌==◌, is_none, slice_index_or}
 use Rattle.std.specs.List.{list_all}
-use Rattle.std.proofs.lemmas.Bool.{and_parts, false≢true, true≢false, eq-eqb}
+use Rattle.std.proofs.lemmas.Bool.{and_parts, false≢true, true≢false, eq-eqb, not-true}
 use Rattle.std.proofs.lemmas.Option.{none-some}
 use Rattle.ats_num.specs.Places.{place_of}
 use Rattle.ats_num.specs.Wire.{bits_of}
@@ -144,12 +144,8 @@ station_by t node h =
     let parts = and_parts (nat_lt node (length t.nodes)) (is_station (node_at t.nodes node).kind) h in
     record { within = lt_of node (length t.nodes) parts.0; station = parts.1 }
 
-not_true : (b : Bool) → not b ≡ true → b ≡ false
-not_true true h = absurd (false≢true h)
-not_true false h = refl
-
 apart_by : (a b : ℕ) → not (a == b) ≡ true → a ≢ b
-apart_by a b h same = true≢false (sym (eq-eqb a b same) ∙ not_true (a == b) h)
+apart_by a b h same = true≢false (sym (eq-eqb a b same) ∙ not-true (a == b) h)
 
 -- a path from the node that its first port leaves
 abbrev pub starts_at : List Port → List ℕ → ℕ
