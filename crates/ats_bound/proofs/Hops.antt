@@ -5,6 +5,7 @@ use Rattle.std.specs.Prelude.{◌&&◌}
 use Rattle.std.specs.List.{list_any, position_from}
 use Rattle.std.proofs.lemmas.Bool.{eqb-true}
 use Rattle.std.proofs.lemmas.List.Folds.{list_any_at, list_any_none}
+use Rattle.std.proofs.lemmas.Option.{same_Some, none-some}
 use Rattle.ats_topology.proofs.PositionLemmas.{IsFound, found, all_fail}
 use Rattle.ats_network.specs.Sender.{Sender}
 use Rattle.ats_network.specs.Class.{class_along, class_at, seen_at}
@@ -34,16 +35,10 @@ pub no_hop : (port : ℕ) (path : List ℕ) → position_from (λ p. eqb p port)
     → list_any (λ p. eqb p port) path ≡ false
 no_hop port path none = list_any_none (λ p. eqb p port) path (all_fail (λ p. eqb p port) 0 path none)
 
-some_is : (a b : ℕ) → Some a ≡ Some b → a ≡ b
-some_is a b h = cc
-
-no_some : (n : ℕ) → None ≡ Some n → ⊥
-no_some n h = cc
-
 -- the class at a port is that at the port's first place
 class_first : (port k : ℕ) (path classes : List ℕ) (hop : ℕ) → length classes ≡ length path
     → position_from (λ p. eqb p port) k path ≡ Some (k + hop) → class_along port path classes ≡ get_or classes hop 0
-class_first port k [] classes hop many at = absurd (no_some (k + hop) at)
+class_first port k [] classes hop many at = absurd (none-some (k + hop) at)
 class_first port k (p ∷ path) [] hop many at = absurd (omega arith)
 class_first port k (p ∷ path) (class ∷ classes) hop many at =
     by (eqb p port) refl at (λ n later. class_first port (k + 1) path classes n (omega arith) later)
@@ -56,7 +51,7 @@ class_first port k (p ∷ path) (class ∷ classes) hop many at =
         → ((n : ℕ) → position_from (λ p. eqb p port) (k + 1) path ≡ Some ((k + 1) + n)
         → class_along port path classes ≡ get_or classes n 0)
         → cond b class (class_along port path classes) ≡ get_or (class ∷ classes) hop 0
-    by true e h more = let same : k ≡ k + hop = some_is k (k + hop) h in here hop (omega (arith, same))
+    by true e h more = let same : k ≡ k + hop = same_Some k (k + hop) h in here hop (omega (arith, same))
     by false e h more =
         let f : IsFound (λ p. eqb p port) path 0 (k + 1) (k + hop) =
         found (λ p. eqb p port) (k + 1) path (k + hop) 0 h in

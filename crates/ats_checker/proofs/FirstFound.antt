@@ -21,7 +21,7 @@ use Rattle.ats_certificate.specs.Certificate.{IsBefore, is_row_of, row_of, bound
 use Rattle.ats_certificate.specs.Least.{IsLeastRow}
 use Rattle.ats_certificate.specs.declared.row.Row.{Row}
 use Rattle.ats_tally.specs.Waits.{least_wait}
-use Rattle.ats_tally.specs.Reason.{first_some, overload_in, overstay_by, overstay, late}
+use Rattle.ats_tally.specs.Reason.{first_some, overload_in, overstay_by, overstay, row_need, late}
 use Rattle.ats_tally.specs.declared.reason.Reason.{Reason}
 use Rattle.ats_tally.specs.declared.reason.Reason.TheVariants.{Overloaded, Residence, Deadline}
 use Rattle.ats_tally.proofs.Places.{IsPlace, IsUsedAt, Precedes, is_at, is_place, places_used, places_ordered}
@@ -157,19 +157,19 @@ module _ (network : DeclaredNetwork) (rows : List Row) (is : IsNetwork network) 
       })
       at.gives
 
-  pub over_by : (row : Row) (residence : Option ℕ) (found : Reason)
-      → IsFirstReasonOfRows network rows (Residence row.port row.class row.wait)
-      → overstay_by row residence ≡ Some found → IsFirstReasonOfRows network rows found
-  over_by row None found first h = absurd (none-some found h)
-  over_by row (Some residence_ns) found first h = if_true (IsFirstReasonOfRows network rows)
-      (nat_lt (PS_PER_NS * residence_ns) row.wait) (Residence row.port row.class row.wait) found (λ _. first) h
+  pub over_by : (row : Row) (need : ℕ) (residence : Option ℕ) (found : Reason)
+      → IsFirstReasonOfRows network rows (Residence row.port row.class need)
+      → overstay_by row need residence ≡ Some found → IsFirstReasonOfRows network rows found
+  over_by row need None found first h = absurd (none-some found h)
+  over_by row need (Some residence_ns) found first h = if_true (IsFirstReasonOfRows network rows)
+      (nat_lt (PS_PER_NS * residence_ns) need) (Residence row.port row.class need) found (λ _. first) h
 
   pub of_stay : (found : Reason) → HasRows network rows → All (Covers network) rows
       → first_some (overstay network) rows ≡ Some found
       → IsFirstReasonOfRows network rows found
   of_stay found rows_of covers e =
       let at = stands_at (overstay network) rows found e in
-      over_by at.it (residence_after network.topology at.it.port) found
+      over_by at.it (row_need network at.it) (residence_after network.topology at.it.port) found
       (record {
         row = at.it;
         fault = at_fault network rows is (overstay network) found rows_of covers (stay_tests network rows) at;

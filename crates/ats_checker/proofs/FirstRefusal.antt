@@ -14,7 +14,7 @@ use Rattle.ats_certificate.specs.Certificate.{HasRows, FitsLink, Covers, RowHold
 use Rattle.ats_certificate.specs.Certificate.{bound_along}
 use Rattle.ats_certificate.specs.declared.row.Row.{Row}
 use Rattle.ats_tally.specs.Waits.{least_wait}
-use Rattle.ats_tally.specs.Reason.{first_some, overload_in, overstay, late}
+use Rattle.ats_tally.specs.Reason.{first_some, overload_in, overstay, row_need, late}
 use Rattle.ats_tally.specs.declared.reason.Reason.TheVariants.{Overloaded, Residence, Deadline}
 use Rattle.ats_tally.proofs.Lists.{option_cases}
 use Rattle.ats_tally.proofs.Places.{Precedes, is_place}
@@ -114,13 +114,13 @@ module _ (network : DeclaredNetwork) (rows : List Row) (is : IsNetwork network) 
       ∙ place_is (λ p c. Some (WaitTooSmall p c least)) port class row s.fault.place
       ∙ ap (λ (n : ℕ). Some (WaitTooSmall port class n)) (sym same))
 
-  by_overstay : (port class wait : ℕ) → IsOverstay network rows port class wait
-      → first_some (overstay network) rows ≡ Some (Residence port class wait)
-  by_overstay port class wait o =
-      given_at (overstay network) (Stays network) rows o.row (Residence port class wait)
+  by_overstay : (port class need : ℕ) → IsOverstay network rows port class need
+      → first_some (overstay network) rows ≡ Some (Residence port class need)
+  by_overstay port class need o =
+      given_at (overstay network) (Stays network) rows o.row (Residence port class need)
       (stay_tests network rows) o.fault.first
-      (λ some. stays_over o.row (residence_after network.topology o.row.port) some
-      ∙ place_is (λ p c. Some (Residence p c o.row.wait)) port class o.row o.fault.place
+      (λ some. stays_over o.row (row_need network o.row) (residence_after network.topology o.row.port) some
+      ∙ place_is (λ p c. Some (Residence p c (row_need network o.row))) port class o.row o.fault.place
       ∙ ap (λ (n : ℕ). Some (Residence port class n)) (sym o.is))
 
   by_late : (name : List ℕ) (along : ℕ) → IsLate network rows name along
@@ -176,12 +176,12 @@ module _ (network : DeclaredNetwork) (rows : List Row) (is : IsNetwork network) 
       (or_past _ _ _ (no_stray s.fault.rows_of) (or_past _ _ _ (no_wrong (λ k d h. (s.fault.kept k d h).0))
       (or_past _ _ _ (ap of_network (no_overload (λ k d h. (s.fault.kept k d h).1)))
       (at_some _ _ _ (by_short port class wait s)))))
-  refusal_by (Network (Residence port class wait)) o =
+  refusal_by (Network (Residence port class need)) o =
       or_past _ _ _ (no_missing o.fault.rows_of)
       (or_past _ _ _ (no_stray o.fault.rows_of) (or_past _ _ _ (no_wrong (covers_right o.fault.kept))
       (or_past _ _ _ (ap of_network (no_overload (λ k d h. (o.fault.kept k d h).load)))
       (or_past _ _ _ (no_short o.fault.rows_of o.fault.kept)
-      (at_some _ _ _ (ap of_network (by_overstay port class wait o)))))))
+      (at_some _ _ _ (ap of_network (by_overstay port class need o)))))))
   refusal_by (Network (Deadline name along)) l =
       let covers : All (Covers network) rows = λ k d h. (l.kept k d h).covers in
       or_past _ _ _ (no_missing l.rows_of)

@@ -9,7 +9,7 @@ use Rattle.ats_certificate.specs.PortSums.{PortSums, is_used}
 use Rattle.ats_certificate.specs.Certificate.{row_of, bound_along}
 use Rattle.ats_certificate.specs.Used.{places_of}
 use Rattle.ats_certificate.specs.declared.row.Row.{Row}
-use Rattle.ats_tally.specs.Reason.{first_some, overload_in, overstay, late, ReasonInside}
+use Rattle.ats_tally.specs.Reason.{first_some, overload_in, overstay, row_need, late, ReasonInside}
 use Rattle.ats_tally.specs.declared.reason.Reason.{Reason}
 use Rattle.ats_tally.proofs.Firsts.{first_where, or_where, where_passed, where_failed}
 use Rattle.ats_tally.proofs.Reasons.{overload_inside, overstay_inside, late_inside}
@@ -65,7 +65,8 @@ module _ (network : DeclaredNetwork) (rows : List Row) (is : IsNetwork network) 
   of_stay reason all = first_where (overstay network) (ReasonInside network.topology) rows reason
       (λ k d h b. (
       let row : Row = get_or rows k d in
-      overstay_inside network.topology row (residence_after network.topology row.port) b (all k d h)))
+      overstay_inside network.topology row (row_need network row) (residence_after network.topology row.port) b
+      (all k d h)))
 
   of_late : (reason : Reason) → first_some (late rows) network.streams ≡ Some reason → Inside (Network reason)
   of_late reason = first_where (late rows) (ReasonInside network.topology) network.streams reason

@@ -7,41 +7,41 @@ use Rattle.ats_topology.specs.Port.{no_port}
 use Rattle.ats_topology.specs.declared.port.Port.{Port}
 use Rattle.ats_network.specs.Network.{DeclaredNetwork}
 use Rattle.ats_certificate.specs.PortSums.{is_used}
-use Rattle.ats_certificate.specs.Used.{classes, place, places_at, places_from}
+use Rattle.ats_certificate.specs.Used.{stream_classes, place, places_at, places_from}
 use Rattle.ats_certificate.specs.declared.row.Row.{Row}
 use Rattle.ats_tally.specs.Reason.{first_some}
 use Rattle.ats_checker.specs.Refusal.{missing, missing_at}
 use Rattle.ats_checker.specs.declared.refusal.Refusal.{Refusal}
 use Rattle.ats_tally.proofs.Firsts.{first_step, first_found, first_end, first_append}
 
-class_at : (i : ℕ) → i < 7 → get_or classes i 0 ≡ i + 1
-class_at zero h = refl
-class_at (suc zero) h = refl
-class_at (suc (suc zero)) h = refl
-class_at (suc (suc (suc zero))) h = refl
-class_at (suc (suc (suc (suc zero)))) h = refl
-class_at (suc (suc (suc (suc (suc zero))))) h = refl
-class_at (suc (suc (suc (suc (suc (suc zero)))))) h = refl
-class_at (suc (suc (suc (suc (suc (suc (suc i))))))) h = absurd (omega arith)
+ith_class : (i : ℕ) → i < 7 → get_or stream_classes i 0 ≡ i + 1
+ith_class zero h = refl
+ith_class (suc zero) h = refl
+ith_class (suc (suc zero)) h = refl
+ith_class (suc (suc (suc zero))) h = refl
+ith_class (suc (suc (suc (suc zero)))) h = refl
+ith_class (suc (suc (suc (suc (suc zero))))) h = refl
+ith_class (suc (suc (suc (suc (suc (suc zero)))))) h = refl
+ith_class (suc (suc (suc (suc (suc (suc (suc i))))))) h = absurd (omega arith)
 
-class_is : (class : ℕ) → 1 ≤ class → class < 8 → get_or classes (class - 1) 0 ≡ class
-class_is class least most = class_at (class - 1) (omega arith) ∙ omega arith
+class_is : (class : ℕ) → 1 ≤ class → class < 8 → get_or stream_classes (class - 1) 0 ≡ class
+class_is class least most = ith_class (class - 1) (omega arith) ∙ omega arith
 
 -- a class without a refusal, and one with a refusal
 pub class_step : (given : ℕ → Option Refusal) (class : ℕ) → 1 ≤ class → class < 8 → given class ≡ None
-    → first_some given (drop (class - 1) classes) ≡ first_some given (drop (class + 1 - 1) classes)
+    → first_some given (drop (class - 1) stream_classes) ≡ first_some given (drop (class + 1 - 1) stream_classes)
 class_step given class least most none =
-    first_step given classes (class - 1) 0 (omega arith) (ap given (class_is class least most) ∙ none)
-    ∙ ap (λ (n : ℕ). first_some given (drop n classes)) (omega arith)
+    first_step given stream_classes (class - 1) 0 (omega arith) (ap given (class_is class least most) ∙ none)
+    ∙ ap (λ (n : ℕ). first_some given (drop n stream_classes)) (omega arith)
 
 pub class_found : (given : ℕ → Option Refusal) (class : ℕ) (refusal : Refusal) → 1 ≤ class → class < 8
-    → given class ≡ Some refusal → first_some given (drop (class - 1) classes) ≡ Some refusal
+    → given class ≡ Some refusal → first_some given (drop (class - 1) stream_classes) ≡ Some refusal
 class_found given class refusal least most some =
-    first_found given classes (class - 1) 0 refusal (omega arith) (ap given (class_is class least most) ∙ some)
+    first_found given stream_classes (class - 1) 0 refusal (omega arith) (ap given (class_is class least most) ∙ some)
 
 pub class_end : (given : ℕ → Option Refusal) (class : ℕ) → 8 ≤ class
-    → first_some given (drop (class - 1) classes) ≡ None
-class_end given class past = first_end given classes (class - 1) (omega arith)
+    → first_some given (drop (class - 1) stream_classes) ≡ None
+class_end given class past = first_end given stream_classes (class - 1) (omega arith)
 
 -- the places of a port, class by class
 of_classes : (network : DeclaredNetwork) (rows : List Row) (port : ℕ) (cs : List ℕ)
@@ -59,8 +59,8 @@ of_classes network rows port (class ∷ cs) = by (is_used network port class) (o
     by false h = h
 
 pub at_classes : (network : DeclaredNetwork) (rows : List Row) (port : ℕ)
-    → first_some (missing rows) (places_at network port) ≡ first_some (missing_at network rows port) classes
-at_classes network rows port = of_classes network rows port classes
+    → first_some (missing rows) (places_at network port) ≡ first_some (missing_at network rows port) stream_classes
+at_classes network rows port = of_classes network rows port stream_classes
 
 -- the places of the ports from one on
 from_port : (network : DeclaredNetwork) (rows : List Row) (port : ℕ) → port < length network.topology.ports

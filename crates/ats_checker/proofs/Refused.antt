@@ -18,7 +18,7 @@ use Rattle.ats_certificate.specs.Certificate.{Holds, FitsLink, IsEnough, IsBefor
 use Rattle.ats_certificate.specs.declared.row.Row.{Row}
 use Rattle.ats_tally.specs.Waits.{least_wait}
 use Rattle.ats_bound.specs.Least.{least_row, least_certificate}
-use Rattle.ats_tally.specs.Reason.{first_some, overload_in, overstay, late}
+use Rattle.ats_tally.specs.Reason.{first_some, overload_in, overstay, row_need, late}
 use Rattle.ats_tally.specs.declared.reason.Reason.{Reason}
 use Rattle.ats_tally.proofs.Reasons.{some_none, by_fail, fits_by, by_fit, stays_by, by_stay, in_time_from}
 use Rattle.ats_tally.proofs.Reasons.{by_time}
@@ -227,7 +227,7 @@ clear_holds network rows is ordered clear =
               wait = enough_from network row (is_place network row.port row.class is (used k d h)) rights fits
                   (long_from network row (long k d h));
             };
-            residence = stays_by row (residence_after network.topology row.port) (stay k d h);
+            residence = stays_by row (row_need network row) (residence_after network.topology row.port) (stay k d h);
           });
       deadlines = λ k d h. in_time_from rows (get_or network.streams k d) (time k d h);
     }
@@ -250,7 +250,7 @@ holds_clear network rows is holds =
           (is_place network row.port row.class is (holds.rows_of.used k d h)) (holds.each k d h).covers)));
       overstay = first_some-none (overstay network) rows
           (λ k d h. (let row : Row = get_or rows k d in
-          by_stay row (residence_after network.topology row.port) (holds.each k d h).residence));
+          by_stay row (row_need network row) (residence_after network.topology row.port) (holds.each k d h).residence));
       late = first_some-none (late rows) network.streams
           (λ k d h. by_time rows (get_or network.streams k d) (holds.deadlines k d h));
     }

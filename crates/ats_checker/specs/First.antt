@@ -4,7 +4,7 @@ use Rattle.ats_streams.specs.Stream.{DeclaredStream}
 use Rattle.ats_network.specs.Network.{DeclaredNetwork}
 use Rattle.ats_certificate.specs.PortSums.{port_sums, is_used}
 use Rattle.ats_certificate.specs.Certificate.{HasRows, HasSums, FitsLink, IsEnough, MayStay, Covers, RowHolds, IsInTime}
-use Rattle.ats_certificate.specs.Certificate.{is_row_of, row_of, bound_of, bound_along}
+use Rattle.ats_certificate.specs.Certificate.{is_row_of, row_of, bound_of, bound_along, residence_needed}
 use Rattle.ats_certificate.specs.Least.{IsLeastRow}
 use Rattle.ats_certificate.specs.declared.row.Row.{Row}
 use Rattle.ats_tally.specs.declared.reason.Reason.{Reason}
@@ -93,11 +93,12 @@ pub record IsShort (network : DeclaredNetwork) (rows : List Row) (port class wai
     bound = bound_of (port_at network.topology.ports row.port) wait row.least;
   })
 
--- each covers its port and class; one has a wait that is longer than a frame may stay behind its port
-pub record IsOverstay (network : DeclaredNetwork) (rows : List Row) (port class wait : ℕ) : Type 0 where
+-- each covers its port and class; one asks that a frame may stay longer behind its port than it may. This is what it
+-- asks: its wait, and the port's spread
+pub record IsOverstay (network : DeclaredNetwork) (rows : List Row) (port class need : ℕ) : Type 0 where
   pub row : Row
   pub fault : IsRowAtFault network rows (Covers network) (λ (r : Row). MayStay network r.port r.wait) port class row
-  pub is : wait ≡ row.wait
+  pub is : need ≡ residence_needed (port_at network.topology.ports row.port) row.wait
 
 -- the rows are those of the network, and each holds; the stream of this name is the first that is not in time
 pub record IsLate (network : DeclaredNetwork) (rows : List Row) (name : List ℕ) (along : ℕ) : Type 0 where

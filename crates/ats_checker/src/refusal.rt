@@ -22,8 +22,8 @@ pub enum Field {
 
 /// Why a certificate does not hold: the first clause that fails, and there the first row in the order of ports and
 /// classes, the first field or the first stream. The clauses are asked in this order: a row is missing, a row is stray,
-/// a field is wrong, a load is more than the link can carry, a wait is too small, a wait is longer than the maximum
-/// residence time, a sum is over its stream's deadline.
+/// a field is wrong, a load is more than the link can carry, a wait is too small, a wait and its port's spread are
+/// together longer than the maximum residence time behind the port, a sum is over its stream's deadline.
 #[derive(Clone, Copy, Debug, PartialEq, Eq)]
 pub enum Refusal {
     /// Some stream of the class uses the port, and there is no row for them.

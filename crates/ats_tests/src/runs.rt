@@ -4,7 +4,7 @@ ghost use Rattle.std.specs.Prelude.{◌≡◌, length};
 
 use ats_group::Verdict;
 use ats_num::Ps;
-use ats_trace::{Ending, HopRecord, Journey, Release, Run};
+use ats_trace::{Ending, HopRecord, Journey, Release, Run, Span};
 use std::alloc::AllocGlobal;
 use std::process::Abort;
 
@@ -17,20 +17,26 @@ fn discarded(arrival: u64) -> HopRecord {
     }
 }
 
-// A journey of one hop, whose record stands at this place.
-fn journey(first: u32) -> Journey
-    ensures place { result.first ≡ first }
-    ensures count { result.count ≡ 1 }
-{
+// A frame that was discarded at its first hop.
+fn journey() -> Journey {
     Journey {
         release: Release {
             at: Ps(0),
             sender: 0,
             octets: 1523,
         },
-        first,
-        count: 1,
         ending: Ending::Discard,
+    }
+}
+
+// The one record at this place.
+fn at(place: u32) -> Span
+    ensures place { result.first ≡ place }
+    ensures count { result.count ≡ 1 }
+{
+    Span {
+        first: place,
+        count: 1,
     }
 }
 
@@ -38,9 +44,10 @@ fn journey(first: u32) -> Journey
 fn run(rt: &(impl Abort + AllocGlobal)) -> Run
     ensures { length result ≡ 2 }
 {
-    let journeys = vec![in rt.alloc(); journey(1), journey(0)].expect(rt, "room");
+    let journeys = vec![in rt.alloc(); journey(), journey()].expect(rt, "room");
+    let spans = vec![in rt.alloc(); at(1), at(0)].expect(rt, "room");
     let hops = vec![in rt.alloc(); discarded(20), discarded(10)].expect(rt, "room");
-    Run::new(journeys, hops)
+    Run::new(journeys, spans, hops)
 }
 
 #[test]

@@ -8,9 +8,9 @@ pub fn legal_is_each_part()
     ensures { LegalIsEachPart }
 {}
 
-/// Where each port has one latency, as in each network so far, a run is legal exactly where each
-/// frame arrives behind each port that sends it when its transmission has ended and the port's
-/// latency is over.
+/// Where each port has one latency, as where each bridge takes one time to process a frame, a run is
+/// legal exactly where each frame arrives behind each port that sends it when its transmission has
+/// ended and the port's latency is over.
 pub fn links_are_exact()
     ensures { LinksAreExact }
 {}

@@ -5,7 +5,7 @@ use Rattle.ats_network.specs.Residence.{residence_after}
 use Rattle.ats_certificate.specs.Certificate.{bound_along}
 use Rattle.ats_certificate.specs.Used.{places_of}
 use Rattle.ats_certificate.specs.declared.row.Row.{Row}
-use Rattle.ats_tally.specs.Reason.{overstay, late, ReasonInside}
+use Rattle.ats_tally.specs.Reason.{overstay, row_need, late, ReasonInside}
 use Rattle.ats_tally.proofs.Firsts.{first_where, or_where}
 use Rattle.ats_tally.proofs.Places.{is_place, places_used}
 use Rattle.ats_tally.proofs.Reasons.{overload_inside, overstay_inside, late_inside}
@@ -26,7 +26,8 @@ each_reason_is_inside network found is some =
     (first_where (overstay network) (ReasonInside network.topology) (least_certificate network) found
     (λ k d h b. (
     let row : Row = get_or (least_certificate network) k d in
-    overstay_inside network.topology row (residence_after network.topology row.port) b (ports_exist network is k d h))))
+    overstay_inside network.topology row (row_need network row) (residence_after network.topology row.port) b
+    (ports_exist network is k d h))))
     (first_where (late (least_certificate network)) (ReasonInside network.topology) network.streams found
     (λ k d h b. (
     let stream : DeclaredStream = get_or network.streams k d in

@@ -1,6 +1,8 @@
 //! A certificate that holds, written.
 
-ghost use Rattle.std.specs.Prelude.{◌≡◌, ◌++◌, ◌<◌, length, All, IfOk, OnOk};
+ghost use Rattle.std.specs.Prelude.{◌≡◌, ◌≢◌, ◌++◌, ◌<◌, ◌≤◌, length, All, AllPairs, IfOk, OnOk};
+ghost use Rattle.ats_network.specs.Class.{class_at};
+ghost use Rattle.ats_network.specs.Sender.{stream_sender};
 ghost use Rattle.ats_certificate.specs.Certificate.{bound_along};
 ghost use Rattle.ats_verdict_text.specs.Text.{accepted_text, hop_line, hop_lines, stream_lines, streams_text};
 
@@ -58,6 +60,7 @@ fn write_stream(
 ) -> Result<(), AllocError>
     requires ports { bounds.now.ports ≡ length topology.now.ports }
     requires inside { All (λ p. p < length topology.now.ports) stream.now.path }
+    requires apart { AllPairs (λ p q. p ≢ q) stream.now.path }
     requires sum { sum ≡ bound_along bounds.now.rows stream.now }
     ensures { OnOk result (out.new.items ≡ out.old.items ++ stream_lines topology.now bounds.now.rows stream.now) }
 {
@@ -78,15 +81,17 @@ fn write_hops(
 ) -> Result<(), AllocError>
     requires ports { bounds.now.ports ≡ length topology.now.ports }
     requires inside { All (λ p. p < length topology.now.ports) stream.now.path }
+    requires apart { AllPairs (λ p q. p ≢ q) stream.now.path }
     ensures { OnOk result (out.new.items ≡ out.old.items ++ hop_lines topology.now bounds.now.rows stream.now) }
 {
-    for port in stream.path() {
-        write_hop(out, topology, bounds, stream, *port)?;
+    let classes = stream.classes();
+    for (hop, port) in stream.path().iter().enumerate() {
+        write_hop(out, topology, bounds, stream, *port, classes[hop])?;
     }
     Ok(())
 }
 
-// The line of a port.
+// The line of a port, at which the stream has this class.
 #[tactic(auto, unfolding(crate::specs::Text::hop_line))]
 fn write_hop(
     out: &mut Vec<u8>,
@@ -94,16 +99,19 @@ fn write_hop(
     bounds: &Bounds,
     stream: &Stream,
     port: u32,
+    class: u8,
 ) -> Result<(), AllocError>
     requires ports { bounds.now.ports ≡ length topology.now.ports }
     requires inside { port < length topology.now.ports }
+    requires class { class ≡ class_at (stream_sender stream.now) port }
+    requires class_most { class ≤ 7 }
     ensures { OnOk result (out.new.items ≡ out.old.items ++ hop_line topology.now bounds.now.rows stream.now port) }
 {
     out.extend_from_slice(b"hop ")?;
     out.extend_from_slice(stream.name().bytes())?;
     out.extend_from_slice(b" ")?;
     write_port(out, topology, port)?;
-    write_number(out, b" ", bounds.given(port, stream.class()).unwrap_or(0))?;
+    write_number(out, b" ", bounds.given(port, class).unwrap_or(0))?;
     out.extend_from_slice(b"\n")?;
     Ok(())
 }

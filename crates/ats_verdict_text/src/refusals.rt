@@ -12,7 +12,7 @@ use std::alloc::AllocError;
 
 /// Appends why a certificate does not hold: a word for the clause that fails, the port and the
 /// class, or the stream, and, where there is one, the right value, the load, the least wait, the
-/// wait or the sum. After `AllocError` nothing is said of `out`.
+/// wait with the port's spread, or the sum. After `AllocError` nothing is said of `out`.
 pub fn write_refusal(
     out: &mut Vec<u8>,
     topology: &Topology,

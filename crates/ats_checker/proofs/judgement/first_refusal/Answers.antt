@@ -27,8 +27,8 @@ pub first_short-requires-clause-fits : goal.first_short-requires-clause-fits
 first_short-requires-clause-fits c =
     none_first overload_in c.rows-rows.result.now (sym c.first_overload.ensures ∙ c.in_default-first_overload.is)
 
-pub first_overstay-requires : goal.first_overstay-requires
-first_overstay-requires c =
+pub first_overstay-requires-clause-ports : goal.first_overstay-requires-clause-ports
+first_overstay-requires-clause-ports c =
     subst (λ (n : DeclaredNetwork). All (λ (row : Row). row.port < length n.topology.ports) c.rows-rows.result.now)
     (sym c.network-network.ensures.value)
     (λ k d h. (rows_used c.args.tallies.now c.rows-rows.result.now c.network-network.ensures.rules
