@@ -1,5 +1,6 @@
-use Rattle.std.specs.Prelude.{ℕ, List, ◌++◌, length, codes, decimal}
-use Rattle.std.specs.List.{flat_map, enumerate_from}
+use Rattle.std.specs.Prelude.{ℕ, ◌==◌, List, [], ◌∷◌, ◌++◌, length, if◌then◌else◌, codes, decimal}
+use Rattle.std.specs.List.{flat_map, enumerate_from, list_all}
+use Rattle.ats_topology.specs.Port.{spread_of}
 use Rattle.ats_topology.specs.Topology.{DeclaredTopology}
 use Rattle.ats_topology.specs.declared.port.Port.{Port}
 use Rattle.ats_port_names.specs.PortName.{name_of, port_name}
@@ -7,29 +8,43 @@ use Rattle.ats_streams.specs.Stream.{DeclaredStream}
 use Rattle.ats_streams.specs.Flow.{DeclaredFlow}
 use Rattle.ats_network.specs.Network.{DeclaredNetwork}
 
--- `port NUMBER FROM>TO PS_PER_BIT LATENCY`
+-- a sixth word of a port, its earliest latency, where its spread is not 0
+abbrev pub earliest_text : Port → List ℕ
+earliest_text port = if spread_of port == 0 then [] else (codes " " ++ decimal port.earliest.0)
+
+-- `port NUMBER FROM>TO PS_PER_BIT LATENCY`, and the earliest latency where it is another
 unfoldable pub port_line : DeclaredTopology → ℕ × Port → List ℕ
 port_line topology numbered =
     codes "port " ++ decimal numbered.0 ++ codes " " ++ name_of topology numbered.1 ++ codes " "
     ++ decimal numbered.1.ps_per_bit
-    ++ codes " " ++ decimal numbered.1.latency.0 ++ codes "\n"
+    ++ codes " " ++ decimal numbered.1.latency.0 ++ earliest_text numbered.1 ++ codes "\n"
 
 -- ports, with a space before each
 abbrev pub path_text : DeclaredTopology → List ℕ → List ℕ
 path_text topology path = flat_map (λ p. codes " " ++ port_name topology p) path
 
--- a word, the name and the class of a sender, and the ports of its path
-unfoldable pub sender_line : DeclaredTopology → List ℕ → List ℕ → ℕ → List ℕ → List ℕ
-sender_line topology word name class path =
-    word ++ codes " " ++ name ++ codes " " ++ decimal class ++ path_text topology path ++ codes "\n"
+-- classes, each behind a comma
+abbrev pub behind_commas : List ℕ → List ℕ
+behind_commas classes = flat_map (λ class. codes "," ++ decimal class) classes
 
--- `stream NAME CLASS` and its ports
+-- the class that all of these are; where they differ, each of them, joined by commas
+unfoldable pub classes_text : List ℕ → List ℕ
+classes_text [] = []
+classes_text (class ∷ classes) =
+    decimal class ++ (if list_all (λ c. c == class) classes then [] else behind_commas classes)
+
+-- a word, the name of a sender, its class or its classes, and the ports of its path
+unfoldable pub sender_line : DeclaredTopology → List ℕ → List ℕ → List ℕ → List ℕ → List ℕ
+sender_line topology word name classes path =
+    word ++ codes " " ++ name ++ codes " " ++ classes_text classes ++ path_text topology path ++ codes "\n"
+
+-- `stream NAME CLASS` and its ports, with the classes in the place of CLASS where they differ
 abbrev pub stream_line : DeclaredTopology → DeclaredStream → List ℕ
-stream_line topology s = sender_line topology (codes "stream") s.name s.class s.path
+stream_line topology s = sender_line topology (codes "stream") s.name s.classes s.path
 
 -- `flow NAME 0` and its ports
 abbrev pub flow_line : DeclaredTopology → DeclaredFlow → List ℕ
-flow_line topology f = sender_line topology (codes "flow") f.name 0 f.path
+flow_line topology f = sender_line topology (codes "flow") f.name (0 ∷ []) f.path
 
 -- `total ports P streams S flows F`
 unfoldable pub totals_line : ℕ → ℕ → ℕ → List ℕ

@@ -1,23 +1,24 @@
 //! What is printed of a network.
 
-ghost use Rattle.std.specs.Prelude.{◌≡◌, ◌++◌, ◌<◌, length, All, OnOk, IfOk};
-ghost use Rattle.std.specs.List.{flat_map, enumerate_from};
+ghost use Rattle.std.specs.Prelude.{◌≡◌, ◌==◌, ◌++◌, ◌<◌, length, codes, All, OnOk, IfOk};
+ghost use Rattle.std.specs.List.{flat_map, enumerate_from, list_all};
 ghost use Rattle.ats_topology.specs.Port.{port_at};
 ghost use Rattle.ats_topology.specs.Walks.{ArePorts};
 ghost use Rattle.ats_streams.specs.Stream.{DeclaredStream};
 ghost use Rattle.ats_streams.specs.Flow.{DeclaredFlow};
 ghost use Rattle.ats_network_text.specs.Text.{port_line, path_text, sender_line, stream_line, flow_line, totals_line};
-ghost use Rattle.ats_network_text.specs.Text.{show_text};
+ghost use Rattle.ats_network_text.specs.Text.{earliest_text, classes_text, behind_commas, show_text};
 
 use ats_network::Network;
 use ats_port_names::write_port;
 use ats_streams::{Flow, Stream};
-use ats_topology::Topology;
+use ats_topology::{Port, Topology};
 use itoa::{Buffer, Integer};
 use std::alloc::{AllocError, Global};
 
-/// A line for each port by number, with its picoseconds per bit and its latency in picoseconds; a
-/// line for each stream and then for each flow, with its class and the ports of its path; and a
+/// A line for each port by number, with its picoseconds per bit and its latency in picoseconds, and
+/// its earliest latency where that is another; a line for each stream and then for each flow, with
+/// its class, or its classes joined by commas where they differ, and the ports of its path; and a
 /// line of totals. `AllocError` where there is no memory for the text.
 #[tactic(auto, unfolding(crate::specs::Text::show_text))]
 pub fn show(alloc: Global, network: &Network) -> Result<Vec<u8>, AllocError>
@@ -57,8 +58,19 @@ fn write_port_line(out: &mut Vec<u8>, topology: &Topology, port: u32) -> Result<
     write_port(out, topology, port)?;
     write_number(out, b" ", sends.ps_per_bit)?;
     write_number(out, b" ", sends.latency.0)?;
+    write_earliest(out, &sends)?;
     out.extend_from_slice(b"\n")?;
     Ok(())
+}
+
+// The earliest latency of a port, where its latency is another.
+fn write_earliest(out: &mut Vec<u8>, port: &Port) -> Result<(), AllocError>
+    ensures { OnOk result (out.new.items ≡ out.old.items ++ earliest_text port.now) }
+{
+    if port.spread() == 0 {
+        return Ok(());
+    }
+    write_number(out, b" ", port.earliest.0)
 }
 
 // The lines of the streams.
@@ -77,7 +89,7 @@ fn write_streams(
             topology,
             b"stream",
             name.bytes(),
-            stream.class(),
+            stream.classes(),
             stream.path(),
         )?;
     }
@@ -91,7 +103,7 @@ fn write_flows(out: &mut Vec<u8>, topology: &Topology, flows: &[Flow]) -> Result
 {
     for flow in flows {
         let name = flow.name();
-        write_sender(out, topology, b"flow", name.bytes(), 0, flow.path())?;
+        write_sender(out, topology, b"flow", name.bytes(), &[0], flow.path())?;
     }
     Ok(())
 }
@@ -103,18 +115,59 @@ fn write_sender(
     topology: &Topology,
     word: &[u8],
     name: &[u8],
-    class: u8,
+    classes: &[u8],
     path: &[u32],
 ) -> Result<(), AllocError>
     requires { ArePorts topology.now.ports path.now }
-    ensures { OnOk result (out.new.items ≡ out.old.items ++ sender_line topology.now word.now name.now class path.now) }
+    ensures { OnOk result
+        (out.new.items ≡ out.old.items ++ sender_line topology.now word.now name.now classes.now path.now) }
+{
+    write_name(out, word, name)?;
+    write_classes(out, classes)?;
+    write_path(out, topology, path)?;
+    out.extend_from_slice(b"\n")?;
+    Ok(())
+}
+
+// A word and a name, with a space behind each.
+fn write_name(out: &mut Vec<u8>, word: &[u8], name: &[u8]) -> Result<(), AllocError>
+    ensures { OnOk result (out.new.items ≡ out.old.items ++ (word.now ++ codes " " ++ name.now ++ codes " ")) }
 {
     out.extend_from_slice(word)?;
     out.extend_from_slice(b" ")?;
     out.extend_from_slice(name)?;
-    write_number(out, b" ", class)?;
-    write_path(out, topology, path)?;
-    out.extend_from_slice(b"\n")?;
+    out.extend_from_slice(b" ")?;
+    Ok(())
+}
+
+// The class that all of these are; where they differ, each of them.
+#[tactic(auto, unfolding(crate::specs::Text::classes_text))]
+fn write_classes(out: &mut Vec<u8>, classes: &[u8]) -> Result<(), AllocError>
+    ensures { OnOk result (out.new.items ≡ out.old.items ++ classes_text classes.now) }
+{
+    let Some((class, others)) = classes.split_first() else {
+        return Ok(());
+    };
+    write_number(out, b"", *class)?;
+    if are_all(others, *class) {
+        return Ok(());
+    }
+    write_behind_commas(out, others)
+}
+
+fn are_all(classes: &[u8], class: u8) -> bool
+    ensures { result ≡ list_all (λ c. c == class) classes.now }
+{
+    classes.iter().all(|c| *c == class)
+}
+
+// Classes, each behind a comma.
+fn write_behind_commas(out: &mut Vec<u8>, classes: &[u8]) -> Result<(), AllocError>
+    ensures { OnOk result (out.new.items ≡ out.old.items ++ behind_commas classes.now) }
+{
+    for class in classes {
+        write_number(out, b",", *class)?;
+    }
     Ok(())
 }
 
