@@ -10,11 +10,11 @@ use Rattle.std.proofs.lemmas.List.Elements.{All-append, All-cons, All-nil}
 use Rattle.ats_num.specs.Name.{is_name, is_name_byte}
 use Rattle.ats_num.specs.Number.{has_needless_zero, is_number, value_of}
 use Rattle.ats_num.proofs.Decimal.{reads_back}
-use Rattle.ats_topology.specs.Topology.{no_node, node_at, ports_of, topology_of}
+use Rattle.ats_topology.specs.Topology.{DeclaredTopology, no_node, node_at, ports_of, topology_of}
 use Rattle.ats_topology.specs.Port.{no_port, port_at}
 use Rattle.ats_topology.specs.declared.node.Node.{Node}
 use Rattle.ats_topology.specs.declared.link.Link.{Link}
-use Rattle.ats_topology.proofs.Rules.{topology_rules}
+use Rattle.ats_topology.proofs.Rules.{topology_rules, ports_are_lawful}
 use Rattle.ats_port_names.specs.Laws.{AreSound}
 use Rattle.ats_port_names.specs.PortName.{port_name}
 use Rattle.ats_csv.specs.Plain.{IsPlain, IsPlainByte}
@@ -71,7 +71,9 @@ plain_port : (nodes : List Node) (links : List Link) → AreSound nodes links �
     → All IsPlainByte (port_name (topology_of nodes links) p)
 plain_port nodes links sound p within =
     let port = port_at (ports_of nodes links) p in
-    let between = ((topology_rules nodes links sound.sound).each_port p no_port within).between in
+    let topology : DeclaredTopology = topology_of nodes links in
+    let lawful = ports_are_lawful topology (topology_rules nodes links sound.sound) in
+    let between = (lawful.each p no_port within).between in
     let from = plain_name (node_at nodes port.from).name (sound.names port.from no_node between.from) in
     let to = plain_name (node_at nodes port.to).name (sound.names port.to no_node between.to) in
     let sign : IsPlainByte 62 = record {

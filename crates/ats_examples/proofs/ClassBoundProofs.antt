@@ -1,4 +1,4 @@
-use Rattle.std.proofs.Common.{◌≡◌, ◌+◌, ◌≤◌, false, true, refl, arith, lit<}
+use Rattle.std.proofs.Common.{◌≡◌, ◌+◌, ◌*◌, ◌≤◌, false, true, refl, arith, lit<, lit≤}
 use Rattle.std.proofs.lemmas.Bool.{false≢true}
 use Rattle.ats_certificate.specs.Certificate.{bound_at, Holds}
 use Rattle.ats_trace.specs.Run.{IsLegal, releases_of}
@@ -34,15 +34,21 @@ together_kept = keeps_by fork_of_classes (releases_of second_goes_first) (talker
 other_kept : KeepsBuckets fork_of_classes (releases_of second_goes_first) (talker_of fork_of_classes 1)
 other_kept = keeps_by fork_of_classes (releases_of second_goes_first) (talker_of fork_of_classes 1) refl refl
 
-behind_legal : IsLegal fork_of_classes behind_two
-behind_legal = legal_by fork_of_classes behind_two refl
+behind_legal : IsLegal fork_of_classes (behind_two 6720000)
+behind_legal = legal_by fork_of_classes (behind_two 6720000) refl
 
-behind_kept : KeepsBuckets fork_of_classes (releases_of behind_two) (talker_of fork_of_classes 0)
-behind_kept = keeps_by fork_of_classes (releases_of behind_two) (talker_of fork_of_classes 0) refl refl
+behind_kept : KeepsBuckets fork_of_classes (releases_of (behind_two 6720000)) (talker_of fork_of_classes 0)
+behind_kept = keeps_by fork_of_classes (releases_of (behind_two 6720000)) (talker_of fork_of_classes 0) refl refl
 
-beyond : ¬ ArrivesBy (bound_at hop_rows 0 6 + bound_at hop_rows 2 6) (travel_at behind_two 0).ending
+beyond : ¬ ArrivesBy (bound_at hop_rows 0 6 + bound_at hop_rows 2 6) (travel_at (behind_two 6720000) 0).ending
 beyond arrives =
     let late : 39680000 ≤ 13836000 + 25172000 = arrives in
+    absurd (omega arith)
+
+too_soon : ¬ KeepsBuckets fork_of_classes (releases_of (behind_two 6719999)) (talker_of fork_of_classes 1)
+too_soon keeps =
+    let over : 1000000000000 * 13008 ≤ 100000000 * 6719999 + 1000000000000 * 12336 =
+    (keeps.streams 1 (lit< tt) refl).within 0 1 (lit≤ tt) (lit< tt) in
     absurd (omega arith)
 
 pub classes_are_sound : ClassesAreSound
@@ -57,8 +63,10 @@ classes_are_sound = record {
   sum_of_other = refl;
   legal = behind_legal;
   keeps = behind_kept;
-  other_keeps = keeps_by fork_of_classes (releases_of behind_two) (talker_of fork_of_classes 1) refl refl;
-  served = served_in fork_of_classes hop_rows behind_two (travel_at behind_two 0) certified behind_legal
-      (0, lit< tt, refl) (lit< tt) behind_kept;
+  other_keeps = keeps_by fork_of_classes (releases_of (behind_two 6720000)) (talker_of fork_of_classes 1) refl refl;
+  served = served_in fork_of_classes hop_rows (behind_two 6720000) (travel_at (behind_two 6720000) 0) certified
+      behind_legal (0, lit< tt, refl) (lit< tt) behind_kept;
   beyond = beyond;
+  sooner = legal_by fork_of_classes (behind_two 6719999) refl;
+  too_soon = too_soon;
 }

@@ -1,4 +1,4 @@
-use Rattle.std.proofs.Common.{◌≡◌, ℕ, zero, suc, ◌<◌, ◌≤◌, List, [], ◌∷◌, length, map, refl, sym, ap, inl, inr, ◌⊎◌}
+use Rattle.std.proofs.Common.{◌≡◌, ℕ, zero, suc, ◌<◌, ◌≤◌, List, [], ◌∷◌, map, refl, sym, ap, inl, inr, ◌⊎◌}
 use Rattle.std.proofs.Common.{arith}
 use Rattle.std.specs.Prelude.{IsPermutation, Contains}
 use Rattle.std.specs.List.Sorted.{IsNonDecreasing}

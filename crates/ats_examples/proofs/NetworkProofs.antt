@@ -1,4 +1,4 @@
-use Rattle.std.proofs.Common.{◌≡◌, true, ℕ, [], ◌∷◌, None, refl}
+use Rattle.std.proofs.Common.{◌≡◌, true, ℕ, [], None, refl}
 use Rattle.ats_topology.specs.Faults.{topology_fault}
 use Rattle.ats_network.specs.Network.{IsNetwork}
 use Rattle.ats_examples.specs.Networks.{line, line_nodes, line_links, line_and_flow, fork, fork_nodes, fork_links}

@@ -1,15 +1,15 @@
-use Rattle.std.proofs.Common.{◌≡◌, ◌≢◌, ℕ, ◌<◌, ◌≤◌, Bool, true, false, ◌&&◌, List, [], ◌∷◌, map, length, refl, sym, ap}
+use Rattle.std.proofs.Common.{◌≡◌, ◌≢◌, ℕ, ◌≤◌, Bool, true, false, ◌&&◌, List, [], ◌∷◌, length, refl, sym, ap}
 use Rattle.std.proofs.Common.{◌∙◌, Option, Some, None}
-use Rattle.std.specs.Prelude.{nat_le, nat_lt, not, ◌==◌, is_none, slice_index_or, All, AllPairs}
+use Rattle.std.specs.Prelude.{nat_le, nat_lt, not, ◌==◌, is_none, slice_index_or}
 use Rattle.std.specs.List.{list_all}
-use Rattle.std.proofs.lemmas.Bool.{and_parts, false≢true, true≢false, eq-eqb}
+use Rattle.std.proofs.lemmas.Bool.{and_parts, false≢true, true≢false, eq-eqb, not-true}
 use Rattle.std.proofs.lemmas.Option.{none-some}
 use Rattle.ats_num.specs.Places.{place_of}
 use Rattle.ats_num.specs.Wire.{bits_of}
 use Rattle.ats_num.specs.declared.rate.TheConstants.{MAX_BPS, MAX_BURST_BITS}
 use Rattle.ats_num.specs.declared.wire.TheConstants.{MIN_OCTETS, MAX_OCTETS}
 use Rattle.ats_topology.specs.Faults.{topology_fault}
-use Rattle.ats_topology.specs.Node.{is_station, AreApart}
+use Rattle.ats_topology.specs.Node.{is_station}
 use Rattle.ats_topology.specs.Port.{port_at}
 use Rattle.ats_topology.specs.Topology.{DeclaredTopology, topology_of, node_at}
 use Rattle.ats_topology.specs.Walks.{IsWalk}
@@ -26,7 +26,6 @@ use Rattle.ats_streams.specs.declared.stream.TheConstants.{MAX_CLASS, MAX_DEADLI
 use Rattle.ats_network.specs.Sender.{Sender}
 use Rattle.ats_network.specs.Path.{IsStationAt, IsValidPath, nodes_along}
 use Rattle.ats_network.specs.Network.{DeclaredNetwork, IsNetwork, declared_network, senders_of, names_of, Share}
-use Rattle.ats_network.specs.Network.{AreIdentified}
 use Rattle.ats_network.specs.declared.network.TheConstants.{MAX_STREAMS, MAX_FLOWS}
 use Rattle.ats_examples.proofs.Tests.{le_of, lt_of, eq_of, all_by, pairs_pass, pairs_by, each_below, below_by}
 
@@ -145,12 +144,8 @@ station_by t node h =
     let parts = and_parts (nat_lt node (length t.nodes)) (is_station (node_at t.nodes node).kind) h in
     record { within = lt_of node (length t.nodes) parts.0; station = parts.1 }
 
-not_true : (b : Bool) → not b ≡ true → b ≡ false
-not_true true h = absurd (false≢true h)
-not_true false h = refl
-
 apart_by : (a b : ℕ) → not (a == b) ≡ true → a ≢ b
-apart_by a b h same = true≢false (sym (eq-eqb a b same) ∙ not_true (a == b) h)
+apart_by a b h same = true≢false (sym (eq-eqb a b same) ∙ not-true (a == b) h)
 
 -- a path from the node that its first port leaves
 abbrev pub starts_at : List Port → List ℕ → ℕ

@@ -1,4 +1,4 @@
-use Rattle.std.proofs.Common.{◌≡◌, ℕ, ◌+◌, ◌<◌, ◌≤◌, refl, arith, lit<}
+use Rattle.std.proofs.Common.{◌≡◌, ℕ, ◌<◌, ◌≤◌, refl, arith, lit<}
 use Rattle.ats_num.specs.Pace.{drawn_wait}
 use Rattle.ats_num.specs.Tie.{late_key, mixed_key}
 use Rattle.ats_trace.specs.Parts.{links, Keeps}

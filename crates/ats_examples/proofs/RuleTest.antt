@@ -14,8 +14,8 @@ use Rattle.ats_network.specs.Class.{class_at, seen_at}
 use Rattle.ats_network.specs.Network.{DeclaredNetwork}
 use Rattle.ats_network.specs.Residence.{residence_after}
 use Rattle.ats_certificate.specs.PortSums.{PortSums, port_sums, uses, is_of, is_used, senders_at}
-use Rattle.ats_certificate.specs.Certificate.{row_of, IsBefore, FitsLink, bound_of, residence_needed, bound_along, IsInTime}
-use Rattle.ats_certificate.specs.Certificate.{Holds}
+use Rattle.ats_certificate.specs.Certificate.{row_of, IsBefore, FitsLink, bound_of, residence_needed, bound_along}
+use Rattle.ats_certificate.specs.Certificate.{IsInTime, Holds}
 use Rattle.ats_certificate.specs.declared.row.Row.{Row}
 use Rattle.ats_soundness_law.specs.Rules.{Rule, rows_are_there, higher_is_right, equal_is_right, bursts_are_right}
 use Rattle.ats_soundness_law.specs.Rules.{lower_is_right, least_is_right, bound_follows, load_fits, wait_is_enough}
@@ -115,7 +115,8 @@ stays_by need (Some limit) h ns given =
 
 abbrev may_stay : DeclaredNetwork → Row → Bool
 may_stay network row =
-    stays (residence_needed (port_at network.topology.ports row.port) row.wait) (residence_after network.topology row.port)
+    stays (residence_needed (port_at network.topology.ports row.port) row.wait)
+    (residence_after network.topology row.port)
 
 -- the rows keep a rule
 abbrev pub passes : Rule → DeclaredNetwork → List Row → Bool

@@ -1,5 +1,5 @@
-use Rattle.std.proofs.Common.{◌≡◌, ℕ, ◌+◌, ◌*◌, ◌<◌, ◌≤◌, Bool, List, [], ◌∷◌, length, get_or, All, refl, ap, inl, inr, ◌⊎◌}
-use Rattle.std.proofs.Common.{arith, lit<, lit≤}
+use Rattle.std.proofs.Common.{◌≡◌, ℕ, ◌+◌, ◌*◌, ◌<◌, ◌≤◌, List, [], ◌∷◌, length, get_or, All, refl, ap}
+use Rattle.std.proofs.Common.{inl, inr, ◌⊎◌, arith, lit<, lit≤}
 use Rattle.std.specs.Prelude.{nat_lt, ◌==◌, AllPairs, Contains}
 use Rattle.std.proofs.lemmas.List.Elements.{All-contains_itself}
 use Rattle.ats_network.specs.Network.{DeclaredNetwork}

@@ -13,18 +13,18 @@ use Rattle.ats_examples.specs.SoundRuns.{IsCertified, sum_of}
 
 -- What the laws say of a stream whose class changes along its path.
 
--- behind a frame of the other stream, and a small one that it sends as soon as it may, the bridge sends the frame whose
+-- behind a frame of the other stream, and a small one that is released at this time, the bridge sends the frame whose
 -- class is lower there
-abbrev pub behind_two : List Travel
-behind_two =
+abbrev pub behind_two : ℕ → List Travel
+behind_two at =
     sunk 0 0 1522 (hop 0 0 0 12336000 ∷ hop 13836000 13836000 26844000 39180000 ∷ []) 39680000
     ∷ sunk 0 1 1522 (hop 0 0 0 12336000 ∷ hop 13836000 13836000 13836000 26172000 ∷ []) 26672000
-    ∷ sunk 6720000 1 64
-    (hop 6720000 6720000 12336000 13008000 ∷ hop 14508000 20556000 26172000 26844000 ∷ []) 27344000
+    ∷ sunk at 1 64 (hop at at 12336000 13008000 ∷ hop 14508000 20556000 26172000 26844000 ∷ []) 27344000
     ∷ []
 
 -- the rows by hop are a certificate, and those of one class are none; both frames of a run are served. In another run
--- the frame is served too, and comes later than the bounds of the class say that it has at its station
+-- the frame is served too, and comes later than the bounds of the class say that it has at its station. There the other
+-- talker sends as soon as it may; 1 ps sooner it would break its buckets
 pub record ClassesAreSound : Type 0 where
   pub certified : IsCertified fork_of_classes hop_rows
   pub not_of_one_class : ¬ Holds fork_of_classes fork_rows
@@ -32,8 +32,10 @@ pub record ClassesAreSound : Type 0 where
   pub other : IsServed hop_rows (sender_at fork_of_classes 1) (travel_at second_goes_first 1)
   pub sum_of_lowered : sum_of fork_of_classes hop_rows (travel_at second_goes_first 0) ≡ 41674667
   pub sum_of_other : sum_of fork_of_classes hop_rows (travel_at second_goes_first 1) ≡ 39008000
-  pub legal : IsLegal fork_of_classes behind_two
-  pub keeps : KeepsBuckets fork_of_classes (releases_of behind_two) (talker_of fork_of_classes 0)
-  pub other_keeps : KeepsBuckets fork_of_classes (releases_of behind_two) (talker_of fork_of_classes 1)
-  pub served : IsServed hop_rows (sender_at fork_of_classes 0) (travel_at behind_two 0)
-  pub beyond : ¬ ArrivesBy (bound_at hop_rows 0 6 + bound_at hop_rows 2 6) (travel_at behind_two 0).ending
+  pub legal : IsLegal fork_of_classes (behind_two 6720000)
+  pub keeps : KeepsBuckets fork_of_classes (releases_of (behind_two 6720000)) (talker_of fork_of_classes 0)
+  pub other_keeps : KeepsBuckets fork_of_classes (releases_of (behind_two 6720000)) (talker_of fork_of_classes 1)
+  pub served : IsServed hop_rows (sender_at fork_of_classes 0) (travel_at (behind_two 6720000) 0)
+  pub beyond : ¬ ArrivesBy (bound_at hop_rows 0 6 + bound_at hop_rows 2 6) (travel_at (behind_two 6720000) 0).ending
+  pub sooner : IsLegal fork_of_classes (behind_two 6719999)
+  pub too_soon : ¬ KeepsBuckets fork_of_classes (releases_of (behind_two 6719999)) (talker_of fork_of_classes 1)

@@ -13,6 +13,8 @@ mod events;
 #[cfg(test)]
 mod fixtures;
 #[cfg(test)]
+mod heaps;
+#[cfg(test)]
 mod limits;
 #[cfg(test)]
 mod ports;
