@@ -1,7 +1,7 @@
-use Rattle.std.proofs.Common.{◌≡◌, ℕ, ◌+◌, ◌<◌, ◌≤◌, true, List, [], ◌∷◌, ◌++◌, length, get_or, drop, Option, Some}
-use Rattle.std.proofs.Common.{None, option_map, is_some, unwrap_or, Result, Ok, Err, refl, sym, ap, ◌∙◌, append_assoc}
+use Rattle.std.proofs.Common.{◌≡◌, ℕ, zero, suc, ◌+◌, ◌<◌, ◌≤◌, true, false, List, [], ◌∷◌, ◌++◌, length, get_or, drop}
+use Rattle.std.proofs.Common.{Option, Some, None, option_map, is_some, unwrap_or, Result, Ok, Err, refl, sym, ap, ◌∙◌, append_assoc}
 use Rattle.std.proofs.Common.{append-nil, arith}
-use Rattle.toml.specs.Data.{Data, Members, as_table}
+use Rattle.toml.specs.Data.{Data, Members, no_members, as_table}
 use Rattle.toml.specs.View.{view, items_view}
 use Rattle.toml.specs.declared.value.Value.{Value}
 use Rattle.toml.proofs.Views.{items_view-drop}
@@ -14,6 +14,7 @@ use Rattle.ats_network_toml.specs.Seen.{are_tables, tables_of}
 use Rattle.std.specs.Result.{IsErrAnd}
 use Rattle.std.proofs.lemmas.Bool.{lt-ltb, le-ltb}
 use Rattle.std.proofs.lemmas.List.{drop_all}
+use Rattle.std.proofs.Math.Seq.{drop-cons}
 use Rattle.ats_network_toml.specs.Reading.{entries_from, entries_in}
 use Rattle.ats_network_toml.specs.declared.format.Format.{Format}
 use Rattle.ats_network_toml.specs.declared.table.Table.{Table}
@@ -73,24 +74,48 @@ front_parts None rest h = cc
 front_parts (Some t) None h = cc
 front_parts (Some t) (Some ts) h = (refl, refl)
 
-front_list : (t : Members) (rest : Option (List Members)) → is_some rest ≡ true
-    → unwrap_or (in_front (Some t) rest) [] ≡ t ∷ unwrap_or rest []
-front_list t None h = cc
-front_list t (Some ts) h = refl
+-- each of these values is a table
+pub each_is_table : (vs : List Value) (i : ℕ) (d : Value) → i < length vs → are_tables vs ≡ true
+    → is_some (as_table (view (get_or vs i d))) ≡ true
+each_is_table [] i d h tables = absurd (omega (arith, h))
+each_is_table (v ∷ vs) zero d h tables = (front_parts (as_table (view v)) (all_in as_table (items_view vs)) tables).0
+each_is_table (v ∷ vs) (suc i) d h tables =
+    each_is_table vs i d (omega (arith, h))
+    (front_parts (as_table (view v)) (all_in as_table (items_view vs)) tables).1
 
--- tables at a place and behind it
-pub tables_at_drop : (vs : List Value) (i : ℕ) (d : Value) → i < length vs → are_tables (drop i vs) ≡ true
-    → (is_some (as_table (view (get_or vs i d))) ≡ true) × (are_tables (drop (i + 1) vs) ≡ true)
-tables_at_drop vs i d h tables = front_parts _ _ (ap is_some (sym (all_in_drop as_table vs i d h)) ∙ tables)
+front_at : (o : Option Members) (rest : Option (List Members)) (t d : Members) → is_some rest ≡ true → o ≡ Some t
+    → get_or (unwrap_or (in_front o rest) []) 0 d ≡ t
+front_at None rest t d some is = cc
+front_at (Some s) None t d some is = cc
+front_at (Some s) (Some ts) t d some is = cc
 
-pub tables_of_drop : (vs : List Value) (i : ℕ) (d : Value) (t : Members) → i < length vs → are_tables (drop i vs) ≡ true
-    → as_table (view (get_or vs i d)) ≡ Some t
-    → tables_of (drop i vs) ≡ t ∷ tables_of (drop (i + 1) vs)
-tables_of_drop vs i d t h tables is =
-    let more = tables_at_drop vs i d h tables in
-    ap (λ (o : Option (List Members)). unwrap_or o []) (all_in_drop as_table vs i d h
-    ∙ ap (λ (o : Option Members). in_front o (all_in as_table (items_view (drop (i + 1) vs)))) is)
-    ∙ front_list t (all_in as_table (items_view (drop (i + 1) vs))) more.1
+behind_at : (o : Option Members) (rest : Option (List Members)) (i : ℕ) (d : Members)
+    → is_some (in_front o rest) ≡ true
+    → get_or (unwrap_or (in_front o rest) []) (suc i) d ≡ get_or (unwrap_or rest []) i d
+behind_at None rest i d some = cc
+behind_at (Some t) None i d some = cc
+behind_at (Some t) (Some ts) i d some = refl
+
+-- the table at a place of these values
+pub table_at : (vs : List Value) (i : ℕ) (v : Value) (t d : Members) → i < length vs → are_tables vs ≡ true
+    → as_table (view (get_or vs i v)) ≡ Some t → get_or (tables_of vs) i d ≡ t
+table_at [] i v t d h tables is = absurd (omega (arith, h))
+table_at (x ∷ vs) zero v t d h tables is =
+    front_at (as_table (view x)) (all_in as_table (items_view vs)) t d
+    (front_parts (as_table (view x)) (all_in as_table (items_view vs)) tables).1 is
+table_at (x ∷ vs) (suc i) v t d h tables is =
+    behind_at (as_table (view x)) (all_in as_table (items_view vs)) i d tables
+    ∙ table_at vs i v t d (omega (arith, h))
+    (front_parts (as_table (view x)) (all_in as_table (items_view vs)) tables).1 is
+
+-- a list that is there
+pub is_there : (o : Option (List Members)) → is_some o ≡ true → o ≡ Some (unwrap_or o [])
+is_there None h = cc
+is_there (Some ts) h = refl
+
+pub is_absent : (o : Option (List Members)) → is_some o ≡ false → o ≡ None
+is_absent None h = refl
+is_absent (Some ts) h = cc
 
 front_length : (o : Option Members) (rest : Option (List Members)) (n : ℕ) → is_some (in_front o rest) ≡ true
     → (is_some rest ≡ true → length (unwrap_or rest []) ≡ n) → length (unwrap_or (in_front o rest) []) ≡ n + 1
@@ -118,22 +143,17 @@ entries_within read format table most tables h = rw (le-ltb most (length tables)
 
 -- a fault of the next entry is the fault of the array
 pub entry_stops : {A : Type 0} (read : Entry → Result A DocumentFault) (format : Format) (table : Table)
-    (most n : ℕ) (before : List A) (e : Failure DocumentFault) (entry : Entry) (ms : Members)
-    (rest left all : List Members)
-    → entry ≡ record { format = format; table = table; number = n; members = ms } → left ≡ ms ∷ rest → length all ≤ most
-    → behind before (entries_from read format table n left) ≡ entries_from read format table 1 all
-    → Fails e (read entry) → Fails e (entries_in read format table most all)
-entry_stops read format table most n before e entry ms rest left all is next few so_far failed =
-    fails_along e (read entry) (entries_in read format table most all)
-    (λ f part. entries_within read format table most all few ∙ sym so_far
-    ∙ ap (λ ts. behind before (entries_from read format table n ts)) next
-    ∙ entry_fails read format table n before f ms rest (ap read (sym is) ∙ part)) failed
-
--- after the last entry
-pub entries_end : {A : Type 0} (read : Entry → Result A DocumentFault) (format : Format) (table : Table)
-    (n : ℕ) (before : List A) (vs : List Value) (i : ℕ) → length vs ≤ i
-    → behind before (entries_from read format table n (tables_of (drop i vs))) ≡ Ok before
-entries_end read format table n before vs i past = rw (drop_all i vs past) (ap Ok (append-nil before))
+    (most i : ℕ) (before : List A) (e : Failure DocumentFault) (tables : List Members) (entry : Entry)
+    → entry ≡ record { format = format; table = table; number = i + 1; members = get_or tables i no_members }
+    → i < length tables → length tables ≤ most
+    → behind before (entries_from read format table (i + 1) (drop i tables)) ≡ entries_from read format table 1 tables
+    → Fails e (read entry) → Fails e (entries_in read format table most tables)
+entry_stops read format table most i before e tables entry is within few so_far failed =
+    fails_along e (read entry) (entries_in read format table most tables)
+    (λ f part. entries_within read format table most tables few ∙ sym so_far
+    ∙ ap (λ ts. behind before (entries_from read format table (i + 1) ts)) (drop-cons tables i no_members within)
+    ∙ entry_fails read format table (i + 1) before f (get_or tables i no_members) (drop (suc i) tables)
+    (ap read (sym is) ∙ part)) failed
 
 -- a fault that is passed on
 pub fault_passed : {A B : Type 0} (seen : A → B) (result : Result A (Failure DocumentFault)) (e : Failure DocumentFault)
@@ -141,12 +161,11 @@ pub fault_passed : {A B : Type 0} (seen : A → B) (result : Result A (Failure D
 fault_passed seen (Ok x) e due h failed = absurd h
 fault_passed seen (Err f) e due h failed = rw h failed
 
--- the array is read once no value is left
+-- the array is read once no table is left
 pub entries_done : {A : Type 0} (read : Entry → Result A DocumentFault) (format : Format) (table : Table)
-    (most n : ℕ) (before : List A) (vs : List Value) (i : ℕ) → length (tables_of vs) ≤ most → length vs ≤ i
-    → behind before (entries_from read format table n (tables_of (drop i vs)))
-    ≡ entries_from read format table 1 (tables_of vs)
-    → entries_in read format table most (tables_of vs) ≡ Ok before
-entries_done read format table most n before vs i few past so_far =
-    entries_within read format table most (tables_of vs) few ∙ sym so_far
-    ∙ entries_end read format table n before vs i past
+    (most n i : ℕ) (before : List A) (tables : List Members) → length tables ≤ most → length tables ≤ i
+    → behind before (entries_from read format table n (drop i tables)) ≡ entries_from read format table 1 tables
+    → entries_in read format table most tables ≡ Ok before
+entries_done read format table most n i before tables few past so_far =
+    entries_within read format table most tables few ∙ sym so_far
+    ∙ rw (drop_all i tables past) (ap Ok (append-nil before))

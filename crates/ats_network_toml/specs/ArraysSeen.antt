@@ -1,23 +1,14 @@
-use Rattle.std.specs.Prelude.{◌≡◌, true}
 use Rattle.ats_network_toml.specs.Reading as due
-use Rattle.ats_network_toml.specs.Seen.{are_tables, tables_of}
+use Rattle.ats_network_toml.specs.Seen.{tables_of}
 use Rattle.ats_network_toml.specs.declared.arrays.Arrays.{Arrays}
 
--- the format, and the tables that the arrays hold
+-- the format, and the tables of the arrays
 abbrev pub arrays_seen : Arrays → due.Arrays
 arrays_seen a = record {
   format = a.format;
-  stations = tables_of a.stations.now;
-  bridges = tables_of a.bridges.now;
-  links = tables_of a.links.now;
-  streams = tables_of a.streams.now;
-  flows = tables_of a.flows.now;
+  stations = tables_of a.stations;
+  bridges = tables_of a.bridges;
+  links = tables_of a.links;
+  streams = tables_of a.streams;
+  flows = tables_of a.flows;
 }
-
--- they are arrays of tables
-pub record AreArrays (a : Arrays) : Type 0 where
-  pub stations : are_tables a.stations.now ≡ true
-  pub bridges : are_tables a.bridges.now ≡ true
-  pub links : are_tables a.links.now ≡ true
-  pub streams : are_tables a.streams.now ≡ true
-  pub flows : are_tables a.flows.now ≡ true

@@ -7,6 +7,7 @@ use Rattle.ats_network_toml.specs.Document.{DeclaredRoute, path, ends, DeclaredS
 use Rattle.ats_network_toml.specs.declared.entries.StationEntry.{StationEntry}
 use Rattle.ats_network_toml.specs.declared.entries.BridgeEntry.{BridgeEntry}
 use Rattle.ats_network_toml.specs.declared.entries.LinkEntry.{LinkEntry}
+use Rattle.ats_network_toml.specs.declared.entries.StreamNumbers.{StreamNumbers}
 use Rattle.ats_network_toml.specs.declared.key.Key.{Key}
 use Rattle.ats_network_toml.specs.declared.key.Key.TheVariants as key
 use Rattle.ats_network_toml.specs.declared.fault.DocumentFault.{DocumentFault}
@@ -48,27 +49,33 @@ link_in e = do
   propagation ← short_at e key.PropagationNs
   Ok (record { a = a; b = b; mbps = mbps; propagation_ns = propagation })
 
+-- the numbers of a stream
+abbrev pub numbers_in : Entry → Result StreamNumbers DocumentFault
+numbers_in e = do
+  rate ← long_at e key.RateBps
+  burst ← long_at e key.BurstBits
+  least ← long_at e key.MinOctets
+  most ← long_at e key.MaxOctets
+  deadline ← deadline_at e
+  Ok (record { rate_bps = rate; burst_bits = burst; min_octets = least; max_octets = most; deadline_ns = deadline })
+
 abbrev pub stream_in : Entry → Result DeclaredStream DocumentFault
 stream_in e = do
   well ← formed e
   name ← name_at e key.Name
   route ← route_at e
   classes ← classes_at e
-  rate ← long_at e key.RateBps
-  burst ← long_at e key.BurstBits
-  least ← long_at e key.MinOctets
-  most ← long_at e key.MaxOctets
-  deadline ← deadline_at e
+  numbers ← numbers_in e
   identity ← identity_at e
   Ok (record {
     name = name;
     route = route;
     classes = classes;
-    rate_bps = rate;
-    burst_bits = burst;
-    min_octets = least;
-    max_octets = most;
-    deadline_ns = deadline;
+    rate_bps = numbers.rate_bps;
+    burst_bits = numbers.burst_bits;
+    min_octets = numbers.min_octets;
+    max_octets = numbers.max_octets;
+    deadline_ns = numbers.deadline_ns;
     identity = identity;
   })
 

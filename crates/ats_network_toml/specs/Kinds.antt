@@ -43,16 +43,21 @@ pair_at text k = do
 abbrev pub joined_at : List ℕ → ℕ → Option ℕ
 joined_at text k = if slice_index text k == 58 then pair_at text (k + 1) else None
 
+-- two pairs behind a number, each behind a colon, as a number with the first given one highest
+abbrev pub two_more : List ℕ → ℕ → ℕ → Option ℕ
+two_more text k high = do
+  middle ← joined_at text k
+  low ← joined_at text (k + 3)
+  Some ((high * 256 + middle) * 256 + low)
+
 -- six pairs of hexadecimal digits, joined by colons, as a number with the first pair highest
 abbrev pub address_of : List ℕ → Option ℕ
 address_of text = do
-  a ← pair_at text 0
-  b ← joined_at text 2
-  c ← joined_at text 5
-  d ← joined_at text 8
-  e ← joined_at text 11
-  f ← joined_at text 14
-  some_where (length text == 17) (((((a * 256 + b) * 256 + c) * 256 + d) * 256 + e) * 256 + f)
+  first ← pair_at text 0
+  high ← two_more text 2 first
+  fourth ← joined_at text 8
+  low ← two_more text 11 fourth
+  some_where (length text == 17) (high * 16777216 + low)
 
 abbrev pub address_in : Data → Option ℕ
 address_in d = as_str d >>= address_of

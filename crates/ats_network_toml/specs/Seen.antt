@@ -13,12 +13,16 @@ use Rattle.ats_network_toml.specs.declared.entries.Route.TheVariants.{Path, Ends
 abbrev pub entry_of : Section → Entry
 entry_of s = record { format = s.format; table = s.table; number = s.number; members = table_view s.members.now }
 
+-- values of TOML, as they are held
+abbrev pub Values : Type 0
+Values = List Value
+
 -- these values are tables
-abbrev pub are_tables : List Value → Bool
+abbrev pub are_tables : Values → Bool
 are_tables vs = is_some (all_in as_table (items_view vs))
 
 -- the tables that these values are
-abbrev pub tables_of : List Value → List Members
+abbrev pub tables_of : Values → List Members
 tables_of vs = unwrap_or (all_in as_table (items_view vs)) []
 
 -- a route, its path as a list

@@ -184,22 +184,50 @@ impl FromSection for StreamEntry {
         let name = section.name(Key::Name)?;
         let route = section.route(alloc)?;
         let classes = section.classes(alloc)?;
-        let rate_bps = section.long(Key::RateBps)?;
-        let burst_bits = section.long(Key::BurstBits)?;
-        let min_octets = section.long(Key::MinOctets)?;
-        let max_octets = section.long(Key::MaxOctets)?;
-        let deadline_ns = section.deadline_ns()?;
+        let numbers = StreamNumbers::read(section)?;
         let identity = section.identity()?;
         Ok(StreamEntry {
             name,
             route,
             classes,
+            rate_bps: numbers.rate_bps,
+            burst_bits: numbers.burst_bits,
+            min_octets: numbers.min_octets,
+            max_octets: numbers.max_octets,
+            deadline_ns: numbers.deadline_ns,
+            identity,
+        })
+    }
+}
+
+// The numbers of a stream.
+#[derive(Clone, Copy)]
+pub(crate) struct StreamNumbers {
+    rate_bps: u64,
+    burst_bits: u64,
+    min_octets: u64,
+    max_octets: u64,
+    deadline_ns: u64,
+}
+
+impl StreamNumbers {
+    ghost use Rattle.ats_network_toml.specs.Entries.{numbers_in};
+
+    // The numbers of a stream's table, or its first fault in them.
+    fn read(section: &Section) -> Result<Self, DocumentFault>
+        ensures { result ≡ numbers_in (entry_of section.now) }
+    {
+        let rate_bps = section.long(Key::RateBps)?;
+        let burst_bits = section.long(Key::BurstBits)?;
+        let min_octets = section.long(Key::MinOctets)?;
+        let max_octets = section.long(Key::MaxOctets)?;
+        let deadline_ns = section.deadline_ns()?;
+        Ok(StreamNumbers {
             rate_bps,
             burst_bits,
             min_octets,
             max_octets,
             deadline_ns,
-            identity,
         })
     }
 }

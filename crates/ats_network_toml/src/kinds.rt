@@ -3,8 +3,8 @@
 ghost use Rattle.std.specs.Prelude.{◌≡◌, ◌≤◌, ◌<◌, ◌^◌, ◌&&◌, nat_le, slice_index, IfSome, Option};
 ghost use Rattle.toml.specs.Data.{Data};
 ghost use Rattle.toml.specs.View.{view};
-ghost use Rattle.ats_network_toml.specs.Kinds.{some_where, name_in, whole_in, digit_at, pair_at, joined_at, address_of};
-ghost use Rattle.ats_network_toml.specs.Kinds.{address_in};
+ghost use Rattle.ats_network_toml.specs.Kinds.{some_where, name_in, whole_in, digit_at, pair_at, joined_at, two_more};
+ghost use Rattle.ats_network_toml.specs.Kinds.{address_of, address_in};
 
 use ats_num::Name;
 use toml::Value;
@@ -89,16 +89,25 @@ fn address_of(text: &[u8]) -> Option<u64>
     ensures value { result ≡ address_of text.now }
     ensures within { IfSome result (λ n. n < 2 ^ 48) }
 {
-    let a = pair_at(text, 0)?;
-    let b = joined_at(text, 2)?;
-    let c = joined_at(text, 5)?;
-    let d = joined_at(text, 8)?;
-    let e = joined_at(text, 11)?;
-    let f = joined_at(text, 14)?;
+    let first = pair_at(text, 0)?;
+    let high = two_more(text, 2, first)?;
+    let fourth = joined_at(text, 8)?;
+    let low = two_more(text, 11, fourth)?;
     if text.len() != 17 {
         return None;
     }
-    Some(((((a * 256 + b) * 256 + c) * 256 + d) * 256 + e) * 256 + f)
+    Some(high * 16_777_216 + low)
+}
+
+// Two pairs behind a number, each behind a colon, as a number with the first given one highest.
+fn two_more(text: &[u8], at: usize, high: u64) -> Option<u64>
+    requires { (at ≤ 11) × (high < 256) }
+    ensures value { result ≡ two_more text.now at high }
+    ensures within { IfSome result (λ n. n < 16777216) }
+{
+    let middle = joined_at(text, at)?;
+    let low = joined_at(text, at + 3)?;
+    Some((high * 256 + middle) * 256 + low)
 }
 
 // A colon, and a pair of hexadecimal digits behind it.

@@ -11,6 +11,7 @@ mod kinds;
 pub mod reading;
 mod section;
 pub mod table;
+mod tables;
 
 pub use document::{Document, Parts};
 pub use entries::{BridgeEntry, FlowEntry, LinkEntry, Route, StationEntry, StreamEntry};

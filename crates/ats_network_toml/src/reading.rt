@@ -3,7 +3,7 @@
 ghost use Rattle.std.specs.Prelude.{◌≡◌};
 ghost use Rattle.toml.specs.View.{table_view};
 ghost use Rattle.ats_num.specs.Failure.{or_fault, Gives, GivesSeen};
-ghost use Rattle.ats_network_toml.specs.ArraysSeen.{arrays_seen, AreArrays};
+ghost use Rattle.ats_network_toml.specs.ArraysSeen.{arrays_seen};
 ghost use Rattle.ats_network_toml.specs.Reading.{tree_of, document_in, document_of, arrays_read};
 
 use crate::arrays::{Arrays, read_entries};
@@ -57,7 +57,6 @@ fn tree_of(alloc: Global, bytes: &[u8]) -> Result<toml::Table, Failure<DocumentF
 
 // The entries of all arrays.
 fn arrays_read(alloc: Global, arrays: &Arrays) -> Result<Document, Failure<DocumentFault>>
-    requires { AreArrays arrays.now }
     ensures { Gives result (arrays_read (arrays_seen arrays.now)) }
 {
     let station_list = read_entries(
@@ -65,19 +64,19 @@ fn arrays_read(alloc: Global, arrays: &Arrays) -> Result<Document, Failure<Docum
         arrays.format,
         Table::Station,
         MAX_NODES,
-        arrays.stations,
+        &arrays.stations,
     )?;
     let places = MAX_NODES - station_list.len();
-    let bridge_list = read_entries(alloc, arrays.format, Table::Bridge, places, arrays.bridges)?;
-    let link_list = read_entries(alloc, arrays.format, Table::Link, MAX_LINKS, arrays.links)?;
+    let bridge_list = read_entries(alloc, arrays.format, Table::Bridge, places, &arrays.bridges)?;
+    let link_list = read_entries(alloc, arrays.format, Table::Link, MAX_LINKS, &arrays.links)?;
     let stream_list = read_entries(
         alloc,
         arrays.format,
         Table::Stream,
         MAX_STREAMS,
-        arrays.streams,
+        &arrays.streams,
     )?;
-    let flow_list = read_entries(alloc, arrays.format, Table::Flow, MAX_FLOWS, arrays.flows)?;
+    let flow_list = read_entries(alloc, arrays.format, Table::Flow, MAX_FLOWS, &arrays.flows)?;
     Ok(Document {
         station_list,
         bridge_list,

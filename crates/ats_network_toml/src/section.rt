@@ -9,10 +9,10 @@ ghost use Rattle.ats_network_toml.specs.Walk.{has, is_due, is_missing, missing_k
 ghost use Rattle.ats_network_toml.specs.Walk.{name_at, whole_at, tables_at, path_at, identity_at, deadline_at};
 ghost use Rattle.ats_network_toml.specs.Walk.{format_at, classes_at};
 ghost use Rattle.ats_num.specs.Failure.{or_fault, GivesSeen};
-ghost use Rattle.ats_network_toml.specs.Kinds.{address_in, all_in, list_in};
+ghost use Rattle.ats_network_toml.specs.Kinds.{address_in, all_in, list_in, tables_in};
 ghost use Rattle.ats_network_toml.specs.Entries.{route_at};
 ghost use Rattle.ats_network_toml.specs.Document.{IsRoute, IsIdentity};
-ghost use Rattle.ats_network_toml.specs.Seen.{are_tables, tables_of, route_seen};
+ghost use Rattle.ats_network_toml.specs.Seen.{tables_of, route_seen};
 
 use crate::entries::Route;
 use crate::fault::DocumentFault;
@@ -20,6 +20,7 @@ use crate::format::Format;
 use crate::key::Key;
 use crate::kinds::{FromValue, MAX_WHOLE, address_in, name_in, whole_in};
 use crate::table::Table;
+use crate::tables::Tables;
 use ats_num::{Failure, Name};
 use std::alloc::Global;
 use toml::Value;
@@ -192,23 +193,14 @@ impl<'a> Section<'a> {
     }
 
     /// The tables of the array that stands with a key; none where nothing stands there.
-    pub(crate) fn tables(&self, key: Key) -> Result<&'a [Value], DocumentFault>
-        ensures ok { IfOk result
-            (λ vs. (tables_at (entry_of self.now) key ≡ Ok (tables_of vs.now)) × IsTrue (are_tables vs.now)) }
+    pub(crate) fn tables(&self, key: Key) -> Result<Tables<'a>, DocumentFault>
+        ensures ok { IfOk result (λ tables. tables_at (entry_of self.now) key ≡ Ok (tables_of tables)) }
         ensures err { IfErr result (λ e. tables_at (entry_of self.now) key ≡ Err e) }
     {
-        let value = match self.value(key) {
-            Some(value) => value,
-            None => return Ok(&[]),
-        };
-        let values = match value.as_array() {
-            Some(values) => values.as_slice(),
-            None => return Err(self.wrong_kind(key)),
-        };
-        if !are_tables(values) {
-            return Err(self.wrong_kind(key));
+        match self.value(key) {
+            Some(value) => tables_in(value).ok_or(self.wrong_kind(key)),
+            None => Ok(Tables::none()),
         }
-        Ok(values)
     }
 
     /// The way of a stream or a flow: its path, or its two ends.
@@ -330,16 +322,14 @@ fn items_in<T: FromValue>(
     Ok(items)
 }
 
-#[tactic(auto, using(crate::proofs::Joined::all_in_drop))]
-fn are_tables(values: &[Value]) -> bool
-    ensures { result ≡ are_tables values.now }
+// The tables that a value is, where it is an array of tables.
+fn tables_in(value: &Value) -> Option<Tables<'_>>
+    ensures { option_map tables_of result ≡ tables_in (view value.now) }
 {
-    for value in values {
-        if !value.is_table() {
-            return false;
-        }
+    match value.as_array() {
+        Some(values) => Tables::of(values.as_slice()),
+        None => None,
     }
-    true
 }
 
 fn has_unknown(keys: &[Key], members: &toml::Table) -> bool

@@ -1,15 +1,13 @@
-use Rattle.std.proofs.Common.{◌≡◌, ◌+◌, true, length, drop}
-use Rattle.ats_network_toml.specs.Seen.{are_tables, tables_of}
+use Rattle.std.proofs.Common.{◌≡◌, ◌+◌, length, drop}
+use Rattle.ats_network_toml.specs.Seen.{tables_of}
 use Rattle.ats_network_toml.specs.Reading.{entries_from}
 use Rattle.ats_network_toml.proofs.Joined.{behind}
 use Rattle.ats_network_toml.proofs.arrays.read_entries.Given as goal
 
--- the values left are tables, there is an entry for each before, and the entries left, behind those
--- read, are all entries
+-- there is an entry for each table before, and the entries left, behind those read, are all entries
 abbrev pub invariant-loop-place : goal.invariant-loop-place
 invariant-loop-place g l = record {
-  tables : are_tables (drop l.place l.values) ≡ true;
   few : length l.entries.items ≡ l.place;
   read : behind l.entries.items (entries_from g.E.FromSection.reads l.format l.table (l.place + 1)
-      (tables_of (drop l.place l.values))) ≡ entries_from g.E.FromSection.reads l.format l.table 1 (tables_of l.values);
+      (drop l.place (tables_of l.tables))) ≡ entries_from g.E.FromSection.reads l.format l.table 1 (tables_of l.tables);
 }

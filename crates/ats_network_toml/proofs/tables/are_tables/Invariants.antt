@@ -1,6 +1,6 @@
 use Rattle.std.proofs.Common.{◌≡◌, drop}
 use Rattle.ats_network_toml.specs.Seen.{are_tables}
-use Rattle.ats_network_toml.proofs.section.are_tables.Given as goal
+use Rattle.ats_network_toml.proofs.tables.are_tables.Given as goal
 
 -- the values left are tables where all are
 abbrev pub invariant-loop-value : goal.invariant-loop-value
