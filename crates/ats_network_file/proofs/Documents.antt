@@ -1,17 +1,18 @@
 use Rattle.std.proofs.Common.{◌≡◌, ℕ, ◌+◌, ◌-◌, ◌^◌, ◌<◌, ◌≤◌, Bool, true, false, cond, List, [], ◌∷◌, length, Option}
-use Rattle.std.proofs.Common.{Some, None, Result, Ok, Err, refl, subst}
+use Rattle.std.proofs.Common.{Some, None, Result, Ok, Err, refl, sym, ap, ◌∙◌, subst}
 use Rattle.std.specs.Prelude.{nat_lt}
 use Rattle.std.specs.List.{All}
 use Rattle.std.specs.Option.{ForSome}
 use Rattle.std.proofs.lemmas.List.Elements.{All-nil, All-cons}
 use Rattle.toml.specs.Data.{Members, get_member}
-use Rattle.ats_network_toml.specs.Document.{DeclaredDocument, DeclaredRoute, DeclaredStream, DeclaredFlow, IsIdentity}
-use Rattle.ats_network_toml.specs.Entries.{station_in, bridge_in, link_in, stream_in, flow_in, route_at, long_at}
+use Rattle.ats_network_toml.specs.Document.{DeclaredDocument, DeclaredStream, DeclaredFlow, IsIdentity}
+use Rattle.ats_network_toml.specs.Entries.{station_in, bridge_in, link_in, stream_in, flow_in, route_at}
+use Rattle.ats_network_toml.specs.Entries.{numbers_in}
 use Rattle.ats_network_toml.specs.Kinds.{address_in}
 use Rattle.ats_network_toml.specs.Reading.{Arrays, entries_from, entries_in, arrays_in, arrays_read, document_in}
 use Rattle.ats_network_toml.specs.Reading.{document_of, tree_of}
 use Rattle.ats_num.specs.Failure.{◌>>=◌, or_fault}
-use Rattle.ats_network_toml.specs.Walk.{Entry, has, formed, name_at, whole_at, classes_at, deadline_at, identity_at}
+use Rattle.ats_network_toml.specs.Walk.{Entry, has, formed, name_at, whole_at, classes_at, identity_at}
 use Rattle.ats_network_toml.specs.Walk.{at}
 use Rattle.ats_network_toml.specs.Words.{key_text}
 use Rattle.ats_network_toml.specs.declared.entries.StationEntry.{StationEntry}
@@ -55,43 +56,24 @@ identity_kept e o h =
     (or_fault_ok (fault.WrongKind e.table e.number key.Vlan) _ v is))
     o h
 
--- the identity of a stream entry is what its table gives
-stream_identity : (well : Result (Unit {0}) DocumentFault) (name : Result (List ℕ) DocumentFault)
-    (route : Result DeclaredRoute DocumentFault)
-    (classes : Result (List ℕ) DocumentFault)
-    (rate burst least most deadline : Result ℕ DocumentFault) (identity : Result (Option (ℕ × ℕ)) DocumentFault)
-    (s : DeclaredStream)
-    → (well >>= λ _. name >>= λ name. route >>= λ route. classes >>= λ classes. rate >>= λ rate. burst >>= λ burst.
-    least >>= λ least. most >>= λ most. deadline >>= λ deadline. identity >>= λ identity.
-    Ok (record {
-      name = name;
-      route = route;
-      classes = classes;
-      rate_bps = rate;
-      burst_bits = burst;
-      min_octets = least;
-      max_octets = most;
-      deadline_ns = deadline;
-      identity = identity;
-    })) ≡ Ok s
-    → identity ≡ Ok s.identity
-stream_identity (Err e) n r c ra b l m d i s h = cc
-stream_identity (Ok w) (Err e) r c ra b l m d i s h = cc
-stream_identity (Ok w) (Ok n) (Err e) c ra b l m d i s h = cc
-stream_identity (Ok w) (Ok n) (Ok r) (Err e) ra b l m d i s h = cc
-stream_identity (Ok w) (Ok n) (Ok r) (Ok c) (Err e) b l m d i s h = cc
-stream_identity (Ok w) (Ok n) (Ok r) (Ok c) (Ok ra) (Err e) l m d i s h = cc
-stream_identity (Ok w) (Ok n) (Ok r) (Ok c) (Ok ra) (Ok b) (Err e) m d i s h = cc
-stream_identity (Ok w) (Ok n) (Ok r) (Ok c) (Ok ra) (Ok b) (Ok l) (Err e) d i s h = cc
-stream_identity (Ok w) (Ok n) (Ok r) (Ok c) (Ok ra) (Ok b) (Ok l) (Ok m) (Err e) i s h = cc
-stream_identity (Ok w) (Ok n) (Ok r) (Ok c) (Ok ra) (Ok b) (Ok l) (Ok m) (Ok d) (Err e) s h = cc
-stream_identity (Ok w) (Ok n) (Ok r) (Ok c) (Ok ra) (Ok b) (Ok l) (Ok m) (Ok d) (Ok i) s h = cc
+ok_same : (x y : Result DeclaredStream DocumentFault) (r s : DeclaredStream) → x ≡ y → x ≡ Ok r → y ≡ Ok s → r ≡ s
+ok_same x y r s h a b = cc
+
+-- the identity that is read last is that of the stream
+last_read : (identity : Result (Option (ℕ × ℕ)) DocumentFault) (made : Option (ℕ × ℕ) → DeclaredStream)
+    (s : DeclaredStream) → ((o : Option (ℕ × ℕ)) → (made o).identity ≡ o) → (identity >>= λ o. Ok (made o)) ≡ Ok s → identity ≡ Ok s.identity
+last_read (Err e) made s same h = cc
+last_read (Ok o) made s same h =
+    ap Ok (sym (same o) ∙ ap (λ (s : DeclaredStream). s.identity) (ok_same (Ok (made o)) (Ok s) (made o) s h refl refl))
 
 stream_kept : (e : Entry) (s : DeclaredStream) → stream_in e ≡ Ok s → Identified s
 stream_kept e s h =
-    identity_kept e s.identity
-    (stream_identity (formed e) (name_at e key.Name) (route_at e) (classes_at e) (long_at e key.RateBps)
-    (long_at e key.BurstBits) (long_at e key.MinOctets) (long_at e key.MaxOctets) (deadline_at e) (identity_at e) s h)
+    let well = both (formed e) _ s h in
+    let name = both (name_at e key.Name) _ s well.then in
+    let route = both (route_at e) _ s name.then in
+    let classes = both (classes_at e) _ s route.then in
+    let numbers = both (numbers_in e) _ s classes.then in
+    identity_kept e s.identity (last_read (identity_at e) _ s (λ o. refl) numbers.then)
 
 -- each entry that is read keeps what an entry keeps
 entries_kept : {A : Type 0} (P : A → Type 0) (read : Entry → Result A DocumentFault)

@@ -5,7 +5,8 @@ use Rattle.std.specs.Char.{digit_value}
 use Rattle.std.proofs.lemmas.Bool.{and_parts, ltb-true}
 use Rattle.std.proofs.lemmas.Bool.Decides.{nat_tests}
 use Rattle.toml.specs.Data.{Data, as_str, as_integer}
-use Rattle.ats_network_toml.specs.Kinds.{◌>>=◌, some_where, digit_at, pair_at, joined_at, address_of, address_in}
+use Rattle.ats_network_toml.specs.Kinds.{◌>>=◌, some_where, digit_at, pair_at, joined_at, two_more, address_of}
+use Rattle.ats_network_toml.specs.Kinds.{address_in}
 use Rattle.ats_network_toml.specs.Kinds.{ranged, whole_in}
 
 -- The address and the VLAN identifier that a table may give are within their limits.
@@ -20,15 +21,18 @@ digit_below text k d h =
     let parts : (nat_lt v 16 ≡ true) × (v ≡ d) = where_passed (nat_lt v 16) v d h in
     subst (λ (n : ℕ). n < 16) parts.1 (ltb-true v 16 parts.0)
 
-pair_from : (high low : Option ℕ) → ((d : ℕ) → high ≡ Some d → d < 16) → ((d : ℕ) → low ≡ Some d → d < 16)
-    → (n : ℕ) → (high >>= λ h. low >>= λ l. Some (h * 16 + l)) ≡ Some n → n < 256
-pair_from None low f g n h = cc
-pair_from (Some a) None f g n h = cc
-pair_from (Some a) (Some b) f g n h = let same : a * 16 + b ≡ n = cc in omega (arith, f a refl, g b refl)
+-- what holds of a value holds of what comes of it
+along : (P Q : ℕ → Type 0) (o : Option ℕ) (f : ℕ → Option ℕ) (n : ℕ) → ((x : ℕ) → o ≡ Some x → P x)
+    → ((x : ℕ) → P x → f x ≡ Some n → Q n) → (o >>= f) ≡ Some n → Q n
+along P Q None f n first then h = cc
+along P Q (Some x) f n first then h = then x (first x refl) h
 
 pair_below : (text : List ℕ) (k n : ℕ) → pair_at text k ≡ Some n → n < 256
 pair_below text k n h =
-    pair_from (digit_at text k) (digit_at text (k + 1)) (digit_below text k) (digit_below text (k + 1)) n h
+    along (λ a. a < 16) (λ n. n < 256) (digit_at text k) (λ a. digit_at text (k + 1) >>= λ b. Some (a * 16 + b)) n
+    (digit_below text k)
+    (λ a high. along (λ b. b < 16) (λ n. n < 256) (digit_at text (k + 1)) (λ b. Some (a * 16 + b)) n
+    (digit_below text (k + 1)) (λ b low is. let same : a * 16 + b ≡ n = cc in omega (arith, high, low, same))) h
 
 joined_from : (joined : Bool) (pair : Option ℕ) → ((m : ℕ) → pair ≡ Some m → m < 256) → (n : ℕ)
     → cond joined pair None ≡ Some n → n < 256
@@ -38,30 +42,32 @@ joined_from false pair f n h = cc
 joined_below : (text : List ℕ) (k n : ℕ) → joined_at text k ≡ Some n → n < 256
 joined_below text k n h = joined_from (slice_index text k == 58) (pair_at text (k + 1)) (pair_below text (k + 1)) n h
 
-address_from : (a b c d e f : Option ℕ) (whole : Bool) → ((m : ℕ) → a ≡ Some m → m < 256)
-    → ((m : ℕ) → b ≡ Some m → m < 256) → ((m : ℕ) → c ≡ Some m → m < 256)
-    → ((m : ℕ) → d ≡ Some m → m < 256) → ((m : ℕ) → e ≡ Some m → m < 256) → ((m : ℕ) → f ≡ Some m → m < 256) → (n : ℕ)
-    → (a >>= λ a. b >>= λ b. c >>= λ c. d >>= λ d. e >>= λ e. f
-    >>= λ f. some_where whole (((((a * 256 + b) * 256 + c) * 256 + d) * 256 + e) * 256 + f)) ≡ Some n
-    → n < 2 ^ 48
-address_from None b c d e f whole ka kb kc kd ke kf n h = cc
-address_from (Some a) None c d e f whole ka kb kc kd ke kf n h = cc
-address_from (Some a) (Some b) None d e f whole ka kb kc kd ke kf n h = cc
-address_from (Some a) (Some b) (Some c) None e f whole ka kb kc kd ke kf n h = cc
-address_from (Some a) (Some b) (Some c) (Some d) None f whole ka kb kc kd ke kf n h = cc
-address_from (Some a) (Some b) (Some c) (Some d) (Some e) None whole ka kb kc kd ke kf n h = cc
-address_from (Some a) (Some b) (Some c) (Some d) (Some e) (Some f) whole ka kb kc kd ke kf n h =
-    let sum = ((((a * 256 + b) * 256 + c) * 256 + d) * 256 + e) * 256 + f in
-    let parts : (whole ≡ true) × (sum ≡ n) = where_passed whole sum n h in
-    let below : sum < 2 ^ 48 = omega (arith, ka a refl, kb b refl, kc c refl, kd d refl, ke e refl, kf f refl) in
-    subst (λ (m : ℕ). m < 2 ^ 48) parts.1 below
+more_below : (text : List ℕ) (k high n : ℕ) → high < 256 → two_more text k high ≡ Some n → n < 16777216
+more_below text k high n small h =
+    along (λ a. a < 256) (λ n. n < 16777216) (joined_at text k)
+    (λ a. joined_at text (k + 3) >>= λ b. Some ((high * 256 + a) * 256 + b)) n (joined_below text k)
+    (λ a middle. along (λ b. b < 256) (λ n. n < 16777216) (joined_at text (k + 3))
+    (λ b. Some ((high * 256 + a) * 256 + b)) n (joined_below text (k + 3))
+    (λ b low is. let same : (high * 256 + a) * 256 + b ≡ n = cc in omega (arith, small, middle, low, same))) h
+
+whole_below : (whole : Bool) (high low n : ℕ) → high < 16777216 → low < 16777216
+    → some_where whole (high * 16777216 + low) ≡ Some n → n < 2 ^ 48
+whole_below whole high low n above below h =
+    let parts : (whole ≡ true) × (high * 16777216 + low ≡ n) = where_passed whole (high * 16777216 + low) n h in
+    omega (arith, above, below, parts.1)
 
 address_below : (text : List ℕ) (n : ℕ) → address_of text ≡ Some n → n < 2 ^ 48
 address_below text n h =
-    address_from (pair_at text 0) (joined_at text 2) (joined_at text 5) (joined_at text 8) (joined_at text 11)
-    (joined_at text 14) (length text == 17)
-    (pair_below text 0) (joined_below text 2) (joined_below text 5) (joined_below text 8) (joined_below text 11)
-    (joined_below text 14) n h
+    let whole : Bool = length text == 17 in
+    let end : ℕ → ℕ → Option ℕ = λ high d. two_more text 11 d >>= λ low. some_where whole (high * 16777216 + low) in
+    let rest : ℕ → Option ℕ = λ high. joined_at text 8 >>= end high in
+    along (λ a. a < 256) (λ n. n < 2 ^ 48) (pair_at text 0) (λ a. two_more text 2 a >>= rest) n (pair_below text 0)
+    (λ a first. along (λ high. high < 16777216) (λ n. n < 2 ^ 48) (two_more text 2 a) rest n
+    (λ high is. more_below text 2 a high first is)
+    (λ high above. along (λ d. d < 256) (λ n. n < 2 ^ 48) (joined_at text 8) (end high) n (joined_below text 8)
+    (λ d fourth. along (λ low. low < 16777216) (λ n. n < 2 ^ 48) (two_more text 11 d)
+    (λ low. some_where whole (high * 16777216 + low)) n (λ low is. more_below text 11 d low fourth is)
+    (λ low below is. whole_below whole high low n above below is)))) h
 
 address_among : (text : Option (List ℕ)) (n : ℕ) → (text >>= address_of) ≡ Some n → n < 2 ^ 48
 address_among None n h = cc

@@ -14,7 +14,6 @@ use Rattle.ats_streams.specs.Flow.{DeclaredFlow, IsFlow, flow_fault}
 use Rattle.ats_streams.specs.Stream.{DeclaredStream, IsStream, IsClass, MayIdentify, stream_fault, limit_fault}
 use Rattle.ats_streams.specs.Stream.{is_bad_class, are_bad_classes, classes_for}
 use Rattle.ats_streams.proofs.ClassLemmas.{so_many}
-use Rattle.ats_streams.specs.declared.fault.StreamFault.{StreamFault}
 use Rattle.ats_streams.specs.declared.path.TheConstants.{MAX_PORTS}
 use Rattle.ats_streams.specs.declared.stream.TheConstants.{MAX_CLASS, MAX_DEADLINE_NS}
 
