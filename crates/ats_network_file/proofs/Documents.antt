@@ -61,7 +61,8 @@ ok_same x y r s h a b = cc
 
 -- the identity that is read last is that of the stream
 last_read : (identity : Result (Option (ℕ × ℕ)) DocumentFault) (made : Option (ℕ × ℕ) → DeclaredStream)
-    (s : DeclaredStream) → ((o : Option (ℕ × ℕ)) → (made o).identity ≡ o) → (identity >>= λ o. Ok (made o)) ≡ Ok s → identity ≡ Ok s.identity
+    (s : DeclaredStream) → ((o : Option (ℕ × ℕ)) → (made o).identity ≡ o)
+    → (identity >>= λ o. Ok (made o)) ≡ Ok s → identity ≡ Ok s.identity
 last_read (Err e) made s same h = cc
 last_read (Ok o) made s same h =
     ap Ok (sym (same o) ∙ ap (λ (s : DeclaredStream). s.identity) (ok_same (Ok (made o)) (Ok s) (made o) s h refl refl))
