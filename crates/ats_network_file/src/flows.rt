@@ -5,7 +5,7 @@ ghost use Rattle.ats_network_file.specs.Senders.{flow_over, flow_made};
 
 use crate::fault::NetFault;
 use crate::routes::path_in;
-use crate::senders::{SenderEntry, SenderTable, refusal_of};
+use crate::senders::{SenderEntry, SenderTable, broken, refused};
 use ats_network::Network;
 use ats_network_toml::FlowEntry;
 use ats_num::Failure;
@@ -33,10 +33,7 @@ impl SenderEntry for FlowEntry {
         let flow = flow_over(path, number, self)?;
         match network.push_flow(flow) {
             Ok(()) => Ok(()),
-            Err(Failure::Fault(fault)) => {
-                Err(Failure::Fault(refusal_of(SenderTable::Flow, number, fault)))
-            }
-            Err(Failure::NoMemory) => Err(Failure::NoMemory),
+            Err(failure) => Err(refused(SenderTable::Flow, number, failure)),
         }
     }
 }
@@ -48,10 +45,6 @@ fn flow_over(path: Vec<u32>, number: u32, entry: &FlowEntry) -> Result<Flow, Net
 {
     match Flow::new(entry.name, path, entry.max_octets) {
         Ok(flow) => Ok(flow),
-        Err(fault) => Err(NetFault::Sender {
-            table: SenderTable::Flow,
-            entry: number,
-            fault,
-        }),
+        Err(fault) => Err(broken(SenderTable::Flow, number, fault)),
     }
 }

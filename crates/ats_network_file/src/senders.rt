@@ -1,15 +1,18 @@
 //! The entries of a file that declare senders: its streams and its flows.
 
-ghost use Rattle.std.specs.Prelude.{◌≡◌, ◌<◌, ◌^◌, ℕ, length, Result};
-ghost use Rattle.ats_num.specs.Failure.{GivesSeen};
+ghost use Rattle.std.specs.Prelude.{◌≡◌, ◌<◌, ◌^◌, ℕ, length, Option, Result};
+ghost use Rattle.ats_num.specs.Failure.{IsDue, Fails, GivesSeen, unless};
 ghost use Rattle.ats_network.specs.Network.{DeclaredNetwork};
 ghost use Rattle.ats_network_file.specs.Senders.{table_of, refusal_of, all_added};
 ghost use Rattle.ats_network_file.specs.declared.fault.NetFault.{NetFault};
+ghost use Rattle.ats_network_file.specs.declared.fault.NetFault.TheVariants.{Sender};
+ghost use Rattle.ats_network.specs.declared.fault.PushFault.{PushFault};
 
 use crate::fault::NetFault;
 use ats_network::{Network, PushFault};
 use ats_network_toml::{DocumentFault, Table};
 use ats_num::Failure;
+use ats_streams::StreamFault;
 use std::alloc::Global;
 
 /// A table of a file that declares senders.
@@ -33,8 +36,8 @@ impl SenderTable {
     }
 }
 
-/// Why a network does not take the sender of an entry, as a fault of the file.
-pub(crate) fn refusal_of(table: SenderTable, entry: u32, fault: PushFault) -> NetFault
+// Why a network does not take the sender of an entry, as a fault of the file.
+fn refusal_of(table: SenderTable, entry: u32, fault: PushFault) -> NetFault
     ensures { result ≡ refusal_of table entry fault }
 {
     match fault {
@@ -43,6 +46,32 @@ pub(crate) fn refusal_of(table: SenderTable, entry: u32, fault: PushFault) -> Ne
         PushFault::Limit => NetFault::Form(DocumentFault::Limit {
             table: table.table(),
         }),
+    }
+}
+
+/// Why a network did not take the sender of an entry, as a failure of the file.
+pub(crate) fn refused(
+    table: SenderTable,
+    entry: u32,
+    failure: Failure<PushFault>,
+) -> Failure<NetFault>
+    ensures { (due : Option PushFault) (next : DeclaredNetwork) → IsDue failure due
+        → Fails result (unless (refusal_of table entry) due next) }
+{
+    match failure {
+        Failure::Fault(fault) => Failure::Fault(refusal_of(table, entry, fault)),
+        Failure::NoMemory => Failure::NoMemory,
+    }
+}
+
+/// The fault of an entry whose sender breaks a rule.
+pub(crate) fn broken(table: SenderTable, entry: u32, fault: StreamFault) -> NetFault
+    ensures { result ≡ Sender table entry fault }
+{
+    NetFault::Sender {
+        table,
+        entry,
+        fault,
     }
 }
 

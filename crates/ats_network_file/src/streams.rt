@@ -5,7 +5,7 @@ ghost use Rattle.ats_network_file.specs.Senders.{stream_over, stream_made};
 
 use crate::fault::NetFault;
 use crate::routes::path_in;
-use crate::senders::{SenderEntry, SenderTable, refusal_of};
+use crate::senders::{SenderEntry, SenderTable, broken, refused};
 use ats_network::Network;
 use ats_network_toml::StreamEntry;
 use ats_num::Failure;
@@ -33,10 +33,7 @@ impl SenderEntry for StreamEntry {
         let stream = stream_over(path, number, self)?;
         match network.push_stream(stream) {
             Ok(()) => Ok(()),
-            Err(Failure::Fault(fault)) => {
-                Err(Failure::Fault(refusal_of(SenderTable::Stream, number, fault)))
-            }
-            Err(Failure::NoMemory) => Err(Failure::NoMemory),
+            Err(failure) => Err(refused(SenderTable::Stream, number, failure)),
         }
     }
 }
@@ -59,10 +56,6 @@ fn stream_over(path: Vec<u32>, number: u32, entry: &StreamEntry) -> Result<Strea
     );
     match made {
         Ok(stream) => Ok(stream),
-        Err(fault) => Err(NetFault::Sender {
-            table: SenderTable::Stream,
-            entry: number,
-            fault,
-        }),
+        Err(fault) => Err(broken(SenderTable::Stream, number, fault)),
     }
 }
