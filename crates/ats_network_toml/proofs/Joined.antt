@@ -10,7 +10,7 @@ use Rattle.ats_num.specs.declared.failure.Failure.TheVariants.{Fault, NoMemory}
 use Rattle.ats_num.specs.Failure.{◌>>=◌, Fails, GivesSeen}
 use Rattle.ats_network_toml.specs.Kinds.{in_front, all_in}
 use Rattle.ats_network_toml.specs.Walk.{Entry}
-use Rattle.ats_network_toml.specs.Seen.{are_tables, tables_of}
+use Rattle.ats_network_toml.specs.Views.{are_tables, tables_of}
 use Rattle.std.specs.Result.{IsErrAnd}
 use Rattle.std.proofs.lemmas.Bool.{lt-ltb, le-ltb}
 use Rattle.std.proofs.lemmas.List.{drop_all}

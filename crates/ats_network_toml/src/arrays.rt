@@ -4,7 +4,7 @@ ghost use Rattle.std.specs.Prelude.{◌≡◌, ◌≤◌, ◌<◌, ◌^◌, Some
 ghost use Rattle.toml.specs.Data.{as_table};
 ghost use Rattle.toml.specs.View.{view, table_view};
 ghost use Rattle.ats_num.specs.Failure.{GivesSeen};
-ghost use Rattle.ats_network_toml.specs.Seen.{are_tables, tables_of};
+ghost use Rattle.ats_network_toml.specs.Views.{are_tables, tables_of};
 ghost use Rattle.ats_network_toml.specs.Reading.{entries_in, arrays_in};
 
 use crate::entries::FromSection;
@@ -63,13 +63,13 @@ pub(crate) struct Arrays<'a> {
 }
 
 impl<'a> Arrays<'a> {
-    ghost use Rattle.ats_network_toml.specs.Seen.{entry_of};
-    ghost use Rattle.ats_network_toml.specs.ArraysSeen.{arrays_seen, AreArrays};
+    ghost use Rattle.ats_network_toml.specs.Views.{entry_of};
+    ghost use Rattle.ats_network_toml.specs.ArraysView.{arrays_view, AreArrays};
 
     /// The format and the arrays of a top table, or its first fault.
     pub(crate) fn read(top: &Section<'a>) -> Result<Self, DocumentFault>
         ensures ok { IfOk result
-            (λ arrays. (arrays_in (entry_of top.now) ≡ Ok (arrays_seen arrays)) × AreArrays arrays) }
+            (λ arrays. (arrays_in (entry_of top.now) ≡ Ok (arrays_view arrays)) × AreArrays arrays) }
         ensures err { IfErr result (λ e. arrays_in (entry_of top.now) ≡ Err e) }
     {
         top.formed()?;

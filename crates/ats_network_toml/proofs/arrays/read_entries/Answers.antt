@@ -2,7 +2,7 @@ use Rattle.std.proofs.Common.{◌≡◌, ◌+◌, ◌≤◌, ◌∙◌, ap, sym,
 use Rattle.toml.specs.declared.value.Value.{Value}
 use Rattle.toml.specs.View.{view, table_view}
 use Rattle.toml.specs.Data.{as_table}
-use Rattle.ats_network_toml.specs.Seen.{entry_of, tables_of}
+use Rattle.ats_network_toml.specs.Views.{entry_of, tables_of}
 use Rattle.ats_network_toml.proofs.Joined.{tables_of_length, tables_of_drop, entries_past, entries_done, entry_stops}
 use Rattle.ats_network_toml.proofs.Joined.{fault_passed}
 use Rattle.ats_network_toml.proofs.arrays.read_entries.Goals as goal

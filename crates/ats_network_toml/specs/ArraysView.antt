@@ -1,11 +1,11 @@
 use Rattle.std.specs.Prelude.{◌≡◌, true}
 use Rattle.ats_network_toml.specs.Reading as due
-use Rattle.ats_network_toml.specs.Seen.{are_tables, tables_of}
+use Rattle.ats_network_toml.specs.Views.{are_tables, tables_of}
 use Rattle.ats_network_toml.specs.declared.arrays.Arrays.{Arrays}
 
 -- the format, and the tables that the arrays hold
-abbrev pub arrays_seen : Arrays → due.Arrays
-arrays_seen a = record {
+abbrev pub arrays_view : Arrays → due.Arrays
+arrays_view a = record {
   format = a.format;
   stations = tables_of a.stations.now;
   bridges = tables_of a.bridges.now;
