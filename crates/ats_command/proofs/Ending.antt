@@ -6,7 +6,7 @@ use Rattle.std.proofs.lemmas.Option.{same_Some, none-some}
 use Rattle.ats_io.specs.Outside.{Rose, TakesPrefix}
 use Rattle.ats_answer.specs.Command.{Command, Shape, Show, Bound, Check, Unknown}
 use Rattle.ats_answer.specs.Answer.{Answer, HasText, words_answer}
-use Rattle.ats_command.specs.Due.{IsAnswer, IsDue, IsTold, told_bytes}
+use Rattle.ats_command.specs.Due.{IsAnswer, IsDueAnswer, IsTold, told_bytes}
 use Rattle.ats_command.specs.Calls.{Answers, Printed, PrintedPrefix, ReadRose, IsCalm, StatusIsDue}
 use Rattle.ats_answer.specs.Outcome.{Prints, PrintsFront, answer_of}
 use Rattle.ats_answer.specs.declared.outcome.Stop.{Stop}
@@ -17,7 +17,8 @@ use Rattle.ats_answer.specs.declared.status.Status.TheVariants.{NoMemory}
 
 -- the answer that an outcome makes is due, where the files tell their bytes
 made_due : (told : List ℕ → Option (List ℕ)) (command : Command) (outcome : Result (Vec ℕ) Stop) (answer : Answer)
-    → Answers told command outcome → answer_of outcome ≡ Some answer → IsTold told command → IsDue told command answer
+    → Answers told command outcome → answer_of outcome ≡ Some answer → IsTold told command
+    → IsDueAnswer told command answer
 made_due told command outcome answer answers made is_told =
     record {
       is_told = is_told;

@@ -1,11 +1,13 @@
 use Rattle.std.proofs.Common.{◌≡◌, ℕ, List, Option, refl}
 use Rattle.ats_answer.specs.Command.{Command, Shape, Show, Bound, Check, Unknown, command_of}
 use Rattle.ats_answer.specs.Answer.{Answer, words_answer}
-use Rattle.ats_command.specs.Due.{IsDue, IsTold, shape_answer, show_answer, bound_answer, check_answer, told_bytes}
+use Rattle.ats_command.specs.Due.{IsDueAnswer, IsTold, told_bytes}
+use Rattle.ats_command.specs.Due.{shape_answer, show_answer, bound_answer, check_answer}
 use Rattle.ats_command.specs.Laws.{OneAnswerIsDue}
 
 only_due : (told : List ℕ → Option (List ℕ)) (command : Command) → IsTold told command
-    → (answer : Answer) × (IsDue told command answer) × ((other : Answer) → IsDue told command other → other ≡ answer)
+    → (answer : Answer) × (IsDueAnswer told command answer)
+    × ((other : Answer) → IsDueAnswer told command other → other ≡ answer)
 only_due told (Shape file) is_told =
     (shape_answer file (told_bytes told file), record { is_told = is_told; answers = refl }, λ other due. due.answers)
 only_due told (Show net) is_told =

@@ -1,6 +1,6 @@
 -- The printed bounds and sums are those of which soundness speaks.
 use Rattle.std.proofs.Common.{◌≡◌, List, refl, subst, sym}
-use Rattle.ats_streams.specs.Stream.{DeclaredStream}
+use Rattle.ats_verdict_text.specs.Stream.{DeclaredStream}
 use Rattle.ats_network.specs.Sender.{Sender, stream_sender}
 use Rattle.ats_topology.specs.Topology.{DeclaredTopology}
 use Rattle.ats_certificate.specs.declared.row.Row.{Row}

@@ -2,13 +2,14 @@ use Rattle.std.proofs.Common.{◌≡◌, ℕ, List, [], Option, Some, None, Resu
 use Rattle.std.specs.Prelude.{IsSome, IfSome, IfOk, IsErrAnd, IsOk, unwrap_or}
 use Rattle.std.specs.Global.{Vec}
 use Rattle.ats_num.specs.Failure.{◌>>=◌}
+use Rattle.ats_io.specs.Outside.{IfTold}
 use Rattle.ats_answer.specs.Answer.{Answer, settled}
 use Rattle.ats_command.specs.Due.{told_bytes}
 use Rattle.ats_answer.specs.Outcome.{Gives, IsStopOf, answer_of}
 use Rattle.ats_answer.specs.declared.outcome.Stop.{Stop}
 use Rattle.ats_answer.specs.declared.outcome.Stop.TheVariants.{Input, Refused, ReadFailed, NoMemory}
 use Rattle.ats_answer.specs.declared.status.Status.TheVariants as status
-use Rattle.ats_answer.proofs.Steps.{stops_all}
+use Rattle.ats_answer.proofs.Steps.{stops_all, goes_on, err_is}
 
 some_is : (o : Option (List ℕ)) → IsSome o → o ≡ Some (unwrap_or o [])
 some_is None h = cc
@@ -46,6 +47,27 @@ pub result_settles : (result : Result (Vec ℕ) Stop) (due : Result (List ℕ) A
     (λ (text : Vec ℕ). text.items) result due → IfSome (answer_of result) (λ (answer : Answer). answer ≡ settled due)
 result_settles (Ok text) due h = text_settles text.items due h
 result_settles (Err stop) due h = stop_settles stop due h
+
+-- where bytes are told under a name, what stops their reading settles the command
+pub file_settles : {A : Type 0} (told : List ℕ → Option (List ℕ)) (file : List ℕ) (result : Result (Vec ℕ) Stop)
+    (stop : Stop) (declared : List ℕ → Result A Answer) (next : A → Result (List ℕ) Answer)
+    → IsErrAnd result (λ e. e ≡ stop) → IfTold (told file) (λ bytes. IsStopOf stop (declared bytes))
+    → IsSome (told file)
+    → IfSome (answer_of result) (λ (answer : Answer). answer ≡ settled (declared (told_bytes told file) >>= next))
+file_settles told file result stop declared next is stops there =
+    step_settles result stop (declared (told_bytes told file)) next (err_is result stop is)
+    (stops (told_bytes told file) (told_is told file there))
+
+-- and where they declare a value, what goes on from it does
+pub file_goes_on : {A : Type 0} (told : List ℕ → Option (List ℕ)) (file : List ℕ) (result : Result (Vec ℕ) Stop)
+    (value : A) (declared : List ℕ → Result A Answer) (next : A → Result (List ℕ) Answer)
+    → IfTold (told file) (λ bytes. declared bytes ≡ Ok value) → IsSome (told file)
+    → Gives (λ (text : Vec ℕ). text.items) result (next value)
+    → IfSome (answer_of result) (λ (answer : Answer). answer ≡ settled (declared (told_bytes told file) >>= next))
+file_goes_on told file result value declared next gives there rest =
+    result_settles result (declared (told_bytes told file) >>= next)
+    (goes_on (λ (text : Vec ℕ). text.items) result (declared (told_bytes told file)) value next
+    (gives (told_bytes told file) (told_is told file there)) rest)
 
 -- what holds of the text that a call gave
 pub text_then : (result : Result (Vec ℕ) Stop) (P Q : List ℕ → Type 0) → IfOk result (λ (text : Vec ℕ). P text.items)

@@ -5,7 +5,7 @@ use Rattle.ats_answer.specs.Command.{Command, file_words}
 use Rattle.ats_answer.specs.Answer.{Answer}
 use Rattle.ats_answer.specs.Outcome.{answer_of}
 use Rattle.ats_answer.specs.declared.outcome.Stop.{Stop}
-use Rattle.ats_command.specs.Due.{IsAnswer, IsDue, IsTold, Reaches, told_bytes}
+use Rattle.ats_command.specs.Due.{IsAnswer, IsDueAnswer, IsTold, Reaches, told_bytes}
 use Rattle.ats_answer.specs.declared.status.Status.{Status}
 
 -- where the files tell their bytes, the answer that an outcome makes is one to the command
@@ -15,12 +15,12 @@ Answers told command outcome = IsTold told command → IfSome (answer_of outcome
 -- a text was printed, whole; with the status it is due, where the files tell their bytes
 abbrev pub Printed : (List ℕ → Option (List ℕ)) → Command → Status → Option (List ℕ) → Option (List ℕ) → Type 0
 Printed told command status old new = (text : List ℕ) × (new ≡ appended old text)
-    × (IsTold told command → IsDue told command (record { status = status; text = text }))
+    × (IsTold told command → IsDueAnswer told command (record { status = status; text = text }))
 
 -- a front of a text was printed; the text is due, where the files tell their bytes
 abbrev pub PrintedPrefix : (List ℕ → Option (List ℕ)) → Command → Option (List ℕ) → Option (List ℕ) → Type 0
 PrintedPrefix told command old new = IsTold told command
-    → (answer : Answer) × IsDue told command answer × TakesPrefix answer.text old new
+    → (answer : Answer) × IsDueAnswer told command answer × TakesPrefix answer.text old new
 
 -- a fault came at a file that the command comes to
 abbrev pub ReadRose : (List ℕ → Option (List ℕ)) → Command → (List ℕ → ℕ) → (List ℕ → ℕ) → Type 0
@@ -32,4 +32,4 @@ IsCalm command old new = All (λ (name : List ℕ). ¬ Rose (old name) (new name
 
 -- an answer with this status is due
 abbrev pub StatusIsDue : (List ℕ → Option (List ℕ)) → Command → Status → Type 0
-StatusIsDue told command status = (answer : Answer) × IsDue told command answer × (answer.status ≡ status)
+StatusIsDue told command status = (answer : Answer) × IsDueAnswer told command answer × (answer.status ≡ status)

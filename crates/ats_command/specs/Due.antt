@@ -49,7 +49,7 @@ abbrev pub told_bytes : (List ℕ → Option (List ℕ)) → List ℕ → List �
 told_bytes told name = unwrap_or (told name) []
 
 -- an answer is due to a command: the bytes of its files are told, and it is an answer where they have these
-pub record IsDue (told : List ℕ → Option (List ℕ)) (command : Command) (answer : Answer) : Type 0 where
+pub record IsDueAnswer (told : List ℕ → Option (List ℕ)) (command : Command) (answer : Answer) : Type 0 where
   pub is_told : IsTold told command
   pub answers : IsAnswer (told_bytes told) command answer
 

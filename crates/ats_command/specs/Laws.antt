@@ -1,8 +1,8 @@
 use Rattle.std.specs.Prelude.{◌≡◌, ℕ, List, ◌++◌, codes, decimal, Option, Some, slice_get, sum_by}
 use Rattle.std.specs.List.{flat_map}
 use Rattle.ats_topology.specs.Topology.{DeclaredTopology}
-use Rattle.ats_port_names.specs.PortName.{port_name}
-use Rattle.ats_streams.specs.Stream.{DeclaredStream}
+use Rattle.ats_verdict_text.specs.PortName.{port_name}
+use Rattle.ats_verdict_text.specs.Stream.{DeclaredStream}
 use Rattle.ats_network.specs.Network.{DeclaredNetwork}
 use Rattle.ats_network.specs.Senders.{sender_at}
 use Rattle.ats_certificate.specs.declared.row.Row.{Row}
@@ -10,12 +10,12 @@ use Rattle.ats_soundness_law.specs.Sound.{bounds_of}
 use Rattle.ats_verdict_text.specs.Text.{stream_lines}
 use Rattle.ats_answer.specs.Command.{command_of}
 use Rattle.ats_answer.specs.Answer.{Answer}
-use Rattle.ats_command.specs.Due.{IsDue, IsTold}
+use Rattle.ats_command.specs.Due.{IsDueAnswer, IsTold}
 
 -- this answer is due, and no other
 pub record IsOnlyDue (told : List ℕ → Option (List ℕ)) (words : List (List ℕ)) (answer : Answer) : Type 0 where
-  pub due : IsDue told (command_of words) answer
-  pub only : (other : Answer) → IsDue told (command_of words) other → other ≡ answer
+  pub due : IsDueAnswer told (command_of words) answer
+  pub only : (other : Answer) → IsDueAnswer told (command_of words) other → other ≡ answer
 
 -- for all words, and all bytes told under the names of their files, just one answer is due
 abbrev pub OneAnswerIsDue : Type 0

@@ -128,10 +128,9 @@ first_time (v ∷ vs) = time_in v
 abbrev early_frame : List Handed
 early_frame = handed_by line_and_flow eligible_early 0 6
 
-not_judged : ¬ IsLegal line_and_flow eligible_early
-not_judged h =
-    let judged : IsJudged ats_judge line_and_flow (residence_of_groups line_and_flow 0) early_frame =
-    h.groups 0 6 (lit< tt) (lit≤ tt) in
+-- no group judges the stream's frame so, 1 ps before it would let it
+pub not_early : ¬ IsJudged ats_judge line_and_flow (residence_of_groups line_and_flow 0) early_frame
+not_early judged =
     let same : judged.arrivals ≡ early_frame = only (get_or early_frame 0 no_frame) judged.arrivals judged.same in
     let told : map (λ (f : Handed). f.verdict) early_frame ≡ verdicts_of (declared_by line_and_flow)
     (residence_of_groups line_and_flow 0) (first (declared_by line_and_flow)) (map offer_of early_frame)
@@ -140,6 +139,9 @@ not_judged h =
     same judged.verdicts in
     let early : ◌≡◌ {A = ℕ} 26171999 26172000 = ap first_time told in
     absurd (omega arith)
+
+not_judged : ¬ IsLegal line_and_flow eligible_early
+not_judged h = not_early (h.groups 0 6 (lit< tt) (lit≤ tt))
 
 not_passed : ¬ IsLegal line_and_flow flow_eligible_early
 not_passed h =

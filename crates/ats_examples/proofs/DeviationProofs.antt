@@ -1,16 +1,12 @@
-use Rattle.std.proofs.Common.{◌≡◌, ℕ, zero, suc, ◌≤◌, List, get_or, map, refl, ap, subst, arith, inl, inr, ◌⊎◌, lit<}
-use Rattle.std.proofs.Common.{lit≤}
+use Rattle.std.proofs.Common.{◌≡◌, ℕ, zero, suc, ◌≤◌, get_or, refl, ap, arith, inl, inr, ◌⊎◌, lit<, lit≤}
 use Rattle.ats_port_rule.specs.PortRule.{IsAhead, StartsAfterGap}
-use Rattle.ats_group.specs.Group.{first, verdicts_of}
-use Rattle.ats_group.specs.Judge.{ats_judge}
-use Rattle.ats_trace.specs.Projections.{Handed, sent_by, handed_by}
-use Rattle.ats_trace.specs.Eligibility.{declared_by, offer_of, residence_of_groups, IsJudged}
+use Rattle.ats_trace.specs.Projections.{sent_by}
 use Rattle.ats_trace.specs.Stored.{no_travel}
 use Rattle.ats_trace.specs.Parts.{Part, in_order, octets, way, released, links, waits, takes, apart, chosen, prompt}
 use Rattle.ats_trace.specs.Parts.{groups, flows, Keeps}
 use Rattle.ats_examples.specs.Networks.{line_and_flow}
 use Rattle.ats_examples.specs.Deviations.{deviation, EachPartCounts}
-use Rattle.ats_examples.proofs.ChangeProofs.{no_transmission, no_crossing, no_frame, time_in, first_time, only}
+use Rattle.ats_examples.proofs.ChangeProofs.{no_transmission, no_crossing, no_frame, time_in, not_early}
 use Rattle.ats_examples.proofs.PartTest.{others_by}
 
 -- at port 2 no transmission ends when the late one starts
@@ -19,21 +15,8 @@ gap_there : StartsAfterGap (sent_by line_and_flow (deviation prompt) 2)
 gap_there zero d within same = let e : ◌≡◌ {A = ℕ} 26172001 13836001 = same in absurd (omega arith)
 gap_there (suc k) d within same = absurd (omega arith)
 
-abbrev early_frame : List Handed
-early_frame = handed_by line_and_flow (deviation groups) 0 6
-
 not_judged : ¬ Keeps groups line_and_flow (deviation groups)
-not_judged keeps =
-    let judged : IsJudged ats_judge line_and_flow (residence_of_groups line_and_flow 0) early_frame =
-    keeps 0 6 (lit< tt) (lit≤ tt) in
-    let same : judged.arrivals ≡ early_frame = only (get_or early_frame 0 no_frame) judged.arrivals judged.same in
-    let told : map (λ (f : Handed). f.verdict) early_frame ≡ verdicts_of (declared_by line_and_flow)
-    (residence_of_groups line_and_flow 0) (first (declared_by line_and_flow)) (map offer_of early_frame)
-    = subst (λ (frames : List Handed). map (λ (f : Handed). f.verdict) frames ≡ verdicts_of (declared_by line_and_flow)
-    (residence_of_groups line_and_flow 0) (first (declared_by line_and_flow)) (map offer_of frames))
-    same judged.verdicts in
-    let early : ◌≡◌ {A = ℕ} 26171999 26172000 = ap first_time told in
-    absurd (omega arith)
+not_judged keeps = not_early (keeps 0 6 (lit< tt) (lit≤ tt))
 
 -- what each deviation breaks
 not_kept : (part : Part) → ¬ Keeps part line_and_flow (deviation part)

@@ -4,6 +4,11 @@ use Rattle.std.proofs.lemmas.List.Elements.{All-nil, All-cons}
 use Rattle.std.proofs.lemmas.List.Sorted.{IsPermutation-refl}
 use Rattle.ats_num.specs.declared.time.TheConstants.{PS_PER_SECOND}
 use Rattle.ats_bucket.specs.Conforming.{Frame, times_of, bits_between, time_between, Conforms}
+use Rattle.ats_topology.specs.Port.{port_at}
+use Rattle.ats_network.specs.Network.{DeclaredNetwork}
+use Rattle.ats_certificate.specs.PortSums.{port_sums}
+use Rattle.ats_certificate.specs.Certificate.{HasSums, Covers, FitsLink, IsEnough, bound_of}
+use Rattle.ats_certificate.specs.declared.row.Row.{Row}
 use Rattle.ats_port_law.specs.PortLaw.{IsDeclared, IsWithinBound, ConformsInOrder}
 use Rattle.ats_examples.specs.Premises.{StreamsConform}
 use Rattle.ats_examples.proofs.PortTest.{port_rule_by}
@@ -50,6 +55,12 @@ none_in_order rate burst =
           record { in_order = λ i j d order h. absurd (omega arith); within = λ i j order h. absurd (omega arith) };
     }
 
+-- a row that says the sums of its port and class, and what follows from them
+covers_by : (network : DeclaredNetwork) (row : Row) → HasSums row (port_sums network row.port row.class)
+    → row.bound ≡ bound_of (port_at network.topology.ports row.port) row.wait row.least → FitsLink row
+    → IsEnough (port_at network.topology.ports row.port) row → Covers network row
+covers_by network row sums bound load wait = record { sums = sums; bound = bound; load = load; wait = wait }
+
 flow_streams : StreamsConform line_and_flow sent_behind_flow
 flow_streams zero h = one_in_order 100000000 12336 (record { at = 1; bits = 12336 }) (omega arith)
 flow_streams (suc i) h = absurd (omega arith)
@@ -58,12 +69,8 @@ pub at_station : IsWorked line_and_flow row_with_flow sent_behind_flow
 at_station = record {
   valid = with_flow_is;
   used = refl;
-  covers = record {
-    sums = record { higher = refl; equal = refl; bursts = refl; lower = refl; least = refl };
-    bound = refl;
-    load = omega arith;
-    wait = omega arith;
-  };
+  covers = covers_by _ _ (record { higher = refl; equal = refl; bursts = refl; lower = refl; least = refl }) refl
+      (omega arith) (omega arith);
   rule = port_rule_by 1000 sent_behind_flow refl;
   offered = record {
     each = all_two (IsDeclared line_and_flow 0) _ _
@@ -82,12 +89,8 @@ at_bridge : IsWorked line_and_flow next_row_with_flow sent_on_behind_flow
 at_bridge = record {
   valid = with_flow_is;
   used = refl;
-  covers = record {
-    sums = record { higher = refl; equal = refl; bursts = refl; lower = refl; least = refl };
-    bound = refl;
-    load = omega arith;
-    wait = omega arith;
-  };
+  covers = covers_by _ _ (record { higher = refl; equal = refl; bursts = refl; lower = refl; least = refl }) refl
+      (omega arith) (omega arith);
   rule = port_rule_by 1000 sent_on_behind_flow refl;
   offered = record {
     each = all_two (IsDeclared line_and_flow 2) _ _
@@ -111,12 +114,8 @@ in_turn = record {
   worked = record {
     valid = fork_is;
     used = refl;
-    covers = record {
-      sums = record { higher = refl; equal = refl; bursts = refl; lower = refl; least = refl };
-      bound = refl;
-      load = omega arith;
-      wait = omega arith;
-    };
+    covers = covers_by _ _ (record { higher = refl; equal = refl; bursts = refl; lower = refl; least = refl }) refl
+        (omega arith) (omega arith);
     rule = port_rule_by 1000 sent_in_turn refl;
     offered = record {
       each = all_two (IsDeclared fork 2) _ _
@@ -138,12 +137,8 @@ pub at_s1 : IsWorked fork (row_of_line 0 13836000) (sent_at_once 0)
 at_s1 = record {
   valid = fork_is;
   used = refl;
-  covers = record {
-    sums = record { higher = refl; equal = refl; bursts = refl; lower = refl; least = refl };
-    bound = refl;
-    load = omega arith;
-    wait = omega arith;
-  };
+  covers = covers_by _ _ (record { higher = refl; equal = refl; bursts = refl; lower = refl; least = refl }) refl
+      (omega arith) (omega arith);
   rule = port_rule_by 1000 (sent_at_once 0) refl;
   offered = record {
     each = all_one (IsDeclared fork 0) _
@@ -162,12 +157,8 @@ at_s3 : IsWorked fork (row_of_line 4 13836000) (sent_at_once 1)
 at_s3 = record {
   valid = fork_is;
   used = refl;
-  covers = record {
-    sums = record { higher = refl; equal = refl; bursts = refl; lower = refl; least = refl };
-    bound = refl;
-    load = omega arith;
-    wait = omega arith;
-  };
+  covers = covers_by _ _ (record { higher = refl; equal = refl; bursts = refl; lower = refl; least = refl }) refl
+      (omega arith) (omega arith);
   rule = port_rule_by 1000 (sent_at_once 1) refl;
   offered = record {
     each = all_one (IsDeclared fork 4) _
@@ -195,12 +186,8 @@ in_classes = record {
   worked = record {
     valid = classes_is;
     used = refl;
-    covers = record {
-      sums = record { higher = refl; equal = refl; bursts = refl; lower = refl; least = refl };
-      bound = refl;
-      load = omega arith;
-      wait = omega arith;
-    };
+    covers = covers_by _ _ (record { higher = refl; equal = refl; bursts = refl; lower = refl; least = refl }) refl
+        (omega arith) (omega arith);
     rule = port_rule_by 1000 sent_by_class refl;
     offered = record {
       each = all_two (IsDeclared fork_of_classes 2) _ _

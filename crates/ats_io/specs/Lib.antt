@@ -1,3 +1,4 @@
 pub mod Outside
 pub mod Text
 pub mod Memory
+pub mod Whole

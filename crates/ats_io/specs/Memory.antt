@@ -1,8 +1,10 @@
-use Rattle.std.specs.Prelude.{ℕ, ◌+◌, ◌-◌, ◌^◌, ◌==◌, min, Bool, List, [], map, Option, Some, None, option_map}
+use Rattle.std.specs.Prelude.{◌≡◌, ℕ, ◌+◌, ◌-◌, ◌^◌, ◌==◌, min, Bool, List, [], length, drop, map, Option, Some}
+use Rattle.std.specs.Prelude.{None, option_map}
 use Rattle.std.specs.Prelude.{unwrap_or, position, slice_index, String, Vec, string_bytes}
 use Rattle.std.specs.List.{find, list_any}
 use Rattle.std.specs.Str.{bytes_eq}
 use Rattle.std.specs.declared.alloc.Global.{Global}
+use Rattle.ats_io.specs.Outside.{IfTold, IsPieceAt}
 
 -- files as contracts see them: the bytes of each name beside the bytes of the file
 abbrev pub pairs_of : List (String Global × Vec ℕ Global) → List (List ℕ × List ℕ)
@@ -42,6 +44,15 @@ bytes_of files name = option_map (λ file. file.1) (find (is_named name) files)
 -- the same, and no bytes where no file has the name
 abbrev pub bytes_or_none : List (List ℕ × List ℕ) → List ℕ → List ℕ
 bytes_or_none files name = unwrap_or (bytes_of files name) []
+
+-- a read of so many bytes gives a piece of what the files hold under the name, from a place on
+abbrev pub ReadsPiece : List (List ℕ × List ℕ) → List ℕ → ℕ → ℕ → List ℕ → Type 0
+ReadsPiece files name at count buffer = IfTold (bytes_of files name) (λ bytes. IsPieceAt bytes at count buffer)
+
+-- it gives all of it, as far as the buffer has room
+abbrev pub ReadsAll : List (List ℕ × List ℕ) → List ℕ → ℕ → ℕ → List ℕ → Type 0
+ReadsAll files name at count buffer =
+    IfTold (bytes_of files name) (λ bytes. count ≡ min (length buffer) (length (drop at bytes)))
 
 -- the count at a place, and the common count at no place
 abbrev pub count_at : List ℕ → ℕ → Option ℕ → ℕ

@@ -1,10 +1,10 @@
 //! Files in memory whose reads fail where it is planned.
 
-ghost use Rattle.std.specs.Prelude.{◌≡◌, ℕ, ◌<◌, ◌≤◌, ◌||◌, List, length, drop, min, position, is_err, is_none, Option};
+ghost use Rattle.std.specs.Prelude.{◌≡◌, ℕ, ◌<◌, ◌≤◌, ◌||◌, List, length, position, is_err, is_none, Option};
 ghost use Rattle.std.specs.Prelude.{IfOk, IfSome, OnErr};
-ghost use Rattle.ats_io.specs.Outside.{Rose, IfTold, Continues, IsPieceAt};
+ghost use Rattle.ats_io.specs.Outside.{Rose, Continues};
 ghost use Rattle.ats_io.specs.Memory.{pairs_of, bytes_of, count_at, count_of, next_count, has_name, is_named};
-ghost use Rattle.ats_io.specs.Memory.{is_planned};
+ghost use Rattle.ats_io.specs.Memory.{is_planned, ReadsPiece, ReadsAll};
 
 use crate::fault::Failed;
 use crate::files::{Files, MAX_PLACE};
@@ -80,13 +80,11 @@ impl Files for MemFiles {
         requires room { 0 < length buf.old }
         requires place { at ≤ MAX_PLACE }
         ensures within { IfOk result (λ count. count ≤ length buf.new) }
-        ensures piece { IfOk result
-            (λ count. IfTold (bytes_of self.old.files name.now) (λ bytes. IsPieceAt bytes at count buf.new)) }
+        ensures piece { IfOk result (λ count. ReadsPiece self.old.files name.now at count buf.new) }
         ensures failed { OnErr result (Rose (count_of self.old.files self.old.counts self.old.others name.now)
             (count_of self.new.files self.new.counts self.new.others name.now)) }
         ensures continues { Continues ⟦<MemFiles as Files>⟧.told ⟦<MemFiles as Files>⟧.faults self.old self.new }
-        ensures full { IfOk result (λ count. IfTold (bytes_of self.old.files name.now)
-            (λ bytes. count ≡ min (length buf.new) (length (drop at bytes)))) }
+        ensures full { IfOk result (λ count. ReadsAll self.old.files name.now at count buf.new) }
         ensures fails { is_err result ≡ (is_none (position (is_named name.now) self.old.files)
             || is_planned self.old.fails (next_count self.old.calls)) }
         ensures calls { self.new.calls ≡ next_count self.old.calls }
@@ -120,10 +118,8 @@ fn read_named(
     requires paired { length counts.old ≡ length files.now }
     requires room { 0 < length buf.old }
     ensures within { IfOk result (λ count. count ≤ length buf.new) }
-    ensures piece { IfOk result
-        (λ count. IfTold (bytes_of (pairs_of files.now) name.now) (λ bytes. IsPieceAt bytes at count buf.new)) }
-    ensures full { IfOk result (λ count. IfTold (bytes_of (pairs_of files.now) name.now)
-        (λ bytes. count ≡ min (length buf.new) (length (drop at bytes)))) }
+    ensures piece { IfOk result (λ count. ReadsPiece (pairs_of files.now) name.now at count buf.new) }
+    ensures full { IfOk result (λ count. ReadsAll (pairs_of files.now) name.now at count buf.new) }
     ensures failed { OnErr result (Rose (count_of (pairs_of files.now) counts.old others.old name.now)
         (count_of (pairs_of files.now) counts.new others.new name.now)) }
     ensures grows { (other : List ℕ) → count_of (pairs_of files.now) counts.old others.old other

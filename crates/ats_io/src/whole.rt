@@ -1,9 +1,9 @@
 //! Reads of whole files and writes of whole texts.
 
-ghost use Rattle.std.specs.Prelude.{◌≡◌, ◌+◌, ◌-◌, ◌<◌, ◌≤◌, [], Err, length, take, IfOk, OnOk, OnErr, IsOk, IsErrOf};
-ghost use Rattle.std.specs.Prelude.{IsOkUnless, vec_len};
-ghost use Rattle.ats_num.specs.Failure.{Gives};
+ghost use Rattle.std.specs.Prelude.{◌≡◌, ◌+◌, ◌-◌, ◌<◌, ◌≤◌, [], length, take, IfOk, OnOk, OnErr, IsOk, IsErrOf};
+ghost use Rattle.std.specs.Prelude.{vec_len};
 ghost use Rattle.ats_io.specs.Outside.{Rose, IfTold, Continues, TakesPrefix, appended};
+ghost use Rattle.ats_io.specs.Whole.{WholeIsDue, TooLongIsDue};
 ghost use Rattle.ats_io.specs.declared.files.TheConstants.{MAX_PLACE};
 
 use crate::fault::{Failed, ReadFault};
@@ -33,11 +33,10 @@ pub fn read_whole<F: Files>(
         → IfTold (F.told files.old name.now) (λ bytes. limit < length bytes) }
     ensures failed { IsErrOf result (Failure.Fault ReadFault.Failed)
         → Rose (F.faults files.old name.now) (F.faults files.new name.now) }
-    ensures whole_due { IfTold (F.told files.old name.now) (λ bytes. length bytes ≤ limit
-        → ¬ Rose (F.faults files.old name.now) (F.faults files.new name.now) → IsOkUnless result Failure.NoMemory) }
-    ensures long_due { IfTold (F.told files.old name.now) (λ bytes. limit < length bytes
-        → ¬ Rose (F.faults files.old name.now) (F.faults files.new name.now)
-        → Gives result (Err ReadFault.TooLong)) }
+    ensures whole_due { WholeIsDue (F.told files.old name.now) (F.faults files.old name.now)
+        (F.faults files.new name.now) limit result }
+    ensures long_due { TooLongIsDue (F.told files.old name.now) (F.faults files.old name.now)
+        (F.faults files.new name.now) limit result }
     ensures continues { Continues F.told F.faults files.old files.new }
 {
     let mut buffer = new_buffer(alloc)?;

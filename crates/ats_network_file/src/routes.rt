@@ -4,7 +4,7 @@ ghost use Rattle.std.specs.Prelude.{◌≡◌, ◌↔◌, ℕ, IsTrue, IfOk};
 ghost use Rattle.std.specs.Global.{Vec};
 ghost use Rattle.std.specs.Option.{option_map};
 ghost use Rattle.ats_network.specs.Path.{IsValidPath};
-ghost use Rattle.ats_network_toml.specs.Seen.{route_seen};
+ghost use Rattle.ats_network_toml.specs.Views.{route_view};
 ghost use Rattle.ats_network_toml.specs.Document as file;
 ghost use Rattle.ats_num.specs.Failure.{GivesSeen};
 ghost use Rattle.ats_network_file.specs.Routes.{nodes_named, ports_along, ports_of, is_valid};
@@ -26,7 +26,7 @@ pub(crate) fn path_in(
     entry: u32,
     route: &Route,
 ) -> Result<Vec<u32>, Failure<NetFault>>
-    ensures value { GivesSeen (λ path. path.items) result (path_in topology.now table entry (route_seen route.now)) }
+    ensures value { GivesSeen (λ path. path.items) result (path_in topology.now table entry (route_view route.now)) }
     ensures valid { IfOk result (λ path. IsValidPath topology.now path.items) }
 {
     let fault = NetFault::BadPath { table, entry };
@@ -58,7 +58,7 @@ fn ports_of(
     route: &Route,
 ) -> Result<Option<Vec<u32>>, AllocError>
     ensures { IfOk result
-        (λ found. option_map (λ (path : Vec ℕ). path.items) found ≡ ports_of topology.now (route_seen route.now)) }
+        (λ found. option_map (λ (path : Vec ℕ). path.items) found ≡ ports_of topology.now (route_view route.now)) }
 {
     match route {
         Route::Path(names) => ports_through(alloc, topology, names),

@@ -6,7 +6,7 @@ use Rattle.toml.specs.View.{view, items_view}
 use Rattle.toml.specs.declared.value.Value.{Value}
 use Rattle.toml.proofs.Views.{items_view-drop}
 use Rattle.ats_network_toml.specs.Kinds.{in_front, all_in}
-use Rattle.ats_network_toml.specs.Seen.{are_tables, tables_of}
+use Rattle.ats_network_toml.specs.Views.{are_tables, tables_of}
 use Rattle.ats_network_toml.specs.declared.fault.DocumentFault.{DocumentFault}
 
 -- an item of an array, and those behind it

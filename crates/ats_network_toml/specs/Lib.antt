@@ -3,8 +3,8 @@ pub mod Kinds
 pub mod Walk
 pub mod Document
 pub mod Entries
-pub mod Seen
+pub mod Views
 pub mod Reading
-pub mod ArraysSeen
-pub mod PartsSeen
+pub mod ArraysView
+pub mod PartsView
 pub mod FaultText

@@ -3,7 +3,7 @@
 ghost use Rattle.std.specs.Prelude.{◌≡◌, ◌≤◌, ◌<◌, ◌^◌, length, IfOk, IfErr};
 ghost use Rattle.ats_num.specs.Failure.{GivesSeen};
 ghost use Rattle.ats_network_toml.specs.Reading.{entries_in, arrays_in};
-ghost use Rattle.ats_network_toml.specs.Seen.{tables_of};
+ghost use Rattle.ats_network_toml.specs.Views.{tables_of};
 
 use crate::entries::FromSection;
 use crate::fault::DocumentFault;
@@ -52,12 +52,12 @@ pub(crate) struct Arrays<'a> {
 }
 
 impl<'a> Arrays<'a> {
-    ghost use Rattle.ats_network_toml.specs.Seen.{entry_of};
-    ghost use Rattle.ats_network_toml.specs.ArraysSeen.{arrays_seen};
+    ghost use Rattle.ats_network_toml.specs.Views.{entry_of};
+    ghost use Rattle.ats_network_toml.specs.ArraysView.{arrays_view};
 
     /// The format and the arrays of a top table, or its first fault.
     pub(crate) fn read(top: &Section<'a>) -> Result<Self, DocumentFault>
-        ensures ok { IfOk result (λ arrays. arrays_in (entry_of top.now) ≡ Ok (arrays_seen arrays)) }
+        ensures ok { IfOk result (λ arrays. arrays_in (entry_of top.now) ≡ Ok (arrays_view arrays)) }
         ensures err { IfErr result (λ e. arrays_in (entry_of top.now) ≡ Err e) }
     {
         top.formed()?;

@@ -67,7 +67,7 @@ pub struct Parts {
 
 impl Document {
     ghost use Rattle.ats_network_toml.specs.Document.{IsDocument};
-    ghost use Rattle.ats_network_toml.specs.PartsSeen.{parts_seen};
+    ghost use Rattle.ats_network_toml.specs.PartsView.{parts_view};
 
     /// The stations, in file order; with the bridges they are at most 1024.
     pub fn stations(&self) -> &[StationEntry]
@@ -111,7 +111,7 @@ impl Document {
 
     /// The lists, for a caller that keeps them.
     pub fn into_parts(self) -> Parts
-        ensures value { parts_seen result ≡ self }
+        ensures value { parts_view result ≡ self }
         ensures limits { IsDocument self }
     {
         let Document {

@@ -3,7 +3,7 @@
 ghost use Rattle.std.specs.Prelude.{◌≡◌, Result};
 ghost use Rattle.ats_num.specs.Failure.{Gives};
 ghost use Rattle.ats_network_toml.specs.Walk.{Entry};
-ghost use Rattle.ats_network_toml.specs.Seen.{entry_of};
+ghost use Rattle.ats_network_toml.specs.Views.{entry_of};
 ghost use Rattle.ats_network_toml.specs.declared.fault.DocumentFault.{DocumentFault};
 
 use crate::fault::DocumentFault;
@@ -145,13 +145,13 @@ pub struct StreamEntry {
 
 impl Model for StreamEntry {
     ghost use Rattle.ats_network_toml.specs.Document.{DeclaredStream, IsStreamEntry};
-    ghost use Rattle.ats_network_toml.specs.Seen.{route_seen};
+    ghost use Rattle.ats_network_toml.specs.Views.{route_view};
 
     ghost Value = { DeclaredStream };
 
     ghost view = { λ s. record {
       name = s.name;
-      route = route_seen s.route;
+      route = route_view s.route;
       classes = s.classes.items;
       rate_bps = s.rate_bps;
       burst_bits = s.burst_bits;
@@ -163,7 +163,7 @@ impl Model for StreamEntry {
 
     ghost invariant = { λ s. IsStreamEntry (record {
       name = s.name;
-      route = route_seen s.route;
+      route = route_view s.route;
       classes = s.classes.items;
       rate_bps = s.rate_bps;
       burst_bits = s.burst_bits;
@@ -245,13 +245,13 @@ pub struct FlowEntry {
 
 impl Model for FlowEntry {
     ghost use Rattle.ats_network_toml.specs.Document.{DeclaredFlow, IsRoute};
-    ghost use Rattle.ats_network_toml.specs.Seen.{route_seen};
+    ghost use Rattle.ats_network_toml.specs.Views.{route_view};
 
     ghost Value = { DeclaredFlow };
 
-    ghost view = { λ f. record { name = f.name; route = route_seen f.route; max_octets = f.max_octets } };
+    ghost view = { λ f. record { name = f.name; route = route_view f.route; max_octets = f.max_octets } };
 
-    ghost invariant = { λ f. IsRoute (route_seen f.route) };
+    ghost invariant = { λ f. IsRoute (route_view f.route) };
 }
 
 impl FromSection for FlowEntry {

@@ -3,7 +3,7 @@
 ghost use Rattle.std.specs.Prelude.{◌≡◌};
 ghost use Rattle.toml.specs.View.{table_view};
 ghost use Rattle.ats_num.specs.Failure.{or_fault, Gives, GivesSeen};
-ghost use Rattle.ats_network_toml.specs.ArraysSeen.{arrays_seen};
+ghost use Rattle.ats_network_toml.specs.ArraysView.{arrays_view};
 ghost use Rattle.ats_network_toml.specs.Reading.{tree_of, document_in, document_of, arrays_read};
 
 use crate::arrays::{Arrays, read_entries};
@@ -57,7 +57,7 @@ fn tree_of(alloc: Global, bytes: &[u8]) -> Result<toml::Table, Failure<DocumentF
 
 // The entries of all arrays.
 fn arrays_read(alloc: Global, arrays: &Arrays) -> Result<Document, Failure<DocumentFault>>
-    ensures { Gives result (arrays_read (arrays_seen arrays.now)) }
+    ensures { Gives result (arrays_read (arrays_view arrays.now)) }
 {
     let station_list = read_entries(
         alloc,

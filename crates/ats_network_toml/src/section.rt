@@ -12,7 +12,7 @@ ghost use Rattle.ats_num.specs.Failure.{or_fault, GivesSeen};
 ghost use Rattle.ats_network_toml.specs.Kinds.{address_in, all_in, list_in, tables_in};
 ghost use Rattle.ats_network_toml.specs.Entries.{route_at};
 ghost use Rattle.ats_network_toml.specs.Document.{IsRoute, IsIdentity};
-ghost use Rattle.ats_network_toml.specs.Seen.{tables_of, route_seen};
+ghost use Rattle.ats_network_toml.specs.Views.{tables_of, route_view};
 
 use crate::entries::Route;
 use crate::fault::DocumentFault;
@@ -39,7 +39,7 @@ pub(crate) struct Section<'a> {
 }
 
 impl<'a> Section<'a> {
-    ghost use Rattle.ats_network_toml.specs.Seen.{entry_of};
+    ghost use Rattle.ats_network_toml.specs.Views.{entry_of};
 
     /// The table with this number, of a file of this format.
     pub(crate) fn new(format: Format, table: Table, number: u32, members: &'a toml::Table) -> Self
@@ -205,8 +205,8 @@ impl<'a> Section<'a> {
 
     /// The way of a stream or a flow: its path, or its two ends.
     pub(crate) fn route(&self, alloc: Global) -> Result<Route, Failure<DocumentFault>>
-        ensures value { GivesSeen route_seen result (route_at (entry_of self.now)) }
-        ensures route { IfOk result (λ route. IsRoute (route_seen route)) }
+        ensures value { GivesSeen route_view result (route_at (entry_of self.now)) }
+        ensures route { IfOk result (λ route. IsRoute (route_view route)) }
     {
         if self.has(Key::Path) {
             return Ok(Route::Path(self.path(alloc)?));

@@ -4,7 +4,7 @@ ghost use Rattle.std.specs.Prelude.{◌≡◌, ◌<◌, [], length, slice_index_
 ghost use Rattle.toml.specs.Data.{as_table, no_members};
 ghost use Rattle.toml.specs.View.{view, items_view, table_view};
 ghost use Rattle.ats_network_toml.specs.Kinds.{all_in};
-ghost use Rattle.ats_network_toml.specs.Seen.{are_tables, tables_of};
+ghost use Rattle.ats_network_toml.specs.Views.{are_tables, tables_of};
 
 use std::marker::Model;
 use toml::Value;
@@ -19,7 +19,7 @@ impl<'a> Model for Tables<'a> {
     ghost use Rattle.std.specs.Prelude.{IsTrue};
     ghost use Rattle.std.specs.Coded.{codes};
     ghost use Rattle.toml.specs.contracts.value.Value as value;
-    ghost use Rattle.ats_network_toml.specs.Seen.{Values, are_tables};
+    ghost use Rattle.ats_network_toml.specs.Views.{Values, are_tables};
 
     ghost Value = { Values };
 

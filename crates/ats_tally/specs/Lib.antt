@@ -1,5 +1,5 @@
 pub mod Tally
-pub mod Seen
+pub mod SenderAtPort
 pub mod Tallies
 pub mod ClassSums
 pub mod Bounds

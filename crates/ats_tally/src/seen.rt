@@ -4,7 +4,7 @@ ghost use Rattle.std.specs.Prelude.{◌≡◌, ◌<◌, length, slice_index_or};
 ghost use Rattle.ats_network.specs.Network.{senders_of};
 ghost use Rattle.ats_network.specs.Senders.{sender_at};
 ghost use Rattle.ats_network.specs.Class.{seen_at};
-ghost use Rattle.ats_tally.specs.Seen.{port_sender, KeepsLimits};
+ghost use Rattle.ats_tally.specs.SenderAtPort.{port_sender, KeepsLimits};
 
 use ats_network::Network;
 use ats_num::wire::MIN_OCTETS;

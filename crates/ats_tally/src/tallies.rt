@@ -5,7 +5,7 @@ ghost use Rattle.ats_network.specs.Network.{IsNetwork, senders_of};
 ghost use Rattle.ats_tally.specs.Tally.{IsTally};
 ghost use Rattle.ats_certificate.specs.PortSums.{is_used, port_sums, senders_at};
 ghost use Rattle.ats_tally.specs.ClassSums.{port_sums_of};
-ghost use Rattle.ats_tally.specs.Seen.{port_sender, KeepsLimits};
+ghost use Rattle.ats_tally.specs.SenderAtPort.{port_sender, KeepsLimits};
 ghost use Rattle.ats_tally.specs.Tallies.{AddsSender, AreCounted, AreFirst, HaveRoom};
 
 use crate::class_sums::ClassSums;

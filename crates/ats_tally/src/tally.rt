@@ -1,7 +1,7 @@
 //! What senders make of a class.
 
 ghost use Rattle.std.specs.Prelude.{◌≡◌};
-ghost use Rattle.ats_tally.specs.Seen.{port_sender, KeepsLimits};
+ghost use Rattle.ats_tally.specs.SenderAtPort.{port_sender, KeepsLimits};
 ghost use Rattle.ats_tally.specs.Tally.{no_tally, least_with, tally_with, IsWithin};
 
 use crate::seen::SeenSender;

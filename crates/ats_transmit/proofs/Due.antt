@@ -6,14 +6,14 @@ use Rattle.ats_queue.specs.Order.{IsNextTime}
 use Rattle.ats_transmit.specs.declared.offer.Offer.{Offer}
 use Rattle.ats_transmit.specs.declared.sent.Sent.{Sent}
 use Rattle.ats_transmit.specs.Sending.{last_end}
-use Rattle.ats_transmit.specs.Inside.{queued_of, held_of}
-use Rattle.ats_transmit.specs.Picks.{IsDue}
+use Rattle.ats_transmit.specs.PortQueues.{queued_of, held_of}
+use Rattle.ats_transmit.specs.Picks.{IsFirstStart}
 use Rattle.ats_transmit.proofs.Anys.{any-at}
 use Rattle.ats_transmit.proofs.Held.{length-held, eligible-at}
 
 -- the port is due when it is free and the least eligibility time has come
 pub due_at : {T : Type 0} (qs : List (Contents T)) (sent : List Sent) (time due : ℕ) → IsNextTime (queued_of qs) time
-    → due ≡ max time (last_end sent) → IsDue (held_of qs) sent due
+    → due ≡ max time (last_end sent) → IsFirstStart (held_of qs) sent due
 due_at qs sent time due next is =
     let n = length-held qs in
     let i : ℕ = next.reached.0 in

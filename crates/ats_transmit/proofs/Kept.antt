@@ -13,25 +13,25 @@ use Rattle.ats_queue.specs.Contents.{Contents}
 use Rattle.ats_transmit.specs.declared.offer.Offer.{Offer}
 use Rattle.ats_transmit.specs.declared.sent.Sent.{Sent}
 use Rattle.ats_transmit.specs.Sending.{last_start}
-use Rattle.ats_transmit.specs.Standing.{Standing, offered_of, opened}
-use Rattle.ats_transmit.specs.Inside.{queued_as, held_of, standing_of, IsKept, AreEmpty}
+use Rattle.ats_transmit.specs.State.{PortState, offered_of, opened}
+use Rattle.ats_transmit.specs.PortQueues.{queued_as, held_of, port_state, IsKept, AreEmpty}
 use Rattle.ats_transmit.proofs.Held.{each_held, all_held, held-insert, length-held-le, none-held}
 use Rattle.ats_transmit.proofs.Lawful.{lawful-open, lawful-offer}
 
 -- what is asked of an offer
-pub record MayOffer {T : Type 0} (old : Standing T) (o : Offer) : Type 0 where
+pub record MayOffer {T : Type 0} (old : PortState T) (o : Offer) : Type 0 where
   pub not_held : All (λ (x : Offer). x.frame ≢ o.frame) old.held
   pub class : o.class < 8
   pub room : offered_of old o.class < get_or old.rooms o.class 0
   pub size : IsFrameSize o.octets
   pub later : 0 < length old.sent → last_start old.sent < o.eligible.0
 
-pub may-offer : {T : Type 0} (s old : Standing T) (o : Offer) → s ≡ old
+pub may-offer : {T : Type 0} (s old : PortState T) (o : Offer) → s ≡ old
     → All (λ (x : Offer). x.frame ≢ o.frame) old.held
     → o.class ≤ 7 → offered_of old o.class < get_or old.rooms o.class 0 → IsFrameSize o.octets
     → (0 < length old.sent → last_start old.sent < o.eligible.0) → MayOffer s o
 may-offer {T} s old o e not_held class room size later =
-    let May : Standing T → Type 0 = λ (x : Standing T). MayOffer x o in
+    let May : PortState T → Type 0 = λ (x : PortState T). MayOffer x o in
     subst May (sym e)
     (record { not_held = not_held; class = omega arith; room = room; size = size; later = later })
 
@@ -42,7 +42,7 @@ pub record Inserted {T : Type 0} (qs : List (Contents T)) (before after : Conten
   pub rest : after ≡ record before { held = after.held }
 
 -- there are eight queues
-pub eight-queues : {T : Type 0} (key : T → ℕ → ℕ → ℕ) (s : Standing T) (qs : List (Contents T)) (room : ℕ)
+pub eight-queues : {T : Type 0} (key : T → ℕ → ℕ → ℕ) (s : PortState T) (qs : List (Contents T)) (room : ℕ)
     → IsKept key s qs room → length qs ≡ 8
 eight-queues {T} key s qs room k =
     let capacity : Contents T → ℕ = λ (c : Contents T). c.capacity in
@@ -61,7 +61,7 @@ capacity_of {T} qs rooms class d e h =
     sym (get_or-map (λ (c : Contents T). c.capacity) qs class d 0 h) ∙ ap (λ (ns : List ℕ). get_or ns class 0) e
 
 -- the queue of an offer's class has room
-pub queue-room : {T : Type 0} (key : T → ℕ → ℕ → ℕ) (s : Standing T) (qs : List (Contents T)) (room : ℕ)
+pub queue-room : {T : Type 0} (key : T → ℕ → ℕ → ℕ) (s : PortState T) (qs : List (Contents T)) (room : ℕ)
     (before : Contents T) (o : Offer) → IsKept key s qs room → s.held ≡ held_of qs → MayOffer s o
     → before ≡ get_or qs o.class before → length before.held < before.capacity
 queue-room {T} key s qs room before o k held may stood =
@@ -80,7 +80,7 @@ queue-room {T} key s qs room before o k held may stood =
     ))
 
 -- and does not hold its frame
-pub queue-new : {T : Type 0} (key : T → ℕ → ℕ → ℕ) (s : Standing T) (qs : List (Contents T)) (room : ℕ)
+pub queue-new : {T : Type 0} (key : T → ℕ → ℕ → ℕ) (s : PortState T) (qs : List (Contents T)) (room : ℕ)
     (before : Contents T) (o : Offer) → IsKept key s qs room → s.held ≡ held_of qs → MayOffer s o
     → before ≡ get_or qs o.class before → All (λ (q : Queued). q.frame ≢ o.frame) before.held
 queue-new {T} key s qs room before o k held may stood =
@@ -91,7 +91,7 @@ queue-new {T} key s qs room before o k held may stood =
     subst New (sym stood) (each_held Not qs (subst NotIn held may.not_held) o.class before (omega (arith, may.class)))
 
 -- the offered frame is held
-pub held-offer : {T : Type 0} (key : T → ℕ → ℕ → ℕ) (s : Standing T) (qs : List (Contents T)) (room : ℕ)
+pub held-offer : {T : Type 0} (key : T → ℕ → ℕ → ℕ) (s : PortState T) (qs : List (Contents T)) (room : ℕ)
     (before after : Contents T) (o : Offer) → IsKept key s qs room → s.held ≡ held_of qs → MayOffer s o
     → Inserted qs before after o → IsPermutation (o ∷ s.held) (held_of (set qs o.class after))
 held-offer {T} key s qs room before after o k held may i =
@@ -125,7 +125,7 @@ within-insert held new sent rooms o p within room c h =
     ]
 
 -- a port that was offered a frame is kept
-pub kept-offer : {T : Type 0} (key : T → ℕ → ℕ → ℕ) (s : Standing T) (qs : List (Contents T)) (room : ℕ)
+pub kept-offer : {T : Type 0} (key : T → ℕ → ℕ → ℕ) (s : PortState T) (qs : List (Contents T)) (room : ℕ)
     (before after : Contents T) (o : Offer) → IsKept key s qs room → s.held ≡ held_of qs → MayOffer s o
     → Inserted qs before after o
     → IsKept key (record s { held = held_of (set qs o.class after) }) (set qs o.class after) room
@@ -155,7 +155,7 @@ kept-offer {T} key s qs room before after o k held may i =
 
 -- a port that was opened is kept
 pub kept-open : {T : Type 0} (key : T → ℕ → ℕ → ℕ) (ps : ℕ) (rooms : List ℕ) (tie : T) (qs : List (Contents T))
-    → length rooms ≡ 8 → AreEmpty qs rooms tie → IsKept key (standing_of ps rooms tie qs [] false) qs (sum rooms)
+    → length rooms ≡ 8 → AreEmpty qs rooms tie → IsKept key (port_state ps rooms tie qs [] false) qs (sum rooms)
 kept-open {T} key ps rooms tie qs n e =
     let At : List Offer → Type 0 =
     λ (held : List Offer). IsKept key (record (opened ps rooms tie) { held = held }) qs (sum rooms) in

@@ -10,7 +10,7 @@ use Rattle.std.proofs.Math.Nat.{min-eq_left, min-eq_right}
 use Rattle.ats_queue.specs.declared.queued.Queued.{Queued}
 use Rattle.ats_queue.specs.Contents.{Contents}
 use Rattle.ats_queue.specs.Order.{IsNextTime, Takes}
-use Rattle.ats_transmit.specs.Inside.{offer_in, queued_of, EachQueued, NoneFrom, TakesFrom, AreEmpty}
+use Rattle.ats_transmit.specs.PortQueues.{offer_in, queued_of, EachQueued, NoneFrom, TakesFrom, AreEmpty}
 use Rattle.ats_transmit.specs.declared.offer.Offer.{Offer}
 use Rattle.ats_transmit.proofs.Anys.{any-left, any-right}
 

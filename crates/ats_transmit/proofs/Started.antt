@@ -15,9 +15,9 @@ use Rattle.ats_port_rule.specs.Order.{Precedes}
 use Rattle.ats_transmit.specs.declared.offer.Offer.{Offer}
 use Rattle.ats_transmit.specs.declared.sent.Sent.{Sent}
 use Rattle.ats_transmit.specs.Sending.{sent_at, begun, last_end}
-use Rattle.ats_transmit.specs.Standing.{Standing}
+use Rattle.ats_transmit.specs.State.{PortState}
 use Rattle.ats_transmit.specs.Picks.{MaySend, IsBehind, Starts}
-use Rattle.ats_transmit.specs.Inside.{queued_as, offer_in, held_of, EachQueued, IsKept, IsHighest, TakesFrom}
+use Rattle.ats_transmit.specs.PortQueues.{queued_as, offer_in, held_of, EachQueued, IsKept, IsHighest, TakesFrom}
 use Rattle.ats_transmit.proofs.Held.{all_held, held-take}
 use Rattle.ats_transmit.proofs.Kept.{eight-queues, held_classes}
 use Rattle.ats_transmit.proofs.Lawful.{lawful-start}
@@ -25,13 +25,13 @@ use Rattle.ats_transmit.proofs.Queues.{each-set}
 use Rattle.ats_transmit.proofs.Totals.{both-within}
 
 -- what a selection finds and changes: the highest class, and its queue without the frame that starts
-pub record Selected {T : Type 0} (key : T → ℕ → ℕ → ℕ) (now class : ℕ) (s : Standing T) (qs new : List (Contents T))
+pub record Selected {T : Type 0} (key : T → ℕ → ℕ → ℕ) (now class : ℕ) (s : PortState T) (qs new : List (Contents T))
     (started : Offer) : Type 0 where
   pub held : s.held ≡ held_of qs
   pub high : IsHighest now qs class
   pub takes : TakesFrom key now class qs new started
 
-pub selected : {T : Type 0} (key : T → ℕ → ℕ → ℕ) (now class : ℕ) (s : Standing T) (qs found new : List (Contents T))
+pub selected : {T : Type 0} (key : T → ℕ → ℕ → ℕ) (now class : ℕ) (s : PortState T) (qs found new : List (Contents T))
     (started : Offer) → s.held ≡ held_of qs → found ≡ qs → IsHighest now found class
     → TakesFrom key now class qs new started → Selected key now class s qs new started
 selected {T} key now class s qs found new started held same high takes =
@@ -82,7 +82,7 @@ first_of_all {T} key tie ps now class qs new started ties high t =
     (subst Each (sym t.changed) (each-set P qs class (after_of key now class qs new started t) high.within others own))
 
 -- the started frame was held
-taken-held : {T : Type 0} (key : T → ℕ → ℕ → ℕ) (now class : ℕ) (s : Standing T) (qs new : List (Contents T))
+taken-held : {T : Type 0} (key : T → ℕ → ℕ → ℕ) (now class : ℕ) (s : PortState T) (qs new : List (Contents T))
     (started : Offer) → Selected key now class s qs new started
     → IsPermutation s.held (started ∷ held_of new)
 taken-held {T} key now class s qs new started x =
@@ -98,7 +98,7 @@ taken-held {T} key now class s qs new started x =
     (subst Before t.stood t.takes.held)))
 
 -- the frame starts
-pub starts-select : {T : Type 0} (key : T → ℕ → ℕ → ℕ) (now class : ℕ) (s : Standing T) (qs new : List (Contents T))
+pub starts-select : {T : Type 0} (key : T → ℕ → ℕ → ℕ) (now class : ℕ) (s : PortState T) (qs new : List (Contents T))
     (started : Offer) (pushed : List Sent) (room : ℕ) → IsKept key s qs room → Selected key now class s qs new started
     → pushed ≡ s.sent ++ sent_at s.ps_per_bit started now ∷ []
     → Starts (key s.tie) s (record s { held = held_of new; sent = pushed; is_sending = true }) now started.frame
@@ -136,7 +136,7 @@ within-start held new sent rooms o x same p within c h =
     omega (arith, within c h)
 
 -- a port that starts a frame is kept
-pub kept-select : {T : Type 0} (key : T → ℕ → ℕ → ℕ) (now class : ℕ) (s : Standing T) (qs new : List (Contents T))
+pub kept-select : {T : Type 0} (key : T → ℕ → ℕ → ℕ) (now class : ℕ) (s : PortState T) (qs new : List (Contents T))
     (started : Offer) (pushed : List Sent) (room more : ℕ) → IsKept key s qs room
     → Selected key now class s qs new started → pushed ≡ s.sent ++ sent_at s.ps_per_bit started now ∷ []
     → last_end s.sent ≤ now → ((time : ℕ) → MaySend s.held s.sent time → now ≤ time) → room ≤ more
@@ -174,7 +174,7 @@ kept-select {T} key now class s qs new started pushed room more k x p ended due 
     })
 
 -- the frame that starts is of a size that frames have
-pub started-size : {T : Type 0} (key : T → ℕ → ℕ → ℕ) (now class : ℕ) (s : Standing T) (qs new : List (Contents T))
+pub started-size : {T : Type 0} (key : T → ℕ → ℕ → ℕ) (now class : ℕ) (s : PortState T) (qs new : List (Contents T))
     (started : Offer) (room : ℕ) → IsKept key s qs room → Selected key now class s qs new started
     → IsFrameSize started.octets
 started-size key now class s qs new started room k x =
@@ -183,7 +183,7 @@ started-size key now class s qs new started room k x =
     All-head Size started (held_of new) (All-permutation Size s.held (started ∷ held_of new) taken k.sizes)
 
 -- there is room for the transmission
-pub sent-room : {T : Type 0} (key : T → ℕ → ℕ → ℕ) (now class : ℕ) (s : Standing T) (qs new : List (Contents T))
+pub sent-room : {T : Type 0} (key : T → ℕ → ℕ → ℕ) (now class : ℕ) (s : PortState T) (qs new : List (Contents T))
     (started : Offer) (room : ℕ) → IsKept key s qs room → Selected key now class s qs new started → length s.sent < room
 sent-room key now class s qs new started room k x =
     let taken = taken-held key now class s qs new started x in

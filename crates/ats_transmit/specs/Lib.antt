@@ -1,4 +1,4 @@
-pub mod Inside
 pub mod Picks
+pub mod PortQueues
 pub mod Sending
-pub mod Standing
+pub mod State

@@ -4,7 +4,7 @@ ghost use Rattle.std.specs.Prelude.{◌≡◌, ◌<◌, ◌≤◌, List, ◌++�
 ghost use Rattle.std.specs.Bool.{OnTrue, OnFalse};
 ghost use Rattle.ats_queue.specs.declared.queued.Queued.{Queued};
 ghost use Rattle.ats_transmit.specs.Sending.{last_end};
-ghost use Rattle.ats_transmit.specs.Inside.{queued_of, NextTimeIn, IsHighest, TakesFrom};
+ghost use Rattle.ats_transmit.specs.PortQueues.{queued_of, NextTimeIn, IsHighest, TakesFrom};
 
 use crate::offer::Offer;
 use crate::sent::Sent;

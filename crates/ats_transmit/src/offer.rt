@@ -22,7 +22,7 @@ pub struct Offer {
 
 impl Offer {
     ghost use Rattle.ats_transmit.specs.Sending.{sent_at};
-    ghost use Rattle.ats_transmit.specs.Inside.{queued_as, offer_in};
+    ghost use Rattle.ats_transmit.specs.PortQueues.{queued_as, offer_in};
 
     /// The frame as the queue of its class holds it.
     pub(crate) fn queued(&self) -> Queued

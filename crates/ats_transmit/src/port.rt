@@ -5,9 +5,9 @@ ghost use Rattle.std.specs.Prelude.{IfOk, IsPermutation, MatchOption};
 ghost use Rattle.ats_num.specs.declared.time.TheConstants.{END};
 ghost use Rattle.ats_num.specs.Wire.{IsFrameSize};
 ghost use Rattle.ats_transmit.specs.Sending.{last_of, last_start, last_end};
-ghost use Rattle.ats_transmit.specs.Standing.{opened, offered_of, IsLawfulPort};
-ghost use Rattle.ats_transmit.specs.Picks.{MaySend, IsDue, IsPick};
-ghost use Rattle.ats_transmit.specs.Inside.{AreEmpty};
+ghost use Rattle.ats_transmit.specs.State.{opened, offered_of, IsLawfulPort};
+ghost use Rattle.ats_transmit.specs.Picks.{MaySend, IsFirstStart, IsPick};
+ghost use Rattle.ats_transmit.specs.PortQueues.{AreEmpty};
 
 use crate::choice::{free_at, highest_class, next_time, take_from};
 use crate::offer::Offer;
@@ -32,17 +32,17 @@ pub struct Port<T: Tie> {
 }
 
 impl<T: Tie> Model for Port<T> {
-    ghost use Rattle.ats_transmit.specs.Standing.{Standing};
+    ghost use Rattle.ats_transmit.specs.State.{PortState};
 
-    ghost Value = { Standing T };
+    ghost Value = { PortState T };
 
     ghost use Rattle.std.specs.Prelude.{vec_capacity};
-    ghost use Rattle.ats_transmit.specs.Inside.{standing_of, IsKept};
+    ghost use Rattle.ats_transmit.specs.PortQueues.{port_state, IsKept};
 
-    ghost view = { λ p. standing_of p.ps_per_bit p.rooms p.tie p.queues.items p.sent.items p.is_sending };
+    ghost view = { λ p. port_state p.ps_per_bit p.rooms p.tie p.queues.items p.sent.items p.is_sending };
 
     ghost invariant = { λ p. IsKept T.key
-        (standing_of p.ps_per_bit p.rooms p.tie p.queues.items p.sent.items p.is_sending)
+        (port_state p.ps_per_bit p.rooms p.tie p.queues.items p.sent.items p.is_sending)
         p.queues.items (vec_capacity p.sent) };
 }
 
@@ -89,7 +89,7 @@ impl<T: Tie> Port<T> {
     /// When the port can next start a frame: it is free then, and some frame that it holds is eligible. `None` where it
     /// holds none. It takes no memory.
     pub fn due(&self) -> Option<Ps>
-        ensures { MatchOption result (self.now.held ≡ []) (λ time. IsDue self.now.held self.now.sent time.0) }
+        ensures { MatchOption result (self.now.held ≡ []) (λ time. IsFirstStart self.now.held self.now.sent time.0) }
     {
         let time = next_time(&self.queues)?;
         Some(Ps(time.0.max(free_at(&self.sent).0)))

@@ -30,7 +30,7 @@ returns-clause-due g c = λ bytes told.
 
 pub returns-clause-inside : goal.returns-clause-inside
 returns-clause-inside g c =
-    declared_keeps (All (λ (row : Row). row.port < length c.args.topology.now.ports)) c.declared.result c.args.file.now fault_text
-    (rows_of c.args.topology.now c.deref.result.now)
+    declared_keeps (All (λ (row : Row). row.port < length c.args.topology.now.ports)) c.declared.result
+    c.args.file.now fault_text (rows_of c.args.topology.now c.deref.result.now)
     (c.declared.ensures.due fault_text (rows_of c.args.topology.now c.deref.result.now) (λ fault. refl)
     c.read_certificate.ensures) (rows_inside c.args.topology.now c.deref.result.now)

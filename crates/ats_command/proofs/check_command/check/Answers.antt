@@ -1,16 +1,12 @@
-use Rattle.std.proofs.Common.{ℕ, List, [], Option, Some, Result, lit<, ap, refl, inr, ◌≡◌, ◌∙◌}
-use Rattle.std.specs.Global.{Vec}
+use Rattle.std.proofs.Common.{ℕ, List, [], Option, Some, lit<, ap, refl, inr, ◌≡◌, ◌∙◌}
 use Rattle.ats_io.specs.Outside.{IfTold}
 use Rattle.ats_network.specs.Network.{DeclaredNetwork}
-use Rattle.ats_num.specs.Failure.{◌>>=◌}
-use Rattle.ats_answer.specs.Answer.{Answer}
 use Rattle.ats_answer.specs.Command.{Check}
 use Rattle.ats_answer.specs.Input.{network_in}
-use Rattle.ats_answer.proofs.Steps.{err_is, goes_on}
 use Rattle.ats_command.specs.Judged.{certificate_judged}
 use Rattle.ats_command.specs.Due.{told_bytes, check_answer}
 use Rattle.ats_command.specs.Soundness.{IsSoundCheck, IsSoundFile}
-use Rattle.ats_command.proofs.Steps.{told_is, step_settles, result_settles, text_then, declared_is_ok}
+use Rattle.ats_command.proofs.Steps.{told_is, file_settles, file_goes_on, text_then, declared_is_ok}
 use Rattle.ats_io.proofs.Outside.{Rose-since}
 use Rattle.ats_command.proofs.check_command.check.Goals as goal
 
@@ -18,29 +14,22 @@ pub returns-in_err-network-clause-due : goal.returns-in_err-network-clause-due
 unfolding check_answer
 returns-in_err-network-clause-due g c = λ is_told.
     let told : List ℕ → Option (List ℕ) = g.F.Files.told c.args.files.now in
-    let net : List ℕ = c.args.net.now in
     let certificate : List ℕ = c.args.certificate.now in
-    step_settles c.from_residual.result c.in_err-network.field-0.0 (network_in net (told_bytes told net))
+    file_settles told c.args.net.now c.from_residual.result c.in_err-network.field-0.0 (network_in c.args.net.now)
     (λ network. certificate_judged network certificate (told_bytes told certificate))
-    (err_is c.from_residual.result c.in_err-network.field-0.0 c.from_residual.ensures.1)
-    (c.in_err-network.ensures.due (told_bytes told net) (told_is told net (is_told 0 [] (lit< tt))))
+    c.from_residual.ensures.1 c.in_err-network.ensures.due (is_told 0 [] (lit< tt))
 
 pub returns-clause-due : goal.returns-clause-due
 unfolding check_answer
 returns-clause-due g c = λ is_told.
     let told : List ℕ → Option (List ℕ) = g.F.Files.told c.args.files.now in
-    let net : List ℕ = c.args.net.now in
     let certificate : List ℕ = c.args.certificate.now in
-    let next : DeclaredNetwork → Result (List ℕ) Answer =
-    λ n. certificate_judged n certificate (told_bytes told certificate) in
     let still : g.F.Files.told c.network_in.new.files certificate ≡ Some (told_bytes told certificate) =
     ap (λ (t : List ℕ → Option (List ℕ)). t certificate) c.network_in.ensures.continues.holds
     ∙ told_is told certificate (is_told 1 [] (lit< tt)) in
-    result_settles c.verdict_of.result (network_in net (told_bytes told net) >>= next)
-    (goes_on (λ (text : Vec ℕ). text.items) c.verdict_of.result (network_in net (told_bytes told net))
-    c.in_ok-network.network next
-    (c.in_ok-network.ensures.due (told_bytes told net) (told_is told net (is_told 0 [] (lit< tt))))
-    (c.verdict_of.ensures.due (told_bytes told certificate) still))
+    file_goes_on told c.args.net.now c.verdict_of.result c.in_ok-network.network (network_in c.args.net.now)
+    (λ n. certificate_judged n certificate (told_bytes told certificate)) c.in_ok-network.ensures.due
+    (is_told 0 [] (lit< tt)) (c.verdict_of.ensures.due (told_bytes told certificate) still)
 
 pub returns-clause-failed : goal.returns-clause-failed
 returns-clause-failed g c = λ failed.

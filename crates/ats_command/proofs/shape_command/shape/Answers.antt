@@ -3,19 +3,15 @@ use Rattle.ats_shape.specs.Text.{text_of}
 use Rattle.ats_num.specs.Failure.{◌>>=◌}
 use Rattle.ats_answer.specs.Input.{shape_in}
 use Rattle.ats_command.specs.Due.{told_bytes, shape_answer}
-use Rattle.ats_answer.proofs.Steps.{err_is}
-use Rattle.ats_command.proofs.Steps.{told_is, step_settles, text_settles}
+use Rattle.ats_command.proofs.Steps.{told_is, text_settles, file_settles}
 use Rattle.ats_command.proofs.shape_command.shape.Goals as goal
 
 pub returns-in_err-shape-clause-due : goal.returns-in_err-shape-clause-due
 unfolding shape_answer
 returns-in_err-shape-clause-due g c = λ is_told.
-    let told : List ℕ → Option (List ℕ) = g.F.Files.told c.args.files.now in
-    let file : List ℕ = c.args.file.now in
-    step_settles c.from_residual.result c.in_err-shape.field-0.0 (shape_in file (told_bytes told file))
-    (λ shape. Ok (text_of shape))
-    (err_is c.from_residual.result c.in_err-shape.field-0.0 c.from_residual.ensures.1)
-    (c.in_err-shape.ensures.due (told_bytes told file) (told_is told file (is_told 0 [] (lit< tt))))
+    file_settles (g.F.Files.told c.args.files.now) c.args.file.now c.from_residual.result c.in_err-shape.field-0.0
+    (shape_in c.args.file.now) (λ shape. Ok (text_of shape)) c.from_residual.ensures.1 c.in_err-shape.ensures.due
+    (is_told 0 [] (lit< tt))
 
 pub returns-clause-due : goal.returns-clause-due
 unfolding shape_answer

@@ -1,5 +1,5 @@
 use Rattle.std.proofs.Common.{◌≡◌, ◌+◌, length, drop}
-use Rattle.ats_network_toml.specs.Seen.{tables_of}
+use Rattle.ats_network_toml.specs.Views.{tables_of}
 use Rattle.ats_network_toml.specs.Reading.{entries_from}
 use Rattle.ats_network_toml.proofs.Joined.{behind}
 use Rattle.ats_network_toml.proofs.arrays.read_entries.Given as goal

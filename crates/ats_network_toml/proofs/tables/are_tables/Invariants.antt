@@ -1,5 +1,5 @@
 use Rattle.std.proofs.Common.{◌≡◌, drop}
-use Rattle.ats_network_toml.specs.Seen.{are_tables}
+use Rattle.ats_network_toml.specs.Views.{are_tables}
 use Rattle.ats_network_toml.proofs.tables.are_tables.Given as goal
 
 -- the values left are tables where all are

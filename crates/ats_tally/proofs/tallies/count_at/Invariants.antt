@@ -1,5 +1,5 @@
 use Rattle.std.proofs.Common.{◌*◌}
-use Rattle.ats_tally.specs.Seen.{port_sender}
+use Rattle.ats_tally.specs.SenderAtPort.{port_sender}
 use Rattle.ats_tally.specs.Tallies.{AddsSender}
 use Rattle.ats_tally.proofs.tallies.count_at.Given as goal
 

@@ -1,5 +1,5 @@
 use Rattle.std.proofs.Common.{◌≤◌, length}
-use Rattle.ats_transmit.specs.Inside.{NoneFrom}
+use Rattle.ats_transmit.specs.PortQueues.{NoneFrom}
 use Rattle.ats_transmit.proofs.choice.highest_class.Given as goal
 
 -- no frame of the classes from here on is eligible

@@ -1,5 +1,5 @@
 use Rattle.std.proofs.Common.{take}
-use Rattle.ats_transmit.specs.Inside.{queued_of, NextTimeIn}
+use Rattle.ats_transmit.specs.PortQueues.{queued_of, NextTimeIn}
 use Rattle.ats_transmit.proofs.choice.next_time.Given as goal
 
 -- the least time of the queues so far

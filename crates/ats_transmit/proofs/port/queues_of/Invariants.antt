@@ -1,5 +1,5 @@
 use Rattle.std.proofs.Common.{take}
-use Rattle.ats_transmit.specs.Inside.{AreEmpty}
+use Rattle.ats_transmit.specs.PortQueues.{AreEmpty}
 use Rattle.ats_transmit.proofs.port.queues_of.Given as goal
 
 -- the queues of the rooms so far

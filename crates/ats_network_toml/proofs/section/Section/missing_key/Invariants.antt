@@ -2,7 +2,7 @@ use Rattle.std.proofs.Common.{◌≡◌, drop}
 use Rattle.std.specs.List.{find}
 use Rattle.ats_network_toml.specs.Words.{keys_of}
 use Rattle.ats_network_toml.specs.Walk.{is_missing, missing_key}
-use Rattle.ats_network_toml.specs.Seen.{entry_of}
+use Rattle.ats_network_toml.specs.Views.{entry_of}
 use Rattle.ats_network_toml.proofs.section.Section.missing_key.Given as goal
 
 -- the first missing key among those left is the first of all

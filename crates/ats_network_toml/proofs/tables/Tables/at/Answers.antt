@@ -1,6 +1,6 @@
 use Rattle.std.proofs.Common.{length, get_or, ap, ◌∙◌, arith}
 use Rattle.toml.specs.Data.{no_members}
-use Rattle.ats_network_toml.specs.Seen.{Values, tables_of}
+use Rattle.ats_network_toml.specs.Views.{Values, tables_of}
 use Rattle.ats_network_toml.proofs.Joined.{tables_of_length}
 use Rattle.ats_network_toml.proofs.tables.Tables.at.Goals as goal
 

@@ -1,5 +1,5 @@
 use Rattle.std.proofs.Common.{length, ap, sym, ◌∙◌}
-use Rattle.ats_network_toml.specs.Seen.{Values, tables_of}
+use Rattle.ats_network_toml.specs.Views.{Values, tables_of}
 use Rattle.ats_network_toml.proofs.Joined.{tables_of_length}
 use Rattle.ats_network_toml.proofs.tables.Tables.len.Goals as goal
 

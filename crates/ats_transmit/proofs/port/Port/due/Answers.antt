@@ -1,7 +1,7 @@
 use Rattle.std.proofs.Common.{◌≡◌, [], List, subst}
 use Rattle.ats_queue.specs.Contents.{Contents}
 use Rattle.ats_queue.specs.Order.{IsNextTime}
-use Rattle.ats_transmit.specs.Inside.{queued_of}
+use Rattle.ats_transmit.specs.PortQueues.{queued_of}
 use Rattle.ats_transmit.specs.Sending.{last_end}
 use Rattle.ats_transmit.proofs.Due.{due_at}
 use Rattle.ats_transmit.proofs.Held.{none-held}

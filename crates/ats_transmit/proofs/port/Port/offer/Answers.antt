@@ -1,7 +1,7 @@
 use Rattle.std.proofs.Common.{refl}
 use Rattle.ats_transmit.specs.declared.offer.Offer.{Offer}
-use Rattle.ats_transmit.specs.Standing.{Standing}
-use Rattle.ats_transmit.specs.Inside.{standing_of}
+use Rattle.ats_transmit.specs.State.{PortState}
+use Rattle.ats_transmit.specs.PortQueues.{port_state}
 use Rattle.ats_transmit.proofs.Kept.{Inserted, may-offer, queue-room, queue-new, held-offer, kept-offer}
 use Rattle.ats_transmit.proofs.port.Port.offer.Goals as goal
 
@@ -9,7 +9,7 @@ pub insert-requires-clause-room : goal.insert-requires-clause-room
 insert-requires-clause-room g c =
     let i = c.self.inside in
     let o : Offer = c.args.offer in
-    let s : Standing g.row.T.Denot = standing_of i.ps_per_bit i.rooms i.tie i.queues.items i.sent.items i.is_sending in
+    let s : PortState g.row.T.Denot = port_state i.ps_per_bit i.rooms i.tie i.queues.items i.sent.items i.is_sending in
     let r = c.requires in
     let may = may-offer s c.args.self.now o c.self.view_is r.not_held r.class r.room r.octets r.later in
     let before = c.index_mut.result.now in
@@ -19,7 +19,7 @@ pub insert-requires-clause-new : goal.insert-requires-clause-new
 insert-requires-clause-new g c =
     let i = c.self.inside in
     let o : Offer = c.args.offer in
-    let s : Standing g.row.T.Denot = standing_of i.ps_per_bit i.rooms i.tie i.queues.items i.sent.items i.is_sending in
+    let s : PortState g.row.T.Denot = port_state i.ps_per_bit i.rooms i.tie i.queues.items i.sent.items i.is_sending in
     let r = c.requires in
     let may = may-offer s c.args.self.now o c.self.view_is r.not_held r.class r.room r.octets r.later in
     let before = c.index_mut.result.now in
@@ -30,7 +30,7 @@ pub invariant_of-self : goal.invariant_of-self
 invariant_of-self g c =
     let i = c.self.inside in
     let o : Offer = c.args.offer in
-    let s : Standing g.row.T.Denot = standing_of i.ps_per_bit i.rooms i.tie i.queues.items i.sent.items i.is_sending in
+    let s : PortState g.row.T.Denot = port_state i.ps_per_bit i.rooms i.tie i.queues.items i.sent.items i.is_sending in
     let r = c.requires in
     let may = may-offer s c.args.self.now o c.self.view_is r.not_held r.class r.room r.octets r.later in
     let inserted : Inserted i.queues.items c.index_mut.result.now c.insert.new.self o = record {
@@ -45,7 +45,7 @@ pub returns-clause-held : goal.returns-clause-held
 returns-clause-held g c =
     let i = c.self.inside in
     let o : Offer = c.args.offer in
-    let s : Standing g.row.T.Denot = standing_of i.ps_per_bit i.rooms i.tie i.queues.items i.sent.items i.is_sending in
+    let s : PortState g.row.T.Denot = port_state i.ps_per_bit i.rooms i.tie i.queues.items i.sent.items i.is_sending in
     let r = c.requires in
     let may = may-offer s c.args.self.now o c.self.view_is r.not_held r.class r.room r.octets r.later in
     let inserted : Inserted i.queues.items c.index_mut.result.now c.insert.new.self o = record {

@@ -8,7 +8,7 @@ use Rattle.ats_queue.specs.Contents.{Contents}
 use Rattle.ats_queue.specs.Order.{Takes, IsNextTime}
 use Rattle.ats_transmit.specs.declared.offer.Offer.{Offer}
 use Rattle.ats_transmit.specs.declared.sent.Sent.{Sent}
-use Rattle.ats_transmit.specs.Standing.{Standing, offered_of, IsLawfulPort}
+use Rattle.ats_transmit.specs.State.{PortState, offered_of, IsLawfulPort}
 
 -- an offered frame, as the queue of its class holds it
 abbrev pub queued_as : Offer → Queued
@@ -36,9 +36,9 @@ abbrev pub EachQueued : {T : Type 0} → (ℕ → Queued → Type 0) → List (C
 EachQueued {T} P queues =
     (class : ℕ) (d : Contents T) → class < length queues → All (P class) (slice_index_or queues class d).held
 
--- the port that these fields make
-abbrev pub standing_of : {T : Type 0} → ℕ → List ℕ → T → List (Contents T) → List Sent → Bool → Standing T
-standing_of ps_per_bit rooms tie queues sent is_sending =
+-- the state of the port that these fields make
+abbrev pub port_state : {T : Type 0} → ℕ → List ℕ → T → List (Contents T) → List Sent → Bool → PortState T
+port_state ps_per_bit rooms tie queues sent is_sending =
     record {
       ps_per_bit = ps_per_bit;
       rooms = rooms;
@@ -49,7 +49,7 @@ standing_of ps_per_bit rooms tie queues sent is_sending =
     }
 
 -- the queues and the transmissions fit each other, and there is room for all that may be offered
-pub record IsKept {T : Type 0} (key : T → ℕ → ℕ → ℕ) (s : Standing T) (queues : List (Contents T)) (sent_room : ℕ)
+pub record IsKept {T : Type 0} (key : T → ℕ → ℕ → ℕ) (s : PortState T) (queues : List (Contents T)) (sent_room : ℕ)
     : Type 0 where
   pub classes : length s.rooms ≡ 8
   pub capacities : map (λ (c : Contents T). c.capacity) queues ≡ s.rooms

@@ -2,8 +2,8 @@ use Rattle.ats_network_toml.specs.Document.{DeclaredDocument}
 use Rattle.ats_network_toml.specs.declared.document.Parts.{Parts}
 
 -- what the lists hold
-abbrev pub parts_seen : Parts → DeclaredDocument
-parts_seen p = record {
+abbrev pub parts_view : Parts → DeclaredDocument
+parts_view p = record {
   stations = p.stations.items;
   bridges = p.bridges.items;
   links = p.links.items;

@@ -26,6 +26,6 @@ abbrev pub tables_of : Values → List Members
 tables_of vs = unwrap_or (all_in as_table (items_view vs)) []
 
 -- a route, its path as a list
-abbrev pub route_seen : Route → DeclaredRoute
-route_seen (Path names) = path names.items
-route_seen (Ends from to) = ends from to
+abbrev pub route_view : Route → DeclaredRoute
+route_view (Path names) = path names.items
+route_view (Ends from to) = ends from to

@@ -1,10 +1,10 @@
 use Rattle.ats_network_toml.specs.Reading as due
-use Rattle.ats_network_toml.specs.Seen.{tables_of}
+use Rattle.ats_network_toml.specs.Views.{tables_of}
 use Rattle.ats_network_toml.specs.declared.arrays.Arrays.{Arrays}
 
 -- the format, and the tables of the arrays
-abbrev pub arrays_seen : Arrays → due.Arrays
-arrays_seen a = record {
+abbrev pub arrays_view : Arrays → due.Arrays
+arrays_view a = record {
   format = a.format;
   stations = tables_of a.stations;
   bridges = tables_of a.bridges;

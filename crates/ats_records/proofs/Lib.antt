@@ -1,0 +1,4 @@
+pub mod Ends
+pub mod Opens
+pub mod Rooms
+pub mod Writes
