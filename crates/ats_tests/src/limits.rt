@@ -32,7 +32,7 @@ fn push_stream(
     let stream = Stream::new(
         name(rt, number),
         Vec::from_slice(rt.alloc(), &[0]).expect(rt, "room"),
-        6,
+        &[6],
         100_000,
         12336,
         64,
