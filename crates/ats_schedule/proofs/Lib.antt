@@ -1,0 +1,4 @@
+pub mod PlainRecords
+pub mod ReadsBack
+pub mod Releases
+pub mod Texts

@@ -1,0 +1,118 @@
+//! The release that a record writes.
+
+ghost use Rattle.std.specs.Prelude.{◌≡◌, ◌+◌, ◌≤◌, ◌<◌, length, IfOk};
+ghost use Rattle.ats_num.specs.Failure.{or_fault};
+ghost use Rattle.ats_num.specs.Number.{number_of};
+ghost use Rattle.ats_num.specs.Wire.{IsFrameSize};
+ghost use Rattle.ats_network.specs.Network.{senders_of};
+ghost use Rattle.ats_schedule.specs.Reading.{in_order, in_size, number_in, release_after, record_after, sender_in};
+ghost use Rattle.ats_schedule.specs.Reading.{within_limits};
+ghost use Rattle.ats_schedule.specs.Releases.{Follows, last_time};
+ghost use Rattle.ats_trace.specs.declared.run.TheConstants.{MAX_FRAMES};
+
+use crate::fault::ScheduleFault;
+use ats_csv::Records;
+use ats_network::Network;
+use ats_num::wire::{MAX_OCTETS, MIN_OCTETS};
+use ats_num::{Name, Ps, number};
+use ats_trace::Release;
+use ats_trace::run::MAX_FRAMES;
+
+/// The greatest time of a release, in picoseconds.
+pub const MAX_RELEASE_PS: u64 = 100_000_000_000_000_000;
+
+// The number of the record that follows those of these releases.
+pub(crate) fn record_after(releases: &[Release]) -> u32
+    requires { length releases.now ≤ MAX_FRAMES }
+    ensures { result ≡ record_after releases.now }
+{
+    releases.len() as u32 + 2
+}
+
+// The release that the record with these three fields writes, behind the releases before it.
+#[tactic(auto, unfolding(crate::specs::Reading::release_after))]
+pub(crate) fn release_after(
+    releases: &[Release],
+    network: &Network,
+    records: &Records,
+) -> Result<Release, ScheduleFault>
+    requires few { length releases.now ≤ MAX_FRAMES }
+    requires fields { length records.now.fields ≡ 3 }
+    ensures due { result ≡ release_after network.now releases.now records.now.fields }
+    ensures follows { IfOk result (Follows network.now releases.now) }
+{
+    let n = record_after(releases);
+    let sender = sender_in(network, n, records.field(1))?;
+    let at = number_in(n, records.field(0))?;
+    let octets = number_in(n, records.field(2))?;
+    let octets = in_size(n, octets)?;
+    let at = in_order(n, last_time(releases), at)?;
+    let at = within_limits(n, releases.len(), at)?;
+    Ok(Release {
+        at: Ps(at),
+        sender,
+        octets,
+    })
+}
+
+// The sender that a text in record n names.
+fn sender_in(network: &Network, n: u32, text: &[u8]) -> Result<u32, ScheduleFault>
+    ensures due { result ≡ sender_in network.now n text.now }
+    ensures within { IfOk result (λ sender. sender < length (senders_of network.now)) }
+{
+    let name = Name::new(text).ok_or(ScheduleFault::UnknownName(n))?;
+    network
+        .sender_named(&name)
+        .ok_or(ScheduleFault::UnknownName(n))
+}
+
+// The number that a text in record n writes.
+fn number_in(n: u32, text: &[u8]) -> Result<u128, ScheduleFault>
+    ensures { result ≡ number_in n text.now }
+{
+    number(text).ok_or(ScheduleFault::BadNumber(n))
+}
+
+// These octets of record n, where they make a frame.
+fn in_size(n: u32, octets: u128) -> Result<u32, ScheduleFault>
+    ensures due { result ≡ in_size n octets }
+    ensures size { IfOk result IsFrameSize }
+{
+    if octets < u128::from(MIN_OCTETS) || octets > u128::from(MAX_OCTETS) {
+        return Err(ScheduleFault::BadSize(n));
+    }
+    Ok(octets as u32)
+}
+
+// The time of the last release, 0 where there is none.
+fn last_time(releases: &[Release]) -> u64
+    ensures { result ≡ last_time releases.now }
+{
+    match releases.last() {
+        Some(last) => last.at.0,
+        None => 0,
+    }
+}
+
+// This time of record n, where it is not before the last one.
+fn in_order(n: u32, last: u64, at: u128) -> Result<u128, ScheduleFault>
+    ensures due { result ≡ in_order n last at }
+    ensures later { IfOk result (λ at. last ≤ at) }
+{
+    if at < u128::from(last) {
+        return Err(ScheduleFault::TimeBack(n));
+    }
+    Ok(at)
+}
+
+// This time of record n, which follows so many releases, where there may be one more at this time.
+fn within_limits(n: u32, count: usize, at: u128) -> Result<u64, ScheduleFault>
+    ensures due { result ≡ within_limits n count at }
+    ensures time { IfOk result (λ at. at ≤ MAX_RELEASE_PS) }
+    ensures room { IfOk result (λ at. count < MAX_FRAMES) }
+{
+    if at > u128::from(MAX_RELEASE_PS) || count >= MAX_FRAMES {
+        return Err(ScheduleFault::Limit(n));
+    }
+    Ok(at as u64)
+}
