@@ -1,0 +1,10 @@
+pub mod Followed
+pub mod Fronts
+pub mod Headers
+pub mod Places
+pub mod Records
+pub mod Resumed
+pub mod Settled
+pub mod Stands
+pub mod Taken
+pub mod Tests
