@@ -1,5 +1,5 @@
-use Rattle.std.proofs.Common.{◌≡◌, ℕ, ◌+◌, ◌<◌, ◌≤◌, Bool, true, false, ◌==◌, ◌&&◌, nat_lt, List, ◌++◌, length, take}
-use Rattle.std.proofs.Common.{Option, Some, None, if◌then◌else◌, refl, sym, ap, ◌∙◌, subst, arith, inl, inr, ◌⊎◌}
+use Rattle.std.proofs.Common.{◌≡◌, ℕ, ◌+◌, ◌<◌, ◌≤◌, Bool, ◌==◌, ◌&&◌, nat_lt, List, ◌++◌, length}
+use Rattle.std.proofs.Common.{Option, Some, None, if◌then◌else◌, refl, sym, ap, ◌∙◌, arith, inl, inr, ◌⊎◌}
 use Rattle.std.proofs.lemmas.Bool.{cases_lt, lt-ltb, le-ltb}
 use Rattle.std.proofs.lemmas.List.{length-append}
 use Rattle.std.proofs.lemmas.Option.{none-some}
@@ -107,8 +107,9 @@ few_magic xs h =
 
 few_version : (xs : List ℕ) → length xs < 8 → version_fault xs ≡ None
 few_version xs h =
-    ap (λ few. if few then None else if (number16 (order_of xs) 4 xs == 2) && (number16 (order_of xs) 6 xs == 4) then None
-    else Some BadVersion) (lt-ltb (length xs) 8 h)
+    ap (λ few. if few then None
+    else if (number16 (order_of xs) 4 xs == 2) && (number16 (order_of xs) 6 xs == 4) then None else Some BadVersion)
+    (lt-ltb (length xs) 8 h)
 
 few_link : (xs : List ℕ) → length xs < 24 → link_fault xs ≡ None
 few_link xs h =

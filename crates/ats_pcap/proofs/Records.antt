@@ -1,10 +1,10 @@
-use Rattle.std.proofs.Common.{◌≡◌, ℕ, ◌+◌, ◌-◌, ◌*◌, ◌%◌, ◌<◌, ◌≤◌, min, max, Bool, true, false, ◌&&◌, ◌==◌, nat_lt, nat_le}
-use Rattle.std.proofs.Common.{List, ◌∷◌, ◌++◌, length, take, drop, Option, Some, None, if◌then◌else◌, refl, sym, ap, ◌∙◌}
-use Rattle.std.proofs.Common.{arith, inl, inr, ◌⊎◌}
+use Rattle.std.proofs.Common.{◌≡◌, ℕ, ◌+◌, ◌-◌, ◌*◌, ◌%◌, ◌<◌, ◌≤◌, min, max, Bool, true, false, ◌&&◌, ◌==◌, nat_lt}
+use Rattle.std.proofs.Common.{nat_le, List, ◌∷◌, ◌++◌, length, take, drop, Option, Some, None, if◌then◌else◌, refl}
+use Rattle.std.proofs.Common.{sym, ap, ◌∙◌, arith, inl, inr, ◌⊎◌}
 use Rattle.std.specs.Int.{w64, from_be_bytes}
 use Rattle.std.proofs.lemmas.Bool.{cases_lt, lt-ltb, le-ltb, le-leb, lt-leb, leb-true, ltb-false, ne_eqb}
 use Rattle.std.proofs.lemmas.Bool.{eqb-false, true≢false}
-use Rattle.std.proofs.lemmas.List.{length-append, length-drop, length-take, drop-append-le, take-append-le, take_all}
+use Rattle.std.proofs.lemmas.List.{length-append, length-drop, length-take, take-append-le, take_all}
 use Rattle.std.proofs.lemmas.List.{drop-take}
 use Rattle.std.proofs.lemmas.Option.{none-some}
 use Rattle.ats_pcap.specs.Capture.{captured_of, is_whole, nanos_of, record_fault, record_of}
@@ -97,7 +97,8 @@ record_fault-append form before xs ys fault some h = by (cases_lt (length xs) 16
     by (inl short) =
         let both : length (xs ++ ys) ≡ length xs + length ys = length-append xs ys in
         let few : nat_lt (length xs) 16 ≡ true = lt-ltb (length xs) 16 short in
-        let shown : of_tests false (before == 1_000_000) true (nat_lt 262_144 (captured_of form xs)) before ≡ Some fault =
+        let shown : of_tests false (before == 1_000_000) true (nat_lt 262_144 (captured_of form xs)) before
+        ≡ Some fault =
         sym (by_tests form before (length xs) xs
         ∙ ap (λ b. of_tests b (before == 1_000_000) (nat_lt (length xs) 16)
         (nat_lt 262_144 (captured_of form xs)) before) (not_zero (length xs) some)
@@ -172,7 +173,8 @@ is_whole-append form xs ys h =
     let parts : (16 ≤ length xs) × (16 + captured_of form xs ≤ length xs) = whole_bytes form (length xs) xs h in
     let both : length (xs ++ ys) ≡ length xs + length ys = length-append xs ys in
     let same : captured_of form (xs ++ ys) ≡ captured_of form xs = captured_of-append form xs ys parts.0 in
-    is_whole-from form (length (xs ++ ys)) (xs ++ ys) (omega (arith, both, parts.0)) (omega (arith, both, same, parts.1))
+    is_whole-from form (length (xs ++ ys)) (xs ++ ys) (omega (arith, both, parts.0))
+    (omega (arith, both, same, parts.1))
 
 pub is_whole-front : (form : Form) (xs : List ℕ)
     → is_whole form (length xs) (take 32 xs) ≡ is_whole form (length xs) xs
@@ -272,7 +274,8 @@ record_of-front form xs h =
     let numbers : (place : ℕ) → place + 4 ≤ 16
     → number32 form.order place (take 32 xs) ≡ number32 form.order place xs =
     λ place fits. by_front (number32 form.order place) 16
-    (λ xs1 xs2 there. number32-append form.order place xs1 xs2 (omega (arith, fits, there))) 32 xs (omega arith) enough in
+    (λ some more there. number32-append form.order place some more (omega (arith, fits, there))) 32 xs (omega arith)
+    enough in
     let frame : List ℕ = drop 16 xs in
     let captured : ℕ = captured_of form xs in
     let size : length frame ≡ length xs - 16 = length-drop 16 xs in

@@ -1,5 +1,5 @@
-use Rattle.std.proofs.Common.{◌≡◌, ℕ, ◌≤◌, Bool, true, false, List, [], ◌∷◌, ◌++◌, length, min, Option, Some, None, Ok, Err}
-use Rattle.std.proofs.Common.{if◌then◌else◌, refl, sym, ap, ◌∙◌, arith}
+use Rattle.std.proofs.Common.{◌≡◌, ℕ, ◌≤◌, Bool, true, false, List, [], ◌∷◌, ◌++◌, length, min, Option, Some, None, Ok}
+use Rattle.std.proofs.Common.{Err, if◌then◌else◌, sym, ap, ◌∙◌, arith}
 use Rattle.ats_pcap.specs.Capture.{Position, form_of, is_whole, record_fault, record_of, without}
 use Rattle.ats_pcap.specs.Inside.{behind_whole, settled}
 use Rattle.ats_pcap.specs.declared.fault.CaptureFault.{CaptureFault}

@@ -1,13 +1,13 @@
-use Rattle.std.proofs.Common.{◌≡◌, ℕ, suc, ◌+◌, ◌-◌, ◌<◌, ◌≤◌, min, Bool, true, false, nat_lt, List, [], ◌∷◌, ◌++◌, length, take}
-use Rattle.std.proofs.Common.{drop, Option, Some, None, Result, Ok, Err, if◌then◌else◌, refl, sym, subst, ap, ◌∙◌, arith}
-use Rattle.std.proofs.Common.{inl, inr, ◌⊎◌}
+use Rattle.std.proofs.Common.{◌≡◌, ℕ, suc, ◌+◌, ◌-◌, ◌<◌, ◌≤◌, min, Bool, true, false, nat_lt, List, [], ◌∷◌, ◌++◌}
+use Rattle.std.proofs.Common.{length, take, drop, Option, Some, None, Result, Ok, Err, if◌then◌else◌, refl, sym}
+use Rattle.std.proofs.Common.{subst, ap, ◌∙◌, arith, inl, inr, ◌⊎◌}
 use Rattle.std.proofs.Math.ListN.{drop_of_length-le}
 use Rattle.std.proofs.lemmas.Bool.{cases_lt, lt-ltb, le-ltb}
 use Rattle.std.proofs.lemmas.List.{length-append, length-drop, length-take, drop-append-le, take-append-le, take_all}
 use Rattle.ats_num.specs.Failure.{◌>>=◌}
 use Rattle.ats_pcap.specs.Capture.{Position, Reach, captured_of, form_of, header_fault, is_whole, past_record}
 use Rattle.ats_pcap.specs.Capture.{position_at, position_of, read_on, record_fault, record_of, without}
-use Rattle.ats_pcap.specs.Inside.{IsOpen, MayEnd, behind_whole, room_at, settled, taken}
+use Rattle.ats_pcap.specs.Inside.{IsOpen, MayEnd, room_at, settled, taken}
 use Rattle.ats_pcap.specs.declared.fault.CaptureFault.{CaptureFault}
 use Rattle.ats_pcap.specs.declared.form.Form.{Form}
 use Rattle.ats_pcap.specs.declared.record.Record.{Record}
@@ -17,7 +17,7 @@ use Rattle.ats_pcap.proofs.Places.{by_front}
 use Rattle.ats_pcap.proofs.Records.{RecordAllowed, allowed, captured_of-append, captured_of-front, is_whole-front}
 use Rattle.ats_pcap.proofs.Records.{not_whole, record_fault-front, record_of-front, whole_bytes}
 use Rattle.ats_pcap.proofs.Resumed.{at_end, further, read_on-append, turn}
-use Rattle.ats_pcap.proofs.Tests.{Err-Ok, same_Err, same_Ok}
+use Rattle.ats_pcap.proofs.Tests.{Err-Ok, same_Ok}
 
 -- how far a capture is read behind its header, and where that is
 abbrev begun : List ℕ → Reach
@@ -216,7 +216,8 @@ one_turn : (k : ℕ) (header : List ℕ) (q : Reach)
     → (fault : Option CaptureFault)
     → record_fault (form_of header) (length q.records) (length q.rest) q.rest ≡ fault
     → (whole : Bool) → is_whole (form_of header) (length q.rest) q.rest ≡ whole
-    → placed header (turn (form_of header) q (length q.rest) (read_on k (form_of header) (past_record (form_of header) q)))
+    → placed header
+    (turn (form_of header) q (length q.rest) (read_on k (form_of header) (past_record (form_of header) q)))
     ≡ settled (position_at header q)
 one_turn k header q most (Some f) e whole w =
     let form : Form = form_of header in
@@ -364,7 +365,8 @@ settled_open p q may None e true w h header =
     let r : Record = record_of (form_of p.header) p.front in
     let more : length (p.records ++ r ∷ []) ≡ length p.records + 1 = length-append p.records (r ∷ []) in
     let fewer : length p.records < 1_000_000 = less (cases_lt (length p.records) 1_000_000) fine.room in
-    subst IsOpen (same_Ok (record { header = p.header; records = p.records ++ r ∷ []; there = 0; front = [] }) q h) (record {
+    let after : Position = record { header = p.header; records = p.records ++ r ∷ []; there = 0; front = [] } in
+    subst IsOpen (same_Ok after q h) (record {
       header = header;
       before = λ _. refl;
       few = omega (arith, more, fewer);

@@ -1,6 +1,6 @@
 //! How far a capture was read, as long as it has no fault.
 
-ghost use Rattle.std.specs.Prelude.{◌≡◌, ◌+◌, ◌<◌, ◌≤◌, ◌++◌, ℕ, List, [], Ok, Err, length, min, take, MatchResult, OnOk};
+ghost use Rattle.std.specs.Prelude.{◌≡◌, ◌+◌, ◌<◌, ◌≤◌, ◌++◌, ℕ, List, [], Ok, Err, length, MatchResult, OnOk};
 ghost use Rattle.ats_num.specs.Failure.{Fails};
 ghost use Rattle.ats_pcap.specs.Capture.{form_of, position_of, records_at};
 ghost use Rattle.ats_pcap.specs.Inside.{IsOpen, MayEnd, behind_whole, room_at, settled, taken};

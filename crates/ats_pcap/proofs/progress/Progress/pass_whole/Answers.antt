@@ -1,4 +1,4 @@
-use Rattle.std.proofs.Common.{◌≡◌, ℕ, List, [], sym, ap, ◌∙◌}
+use Rattle.std.proofs.Common.{ℕ, List, [], sym, ap, ◌∙◌}
 use Rattle.ats_pcap.specs.Capture.{Position}
 use Rattle.ats_pcap.specs.Seen.{seen}
 use Rattle.ats_pcap.specs.declared.record.Record.{Record}

@@ -1,4 +1,5 @@
-use Rattle.std.proofs.Common.{◌≡◌, ◌+◌, ◌-◌, ◌<◌, ◌≤◌, ℕ, List, ◌++◌, length, take, Result, Ok, MatchResult, sym, subst, ap, ◌∙◌, arith}
+use Rattle.std.proofs.Common.{◌≡◌, ◌+◌, ◌-◌, ◌<◌, ◌≤◌, ℕ, List, ◌++◌, length, take, Result, Ok, MatchResult}
+use Rattle.std.proofs.Common.{sym, subst, ap, ◌∙◌, arith}
 use Rattle.ats_num.specs.Failure.{Fails}
 use Rattle.ats_pcap.specs.Capture.{Position}
 use Rattle.ats_pcap.specs.Inside.{MayEnd, room_at, settled}

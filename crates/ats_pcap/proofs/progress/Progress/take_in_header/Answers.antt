@@ -1,9 +1,7 @@
-use Rattle.std.proofs.Common.{◌≡◌, ℕ, ◌+◌, ◌≤◌, List, ◌++◌, length, take, Option, Ok, sym, ap, ◌∙◌, arith}
+use Rattle.std.proofs.Common.{◌≡◌, ℕ, ◌+◌, ◌≤◌, List, ◌++◌, length, take, Ok, sym, ap, ◌∙◌, arith}
 use Rattle.std.proofs.lemmas.List.{length-append, take_all}
 use Rattle.ats_pcap.specs.Capture.{Position, header_fault, without}
 use Rattle.ats_pcap.specs.Seen.{seen}
-use Rattle.ats_pcap.specs.declared.fault.CaptureFault.{CaptureFault}
-use Rattle.ats_pcap.specs.declared.progress.Progress.{Progress}
 use Rattle.ats_pcap.proofs.Taken.{taken_in_header}
 use Rattle.ats_pcap.proofs.progress.Progress.take_in_header.Goals as goal
 

@@ -1,4 +1,4 @@
-use Rattle.std.proofs.Common.{◌≡◌, sym, ap, ◌∙◌}
+use Rattle.std.proofs.Common.{sym, ap, ◌∙◌}
 use Rattle.ats_pcap.specs.Reading.{Reading}
 use Rattle.ats_pcap.proofs.Stands.{stopped_stands}
 use Rattle.ats_pcap.proofs.reader.Reader.feed.Goals as goal
