@@ -1,5 +1,6 @@
 -- The lists of residences, schedulers and first places, and one entry more.
-use Rattle.std.proofs.Common.{◌≡◌, ◌∙◌, ℕ, zero, suc, ◌+◌, ◌-◌, ◌*◌, ◌<◌, ◌≤◌, List, [], ◌∷◌, ◌++◌, length, get_or, map, take}
+use Rattle.std.proofs.Common.{◌≡◌, ◌∙◌, ℕ, zero, suc, ◌+◌, ◌-◌, ◌*◌, ◌<◌, ◌≤◌, List, [], ◌∷◌, ◌++◌, length}
+use Rattle.std.proofs.Common.{get_or, map, take}
 use Rattle.std.proofs.Common.{refl, sym, ap, subst, arith, length-append}
 use Rattle.std.specs.List.{All, flat_map, range_with_len}
 use Rattle.std.proofs.lemmas.List.{flat_map_more, length-map, length-take, take_more}
@@ -84,7 +85,8 @@ each_listable network is =
 -- a stream has a scheduler behind each port of its path but the last
 pub count_is : (stream : DeclaredStream) → length (stream_members stream) ≡ length stream.path - 1
 count_is stream =
-    let mapped : length (stream_members stream) ≡ length (take (length stream.path - 1) stream.path) = simp length-map in
+    let mapped : length (stream_members stream) ≡ length (take (length stream.path - 1) stream.path) =
+    simp length-map in
     mapped ∙ counted (length stream.path) stream.path refl
   where
     counted : (n : ℕ) (path : List ℕ) → n ≡ length path → length (take (n - 1) path) ≡ n - 1
