@@ -1,0 +1,177 @@
+-- The lists of residences, schedulers and first places, and one entry more.
+use Rattle.std.proofs.Common.{◌≡◌, ◌∙◌, ℕ, zero, suc, ◌+◌, ◌-◌, ◌*◌, ◌<◌, ◌≤◌, List, [], ◌∷◌, ◌++◌, length}
+use Rattle.std.proofs.Common.{get_or, map, take}
+use Rattle.std.proofs.Common.{refl, sym, ap, subst, arith, length-append}
+use Rattle.std.specs.List.{All, flat_map, range_with_len}
+use Rattle.std.proofs.lemmas.List.{flat_map_more, length-map, length-take, take_more}
+use Rattle.std.proofs.lemmas.List.Elements.{All-append, All-cons, All-head, All-nil, All-tail}
+use Rattle.std.proofs.lemmas.List.Folds.{length-flat_map-take}
+use Rattle.std.proofs.lemmas.List.FromFn.{map-range_with_len_more}
+use Rattle.ats_facts.proofs.Lists.{all_left, all_unmapped}
+use Rattle.ats_group.specs.GroupsState.{IsMember}
+use Rattle.ats_group.specs.declared.member.Declared.{Declared}
+use Rattle.ats_group.specs.declared.member.Member.{Member}
+use Rattle.ats_group.specs.declared.member.TheConstants.{MAX_RESIDENCE_NS}
+use Rattle.ats_topology.specs.Topology.{DeclaredTopology, IsTopology, HasLawfulPorts}
+use Rattle.ats_topology.proofs.Rules.{ports_are_lawful}
+use Rattle.ats_streams.specs.Stream.{DeclaredStream, IsStream}
+use Rattle.ats_streams.specs.declared.stream.TheConstants.{MAX_CLASS}
+use Rattle.ats_network.specs.Network.{DeclaredNetwork, IsNetwork}
+use Rattle.ats_network.specs.Sender.{Sender, stream_sender, flow_sender}
+use Rattle.ats_network.specs.Senders.{IsSender}
+use Rattle.ats_network.specs.Class.{class_at}
+use Rattle.ats_network.proofs.ClassLemmas.{class_along-at, class_at-le}
+use Rattle.ats_network.proofs.SenderLemmas.{each_is_sender}
+use Rattle.ats_schedulers.specs.Inside.{IsListable}
+use Rattle.ats_schedulers.specs.Schedulers.{declared_of, first_of, member_behind, residence_of}
+use Rattle.ats_schedulers.specs.Schedulers.{members_of, stream_members}
+
+-- one residence more
+pub residences_more : (network : DeclaredNetwork) (group : ℕ)
+    → map (residence_of network) (range_with_len 0 (group + 1))
+    ≡ map (residence_of network) (range_with_len 0 group) ++ residence_of network group ∷ []
+residences_more network group = map-range_with_len_more (residence_of network) 0 group group (omega arith)
+
+pub most_more : (residences : List ℕ) (r : ℕ) → All (λ (r : ℕ). r ≤ MAX_RESIDENCE_NS) residences → r ≤ MAX_RESIDENCE_NS
+    → All (λ (r : ℕ). r ≤ MAX_RESIDENCE_NS) (residences ++ r ∷ [])
+most_more residences r each most = All-append (λ (r : ℕ). r ≤ MAX_RESIDENCE_NS) residences (r ∷ []) each
+    (All-cons (λ (r : ℕ). r ≤ MAX_RESIDENCE_NS) r [] most (All-nil (λ (r : ℕ). r ≤ MAX_RESIDENCE_NS)))
+
+-- a topology has at most 4,096 ports
+pub ports_few : (topology : DeclaredTopology) → IsTopology topology → length topology.ports ≤ 4096
+ports_few topology is =
+    let kept : HasLawfulPorts topology = ports_are_lawful topology is in
+    omega (arith, kept.two_each, is.few_links)
+
+-- one first place more
+pub firsts_more : (streams : List DeclaredStream) (i : ℕ)
+    → map (first_of streams) (range_with_len 0 (i + 1))
+    ≡ map (first_of streams) (range_with_len 0 i) ++ first_of streams i ∷ []
+firsts_more streams i = map-range_with_len_more (first_of streams) 0 i i (omega arith)
+
+-- the scheduler behind the port of a hop, by the class at this hop
+pub member_is : (stream : DeclaredStream) (hop : ℕ) (made : Member) → IsListable stream
+    → length stream.classes ≡ length stream.path → hop < length stream.path
+    → made.group ≡ 8 * get_or stream.path hop 0 + get_or stream.classes hop 0
+    → made.declared ≡ declared_of (stream_sender stream)
+    → made ≡ member_behind (stream_sender stream) (get_or stream.path hop 0)
+member_is stream hop made is many within group declared =
+    let class = class_along-at stream.path stream.classes hop is.apart many within in
+    ap (λ (n : ℕ). record { group = n; declared = made.declared })
+    (group ∙ ap (λ (c : ℕ). 8 * get_or stream.path hop 0 + c) (sym class))
+    ∙ ap (λ (d : Declared). record {
+      group = (member_behind (stream_sender stream) (get_or stream.path hop 0)).group;
+      declared = d;
+    }) declared
+
+-- each stream of a network may be listed
+pub each_listable : (network : DeclaredNetwork) → IsNetwork network → All IsListable network.streams
+each_listable network is =
+    let Is : Sender → Type 0 = IsSender network.topology in
+    let streams : List Sender = map stream_sender network.streams in
+    let flows : List Sender = map flow_sender network.flows in
+    λ k d lt.
+    let sender : IsSender network.topology (stream_sender (get_or network.streams k d)) =
+    all_unmapped Is stream_sender network.streams (all_left Is streams flows (each_is_sender network is)) k d lt in
+    record {
+      apart = sender.apart;
+      few = λ j e within. below (get_or (get_or network.streams k d).path j e) (length network.topology.ports)
+          (sender.ports j e within) (ports_few network.topology is.topology);
+    }
+  where
+    below : (p n : ℕ) → p < n → n ≤ 4096 → p < 4096
+    below p n within few = omega arith
+
+-- a stream has a scheduler behind each port of its path but the last
+pub count_is : (stream : DeclaredStream) → length (stream_members stream) ≡ length stream.path - 1
+count_is stream =
+    let mapped : length (stream_members stream) ≡ length (take (length stream.path - 1) stream.path) =
+    simp length-map in
+    mapped ∙ counted (length stream.path) stream.path refl
+  where
+    counted : (n : ℕ) (path : List ℕ) → n ≡ length path → length (take (n - 1) path) ≡ n - 1
+    counted n path e = let cut = length-take (n - 1) path in omega (arith, cut)
+
+-- so streams have at most 15 times as many
+all_few : (streams : List DeclaredStream) → All IsStream streams
+    → length (flat_map stream_members streams) ≤ 15 * length streams
+all_few [] each = omega arith
+all_few (s ∷ streams) each =
+    let is : IsStream s = All-head IsStream s streams each in
+    let rest = all_few streams (All-tail IsStream s streams each) in
+    omega (arith, length-append (stream_members s) (flat_map stream_members streams), count_is s, is.path.most, rest)
+
+-- and those of a network fewer than 100,000
+pub members_few : (network : DeclaredNetwork) → IsNetwork network
+    → length (flat_map stream_members network.streams) < 100000
+members_few network is = let few = all_few network.streams is.streams in omega (arith, few, is.few_streams)
+
+-- the first streams have no more
+pub so_far_few : (streams : List DeclaredStream) (i : ℕ) (d : DeclaredStream)
+    → length (flat_map stream_members streams) < 100000 → i < length streams
+    → length (flat_map stream_members (take i streams)) < 100000
+so_far_few streams i d few within =
+    let less = length-flat_map-take stream_members streams i d within in omega (arith, few, less)
+
+-- an element of a list keeps what each keeps
+pub element : (streams : List DeclaredStream) (i : ℕ) (s : DeclaredStream) → All IsListable streams
+    → i < length streams → s ≡ get_or streams i s → IsListable s
+element streams i s each within e = subst IsListable (sym e) (each i s within)
+
+-- the schedulers of one stream more
+pub all_more : (streams : List DeclaredStream) (i : ℕ) (s : DeclaredStream) (members after : List Member)
+    → i < length streams → s ≡ get_or streams i s → members ≡ flat_map stream_members (take i streams)
+    → after ≡ members ++ stream_members s → after ≡ flat_map stream_members (take (i + 1) streams)
+all_more streams i s members after within e so_far more =
+    more ∙ ap (λ (before : List Member). before ++ stream_members s) so_far
+    ∙ flat_map_more stream_members [] (take i streams) s
+    ∙ ap (λ (x : DeclaredStream). flat_map stream_members (take i streams ++ x ∷ [])) e
+    ∙ sym (ap (flat_map stream_members) (take_more streams i s within))
+
+-- and their first place
+pub places_more : (streams : List DeclaredStream) (i n : ℕ) (members : List Member) (firsts after : List ℕ)
+    → members ≡ flat_map stream_members (take i streams)
+    → firsts ≡ map (first_of streams) (range_with_len 0 i) → n ≡ length members
+    → after ≡ firsts ++ n ∷ [] → after ≡ map (first_of streams) (range_with_len 0 (i + 1))
+places_more streams i n members firsts after so_far places count more =
+    more ∙ ap (λ (before : List ℕ). before ++ n ∷ []) places
+    ∙ ap (λ (k : ℕ). map (first_of streams) (range_with_len 0 i) ++ k ∷ []) (count ∙ ap length so_far)
+    ∙ sym (firsts_more streams i)
+
+-- the schedulers of a stream are members of groups behind its ports
+stream_members_are : (ports : ℕ) (s : DeclaredStream) → IsStream s
+    → All (λ class. class ≤ MAX_CLASS) s.classes → All (λ p. p < ports) s.path
+    → All (IsMember (8 * ports)) (stream_members s)
+stream_members_are ports s is classes within = along (length s.path - 1) s.path within
+  where
+    made : (p : ℕ) → p < ports → IsMember (8 * ports) (member_behind (stream_sender s) p)
+    made p below =
+        let class : class_at (stream_sender s) p ≤ 7 = class_at-le (stream_sender s) p classes in
+        record { group = omega (arith, below, class); declared = is.rules }
+
+    along : (n : ℕ) (path : List ℕ) → All (λ p. p < ports) path
+        → All (IsMember (8 * ports)) (map (member_behind (stream_sender s)) (take n path))
+    along zero path each = All-nil (IsMember (8 * ports))
+    along (suc n) [] each = All-nil (IsMember (8 * ports))
+    along (suc n) (p ∷ path) each = All-cons (IsMember (8 * ports)) (member_behind (stream_sender s) p)
+        (map (member_behind (stream_sender s)) (take n path)) (made p (All-head (λ q. q < ports) p path each))
+        (along n path (All-tail (λ q. q < ports) p path each))
+
+-- and so are those of all streams
+pub members_are : (network : DeclaredNetwork) → IsNetwork network
+    → All (IsMember (8 * length network.topology.ports)) (members_of network)
+members_are network is = along network.streams is.streams
+    (all_left (IsSender network.topology) (map stream_sender network.streams) (map flow_sender network.flows)
+    (each_is_sender network is))
+  where
+    along : (streams : List DeclaredStream) → All IsStream streams
+        → All (IsSender network.topology) (map stream_sender streams)
+        → All (IsMember (8 * length network.topology.ports)) (flat_map stream_members streams)
+    along [] each senders = All-nil (IsMember (8 * length network.topology.ports))
+    along (s ∷ streams) each senders =
+        let sender = All-head (IsSender network.topology) (stream_sender s) (map stream_sender streams) senders in
+        All-append (IsMember (8 * length network.topology.ports)) (stream_members s) (flat_map stream_members streams)
+        (stream_members_are (length network.topology.ports) s (All-head IsStream s streams each) sender.classes
+        sender.ports)
+        (along streams (All-tail IsStream s streams each)
+        (All-tail (IsSender network.topology) (stream_sender s) (map stream_sender streams) senders))

@@ -1,0 +1,58 @@
+use Rattle.std.specs.Prelude.{ℕ, ◌+◌, ◌-◌, ◌*◌, ◌/◌, ◌<◌, ◌≤◌, List, length, map, take, unwrap_or}
+use Rattle.std.specs.List.{flat_map, range_with_len}
+use Rattle.ats_group.specs.declared.member.Declared.{Declared}
+use Rattle.ats_group.specs.declared.member.Member.{Member}
+use Rattle.ats_streams.specs.Stream.{DeclaredStream}
+use Rattle.ats_network.specs.Class.{class_at}
+use Rattle.ats_network.specs.Network.{DeclaredNetwork}
+use Rattle.ats_network.specs.Residence.{residence_after}
+use Rattle.ats_network.specs.Sender.{Sender, stream_sender}
+use Rattle.ats_network.specs.Senders.{sender_at}
+
+-- the number of the group behind a port for a class
+abbrev pub group_behind : ℕ → ℕ → ℕ
+group_behind port class = 8 * port + class
+
+-- the maximum residence time of the group with a number, in nanoseconds: that of the bridge that its port leads to; 0
+-- where this is a station
+abbrev pub residence_of : DeclaredNetwork → ℕ → ℕ
+residence_of network group = unwrap_or (residence_after network.topology (group / 8)) 0
+
+-- those of all groups
+abbrev pub residences_of : DeclaredNetwork → List ℕ
+residences_of network = map (residence_of network) (range_with_len 0 (8 * length network.topology.ports))
+
+-- what a sender declares of its rate, burst and sizes
+abbrev pub declared_of : Sender → Declared
+declared_of s =
+    record { rate = s.rate; burst_bits = s.burst_bits; min_octets = s.min_octets; max_octets = s.max_octets }
+
+-- the scheduler of a sender behind a port: in the group of its class at this port
+abbrev pub member_behind : Sender → ℕ → Member
+member_behind s port = record { group = group_behind port (class_at s port); declared = declared_of s }
+
+-- the ports of a path but the last: behind each of them is a bridge, at which the path goes on
+abbrev pub ports_to_bridges : List ℕ → List ℕ
+ports_to_bridges path = take (length path - 1) path
+
+-- the schedulers of a stream along its path
+abbrev pub stream_members : DeclaredStream → List Member
+stream_members stream = map (member_behind (stream_sender stream)) (ports_to_bridges stream.path)
+
+-- the schedulers of all streams, one stream after the other
+abbrev pub members_of : DeclaredNetwork → List Member
+members_of network = flat_map stream_members network.streams
+
+-- the place of a stream's first scheduler among those of these streams: behind those of the streams before it
+abbrev pub first_of : List DeclaredStream → ℕ → ℕ
+first_of streams stream = length (flat_map stream_members (take stream streams))
+
+-- the place of the scheduler that a stream's frame meets before it comes to a hop
+abbrev pub scheduler_of : DeclaredNetwork → ℕ → ℕ → ℕ
+scheduler_of network stream hop = first_of network.streams stream + (hop - 1)
+
+-- a hop of a stream's path that comes behind a scheduler
+pub record IsHop (network : DeclaredNetwork) (stream hop : ℕ) : Type 0 where
+  pub exists : stream < length network.streams
+  pub later : 1 ≤ hop
+  pub within : hop < length (sender_at network stream).path
