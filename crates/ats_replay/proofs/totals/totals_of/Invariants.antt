@@ -1,0 +1,7 @@
+use Rattle.std.proofs.Common.{◌≡◌, take}
+use Rattle.ats_replay.specs.Totals.{totals_of}
+use Rattle.ats_replay.proofs.totals.totals_of.Given as goal
+
+-- the totals of the frames so far
+abbrev pub invariant-loop-frame : goal.invariant-loop-frame
+invariant-loop-frame l = l.totals ≡ totals_of (take l.frame l.run)
