@@ -1,0 +1,5 @@
+pub mod Places
+pub mod WorstPlaces
+pub mod Excesses
+pub mod Taken
+pub mod Found
