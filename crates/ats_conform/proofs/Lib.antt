@@ -3,3 +3,7 @@ pub mod WorstPlaces
 pub mod Excesses
 pub mod Taken
 pub mod Found
+pub mod Lists
+pub mod Judged
+pub mod SenderParts
+pub mod MetersMade
