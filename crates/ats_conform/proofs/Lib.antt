@@ -7,3 +7,4 @@ pub mod Lists
 pub mod Judged
 pub mod SenderParts
 pub mod MetersMade
+pub mod Counts

@@ -114,12 +114,12 @@ none_later i n releases sorted h =
     let time : Release → ℕ = λ r. r.at.0 in
     let Early : Release → Type 0 = λ r. r.at.0 ≤ (release_at releases n).at.0 in
     let early : All Early (take n releases) = λ k d below. (
-        let k_below : k < n = omega (arith, length-take-le n releases (omega arith)) in
-        let at_k : get_or (map time releases) k 0 ≡ time (get_or releases k d) =
-        get_or-map time releases k d 0 (omega arith) in
-        let at_n : get_or (map time releases) n 0 ≡ time (release_at releases n) =
-        get_or-map time releases n no_release 0 h in
-        let up : get_or (map time releases) k 0 ≤ get_or (map time releases) n 0 =
-        sorted k n 0 (omega arith) (omega (arith, length-map releases time)) in
-        rw (get_or-take n releases k d k_below) (omega arith)) in
+    let k_below : k < n = omega (arith, length-take-le n releases (omega arith)) in
+    let at_k : get_or (map time releases) k 0 ≡ time (get_or releases k d) =
+    get_or-map time releases k d 0 (omega arith) in
+    let at_n : get_or (map time releases) n 0 ≡ time (release_at releases n) =
+    get_or-map time releases n no_release 0 h in
+    let up : get_or (map time releases) k 0 ≤ get_or (map time releases) n 0 =
+    sorted k n 0 (omega arith) (omega (arith, length-map releases time)) in
+    rw (get_or-take n releases k d k_below) (omega arith)) in
     metered-all (λ (m : Metered). m.at.0 ≤ (release_at releases n).at.0) Early (λ k r e. e) i 0 (take n releases) early
