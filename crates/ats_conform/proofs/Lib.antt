@@ -1,0 +1,10 @@
+pub mod Places
+pub mod WorstPlaces
+pub mod Excesses
+pub mod Taken
+pub mod Found
+pub mod Lists
+pub mod Judged
+pub mod SenderParts
+pub mod MetersMade
+pub mod Counts
