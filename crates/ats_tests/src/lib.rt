@@ -1,6 +1,6 @@
 //! Tests of what no command shows: whole calls in which a read or a write fails or room is short,
 //! the adapters to the system, limits that a network file reaches before, rows that no certificate
-//! file has, and the captures, queues, ports, events and runs, which no command reaches yet.
+//! file has, and the captures, schedules, queues, ports, events and runs, which no command reaches yet.
 //! There is nothing else here, so that the crates below are proved without tests.
 #![tactic(auto)]
 
@@ -24,5 +24,7 @@ mod ports;
 mod queues;
 #[cfg(test)]
 mod runs;
+#[cfg(test)]
+mod schedules;
 #[cfg(test)]
 mod system;
