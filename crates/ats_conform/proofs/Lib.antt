@@ -3,3 +3,8 @@ pub mod WorstPlaces
 pub mod Excesses
 pub mod Taken
 pub mod Found
+pub mod Lists
+pub mod Judged
+pub mod SenderParts
+pub mod MetersMade
+pub mod Counts

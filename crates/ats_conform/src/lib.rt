@@ -3,8 +3,11 @@
 #![tactic(auto)]
 
 pub mod broken;
+pub mod conformance;
 pub mod meter;
+mod meters;
 mod start;
 
 pub use broken::Broken;
+pub use conformance::conform;
 pub use meter::{Meter, Metered};

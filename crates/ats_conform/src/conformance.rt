@@ -1,0 +1,124 @@
+//! The judgement of all releases of a network.
+
+ghost use Rattle.std.specs.Prelude.{◌≡◌, ◌+◌, ◌<◌, length, IfErr, OnOk};
+ghost use Rattle.ats_network.specs.Network.{senders_of};
+ghost use Rattle.ats_group.specs.Group.{is_declared_size};
+ghost use Rattle.ats_trace.specs.Eligibility.{declared_by};
+ghost use Rattle.ats_conform.specs.Broken.{Breaks, BreaksOrFails};
+ghost use Rattle.ats_trace.specs.Talker.{IsDeclaredSize};
+ghost use Rattle.ats_conform.specs.Releases.{AllKeepBuckets, AreReleases, release_at};
+ghost use Rattle.ats_conform.specs.Steps.{AreMeters, KeepSoFar};
+
+use crate::broken::Broken;
+use crate::meter::Meter;
+use crate::meters::meters_for;
+use ats_network::Network;
+use ats_num::wire::MIN_OCTETS;
+use ats_num::{Failure, wire_bits};
+use ats_trace::Release;
+use std::alloc::Global;
+
+/// Whether each station of a network keeps its buckets by these releases: whether each release of each stream and flow
+/// has a declared size, and those of each stream conform to its declared rate and burst. Conditions: there are at most
+/// 200,000 releases, none is earlier than one before it, each is of a sender of the network, and octets are 64 to 2000.
+/// It takes time linear in the numbers of streams and releases, and room for one frame a release.
+///
+/// # Errors
+///
+/// Exactly where some station does not: the first frame that is outside its sizes or breaks its bucket, as `Size` where
+/// it is outside its sizes, else as `Bucket`. `Failure::NoMemory` where memory runs out.
+pub fn conform(
+    alloc: Global,
+    network: &Network,
+    releases: &[Release],
+) -> Result<(), Failure<Broken>>
+    requires { AreReleases network.now releases.now }
+    ensures ok { OnOk result (AllKeepBuckets network.now releases.now) }
+    ensures err { IfErr result (BreaksOrFails network.now releases.now) }
+{
+    let mut meters = meters_for(alloc, network, releases)?;
+    for place in 0..releases.len() {
+        judge(network, &mut meters, releases, place)?;
+    }
+    Ok(())
+}
+
+// Judges the release with this number, where those before it keep what is declared.
+fn judge(
+    network: &Network,
+    meters: &mut Vec<Meter>,
+    releases: &[Release],
+    place: usize,
+) -> Result<(), Broken>
+    requires releases { AreReleases network.now releases.now }
+    requires place { place < length releases.now }
+    requires meters { AreMeters network.now releases.now place meters.old.items }
+    requires before { KeepSoFar network.now releases.now place }
+    ensures meters { OnOk result (AreMeters network.now releases.now (place + 1) meters.new.items) }
+    ensures kept { OnOk result (KeepSoFar network.now releases.now (place + 1)) }
+    ensures broken { IfErr result (Breaks network.now releases.now) }
+{
+    judge_size(network, releases, place)?;
+    judge_bucket(network, meters, releases, place)
+}
+
+// Judges the size of the release with this number.
+fn judge_size(network: &Network, releases: &[Release], place: usize) -> Result<(), Broken>
+    requires releases { AreReleases network.now releases.now }
+    requires place { place < length releases.now }
+    requires before { KeepSoFar network.now releases.now place }
+    ensures ok { OnOk result (IsDeclaredSize network.now (release_at releases.now place)) }
+    ensures broken { IfErr result (Breaks network.now releases.now) }
+{
+    let release = releases[place];
+    if allows(network, release.sender, release.octets) {
+        return Ok(());
+    }
+    Err(Broken::Size {
+        frame: place as u32,
+    })
+}
+
+// Whether a sender declares frames of so many octets.
+fn allows(network: &Network, sender: u32, octets: u32) -> bool
+    requires { sender < length (senders_of network.now) }
+    ensures { result ≡ is_declared_size (declared_by network.now sender) octets }
+{
+    let streams = network.streams();
+    let place = sender as usize;
+    if place < streams.len() {
+        let stream = &streams[place];
+        return octets >= stream.min_octets() && octets <= stream.max_octets();
+    }
+    let flow = &network.flows()[place - streams.len()];
+    octets >= MIN_OCTETS && octets <= flow.max_octets()
+}
+
+// Hands the release with this number, which has a declared size, to the meter of its stream, where it is a stream's.
+fn judge_bucket(
+    network: &Network,
+    meters: &mut Vec<Meter>,
+    releases: &[Release],
+    place: usize,
+) -> Result<(), Broken>
+    requires releases { AreReleases network.now releases.now }
+    requires place { place < length releases.now }
+    requires meters { AreMeters network.now releases.now place meters.old.items }
+    requires before { KeepSoFar network.now releases.now place }
+    requires size { IsDeclaredSize network.now (release_at releases.now place) }
+    ensures meters { OnOk result (AreMeters network.now releases.now (place + 1) meters.new.items) }
+    ensures kept { OnOk result (KeepSoFar network.now releases.now (place + 1)) }
+    ensures broken { IfErr result (Breaks network.now releases.now) }
+{
+    let release = releases[place];
+    let stream = release.sender as usize;
+    if stream >= meters.len() {
+        return Ok(());
+    }
+    let frame = place as u32;
+    let meter = &mut meters[stream];
+    match meter.take(frame, release.at, wire_bits(release.octets)) {
+        Some(since) => Err(Broken::Bucket { since, frame }),
+        None => Ok(()),
+    }
+}
