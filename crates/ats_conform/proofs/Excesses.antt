@@ -1,13 +1,13 @@
-use Rattle.std.proofs.Common.{◌≡◌, ℕ, ◌+◌, ◌-◌, ◌*◌, ◌<◌, ◌≤◌, List, [], ◌∷◌, ◌++◌, length, subst, sym, inl, inr, arith}
-use Rattle.std.specs.Prelude.{ℤ, pos, ◌-ℤ◌, ◌<ℤ◌, ◌≤ℤ◌}
+use Rattle.std.proofs.Common.{◌≡◌, ℕ, ◌+◌, ◌*◌, ◌<◌, ◌≤◌, List, [], ◌∷◌, ◌++◌, length, subst, inl, inr, arith}
+use Rattle.std.specs.Prelude.{pos, ◌-ℤ◌, ◌<ℤ◌, ◌≤ℤ◌}
 use Rattle.std.proofs.lemmas.Int.{ints}
 use Rattle.std.proofs.lemmas.Bool.{cases_lt}
 use Rattle.std.proofs.lemmas.List.{length_push}
 use Rattle.std.specs.List.Sorted.{IsNonDecreasing}
 use Rattle.ats_num.specs.declared.time.TheConstants.{PS_PER_SECOND}
 use Rattle.ats_bucket.specs.Conforming.{Frame, Conforms, times_of, bits_between, time_between}
-use Rattle.ats_conform.specs.Metering.{excess, ExceedsFrom}
-use Rattle.ats_conform.specs.MeterInside.{time_at, bits_before, IsNoWorse, IsBetter, IsWorstPlace}
+use Rattle.ats_conform.specs.Metering.{ExceedsFrom}
+use Rattle.ats_conform.specs.MeterInside.{time_at, bits_before, IsWorstPlace}
 use Rattle.ats_conform.proofs.Places.{time-old, bits-old, bits-split, time-split}
 use Rattle.ats_conform.proofs.WorstPlaces.{given}
 

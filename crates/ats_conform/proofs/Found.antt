@@ -1,5 +1,5 @@
-use Rattle.std.proofs.Common.{◌≡◌, ℕ, ◌+◌, ◌-◌, ◌*◌, ◌<◌, ◌≤◌, true, false, List, [], ◌∷◌, ◌++◌, length, map, sum_by}
-use Rattle.std.proofs.Common.{get_or, All, refl, sym, ap, ◌∙◌, subst, arith}
+use Rattle.std.proofs.Common.{◌≡◌, ℕ, ◌+◌, ◌-◌, ◌*◌, ◌<◌, ◌≤◌, true, false, List, [], ◌∷◌, ◌++◌, length, sum_by}
+use Rattle.std.proofs.Common.{get_or, All, sym, ap, ◌∙◌, subst, arith}
 use Rattle.std.specs.Prelude.{pos, ◌-ℤ◌, ◌<ℤ◌}
 use Rattle.std.specs.List.Sorted.{IsNonDecreasing}
 use Rattle.std.proofs.lemmas.Int.{ints}
@@ -10,7 +10,7 @@ use Rattle.ats_num.specs.declared.time.TheConstants.{PS_PER_SECOND}
 use Rattle.ats_bucket.specs.Conforming.{Frame, Conforms, times_of, bits_between, time_between}
 use Rattle.ats_conform.specs.declared.meter.Metered.{Metered}
 use Rattle.ats_conform.specs.declared.start.Start.{Start}
-use Rattle.ats_conform.specs.Metering.{Names, counted, frame_in, metered}
+use Rattle.ats_conform.specs.Metering.{Names, counted, frame_in}
 use Rattle.ats_conform.specs.Start.{is_over}
 use Rattle.ats_conform.specs.MeterInside.{time_at, bits_before, IsWorstPlace, IsWorst}
 use Rattle.ats_conform.proofs.Places.{time-new, bits-next, bits-split}

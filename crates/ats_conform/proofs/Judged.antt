@@ -1,4 +1,4 @@
-use Rattle.std.proofs.Common.{◌≡◌, ◌≢◌, ℕ, ◌+◌, ◌<◌, ◌≤◌, Bool, List, [], ◌∷◌, ◌++◌, length, map, take, set, get_or, All, refl, sym, ap}
+use Rattle.std.proofs.Common.{◌≡◌, ℕ, ◌+◌, ◌<◌, ◌≤◌, List, [], ◌∷◌, ◌++◌, length, take, set, get_or, All, refl, sym, ap}
 use Rattle.std.proofs.Common.{◌∙◌, subst, inl, inr, arith}
 use Rattle.std.proofs.lemmas.Bool.{cases_eq}
 use Rattle.std.proofs.lemmas.List.{take_more, take_all, length-take-le, get_or-take, length-set, get_or-set_same, get_or-set_other}
@@ -11,7 +11,7 @@ use Rattle.ats_trace.specs.declared.journey.Release.{Release}
 use Rattle.ats_conform.specs.declared.meter.Metered.{Metered}
 use Rattle.ats_conform.specs.Metering.{Metering, Names, counted}
 use Rattle.ats_conform.specs.Releases.{AllKeepBuckets, no_release, release_at, metered_at, metered_from}
-use Rattle.ats_conform.specs.Broken.{IsFirstBroken, BreaksSize, BreaksBucket}
+use Rattle.ats_conform.specs.Broken.{BreaksSize, BreaksBucket}
 use Rattle.ats_conform.specs.Steps.{AreMeters, KeepSoFar, meter_after}
 use Rattle.ats_conform.proofs.Lists.{counted-frames, metered-mine, metered-other}
 use Rattle.ats_conform.proofs.Found.{named-breaks}

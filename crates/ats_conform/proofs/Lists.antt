@@ -1,5 +1,5 @@
 use Rattle.std.proofs.Common.{◌≡◌, ◌≢◌, ℕ, ◌+◌, ◌<◌, ◌≤◌, ◌==◌, Bool, true, false, cond, if◌then◌else◌, List, [], ◌∷◌, ◌++◌}
-use Rattle.std.proofs.Common.{length, map, filter, take, get_or, count_by, All, refl, sym, ap, ◌∙◌, append-nil, arith}
+use Rattle.std.proofs.Common.{length, map, filter, take, get_or, All, refl, sym, ap, ◌∙◌, append-nil, arith}
 use Rattle.std.proofs.lemmas.Bool.{eq-eqb, ne_eqb}
 use Rattle.std.proofs.lemmas.List.{take_more, length-take-le, get_or-take, get_or-map, length-map}
 use Rattle.std.proofs.lemmas.List.Elements.{All-nil, All-cons, All-head, All-tail}
@@ -10,7 +10,7 @@ use Rattle.ats_bucket.specs.Conforming.{Frame}
 use Rattle.ats_trace.specs.Talker.{frame_of, frames_of}
 use Rattle.ats_trace.specs.declared.journey.Release.{Release}
 use Rattle.ats_conform.specs.declared.meter.Metered.{Metered}
-use Rattle.ats_conform.specs.Metering.{counted, frame_in}
+use Rattle.ats_conform.specs.Metering.{counted}
 use Rattle.ats_conform.specs.Releases.{no_release, release_at, metered_at, metered_from}
 use Rattle.ats_conform.specs.Steps.{count_of}
 

@@ -1,5 +1,5 @@
 use Rattle.std.proofs.Common.{◌≡◌, ℕ, ◌+◌, ◌-◌, ◌*◌, ◌<◌, ◌≤◌, Bool, true, false, List, [], ◌∷◌, ◌++◌, length, map, sum_by}
-use Rattle.std.proofs.Common.{IfSome, get_or, Option, Some, None, All, if◌then◌else◌, nat_lt, refl, sym, ap, ◌∙◌, subst, arith}
+use Rattle.std.proofs.Common.{IfSome, get_or, Option, Some, None, All, if◌then◌else◌, refl, sym, ap, ◌∙◌, subst, arith}
 use Rattle.std.proofs.lemmas.Bool.{ltb-true, ltb-false}
 use Rattle.std.proofs.lemmas.List.{map-append, length-map, get_or_append_left, get_or_at, get_or-map}
 use Rattle.std.proofs.lemmas.List.Sums.{sum_by-cons}

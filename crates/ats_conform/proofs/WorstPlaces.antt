@@ -15,13 +15,25 @@ given rate from more to e = omega (arith, ap (λ (n : ℕ). rate * n) e)
 no_worse-old : (rate : ℕ) (frames : List Frame) (x : Frame) (k i : ℕ) → k < length frames → i < length frames
     → IsNoWorse rate frames k i → IsNoWorse rate (frames ++ x ∷ []) k i
 no_worse-old rate frames x k i hk hi h =
-    rw (time-old frames x k hk, time-old frames x i hi, bits-old frames x k (omega arith), bits-old frames x i (omega arith))
+    rw (
+      time-old frames x k hk,
+      time-old frames x i hi,
+      bits-old frames x k (omega arith),
+      bits-old frames x i
+          (omega arith),
+    )
     h
 
 better-old : (rate : ℕ) (frames : List Frame) (x : Frame) (k i : ℕ) → k < length frames → i < length frames
     → IsBetter rate frames k i → IsBetter rate (frames ++ x ∷ []) k i
 better-old rate frames x k i hk hi h =
-    rw (time-old frames x k hk, time-old frames x i hi, bits-old frames x k (omega arith), bits-old frames x i (omega arith))
+    rw (
+      time-old frames x k hk,
+      time-old frames x i hi,
+      bits-old frames x k (omega arith),
+      bits-old frames x i
+          (omega arith),
+    )
     h
 
 -- the first frame is the worst start of its own
@@ -35,14 +47,16 @@ worst-first rate x = record {
 }
 
 -- one more frame against the worst start so far, with plain numbers
-keeps : (m rate time more next before sent total : ℕ) → time + more ≡ next → before + sent ≡ total → rate * more ≤ m * sent
+keeps : (m rate time more next before sent total : ℕ) → time + more ≡ next → before + sent ≡ total
+    → rate * more ≤ m * sent
     → rate * next + m * before ≤ rate * time + m * total
 keeps m rate time more next before sent total t b h =
     let r = given rate time more next t in
     let n = given m before sent total b in
     omega arith
 
-moves : (m rate time more next before sent total : ℕ) → time + more ≡ next → before + sent ≡ total → m * sent < rate * more
+moves : (m rate time more next before sent total : ℕ) → time + more ≡ next → before + sent ≡ total
+    → m * sent < rate * more
     → rate * time + m * total < rate * next + m * before
 moves m rate time more next before sent total t b h =
     let r = given rate time more next t in
@@ -103,11 +117,12 @@ pub worst-moved : (rate : ℕ) (frames : List Frame) (x : Frame) (i : ℕ) → I
     → IsWorstPlace rate (frames ++ x ∷ []) (length frames)
 worst-moved rate frames x i worst order h = record {
   within = omega (arith, length_push frames x);
-  greatest = λ k below. (elim (cases_lt k (length frames)) as (λ _. IsNoWorse rate (frames ++ x ∷ []) k (length frames)) [
-    | inl old ↦ (let less = worse-than_each rate frames x i worst order h k old in omega arith)
-    | inr end ↦ (
-        let last : length frames ≡ k = omega (arith, length_push frames x) in
-        subst (λ (n : ℕ). IsNoWorse rate (frames ++ x ∷ []) n (length frames)) last (omega arith))
-  ]);
+  greatest = λ k below. (elim (cases_lt k (length frames))
+      as (λ _. IsNoWorse rate (frames ++ x ∷ []) k (length frames)) [
+        | inl old ↦ (let less = worse-than_each rate frames x i worst order h k old in omega arith)
+        | inr end ↦ (
+            let last : length frames ≡ k = omega (arith, length_push frames x) in
+            subst (λ (n : ℕ). IsNoWorse rate (frames ++ x ∷ []) n (length frames)) last (omega arith))
+      ]);
   earliest = λ k below. worse-than_each rate frames x i worst order h k below;
 }

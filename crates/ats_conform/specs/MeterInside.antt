@@ -48,10 +48,11 @@ IsWorstOf rate taken None = taken ≡ []
 IsWorstOf rate taken (Some start) = IsWorst rate taken start
 
 -- what a meter keeps: memory for all frames that it has room for, frames that conform, their bits, and the worst start
-pub record IsKept (rate burst room : ℕ) (taken : List Metered) (capacity total : ℕ) (start : Option Start) : Type 0 where
-  pub reserved : room ≤ capacity
-  pub within : length taken ≤ room
-  pub small : All (λ (m : Metered). m.bits ≤ MAX_WIRE_BITS) taken
-  pub conforms : Conforms rate burst (counted taken)
-  pub sent : sum_by (λ (m : Metered). m.bits) taken ≡ total
-  pub worst : IsWorstOf rate taken start
+pub record IsKept (rate burst room : ℕ) (taken : List Metered) (capacity total : ℕ) (start : Option Start) : Type 0
+  where
+    pub reserved : room ≤ capacity
+    pub within : length taken ≤ room
+    pub small : All (λ (m : Metered). m.bits ≤ MAX_WIRE_BITS) taken
+    pub conforms : Conforms rate burst (counted taken)
+    pub sent : sum_by (λ (m : Metered). m.bits) taken ≡ total
+    pub worst : IsWorstOf rate taken start

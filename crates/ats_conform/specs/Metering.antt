@@ -30,8 +30,8 @@ excess rate burst frames i j =
     pos (PS_PER_SECOND * bits_between frames i j)
     -ℤ pos (rate * time_between frames i j + PS_PER_SECOND * burst)
 
--- the frame at place j exceeds the bucket from the frame at place i on, by no less than from any other, and by more than
--- from any earlier one
+-- the frame at place j exceeds the bucket from the frame at place i on, by no less than from any other, and by
+-- more than from any earlier one
 pub record ExceedsFrom (rate burst : ℕ) (frames : List Frame) (j i : ℕ) : Type 0 where
   pub within : i ≤ j
   pub over : pos 0 <ℤ excess rate burst frames i j

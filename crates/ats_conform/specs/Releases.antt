@@ -1,16 +1,13 @@
-use Rattle.std.specs.Prelude.{◌≡◌, ℕ, ◌+◌, ◌<◌, ◌≤◌, ◌==◌, List, [], ◌∷◌, length, map, take, count_by, All, if◌then◌else◌}
+use Rattle.std.specs.Prelude.{ℕ, ◌+◌, ◌<◌, ◌≤◌, ◌==◌, List, [], ◌∷◌, length, map, All, if◌then◌else◌}
 use Rattle.std.specs.Prelude.{slice_index_or}
 use Rattle.std.specs.List.Sorted.{IsNonDecreasing}
 use Rattle.ats_num.specs.Wire.{IsFrameSize, bits_of}
 use Rattle.ats_network.specs.Network.{DeclaredNetwork, senders_of}
-use Rattle.ats_bucket.specs.Conforming.{Conforms}
-use Rattle.ats_group.specs.declared.member.Declared.{Declared}
-use Rattle.ats_trace.specs.Eligibility.{declared_by}
-use Rattle.ats_trace.specs.Talker.{IsDeclaredSize, KeepsBuckets}
+use Rattle.ats_trace.specs.Talker.{KeepsBuckets}
 use Rattle.ats_trace.specs.declared.journey.Release.{Release}
 use Rattle.ats_trace.specs.declared.run.TheConstants.{MAX_FRAMES}
 use Rattle.ats_conform.specs.declared.meter.Metered.{Metered}
-use Rattle.ats_conform.specs.Metering.{Metering, metered, counted}
+use Rattle.ats_conform.specs.Metering.{metered}
 
 -- what a run may release: no more frames than a run may have, in the order of their times, of the network's senders, of
 -- frame sizes

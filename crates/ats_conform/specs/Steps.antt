@@ -21,7 +21,8 @@ meter_after network releases n i = record {
 }
 
 -- there is one such meter for each stream
-pub record AreMeters (network : DeclaredNetwork) (releases : List Release) (n : ℕ) (meters : List Metering) : Type 0 where
+pub record AreMeters (network : DeclaredNetwork) (releases : List Release) (n : ℕ) (meters : List Metering)
+    : Type 0 where
   pub count : length meters ≡ length network.streams
   pub each : (i : ℕ) (d : Metering) → i < length meters → slice_index_or meters i d ≡ meter_after network releases n i
 

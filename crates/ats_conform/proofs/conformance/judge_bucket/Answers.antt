@@ -1,4 +1,4 @@
-use Rattle.std.proofs.Common.{◌≡◌, ℕ, ◌+◌, ◌*◌, ◌<◌, ◌≤◌, [], ◌∷◌, ◌++◌, length, All, refl, sym, ap, ◌∙◌, subst, arith}
+use Rattle.std.proofs.Common.{◌≡◌, ℕ, ◌+◌, ◌*◌, ◌<◌, ◌≤◌, [], ◌∷◌, ◌++◌, length, All, refl, sym, ◌∙◌, subst, arith}
 use Rattle.ats_bucket.specs.Conforming.{Conforms}
 use Rattle.ats_trace.specs.declared.journey.Release.{Release}
 use Rattle.ats_conform.specs.declared.meter.Metered.{Metered}

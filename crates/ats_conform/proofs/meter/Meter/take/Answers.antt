@@ -1,12 +1,12 @@
-use Rattle.std.proofs.Common.{◌≡◌, ℕ, ◌+◌, ◌*◌, ◌≤◌, List, [], ◌∷◌, ◌++◌, length, sum_by, All, true≢false, sym, ◌∙◌, ap, refl, arith}
+use Rattle.std.proofs.Common.{◌≡◌, ℕ, ◌+◌, ◌*◌, ◌≤◌, [], ◌∷◌, ◌++◌, length, sum_by, true≢false, sym, ◌∙◌, ap, refl, arith}
 use Rattle.std.proofs.lemmas.Grind.{common_steps}
 use Rattle.std.proofs.lemmas.List.{length_push}
 use Rattle.std.proofs.lemmas.List.Elements.{All-push}
 use Rattle.std.proofs.lemmas.List.Sums.{sum_by-le, sum_by_push}
 use Rattle.ats_num.specs.declared.wire.TheConstants.{MAX_WIRE_BITS}
 use Rattle.ats_conform.specs.declared.meter.Metered.{Metered}
-use Rattle.ats_conform.specs.Metering.{Names, metered}
-use Rattle.ats_conform.specs.MeterInside.{IsWorst, IsWorstOf}
+use Rattle.ats_conform.specs.Metering.{metered}
+use Rattle.ats_conform.specs.MeterInside.{IsWorst}
 use Rattle.ats_conform.proofs.Taken.{earlier, earlier_if, worst-push}
 use Rattle.ats_conform.proofs.Found.{named, conform-on, named-breaks}
 use Rattle.ats_conform.proofs.meter.Meter.take.Goals as goal
