@@ -21,8 +21,8 @@ use Rattle.ats_steps.specs.declared.turn.Turn.{Turn}
 use Rattle.ats_steps.specs.declared.turn.Turn.TheVariants.{Resting}
 
 -- where a run stands between two events: how far each frame is and what has happened to it, where each port stands and
--- what it does next, from when on the next frame may arrive behind it, what the groups keep, and the moment of the last
--- event
+-- what it does next, from when on the next frame may arrive behind it, what the groups keep, the moment of the last
+-- event, and the tie
 pub record Course (T : Type 0) : Type 0 where
   pub stages : List Stage
   pub records : List Progress
@@ -31,6 +31,7 @@ pub record Course (T : Type 0) : Type 0 where
   pub arrives_from : List Ps
   pub groups : GroupsState
   pub last : Moment
+  pub tie : T
 
 abbrev pub stage_at : {T : Type 0} → Course T → ℕ → Stage
 stage_at course frame = slice_index_or course.stages frame Over

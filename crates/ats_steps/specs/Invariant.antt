@@ -17,7 +17,7 @@ use Rattle.ats_steps.specs.declared.event.Event.{Event}
 -- the lists fit the network and the releases
 pub record IsShaped {T : Type 0} (network : DeclaredNetwork) (releases : List Release) (course : Course T)
     : Type 0 where
-  pub releases : map (λ (p : Progress). p.release) course.records ≡ releases
+  pub released : map (λ (p : Progress). p.release) course.records ≡ releases
   pub in_order : IsNonDecreasing (map (λ (r : Release). r.at.0) releases)
   pub few : length course.records ≤ MAX_FRAMES
   pub stages : length course.stages ≡ length course.records
@@ -27,14 +27,14 @@ pub record IsShaped {T : Type 0} (network : DeclaredNetwork) (releases : List Re
 
 -- what holds between two events, in parts
 pub record Holds {T : Type 0} (key : T → ℕ → ℕ → ℕ) (wait : ℕ → ℕ → ℕ) (network : DeclaredNetwork)
-    (releases : List Release) (tie : T) (course : Course T) (entries : List (Moment × Event)) : Type 0 where
-  pub network : IsNetwork network
+    (releases : List Release) (course : Course T) (entries : List (Moment × Event)) : Type 0 where
+  pub rules : IsNetwork network
   pub shape : IsShaped network releases course
   pub frames : (frame : ℕ) → frame < length course.records
       → IsFrame network (progress_at course.records frame) (stage_at course frame)
-  pub entries : AreAwaited course entries
+  pub awaited : AreAwaited course entries
   pub ports : (port : ℕ) → port < length network.topology.ports
-      → IsPortOf key network tie course port (standing_at tie course port)
+      → IsPortOf key network course port (standing_at course port)
   pub paces : (port : ℕ) → port < length network.topology.ports → IsPaced wait network course port
   pub members : AreGroupsOf network course.groups
   pub groups : (port class : ℕ) → port < length network.topology.ports → 1 ≤ class → class ≤ 7

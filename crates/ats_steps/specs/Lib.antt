@@ -1,4 +1,5 @@
 pub mod Bounds
+pub mod Conditions
 pub mod Course
 pub mod Entries
 pub mod Frames
@@ -6,4 +7,5 @@ pub mod Invariant
 pub mod Judging
 pub mod Paces
 pub mod Ports
+pub mod Seen
 pub mod Steps

@@ -19,8 +19,8 @@ use Rattle.ats_steps.specs.declared.turn.Turn.{Turn}
 use Rattle.ats_steps.specs.declared.turn.Turn.TheVariants.{Resting, Selecting, Occupied}
 
 -- the standing of a port; for numbers past the last port, that of an empty one
-abbrev pub standing_at : {T : Type 0} → T → Course T → ℕ → Standing T
-standing_at tie course port = slice_index_or course.ports port (opened 0 [] tie)
+abbrev pub standing_at : {T : Type 0} → Course T → ℕ → Standing T
+standing_at course port = slice_index_or course.ports port (opened 0 [] course.tie)
 
 -- the port is on the path of a frame, which has this class there
 abbrev pub passes : DeclaredNetwork → ℕ → ℕ → Progress → Bool
@@ -55,7 +55,7 @@ pub record IsUnderWay {T : Type 0} (network : DeclaredNetwork) (course : Course 
 -- a port sends this frame
 pub record Sends {T : Type 0} (standing : Standing T) (frame until : ℕ) : Type 0 where
   pub sending : standing.is_sending ≡ true
-  pub frame : (last_of standing.sent).frame ≡ frame
+  pub named : (last_of standing.sent).frame ≡ frame
   pub end : last_end standing.sent ≡ until
 
 -- the numbers of all frames that a port was offered
@@ -64,11 +64,11 @@ frames_at standing =
     map (λ (o : Offer). o.frame) standing.held ++ map (λ (x : Sent). x.frame) standing.sent
 
 -- what a port that has these frames has to do with the run
-pub record IsPortOf {T : Type 0} (key : T → ℕ → ℕ → ℕ) (network : DeclaredNetwork) (tie : T) (course : Course T)
-    (port : ℕ) (standing : Standing T) : Type 0 where
+pub record IsPortOf {T : Type 0} (key : T → ℕ → ℕ → ℕ) (network : DeclaredNetwork) (course : Course T) (port : ℕ)
+    (standing : Standing T) : Type 0 where
   -- it is that of the network
   pub ps_per_bit : standing.ps_per_bit ≡ (port_at network.topology.ports port).ps_per_bit
-  pub tie : standing.tie ≡ tie
+  pub tie : standing.tie ≡ course.tie
   pub rooms : (class : ℕ) → class ≤ 7 → slice_index standing.rooms class ≡ room_of network course.records port class
   -- it is lawful, and its transmissions are those of the run so far
   pub lawful : IsLawfulPort key standing

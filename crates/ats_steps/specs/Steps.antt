@@ -103,10 +103,10 @@ pub record Comes {T : Type 0} (network : DeclaredNetwork) (old new : Course T) (
   pub move : Move
   pub is : move ≡ comes_by frame (progress_at old.records frame) now.at
       (verdict_now network old.groups (progress_at old.records frame) now.at.0)
-  pub new : new ≡ record (moved old now frame move) {
+  pub becomes : new ≡ record (moved old now frame move) {
     groups = groups_now network old.groups (progress_at old.records frame) now.at.0;
   }
-  pub entries : entries ≡ move.entries
+  pub brings : entries ≡ move.entries
 
 -- the turn of a port that was offered a frame
 abbrev pub turn_once_offered : Turn → Ps → Turn
@@ -119,35 +119,35 @@ selections_once_offered port Resting at = (selection_moment port at, Selection p
 selections_once_offered port turn at = []
 
 -- a frame becomes eligible: its port holds it from now on
-pub record BecomesEligible {T : Type 0} (key : T → ℕ → ℕ → ℕ) (network : DeclaredNetwork) (tie : T)
+pub record BecomesEligible {T : Type 0} (key : T → ℕ → ℕ → ℕ) (network : DeclaredNetwork)
     (old new : Course T) (now : Moment) (frame : ℕ) (entries : List (Moment × Event)) : Type 0 where
   pub port : ℕ
   pub standing : Standing T
   pub place : place_at network old frame ≡ port
-  pub held : IsPermutation (offer_at network old frame ∷ (standing_at tie old port).held) standing.held
-  pub rest : standing ≡ record (standing_at tie old port) { held = standing.held }
+  pub held : IsPermutation (offer_at network old frame ∷ (standing_at old port).held) standing.held
+  pub rest : standing ≡ record (standing_at old port) { held = standing.held }
   pub lawful : IsLawfulPort key standing
-  pub new : new ≡ with_port (moved old now frame (record {
+  pub becomes : new ≡ with_port (moved old now frame (record {
     stage = Waiting;
     progress = progress_at old.records frame;
     entries = [];
   })) port standing (turn_once_offered (turn_at old port) now.at)
-  pub entries : entries ≡ selections_once_offered port (turn_at old port) now.at
+  pub brings : entries ≡ selections_once_offered port (turn_at old port) now.at
 
 -- a port selects: one of the frames that it holds is sent from now on
-pub record Selects {T : Type 0} (key : T → ℕ → ℕ → ℕ) (tie : T) (old new : Course T) (now : Moment) (port : ℕ)
+pub record Selects {T : Type 0} (key : T → ℕ → ℕ → ℕ) (old new : Course T) (now : Moment) (port : ℕ)
     (entries : List (Moment × Event)) : Type 0 where
   pub frame : ℕ
   pub end : Ps
   pub standing : Standing T
-  pub starts : Starts (key tie) (standing_at tie old port) standing now.at.0 frame end.0
+  pub starts : Starts (key old.tie) (standing_at old port) standing now.at.0 frame end.0
   pub lawful : IsLawfulPort key standing
-  pub new : new ≡ with_port (moved old now frame (record {
+  pub becomes : new ≡ with_port (moved old now frame (record {
     stage = Sending end;
     progress = with_sent (progress_at old.records frame) now.at end;
     entries = [];
   })) port standing Occupied
-  pub entries : entries ≡ (end_moment frame end, End frame) ∷ []
+  pub brings : entries ≡ (end_moment frame end, End frame) ∷ []
 
 -- a frame that was sent arrives behind the port at this time: at the next port of its path, or at its listener
 abbrev pub leaves_for : DeclaredNetwork → ℕ → Progress → Ps → Move
@@ -161,7 +161,7 @@ leaves_for network frame progress at =
     }
 
 -- a transmission ends: the frame is on its way behind the port, which is free
-pub record Ends {T : Type 0} (key : T → ℕ → ℕ → ℕ) (wait : ℕ → ℕ → ℕ) (network : DeclaredNetwork) (tie : T)
+pub record Ends {T : Type 0} (key : T → ℕ → ℕ → ℕ) (wait : ℕ → ℕ → ℕ) (network : DeclaredNetwork)
     (old new : Course T) (now : Moment) (frame : ℕ) (entries : List (Moment × Event)) : Type 0 where
   pub port : ℕ
   pub arrival : Ps
@@ -171,11 +171,11 @@ pub record Ends {T : Type 0} (key : T → ℕ → ℕ → ℕ) (wait : ℕ → �
   pub place : place_at network old frame ≡ port
   pub arrives : arrival.0 ≡ arrival_behind wait (port_at network.topology.ports port) frame now.at.0
       (arrives_from_at old port)
-  pub free : standing ≡ record (standing_at tie old port) { is_sending = false }
+  pub free : standing ≡ record (standing_at old port) { is_sending = false }
   pub lawful : IsLawfulPort key standing
   pub next : IsTurn standing turn
   pub is : move ≡ leaves_for network frame (progress_at old.records frame) arrival
-  pub new : new ≡ record (with_port (moved old now frame move) port standing turn) {
+  pub becomes : new ≡ record (with_port (moved old now frame move) port standing turn) {
     arrives_from = slice_set old.arrives_from port (record { 0 = arrival.0 + 1 });
   }
-  pub entries : entries ≡ move.entries ++ selections port turn
+  pub brings : entries ≡ move.entries ++ selections port turn
