@@ -60,7 +60,8 @@ judged_by network groups class progress now =
     if class == 0
     then (if is_declared_size (declared_by network progress.release.sender) progress.release.octets
     then Eligible (record { 0 = now }) else Size)
-    else verdict_of groups (member_number progress.release.sender (length progress.hops - 1)) now progress.release.octets
+    else verdict_of groups (member_number progress.release.sender (length progress.hops - 1)) now
+    progress.release.octets
 
 -- the class in which a frame came, behind the port of its last record
 abbrev pub class_behind : DeclaredNetwork → Progress → ℕ

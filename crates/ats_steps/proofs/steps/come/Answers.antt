@@ -37,7 +37,8 @@ returns-in-Size g c =
       groups = gs;
       last = c.args.now;
     }) c.args.now c.args.frame []) (sym c.in-Size.ensures.groups)
-    (discarded c.args.net.now old c.args.now c.args.frame v c.push.new.self c.close-in-Size.new.self c.requires.may_come.within
+    (discarded c.args.net.now old c.args.now c.args.frame v c.push.new.self c.close-in-Size.new.self
+    c.requires.may_come.within
     c.in-Size.ensures.verdict refl
     (c.push.ensures ∙ ap (λ (w : Verdict). set c.args.state.now.records c.args.frame
     (with_hop p (came c.args.now.at w))) c.in-Size.is)
