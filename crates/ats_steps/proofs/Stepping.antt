@@ -1,0 +1,168 @@
+use Rattle.std.proofs.Common.{◌≡◌, ℕ, ◌<◌, List, [], ◌∷◌, length, get_or, set, All, IsPermutation, refl, sym, ap, ◌∙◌}
+use Rattle.std.proofs.Common.{subst}
+use Rattle.std.proofs.lemmas.List.{set-get_or, set-set, get_or-set_same, get_or_default}
+use Rattle.std.proofs.lemmas.List.Elements.{All-head}
+use Rattle.std.proofs.lemmas.List.Sorted.{All-permutation}
+use Rattle.ats_num.specs.declared.time.Ps.{Ps}
+use Rattle.ats_network.specs.Network.{DeclaredNetwork}
+use Rattle.ats_group.specs.declared.verdict.Verdict.{Verdict}
+use Rattle.ats_events.specs.declared.moment.Moment.{Moment}
+use Rattle.ats_transmit.specs.Picks.{Starts}
+use Rattle.ats_transmit.specs.Standing.{Standing, opened, IsLawfulPort}
+use Rattle.ats_transmit.specs.declared.offer.Offer.{Offer}
+use Rattle.ats_trace.specs.declared.journey.Ending.{Ending}
+use Rattle.ats_trace.specs.declared.journey.Ending.TheVariants.{Discard}
+use Rattle.ats_records.specs.Progress.{Progress, progress_at, no_progress, with_hop, with_sent, with_ending}
+use Rattle.ats_steps.specs.Course.{Course, place_at, offer_at, turn_at}
+use Rattle.ats_steps.specs.Entries.{end_moment}
+use Rattle.ats_steps.specs.Ports.{standing_at}
+use Rattle.ats_steps.specs.Steps.{Move, moved, with_port, came, comes_by, verdict_now, groups_now, Comes}
+use Rattle.ats_steps.specs.Steps.{turn_once_offered, selections_once_offered, BecomesEligible, Selects}
+use Rattle.ats_steps.specs.declared.event.Event.{Event}
+use Rattle.ats_steps.specs.declared.event.Event.TheVariants.{End}
+use Rattle.ats_steps.specs.declared.stage.Stage.TheVariants.{Waiting, Sending, Over}
+use Rattle.ats_steps.specs.declared.turn.Turn.{Turn}
+use Rattle.ats_steps.specs.declared.turn.Turn.TheVariants.{Resting, Occupied}
+
+-- a port that was read is the port of its number
+pub port-read : {T : Type 0} (course : Course T) (port : ℕ) (s : Standing T) → port < length course.ports
+    → s ≡ get_or course.ports port s → s ≡ standing_at course port
+port-read course port s within is = is ∙ get_or_default course.ports port s (opened 0 [] course.tie) within
+
+-- a record that is closed after it was pushed
+pub closed-record : (records pushed closed : List Progress) (frame : ℕ) (p : Progress) (ending : Ending)
+    → frame < length records → pushed ≡ set records frame p
+    → closed ≡ set pushed frame (with_ending (progress_at pushed frame) ending)
+    → closed ≡ set records frame (with_ending p ending)
+closed-record records pushed closed frame p ending within once twice =
+    twice
+    ∙ ap (λ (ps : List Progress). set ps frame (with_ending (progress_at ps frame) ending)) once
+    ∙ ap (λ (q : Progress). set (set records frame p) frame (with_ending q ending))
+    (get_or-set_same records frame p no_progress within)
+    ∙ set-set records frame p (with_ending p ending)
+
+-- a frame whose verdict brings its end
+pub discarded : {T : Type 0} (network : DeclaredNetwork) (old : Course T) (now : Moment) (frame : ℕ) (v : Verdict)
+    (pushed closed : List Progress) → frame < length old.records
+    → v ≡ verdict_now network old.groups (progress_at old.records frame) now.at.0
+    → comes_by frame (progress_at old.records frame) now.at v
+    ≡ record {
+      stage = Over;
+      progress = with_ending (with_hop (progress_at old.records frame) (came now.at v)) Discard;
+      entries = [];
+    }
+    → pushed ≡ set old.records frame (with_hop (progress_at old.records frame) (came now.at v))
+    → closed ≡ set pushed frame (with_ending (progress_at pushed frame) Discard)
+    → Comes network old (record old {
+      stages = set old.stages frame Over;
+      records = closed;
+      groups = groups_now network old.groups (progress_at old.records frame) now.at.0;
+      last = now;
+    }) now frame []
+discarded {T} network old now frame v pushed closed within is shape once twice =
+    let p : Progress = progress_at old.records frame in
+    let groups = groups_now network old.groups p now.at.0 in
+    let over : Progress = with_ending (with_hop p (came now.at v)) Discard in
+    let becomes : Move → Course T = λ (m : Move). record (moved old now frame m) { groups = groups } in
+    record {
+      move = comes_by frame p now.at v;
+      is = ap (comes_by frame p now.at) is;
+      becomes =
+          ap (λ (ps : List Progress). record old {
+            stages = set old.stages frame Over;
+            records = ps;
+            groups = groups;
+            last = now;
+          }) (closed-record old.records pushed closed frame (with_hop p (came now.at v)) Discard within once twice)
+          ∙ ap becomes (sym shape);
+      brings = ap (λ (m : Move). m.entries) (sym shape);
+    }
+
+-- a frame is offered to its port, whose turn is this
+pub offered : {T : Type 0} (key : T → ℕ → ℕ → ℕ) (network : DeclaredNetwork) (old : Course T) (now : Moment)
+    (frame port : ℕ) (before standing : Standing T) (offer : Offer) (turn : Turn) (turns : List Turn)
+    (entries : List (Moment × Event)) → port ≡ place_at network old frame → before ≡ standing_at old port
+    → offer ≡ offer_at network old frame → IsPermutation (offer ∷ before.held) standing.held
+    → standing ≡ record before { held = standing.held } → IsLawfulPort key standing
+    → turn_at old port ≡ turn → turns ≡ set old.turns port (turn_once_offered turn now.at)
+    → entries ≡ selections_once_offered port turn now.at
+    → BecomesEligible key network old (record old {
+      stages = set old.stages frame Waiting;
+      ports = set old.ports port standing;
+      turns = turns;
+      last = now;
+    }) now frame entries
+offered {T} key network old now frame port before standing offer turn turns entries place was own held rest lawful is
+    next brings =
+    record {
+      port = port;
+      standing = standing;
+      place = sym place;
+      held = subst (λ (o : Offer). IsPermutation (o ∷ (standing_at old port).held) standing.held) own
+          (subst (λ (s : Standing T). IsPermutation (offer ∷ s.held) standing.held) was held);
+      rest = subst (λ (s : Standing T). standing ≡ record s { held = standing.held }) was rest;
+      lawful = lawful;
+      becomes =
+          ap (λ (ts : List Turn). record old {
+            stages = set old.stages frame Waiting;
+            ports = set old.ports port standing;
+            turns = ts;
+            last = now;
+          }) (next ∙ ap (λ (t : Turn). set old.turns port (turn_once_offered t now.at)) (sym is))
+          ∙ ap (λ (ps : List Progress). record old {
+            stages = set old.stages frame Waiting;
+            records = ps;
+            ports = set old.ports port standing;
+            turns = set old.turns port (turn_once_offered (turn_at old port) now.at);
+            last = now;
+          }) (sym (set-get_or old.records frame no_progress));
+      brings = brings ∙ ap (λ (t : Turn). selections_once_offered port t now.at) (sym is);
+    }
+
+-- the turns of ports where one takes the turn that it had
+pub same-turns : (turns : List Turn) (port : ℕ) (turn : Turn) → get_or turns port Resting ≡ turn
+    → turns ≡ set turns port turn
+same-turns turns port turn is = sym (set-get_or turns port Resting) ∙ ap (set turns port) is
+
+pub turn-read : {T : Type 0} (course : Course T) (port : ℕ) (turn read : Turn) → port < length course.turns
+    → read ≡ get_or course.turns port read → read ≡ turn → turn_at course port ≡ turn
+turn-read course port turn read within is same =
+    sym (is ∙ get_or_default course.turns port read Resting within) ∙ same
+
+-- the frame that starts was held
+pub started-frame : {T : Type 0} (key : ℕ → ℕ → ℕ) (old new : Standing T) (now frame end : ℕ)
+    → Starts key old new now frame end → (P : ℕ → Type 0) → All (λ (o : Offer). P o.frame) old.held → P frame
+started-frame key old new now frame end starts P each =
+    let Holds : Offer → Type 0 = λ (o : Offer). P o.frame in
+    subst P starts.named (All-head Holds starts.started new.held
+    (All-permutation Holds old.held (starts.started ∷ new.held) starts.held each))
+
+pub selected : {T : Type 0} (key : T → ℕ → ℕ → ℕ) (old : Course T) (now : Moment) (port frame : ℕ) (end : Ps)
+    (before standing : Standing T) (sent : List Progress) → before ≡ standing_at old port
+    → (standing_at old port).tie ≡ old.tie → Starts (key before.tie) before standing now.at.0 frame end.0
+    → IsLawfulPort key standing
+    → sent ≡ set old.records frame (with_sent (progress_at old.records frame) now.at end)
+    → Selects key old (record old {
+      stages = set old.stages frame (Sending end);
+      records = sent;
+      ports = set old.ports port standing;
+      turns = set old.turns port Occupied;
+      last = now;
+    }) now port ((end_moment frame end, End frame) ∷ [])
+selected {T} key old now port frame end before standing sent was tie starts lawful is =
+    record {
+      frame = frame;
+      end = end;
+      standing = standing;
+      starts = subst (λ (t : T). Starts (key t) (standing_at old port) standing now.at.0 frame end.0) tie
+          (subst (λ (s : Standing T). Starts (key s.tie) s standing now.at.0 frame end.0) was starts);
+      lawful = lawful;
+      becomes = ap (λ (ps : List Progress). record old {
+        stages = set old.stages frame (Sending end);
+        records = ps;
+        ports = set old.ports port standing;
+        turns = set old.turns port Occupied;
+        last = now;
+      }) is;
+      brings = refl;
+    }

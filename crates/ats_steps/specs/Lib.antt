@@ -1,0 +1,11 @@
+pub mod Bounds
+pub mod Conditions
+pub mod Course
+pub mod Entries
+pub mod Frames
+pub mod Invariant
+pub mod Judging
+pub mod Paces
+pub mod Ports
+pub mod Seen
+pub mod Steps

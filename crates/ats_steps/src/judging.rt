@@ -1,0 +1,70 @@
+//! What a node decides on a frame that comes to it.
+
+ghost use Rattle.std.specs.Prelude.{◌≡◌, ◌-◌, ◌<◌, ◌≤◌, length};
+ghost use Rattle.ats_num.specs.declared.time.TheConstants.{PS_PER_SECOND, END};
+ghost use Rattle.ats_network.specs.Network.{senders_of};
+ghost use Rattle.ats_group.specs.Group.{is_declared_size};
+ghost use Rattle.ats_streams.specs.declared.path.TheConstants.{MAX_PORTS};
+ghost use Rattle.ats_trace.specs.Eligibility.{declared_by};
+ghost use Rattle.ats_records.specs.Progress.{progress_at};
+ghost use Rattle.ats_steps.specs.Conditions.{MayCome};
+ghost use Rattle.ats_steps.specs.Judging.{member_number};
+ghost use Rattle.ats_steps.specs.Steps.{verdict_now, groups_now};
+
+use ats_group::{Groups, Verdict};
+use ats_network::Network;
+use ats_num::Ps;
+use ats_num::wire::MIN_OCTETS;
+use ats_records::Records;
+use ats_streams::path::MAX_PORTS;
+
+/// Whether a sender declares frames of so many octets.
+fn allows(net: &Network, sender: u32, octets: u32) -> bool
+    requires { sender < length (senders_of net.now) }
+    ensures { result ≡ is_declared_size (declared_by net.now sender) octets }
+{
+    let streams = net.streams();
+    let place = sender as usize;
+    if place < streams.len() {
+        let stream = &streams[place];
+        return octets >= stream.min_octets() && octets <= stream.max_octets();
+    }
+    let flow = &net.flows()[place - streams.len()];
+    octets >= MIN_OCTETS && octets <= flow.max_octets()
+}
+
+/// The number of the member of groups that a stream is behind the port of one of its hops.
+fn member_of(stream: u32, hop: u32) -> u32
+    requires { (stream < 4096) × (hop < MAX_PORTS) }
+    ensures { result ≡ member_number stream hop }
+{
+    MAX_PORTS as u32 * stream + hop
+}
+
+/// The verdict on a frame that comes now to the next port of its path, by the group behind the port
+/// before.
+pub(crate) fn judge(
+    net: &Network,
+    records: &Records,
+    groups: &mut Groups,
+    now: Ps,
+    frame: u32,
+) -> Verdict
+    requires { MayCome net.now records.now groups.old now.0 frame }
+    ensures verdict { result ≡ verdict_now net.now groups.old (progress_at records.now frame) now.0 }
+    ensures groups { groups.new ≡ groups_now net.now groups.old (progress_at records.now frame) now.0 }
+{
+    let hops = records.hops_of(frame).len() as u32;
+    if hops == 0 {
+        return Verdict::Eligible(now);
+    }
+    let release = records.release(frame);
+    if net.sender_class(release.sender, hops - 1) != 0 {
+        return groups.process(member_of(release.sender, hops - 1), now, release.octets);
+    }
+    if allows(net, release.sender, release.octets) {
+        Verdict::Eligible(now)
+    } else {
+        Verdict::Size
+    }
+}

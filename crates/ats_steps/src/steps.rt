@@ -1,0 +1,117 @@
+//! What each kind of event makes of a run. Each function gives what is to happen then.
+
+ghost use Rattle.std.specs.Prelude.{◌≡◌, ◌<◌, ◌≤◌, [], ◌∷◌, length};
+ghost use Rattle.std.specs.Option.{option_to_list};
+ghost use Rattle.ats_steps.specs.Conditions.{MayComeNow, MayBeOffered, MaySelect};
+ghost use Rattle.ats_steps.specs.Seen.{course_of};
+ghost use Rattle.ats_steps.specs.Steps.{BecomesEligible, Comes, Selects};
+
+use crate::event::Event;
+use crate::judging::judge;
+use crate::offering::{offer_of, place_of};
+use crate::stage::Stage;
+use crate::state::State;
+use crate::turn::Turn;
+use ats_events::Moment;
+use ats_events::phase::{ELIGIBLE, SELECTION, TRANSMISSION_END};
+use ats_group::Verdict;
+use ats_network::Network;
+use ats_num::Tie;
+use ats_trace::{Ending, HopRecord};
+use ats_transmit::Pick;
+
+/// A frame comes to the next port of its path: the node decides on it, and it becomes eligible at
+/// the moment that this gives, or is discarded.
+pub fn come<T: Tie>(
+    net: &Network,
+    state: &mut State<T>,
+    now: Moment,
+    frame: u32,
+) -> Option<(Moment, Event)>
+    requires { MayComeNow net.now (course_of state.old) now.at.0 frame }
+    ensures { Comes net.now (course_of state.old) (course_of state.new) now frame (option_to_list result) }
+{
+    let verdict = judge(net, &state.records, &mut state.groups, now.at, frame);
+    let hop = HopRecord {
+        arrival: now.at,
+        verdict,
+        sent: None,
+    };
+    state.records.push(frame, hop);
+    state.last = now;
+    match verdict {
+        Verdict::Eligible(at) => {
+            state.stages[frame as usize] = Stage::Due(at);
+            let moment = Moment {
+                at,
+                phase: ELIGIBLE,
+                id: frame,
+            };
+            Some((moment, Event::Eligibility(frame)))
+        },
+        Verdict::Late(_) => {
+            state.records.close(frame, Ending::Discard);
+            state.stages[frame as usize] = Stage::Over;
+            None
+        },
+        Verdict::Size => {
+            state.records.close(frame, Ending::Discard);
+            state.stages[frame as usize] = Stage::Over;
+            None
+        },
+    }
+}
+
+/// A frame becomes eligible: its port holds it from now on, and where the port has rested it
+/// selects at the moment that this gives.
+pub fn become_eligible<T: Tie>(
+    net: &Network,
+    state: &mut State<T>,
+    now: Moment,
+    frame: u32,
+) -> Option<(Moment, Event)>
+    requires { MayBeOffered net.now (course_of state.old) now.at.0 frame }
+    ensures { BecomesEligible T.key net.now (course_of state.old) (course_of state.new) now frame
+        (option_to_list result) }
+{
+    let offer = offer_of(net, &state.records, frame);
+    let port = place_of(net, &state.records, frame);
+    state.ports[port as usize].offer(offer);
+    state.stages[frame as usize] = Stage::Waiting;
+    state.last = now;
+    let turn = state.turns[port as usize];
+    match turn {
+        Turn::Resting => {
+            state.turns[port as usize] = Turn::Selecting(now.at);
+            let moment = Moment {
+                at: now.at,
+                phase: SELECTION,
+                id: port,
+            };
+            Some((moment, Event::Selection(port)))
+        },
+        Turn::Selecting(_) => None,
+        Turn::Occupied => None,
+    }
+}
+
+/// A port selects: one of the frames that it holds is sent from now on, until the moment that this gives.
+pub fn select<T: Tie>(state: &mut State<T>, now: Moment, port: u32) -> (Moment, Event)
+    requires { MaySelect (course_of state.old) now.at.0 port }
+    ensures { Selects T.key (course_of state.old) (course_of state.new) now port (result ∷ []) }
+{
+    let pick = state.ports[port as usize].select(now.at);
+    let Pick::Start { frame, end } = pick else {
+        unreachable!()
+    };
+    state.turns[port as usize] = Turn::Occupied;
+    state.stages[frame as usize] = Stage::Sending(end);
+    state.records.send(frame, now.at, end);
+    state.last = now;
+    let moment = Moment {
+        at: end,
+        phase: TRANSMISSION_END,
+        id: frame,
+    };
+    (moment, Event::End(frame))
+}
