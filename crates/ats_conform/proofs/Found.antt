@@ -36,7 +36,8 @@ order-push taken x sorted order =
     let two : (get_or (counted taken) k (frame_in x)).at ≡ (get_or taken k x).at.0 =
     ap time (get_or-map frame_in taken k x (frame_in x) below) in
     omega (arith, order k x below, one, two)) in
-    subst IsNonDecreasing (sym same) (IsNonDecreasingBy-push (λ (n : ℕ). n) (times_of (counted taken)) x.at.0 sorted last)
+    subst IsNonDecreasing (sym same)
+    (IsNonDecreasingBy-push (λ (n : ℕ). n) (times_of (counted taken)) x.at.0 sorted last)
 
 -- what the frame that comes next makes of the worst start: the time since then, and the bits
 pub record Since (taken : List Metered) (x : Metered) (place time bits : ℕ) : Type 0 where

@@ -1,4 +1,5 @@
-use Rattle.std.proofs.Common.{◌≡◌, ◌≢◌, ℕ, ◌+◌, ◌<◌, ◌≤◌, ◌==◌, Bool, true, false, cond, if◌then◌else◌, List, [], ◌∷◌, ◌++◌}
+use Rattle.std.proofs.Common.{◌≡◌, ◌≢◌, ℕ, ◌+◌, ◌<◌, ◌≤◌, ◌==◌, Bool, true, false}
+use Rattle.std.proofs.Common.{cond, if◌then◌else◌, List, [], ◌∷◌, ◌++◌}
 use Rattle.std.proofs.Common.{length, map, filter, take, get_or, All, refl, sym, ap, ◌∙◌, append-nil, arith}
 use Rattle.std.proofs.lemmas.Bool.{eq-eqb, ne_eqb}
 use Rattle.std.proofs.lemmas.List.{take_more, length-take-le, get_or-take, get_or-map, length-map}
@@ -100,7 +101,8 @@ metered-all : (P : Metered → Type 0) (Q : Release → Type 0) → ((n : ℕ) (
     → (i n : ℕ) (releases : List Release) → All Q releases → All P (metered_from i n releases)
 metered-all P Q is i n [] all = All-nil P
 metered-all P Q is i n (r ∷ releases) all =
-    by (r.sender == i) (metered_from i (n + 1) releases) (metered-all P Q is i (n + 1) releases (All-tail Q r releases all))
+    by (r.sender == i) (metered_from i (n + 1) releases)
+    (metered-all P Q is i (n + 1) releases (All-tail Q r releases all))
   where
     by : (b : Bool) (l : List Metered) → All P l → All P (if b then metered_at n r ∷ l else l)
     by true l h = All-cons P (metered_at n r) l (is n r (All-head Q r releases all)) h

@@ -32,7 +32,8 @@ bits-all frames = ap (sum_by (λ (f : Frame). f.bits)) (take_all (length frames)
 pub bits-next : (frames : List Frame) (x : Frame)
     → bits_before (frames ++ x ∷ []) (length frames + 1) ≡ sum_by (λ (f : Frame). f.bits) frames + x.bits
 bits-next frames x =
-    ap (sum_by (λ (f : Frame). f.bits)) (take_all (length frames + 1) (frames ++ x ∷ []) (omega (arith, length_push frames x)))
+    ap (sum_by (λ (f : Frame). f.bits))
+    (take_all (length frames + 1) (frames ++ x ∷ []) (omega (arith, length_push frames x)))
     ∙ sum_by_push (λ (f : Frame). f.bits) frames x
 
 pub bits-most : (frames : List Frame) (k : ℕ) → bits_before frames k ≤ sum_by (λ (f : Frame). f.bits) frames

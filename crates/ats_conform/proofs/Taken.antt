@@ -1,4 +1,5 @@
-use Rattle.std.proofs.Common.{◌≡◌, ℕ, ◌+◌, ◌-◌, ◌*◌, ◌<◌, ◌≤◌, Bool, true, false, List, [], ◌∷◌, ◌++◌, length, map, sum_by}
+use Rattle.std.proofs.Common.{◌≡◌, ℕ, ◌+◌, ◌-◌, ◌*◌, ◌<◌, ◌≤◌, Bool, true, false, List}
+use Rattle.std.proofs.Common.{[], ◌∷◌, ◌++◌, length, map, sum_by}
 use Rattle.std.proofs.Common.{IfSome, get_or, Option, Some, None, All, if◌then◌else◌, refl, sym, ap, ◌∙◌, subst, arith}
 use Rattle.std.proofs.lemmas.Bool.{ltb-true, ltb-false}
 use Rattle.std.proofs.lemmas.List.{map-append, length-map, get_or_append_left, get_or_at, get_or-map}
@@ -14,7 +15,8 @@ use Rattle.ats_conform.proofs.Places.{time-old, time-new, bits-old, bits-all}
 use Rattle.ats_conform.proofs.WorstPlaces.{worst-first, worst-kept, worst-moved}
 
 -- the bits of metered frames are those that are counted
-pub sum-counted : (taken : List Metered) → sum_by (λ (f : Frame). f.bits) (counted taken) ≡ sum_by (λ (m : Metered). m.bits) taken
+pub sum-counted : (taken : List Metered) → sum_by (λ (f : Frame). f.bits) (counted taken) ≡ sum_by
+    (λ (m : Metered). m.bits) taken
 sum-counted [] = refl
 sum-counted (m ∷ taken) =
     sum_by-cons (λ (f : Frame). f.bits) (frame_in m) (counted taken)
@@ -32,7 +34,8 @@ kept rate taken x start w worst =
       number = ap (λ (l : List ℕ). get_or l w.place 0) (map-append numbered taken (x ∷ []))
           ∙ get_or_append_left (map numbered taken) (x.frame ∷ []) 0 w.place
           (omega (arith, here, length-map taken numbered, length-map taken frame_in)) ∙ w.number;
-      time = ap (λ (l : List Frame). time_at l w.place) same ∙ time-old (counted taken) (frame_in x) w.place here ∙ w.time;
+      time = ap (λ (l : List Frame). time_at l w.place) same ∙ time-old (counted taken) (frame_in x) w.place here ∙
+          w.time;
       bits = ap (λ (l : List Frame). bits_before l w.place) same
           ∙ bits-old (counted taken) (frame_in x) w.place (omega arith) ∙ w.bits;
       worst = subst (λ (l : List Frame). IsWorstPlace rate l w.place) (sym same) worst;

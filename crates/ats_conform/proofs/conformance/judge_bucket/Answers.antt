@@ -48,7 +48,8 @@ returns-in-Some-clause-broken c =
     let named = rw c.wire_bits.ensures.bits at c.in-Some.ensures.named in
     bucket-broken c.args.network.now c.args.releases.now c.args.place s c.in-Some.since c.requires.place
     c.requires.before refl (omega (arith, c.requires.meters.count)) c.requires.size
-    (subst (λ (m : Metering). Names m.rate m.burst m.taken (metered c.args.place r.at.0 (8 * (r.octets + 20))) c.in-Some.since)
+    (subst (λ (m : Metering). Names m.rate m.burst m.taken (metered c.args.place r.at.0 (8 * (r.octets + 20)))
+    c.in-Some.since)
     is named)
 
 pub returns-in-None-clause-meters : goal.returns-in-None-clause-meters
