@@ -8,14 +8,14 @@ use Rattle.ats_network.specs.Network.{DeclaredNetwork}
 use Rattle.ats_group.specs.declared.verdict.Verdict.{Verdict}
 use Rattle.ats_events.specs.declared.moment.Moment.{Moment}
 use Rattle.ats_transmit.specs.Picks.{Starts}
-use Rattle.ats_transmit.specs.Standing.{Standing, opened, IsLawfulPort}
+use Rattle.ats_transmit.specs.State.{PortState, opened, IsLawfulPort}
 use Rattle.ats_transmit.specs.declared.offer.Offer.{Offer}
 use Rattle.ats_trace.specs.declared.journey.Ending.{Ending}
 use Rattle.ats_trace.specs.declared.journey.Ending.TheVariants.{Discard}
 use Rattle.ats_records.specs.Progress.{Progress, progress_at, no_progress, with_hop, with_sent, with_ending}
 use Rattle.ats_steps.specs.Course.{Course, place_at, offer_at, turn_at}
 use Rattle.ats_steps.specs.Entries.{end_moment}
-use Rattle.ats_steps.specs.Ports.{standing_at}
+use Rattle.ats_steps.specs.Ports.{port_state_at}
 use Rattle.ats_steps.specs.Steps.{Move, moved, with_port, came, comes_by, verdict_now, groups_now, Comes}
 use Rattle.ats_steps.specs.Steps.{turn_once_offered, selections_once_offered, BecomesEligible, Selects}
 use Rattle.ats_steps.specs.declared.event.Event.{Event}
@@ -25,8 +25,8 @@ use Rattle.ats_steps.specs.declared.turn.Turn.{Turn}
 use Rattle.ats_steps.specs.declared.turn.Turn.TheVariants.{Resting, Occupied}
 
 -- a port that was read is the port of its number
-pub port-read : {T : Type 0} (course : Course T) (port : ℕ) (s : Standing T) → port < length course.ports
-    → s ≡ get_or course.ports port s → s ≡ standing_at course port
+pub port-read : {T : Type 0} (course : Course T) (port : ℕ) (s : PortState T) → port < length course.ports
+    → s ≡ get_or course.ports port s → s ≡ port_state_at course port
 port-read course port s within is = is ∙ get_or_default course.ports port s (opened 0 [] course.tie) within
 
 -- a record that is closed after it was pushed
@@ -80,8 +80,8 @@ discarded {T} network old now frame v pushed closed within is shape once twice =
 
 -- a frame is offered to its port, whose turn is this
 pub offered : {T : Type 0} (key : T → ℕ → ℕ → ℕ) (network : DeclaredNetwork) (old : Course T) (now : Moment)
-    (frame port : ℕ) (before standing : Standing T) (offer : Offer) (turn : Turn) (turns : List Turn)
-    (entries : List (Moment × Event)) → port ≡ place_at network old frame → before ≡ standing_at old port
+    (frame port : ℕ) (before standing : PortState T) (offer : Offer) (turn : Turn) (turns : List Turn)
+    (entries : List (Moment × Event)) → port ≡ place_at network old frame → before ≡ port_state_at old port
     → offer ≡ offer_at network old frame → IsPermutation (offer ∷ before.held) standing.held
     → standing ≡ record before { held = standing.held } → IsLawfulPort key standing
     → turn_at old port ≡ turn → turns ≡ set old.turns port (turn_once_offered turn now.at)
@@ -98,9 +98,9 @@ offered {T} key network old now frame port before standing offer turn turns entr
       port = port;
       standing = standing;
       place = sym place;
-      held = subst (λ (o : Offer). IsPermutation (o ∷ (standing_at old port).held) standing.held) own
-          (subst (λ (s : Standing T). IsPermutation (offer ∷ s.held) standing.held) was held);
-      rest = subst (λ (s : Standing T). standing ≡ record s { held = standing.held }) was rest;
+      held = subst (λ (o : Offer). IsPermutation (o ∷ (port_state_at old port).held) standing.held) own
+          (subst (λ (s : PortState T). IsPermutation (offer ∷ s.held) standing.held) was held);
+      rest = subst (λ (s : PortState T). standing ≡ record s { held = standing.held }) was rest;
       lawful = lawful;
       becomes =
           ap (λ (ts : List Turn). record old {
@@ -130,7 +130,7 @@ turn-read course port turn read within is same =
     sym (is ∙ get_or_default course.turns port read Resting within) ∙ same
 
 -- the frame that starts was held
-pub started-frame : {T : Type 0} (key : ℕ → ℕ → ℕ) (old new : Standing T) (now frame end : ℕ)
+pub started-frame : {T : Type 0} (key : ℕ → ℕ → ℕ) (old new : PortState T) (now frame end : ℕ)
     → Starts key old new now frame end → (P : ℕ → Type 0) → All (λ (o : Offer). P o.frame) old.held → P frame
 started-frame key old new now frame end starts P each =
     let Holds : Offer → Type 0 = λ (o : Offer). P o.frame in
@@ -138,8 +138,8 @@ started-frame key old new now frame end starts P each =
     (All-permutation Holds old.held (starts.started ∷ new.held) starts.held each))
 
 pub selected : {T : Type 0} (key : T → ℕ → ℕ → ℕ) (old : Course T) (now : Moment) (port frame : ℕ) (end : Ps)
-    (before standing : Standing T) (sent : List Progress) → before ≡ standing_at old port
-    → (standing_at old port).tie ≡ old.tie → Starts (key before.tie) before standing now.at.0 frame end.0
+    (before standing : PortState T) (sent : List Progress) → before ≡ port_state_at old port
+    → (port_state_at old port).tie ≡ old.tie → Starts (key before.tie) before standing now.at.0 frame end.0
     → IsLawfulPort key standing
     → sent ≡ set old.records frame (with_sent (progress_at old.records frame) now.at end)
     → Selects key old (record old {
@@ -154,8 +154,8 @@ selected {T} key old now port frame end before standing sent was tie starts lawf
       frame = frame;
       end = end;
       standing = standing;
-      starts = subst (λ (t : T). Starts (key t) (standing_at old port) standing now.at.0 frame end.0) tie
-          (subst (λ (s : Standing T). Starts (key s.tie) s standing now.at.0 frame end.0) was starts);
+      starts = subst (λ (t : T). Starts (key t) (port_state_at old port) standing now.at.0 frame end.0) tie
+          (subst (λ (s : PortState T). Starts (key s.tie) s standing now.at.0 frame end.0) was starts);
       lawful = lawful;
       becomes = ap (λ (ps : List Progress). record old {
         stages = set old.stages frame (Sending end);

@@ -4,16 +4,16 @@ use Rattle.ats_streams.specs.declared.path.TheConstants.{MAX_PORTS}
 use Rattle.ats_network.specs.Network.{DeclaredNetwork, senders_of}
 use Rattle.ats_group.specs.GroupsState.{GroupsState}
 use Rattle.ats_num.specs.Wire.{IsFrameSize}
-use Rattle.ats_transmit.specs.Picks.{IsDue}
+use Rattle.ats_transmit.specs.Picks.{IsFirstStart}
 use Rattle.ats_transmit.specs.Sending.{last_start}
-use Rattle.ats_transmit.specs.Standing.{offered_of}
+use Rattle.ats_transmit.specs.State.{offered_of}
 use Rattle.ats_transmit.specs.declared.sent.Sent.{Sent}
 use Rattle.ats_transmit.specs.declared.offer.Offer.{Offer}
 use Rattle.ats_records.specs.Progress.{Progress, progress_at}
 use Rattle.ats_steps.specs.Course.{Course, path_of, place_at, offer_at}
 use Rattle.ats_steps.specs.Steps.{class_behind}
 use Rattle.ats_steps.specs.Judging.{member_number}
-use Rattle.ats_steps.specs.Ports.{standing_at}
+use Rattle.ats_steps.specs.Ports.{port_state_at}
 
 -- a frame may come now to the next port of its path: the group behind the port before knows it, where it is of a stream
 pub record MayCome (network : DeclaredNetwork) (records : List Progress) (groups : GroupsState) (now frame : ℕ)
@@ -49,14 +49,14 @@ pub record MayBeOffered {T : Type 0} (network : DeclaredNetwork) (course : Cours
   pub placed : IsPlaced network course.records frame
   pub port : place_at network course frame < length course.ports
   pub turns : length course.turns ≡ length course.ports
-  pub not_held : All (λ (o : Offer). o.frame ≢ frame) (standing_at course (place_at network course frame)).held
-  pub not_sent : All (λ (x : Sent). x.frame ≢ frame) (standing_at course (place_at network course frame)).sent
+  pub not_held : All (λ (o : Offer). o.frame ≢ frame) (port_state_at course (place_at network course frame)).held
+  pub not_sent : All (λ (x : Sent). x.frame ≢ frame) (port_state_at course (place_at network course frame)).sent
   pub class : (offer_at network course frame).class ≤ 7
-  pub room : offered_of (standing_at course (place_at network course frame)) (offer_at network course frame).class
-      < slice_index (standing_at course (place_at network course frame)).rooms (offer_at network course frame).class
+  pub room : offered_of (port_state_at course (place_at network course frame)) (offer_at network course frame).class
+      < slice_index (port_state_at course (place_at network course frame)).rooms (offer_at network course frame).class
   pub octets : IsFrameSize (offer_at network course frame).octets
-  pub later : 0 < length (standing_at course (place_at network course frame)).sent
-      → last_start (standing_at course (place_at network course frame)).sent
+  pub later : 0 < length (port_state_at course (place_at network course frame)).sent
+      → last_start (port_state_at course (place_at network course frame)).sent
       < (offer_at network course frame).eligible.0
 
 -- a port selects now: it is free and due
@@ -64,10 +64,10 @@ pub record MaySelect {T : Type 0} (course : Course T) (now port : ℕ) : Type 0 
   pub stages : length course.stages ≡ length course.records
   pub within : port < length course.ports
   pub turns : port < length course.turns
-  pub tie : (standing_at course port).tie ≡ course.tie
-  pub free : (standing_at course port).is_sending ≡ false
-  pub due : IsDue (standing_at course port).held (standing_at course port).sent now
-  pub known : All (λ (o : Offer). o.frame < length course.records) (standing_at course port).held
+  pub tie : (port_state_at course port).tie ≡ course.tie
+  pub free : (port_state_at course port).is_sending ≡ false
+  pub due : IsFirstStart (port_state_at course port).held (port_state_at course port).sent now
+  pub known : All (λ (o : Offer). o.frame < length course.records) (port_state_at course port).held
   pub came : All (λ (o : Offer). 0 < length (progress_at course.records o.frame).hops)
-      (standing_at course port).held
+      (port_state_at course port).held
   pub time : now ≤ END

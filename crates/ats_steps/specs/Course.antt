@@ -8,7 +8,7 @@ use Rattle.ats_network.specs.Class.{class_at}
 use Rattle.ats_group.specs.GroupsState.{GroupsState}
 use Rattle.ats_group.specs.declared.verdict.Verdict.{Verdict}
 use Rattle.ats_group.specs.declared.verdict.Verdict.TheVariants.{Eligible}
-use Rattle.ats_transmit.specs.Standing.{Standing}
+use Rattle.ats_transmit.specs.State.{PortState}
 use Rattle.ats_transmit.specs.declared.offer.Offer.{Offer}
 use Rattle.ats_events.specs.declared.moment.Moment.{Moment}
 use Rattle.ats_trace.specs.Journey.{Travel}
@@ -26,7 +26,7 @@ use Rattle.ats_steps.specs.declared.turn.Turn.TheVariants.{Resting}
 pub record Course (T : Type 0) : Type 0 where
   pub stages : List Stage
   pub records : List Progress
-  pub ports : List (Standing T)
+  pub ports : List (PortState T)
   pub turns : List Turn
   pub arrives_from : List Ps
   pub groups : GroupsState

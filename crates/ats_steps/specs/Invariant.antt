@@ -8,7 +8,7 @@ use Rattle.ats_records.specs.Progress.{Progress, progress_at}
 use Rattle.ats_steps.specs.Course.{Course, stage_at}
 use Rattle.ats_steps.specs.Entries.{AreAwaited}
 use Rattle.ats_steps.specs.Frames.{IsFrame}
-use Rattle.ats_steps.specs.Ports.{IsPortOf, standing_at}
+use Rattle.ats_steps.specs.Ports.{IsPortOf, port_state_at}
 use Rattle.ats_steps.specs.Paces.{IsPaced}
 use Rattle.ats_steps.specs.Judging.{AreGroupsOf, IsGroupOf, ArePassed}
 use Rattle.ats_steps.specs.Bounds.{IsInTime}
@@ -34,7 +34,7 @@ pub record Holds {T : Type 0} (key : T → ℕ → ℕ → ℕ) (wait : ℕ → 
       → IsFrame network (progress_at course.records frame) (stage_at course frame)
   pub awaited : AreAwaited course entries
   pub ports : (port : ℕ) → port < length network.topology.ports
-      → IsPortOf key network course port (standing_at course port)
+      → IsPortOf key network course port (port_state_at course port)
   pub paces : (port : ℕ) → port < length network.topology.ports → IsPaced wait network course port
   pub members : AreGroupsOf network course.groups
   pub groups : (port class : ℕ) → port < length network.topology.ports → 1 ≤ class → class ≤ 7

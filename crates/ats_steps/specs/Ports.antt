@@ -6,8 +6,8 @@ use Rattle.ats_topology.specs.Port.{port_at}
 use Rattle.ats_network.specs.Network.{DeclaredNetwork}
 use Rattle.ats_network.specs.Class.{class_at}
 use Rattle.ats_transmit.specs.Sending.{last_of, last_start, last_end, transmissions}
-use Rattle.ats_transmit.specs.Standing.{Standing, opened, IsLawfulPort}
-use Rattle.ats_transmit.specs.Picks.{IsDue}
+use Rattle.ats_transmit.specs.State.{PortState, opened, IsLawfulPort}
+use Rattle.ats_transmit.specs.Picks.{IsFirstStart}
 use Rattle.ats_transmit.specs.declared.offer.Offer.{Offer}
 use Rattle.ats_transmit.specs.declared.sent.Sent.{Sent}
 use Rattle.ats_events.specs.declared.phase.TheConstants.{SELECTION}
@@ -19,8 +19,8 @@ use Rattle.ats_steps.specs.declared.turn.Turn.{Turn}
 use Rattle.ats_steps.specs.declared.turn.Turn.TheVariants.{Resting, Selecting, Occupied}
 
 -- the standing of a port; for numbers past the last port, that of an empty one
-abbrev pub standing_at : {T : Type 0} → Course T → ℕ → Standing T
-standing_at course port = slice_index_or course.ports port (opened 0 [] course.tie)
+abbrev pub port_state_at : {T : Type 0} → Course T → ℕ → PortState T
+port_state_at course port = slice_index_or course.ports port (opened 0 [] course.tie)
 
 -- the port is on the path of a frame, which has this class there
 abbrev pub passes : DeclaredNetwork → ℕ → ℕ → Progress → Bool
@@ -32,9 +32,9 @@ abbrev pub room_of : DeclaredNetwork → List Progress → ℕ → ℕ → ℕ
 room_of network records port class = count_by (passes network port class) records
 
 -- a port does next what its turn says
-abbrev pub IsTurn : {T : Type 0} → Standing T → Turn → Type 0
+abbrev pub IsTurn : {T : Type 0} → PortState T → Turn → Type 0
 IsTurn standing Resting = (standing.is_sending ≡ false) × (standing.held ≡ [])
-IsTurn standing (Selecting at) = (standing.is_sending ≡ false) × IsDue standing.held standing.sent at.0
+IsTurn standing (Selecting at) = (standing.is_sending ≡ false) × IsFirstStart standing.held standing.sent at.0
 IsTurn standing Occupied = standing.is_sending ≡ true
 
 -- a frame waits at a port, to which it was offered so
@@ -53,19 +53,19 @@ pub record IsUnderWay {T : Type 0} (network : DeclaredNetwork) (course : Course 
   pub place : place_at network course sent.frame ≡ port
 
 -- a port sends this frame
-pub record Sends {T : Type 0} (standing : Standing T) (frame until : ℕ) : Type 0 where
+pub record Sends {T : Type 0} (standing : PortState T) (frame until : ℕ) : Type 0 where
   pub sending : standing.is_sending ≡ true
   pub named : (last_of standing.sent).frame ≡ frame
   pub end : last_end standing.sent ≡ until
 
 -- the numbers of all frames that a port was offered
-abbrev pub frames_at : {T : Type 0} → Standing T → List ℕ
+abbrev pub frames_at : {T : Type 0} → PortState T → List ℕ
 frames_at standing =
     map (λ (o : Offer). o.frame) standing.held ++ map (λ (x : Sent). x.frame) standing.sent
 
 -- what a port that has these frames has to do with the run
 pub record IsPortOf {T : Type 0} (key : T → ℕ → ℕ → ℕ) (network : DeclaredNetwork) (course : Course T) (port : ℕ)
-    (standing : Standing T) : Type 0 where
+    (standing : PortState T) : Type 0 where
   -- it is that of the network
   pub ps_per_bit : standing.ps_per_bit ≡ (port_at network.topology.ports port).ps_per_bit
   pub tie : standing.tie ≡ course.tie

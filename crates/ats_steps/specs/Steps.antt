@@ -10,7 +10,7 @@ use Rattle.ats_group.specs.GroupsState.{GroupsState, verdict_of, value_after}
 use Rattle.ats_group.specs.declared.verdict.Verdict.{Verdict}
 use Rattle.ats_group.specs.declared.verdict.Verdict.TheVariants.{Eligible, Size}
 use Rattle.ats_transmit.specs.Picks.{Starts}
-use Rattle.ats_transmit.specs.Standing.{Standing, IsLawfulPort}
+use Rattle.ats_transmit.specs.State.{PortState, IsLawfulPort}
 use Rattle.ats_trace.specs.Eligibility.{declared_by}
 use Rattle.ats_trace.specs.declared.journey.Ending.TheVariants.{Sink, Discard}
 use Rattle.ats_trace.specs.declared.journey.HopRecord.{HopRecord}
@@ -19,7 +19,7 @@ use Rattle.ats_steps.specs.Course.{Course, place_at, offer_at, turn_at, arrives_
 use Rattle.ats_steps.specs.Entries.{arrival_moment, eligible_moment, end_moment, selection_moment}
 use Rattle.ats_steps.specs.Judging.{member_number}
 use Rattle.ats_steps.specs.Paces.{arrival_behind}
-use Rattle.ats_steps.specs.Ports.{IsTurn, standing_at}
+use Rattle.ats_steps.specs.Ports.{IsTurn, port_state_at}
 use Rattle.ats_steps.specs.declared.event.Event.{Event}
 use Rattle.ats_steps.specs.declared.event.Event.TheVariants.{End, Arrival, Eligibility, Selection}
 use Rattle.ats_steps.specs.declared.stage.Stage.{Stage}
@@ -42,7 +42,7 @@ moved course now frame move = record course {
 }
 
 -- one port stands differently, and does this next
-abbrev pub with_port : {T : Type 0} → Course T → ℕ → Standing T → Turn → Course T
+abbrev pub with_port : {T : Type 0} → Course T → ℕ → PortState T → Turn → Course T
 with_port course port standing turn = record course {
   ports = slice_set course.ports port standing;
   turns = slice_set course.turns port turn;
@@ -123,10 +123,10 @@ selections_once_offered port turn at = []
 pub record BecomesEligible {T : Type 0} (key : T → ℕ → ℕ → ℕ) (network : DeclaredNetwork)
     (old new : Course T) (now : Moment) (frame : ℕ) (entries : List (Moment × Event)) : Type 0 where
   pub port : ℕ
-  pub standing : Standing T
+  pub standing : PortState T
   pub place : place_at network old frame ≡ port
-  pub held : IsPermutation (offer_at network old frame ∷ (standing_at old port).held) standing.held
-  pub rest : standing ≡ record (standing_at old port) { held = standing.held }
+  pub held : IsPermutation (offer_at network old frame ∷ (port_state_at old port).held) standing.held
+  pub rest : standing ≡ record (port_state_at old port) { held = standing.held }
   pub lawful : IsLawfulPort key standing
   pub becomes : new ≡ with_port (moved old now frame (record {
     stage = Waiting;
@@ -140,8 +140,8 @@ pub record Selects {T : Type 0} (key : T → ℕ → ℕ → ℕ) (old new : Cou
     (entries : List (Moment × Event)) : Type 0 where
   pub frame : ℕ
   pub end : Ps
-  pub standing : Standing T
-  pub starts : Starts (key old.tie) (standing_at old port) standing now.at.0 frame end.0
+  pub standing : PortState T
+  pub starts : Starts (key old.tie) (port_state_at old port) standing now.at.0 frame end.0
   pub lawful : IsLawfulPort key standing
   pub becomes : new ≡ with_port (moved old now frame (record {
     stage = Sending end;
@@ -166,13 +166,13 @@ pub record Ends {T : Type 0} (key : T → ℕ → ℕ → ℕ) (wait : ℕ → �
     (old new : Course T) (now : Moment) (frame : ℕ) (entries : List (Moment × Event)) : Type 0 where
   pub port : ℕ
   pub arrival : Ps
-  pub standing : Standing T
+  pub standing : PortState T
   pub turn : Turn
   pub move : Move
   pub place : place_at network old frame ≡ port
   pub arrives : arrival.0 ≡ arrival_behind wait (port_at network.topology.ports port) frame now.at.0
       (arrives_from_at old port)
-  pub free : standing ≡ record (standing_at old port) { is_sending = false }
+  pub free : standing ≡ record (port_state_at old port) { is_sending = false }
   pub lawful : IsLawfulPort key standing
   pub next : IsTurn standing turn
   pub is : move ≡ leaves_for network frame (progress_at old.records frame) arrival

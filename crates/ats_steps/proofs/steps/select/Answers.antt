@@ -1,6 +1,6 @@
 use Rattle.std.proofs.Common.{All, ℕ, ◌<◌, ◌≤◌, length, sym, subst, arith}
 use Rattle.ats_transmit.specs.Picks.{MaySend}
-use Rattle.ats_transmit.specs.Standing.{Standing}
+use Rattle.ats_transmit.specs.State.{PortState}
 use Rattle.ats_transmit.specs.declared.offer.Offer.{Offer}
 use Rattle.ats_records.specs.Progress.{progress_at}
 use Rattle.ats_steps.specs.Seen.{course_of}
@@ -11,7 +11,7 @@ pub select-pick-requires-clause-due : goal.select-pick-requires-clause-due
 select-pick-requires-clause-due g c =
     let old = course_of {T = g.row.T.Denot} c.args.state.now in
     let was = port-read old c.args.port c.index_mut.result.now c.requires.within c.index_mut.ensures.value in
-    subst (λ (s : Standing g.row.T.Denot). (time : ℕ) → MaySend s.held s.sent time → c.args.now.at.0 ≤ time) (sym was)
+    subst (λ (s : PortState g.row.T.Denot). (time : ℕ) → MaySend s.held s.sent time → c.args.now.at.0 ≤ time) (sym was)
     c.requires.due.first
 
 pub index_mut-requires-3 : goal.index_mut-requires-3
@@ -20,7 +20,7 @@ index_mut-requires-3 g c =
     let was = port-read old c.args.port c.index_mut.result.now c.requires.within c.index_mut.ensures.value in
     let below : c.in-Start.frame < length c.args.state.now.records =
     started-frame _ _ _ _ _ _ c.in-Start.ensures.pick.1 (λ (f : ℕ). f < length c.args.state.now.records)
-    (subst (λ (s : Standing g.row.T.Denot). All (λ (o : Offer). o.frame < length c.args.state.now.records) s.held)
+    (subst (λ (s : PortState g.row.T.Denot). All (λ (o : Offer). o.frame < length c.args.state.now.records) s.held)
     (sym was) c.requires.known) in
     omega (arith, c.requires.stages)
 
@@ -29,7 +29,7 @@ send-requires-clause-frame g c =
     let old = course_of {T = g.row.T.Denot} c.args.state.now in
     let was = port-read old c.args.port c.index_mut.result.now c.requires.within c.index_mut.ensures.value in
     started-frame _ _ _ _ _ _ c.in-Start.ensures.pick.1 (λ (f : ℕ). f < length c.args.state.now.records)
-    (subst (λ (s : Standing g.row.T.Denot). All (λ (o : Offer). o.frame < length c.args.state.now.records) s.held)
+    (subst (λ (s : PortState g.row.T.Denot). All (λ (o : Offer). o.frame < length c.args.state.now.records) s.held)
     (sym was) c.requires.known)
 
 pub send-requires-clause-last : goal.send-requires-clause-last
@@ -38,7 +38,7 @@ send-requires-clause-last g c =
     let was = port-read old c.args.port c.index_mut.result.now c.requires.within c.index_mut.ensures.value in
     started-frame _ _ _ _ _ _ c.in-Start.ensures.pick.1
     (λ (f : ℕ). 0 < length (progress_at c.args.state.now.records f).hops)
-    (subst (λ (s : Standing g.row.T.Denot).
+    (subst (λ (s : PortState g.row.T.Denot).
     All (λ (o : Offer). 0 < length (progress_at c.args.state.now.records o.frame).hops) s.held) (sym was)
     c.requires.came)
 
