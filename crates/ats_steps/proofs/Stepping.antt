@@ -20,7 +20,7 @@ use Rattle.ats_steps.specs.Paces.{arrival_behind}
 use Rattle.ats_steps.specs.declared.stage.Stage.{Stage}
 use Rattle.ats_steps.specs.Entries.{end_moment}
 use Rattle.ats_steps.specs.Ports.{standing_at, IsTurn}
-use Rattle.ats_steps.specs.Steps.{Move, moved, with_port, came, comes_by, verdict_now, groups_now, Comes}
+use Rattle.ats_steps.specs.Steps.{Move, moved, came, comes_by, verdict_now, groups_now, Comes}
 use Rattle.ats_steps.specs.Steps.{turn_once_offered, selections_once_offered, BecomesEligible, Selects, Ends, leaves_for, selections}
 use Rattle.ats_steps.specs.declared.event.Event.{Event}
 use Rattle.ats_steps.specs.declared.event.Event.TheVariants.{End}

@@ -4,7 +4,7 @@ ghost use Rattle.std.specs.Prelude.{◌≡◌, ◌+◌, ◌<◌, ◌≤◌, fals
 ghost use Rattle.std.specs.Option.{option_to_list};
 ghost use Rattle.ats_num.specs.declared.time.TheConstants.{END};
 ghost use Rattle.ats_num.specs.declared.pace.TheConstants.{MAX_SPREAD};
-ghost use Rattle.ats_topology.specs.Port.{spread_of};
+ghost use Rattle.ats_topology.specs.Port.{port_at, spread_of};
 ghost use Rattle.ats_network.specs.Network.{senders_of};
 ghost use Rattle.ats_records.specs.Progress.{progress_at};
 ghost use Rattle.ats_steps.specs.Paces.{arrival_behind};
@@ -25,13 +25,7 @@ use ats_transmit::Port;
 
 /// When a frame arrives behind a port that has sent it until `end`, where the next frame may arrive
 /// from `from` on.
-pub(crate) fn arrival_behind<P: Pace>(
-    link: &Link,
-    pace: &P,
-    frame: u32,
-    end: Ps,
-    from: Ps,
-) -> Ps
+pub(crate) fn arrival_behind<P: Pace>(link: &Link, pace: &P, frame: u32, end: Ps, from: Ps) -> Ps
     requires spread { spread_of link.now ≤ MAX_SPREAD }
     requires earliest { link.now.earliest.0 ≤ END }
     requires end { end.0 ≤ END }
@@ -42,6 +36,14 @@ pub(crate) fn arrival_behind<P: Pace>(
     let wait = pace.wait(frame, link.spread());
     let soonest = end.0 + link.earliest.0 + wait;
     Ps(soonest.max(from.0))
+}
+
+/// The port with a number.
+pub(crate) fn link_of(net: &Network, port: u32) -> Link
+    requires { port < length net.now.topology.ports }
+    ensures { result ≡ port_at net.now.topology.ports port }
+{
+    net.topology().ports()[port as usize]
 }
 
 /// What a free port does next.
@@ -77,15 +79,15 @@ pub(crate) fn selection_of(port: u32, turn: Turn) -> Option<(Moment, Event)>
 /// its listener.
 pub(crate) fn leave(
     net: &Network,
-    stages: &mut [Stage],
+    stages: &mut Vec<Stage>,
     records: &mut Records,
     frame: u32,
     at: Ps,
 ) -> Option<(Moment, Event)>
-    requires stages { frame < length stages.old }
+    requires stages { frame < length stages.old.items }
     requires records { frame < length records.old }
     requires sender { (progress_at records.old frame).release.sender < length (senders_of net.now) }
-    ensures stages { stages.new ≡ slice_set stages.old frame
+    ensures stages { stages.new.items ≡ slice_set stages.old.items frame
         (leaves_for net.now frame (progress_at records.old frame) at).stage }
     ensures records { records.new ≡ slice_set records.old frame
         (leaves_for net.now frame (progress_at records.old frame) at).progress }

@@ -8,7 +8,7 @@ ghost use Rattle.ats_steps.specs.Steps.{BecomesEligible, Comes, Ends, Selects};
 
 use crate::event::Event;
 use crate::judging::judge;
-use crate::leaving::{arrival_behind, leave, selection_of, turn_of};
+use crate::leaving::{arrival_behind, leave, link_of, selection_of, turn_of};
 use crate::offering::{offer_of, place_of};
 use crate::stage::Stage;
 use crate::state::State;
@@ -132,10 +132,11 @@ pub fn end<T: Tie, P: Pace>(
         (option_to_list result.0 ++ option_to_list result.1) }
 {
     let port = place_of(net, &state.records, frame);
-    state.ports[port as usize].finish(now.at);
-    let turn = turn_of(&state.ports[port as usize]);
+    let standing = &mut state.ports[port as usize];
+    standing.finish(now.at);
+    let turn = turn_of(standing);
     state.turns[port as usize] = turn;
-    let link = net.topology().ports()[port as usize];
+    let link = link_of(net, port);
     let from = state.arrives_from[port as usize];
     let at = arrival_behind(&link, pace, frame, now.at, from);
     state.arrives_from[port as usize] = Ps(at.0 + 1);
