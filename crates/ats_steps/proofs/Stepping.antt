@@ -1,5 +1,7 @@
 use Rattle.std.proofs.Common.{◌≡◌, ℕ, ◌<◌, List, [], ◌∷◌, length, get_or, set, All, IsPermutation, refl, sym, ap, ◌∙◌}
-use Rattle.std.proofs.Common.{subst}
+use Rattle.std.proofs.Common.{subst, false, ◌+◌, ◌++◌}
+use Rattle.ats_topology.specs.Port.{port_at}
+use Rattle.ats_topology.specs.declared.port.Port.{Port}
 use Rattle.std.proofs.lemmas.List.{set-get_or, set-set, get_or-set_same, get_or_default}
 use Rattle.std.proofs.lemmas.List.Elements.{All-head}
 use Rattle.std.proofs.lemmas.List.Sorted.{All-permutation}
@@ -13,11 +15,14 @@ use Rattle.ats_transmit.specs.declared.offer.Offer.{Offer}
 use Rattle.ats_trace.specs.declared.journey.Ending.{Ending}
 use Rattle.ats_trace.specs.declared.journey.Ending.TheVariants.{Discard}
 use Rattle.ats_records.specs.Progress.{Progress, progress_at, no_progress, with_hop, with_sent, with_ending}
-use Rattle.ats_steps.specs.Course.{Course, place_at, offer_at, turn_at}
+use Rattle.ats_steps.specs.Course.{Course, place_at, offer_at, turn_at, arrives_from_at}
+use Rattle.ats_steps.specs.Paces.{arrival_behind}
+use Rattle.ats_steps.specs.declared.stage.Stage.{Stage}
 use Rattle.ats_steps.specs.Entries.{end_moment}
-use Rattle.ats_steps.specs.Ports.{port_state_at}
-use Rattle.ats_steps.specs.Steps.{Move, moved, with_port, came, comes_by, verdict_now, groups_now, Comes}
+use Rattle.ats_steps.specs.Ports.{port_state_at, IsTurn}
+use Rattle.ats_steps.specs.Steps.{Move, moved, came, comes_by, verdict_now, groups_now, Comes}
 use Rattle.ats_steps.specs.Steps.{turn_once_offered, selections_once_offered, BecomesEligible, Selects}
+use Rattle.ats_steps.specs.Steps.{Ends, leaves_for, selections}
 use Rattle.ats_steps.specs.declared.event.Event.{Event}
 use Rattle.ats_steps.specs.declared.event.Event.TheVariants.{End}
 use Rattle.ats_steps.specs.declared.stage.Stage.TheVariants.{Waiting, Sending, Over}
@@ -165,4 +170,54 @@ selected {T} key old now port frame end before standing sent was tie starts lawf
         last = now;
       }) is;
       brings = refl;
+    }
+
+-- a transmission ends
+pub ended : {T : Type 0} (key : T → ℕ → ℕ → ℕ) (wait : ℕ → ℕ → ℕ) (network : DeclaredNetwork) (old : Course T)
+    (now : Moment) (frame port : ℕ) (before standing : PortState T) (link : Port) (turn : Turn) (from arrival : Ps)
+    (stages : List Stage) (records : List Progress) (left entries : List (Moment × Event))
+    → port ≡ place_at network old frame → before ≡ port_state_at old port
+    → standing ≡ record before { is_sending = false } → IsLawfulPort key standing → IsTurn standing turn
+    → link ≡ port_at network.topology.ports port → from.0 ≡ arrives_from_at old port
+    → arrival.0 ≡ arrival_behind wait link frame now.at.0 from.0
+    → stages ≡ set old.stages frame (leaves_for network frame (progress_at old.records frame) arrival).stage
+    → records ≡ set old.records frame (leaves_for network frame (progress_at old.records frame) arrival).progress
+    → left ≡ (leaves_for network frame (progress_at old.records frame) arrival).entries
+    → entries ≡ left ++ selections port turn
+    → Ends key wait network old (record old {
+      stages = stages;
+      records = records;
+      ports = set old.ports port standing;
+      turns = set old.turns port turn;
+      arrives_from = set old.arrives_from port (record { 0 = arrival.0 + 1 });
+      last = now;
+    }) now frame entries
+ended {T} key wait network old now frame port before standing link turn from arrival stages records left entries place
+    was free lawful next of_link of_from arrives staged recorded leaves brings =
+    let onto : List Stage → List Progress → Course T = λ (ss : List Stage) (ps : List Progress). record old {
+      stages = ss;
+      records = ps;
+      ports = set old.ports port standing;
+      turns = set old.turns port turn;
+      arrives_from = set old.arrives_from port (record { 0 = arrival.0 + 1 });
+      last = now;
+    } in
+    let move : Move = leaves_for network frame (progress_at old.records frame) arrival in
+    record {
+      port = port;
+      arrival = arrival;
+      standing = standing;
+      turn = turn;
+      move = move;
+      place = sym place;
+      arrives = arrives
+          ∙ ap (λ (p : Port). arrival_behind wait p frame now.at.0 from.0) of_link
+          ∙ ap (λ (n : ℕ). arrival_behind wait (port_at network.topology.ports port) frame now.at.0 n) of_from;
+      free = subst (λ (s : PortState T). standing ≡ record s { is_sending = false }) was free;
+      lawful = lawful;
+      next = next;
+      is = refl;
+      becomes = ap (λ (ss : List Stage). onto ss records) staged
+          ∙ ap (onto (set old.stages frame move.stage)) recorded;
+      brings = brings ∙ ap (λ (es : List (Moment × Event)). es ++ selections port turn) leaves;
     }

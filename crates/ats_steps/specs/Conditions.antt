@@ -1,16 +1,18 @@
-use Rattle.std.specs.Prelude.{◌≡◌, ◌≢◌, ℕ, ◌+◌, ◌-◌, ◌<◌, ◌≤◌, false, List, length, slice_index, All}
+use Rattle.std.specs.Prelude.{◌≡◌, ◌≢◌, ℕ, ◌+◌, ◌-◌, ◌<◌, ◌≤◌, true, false, List, length, slice_index, All}
 use Rattle.ats_num.specs.declared.time.TheConstants.{PS_PER_SECOND, END}
+use Rattle.ats_num.specs.declared.pace.TheConstants.{MAX_SPREAD}
+use Rattle.ats_topology.specs.Port.{port_at, spread_of}
 use Rattle.ats_streams.specs.declared.path.TheConstants.{MAX_PORTS}
 use Rattle.ats_network.specs.Network.{DeclaredNetwork, senders_of}
 use Rattle.ats_group.specs.GroupsState.{GroupsState}
 use Rattle.ats_num.specs.Wire.{IsFrameSize}
 use Rattle.ats_transmit.specs.Picks.{IsFirstStart}
-use Rattle.ats_transmit.specs.Sending.{last_start}
+use Rattle.ats_transmit.specs.Sending.{last_start, last_end}
 use Rattle.ats_transmit.specs.State.{offered_of}
 use Rattle.ats_transmit.specs.declared.sent.Sent.{Sent}
 use Rattle.ats_transmit.specs.declared.offer.Offer.{Offer}
 use Rattle.ats_records.specs.Progress.{Progress, progress_at}
-use Rattle.ats_steps.specs.Course.{Course, path_of, place_at, offer_at}
+use Rattle.ats_steps.specs.Course.{Course, path_of, place_at, offer_at, arrives_from_at}
 use Rattle.ats_steps.specs.Steps.{class_behind}
 use Rattle.ats_steps.specs.Judging.{member_number}
 use Rattle.ats_steps.specs.Ports.{port_state_at}
@@ -70,4 +72,19 @@ pub record MaySelect {T : Type 0} (course : Course T) (now port : ℕ) : Type 0 
   pub known : All (λ (o : Offer). o.frame < length course.records) (port_state_at course port).held
   pub came : All (λ (o : Offer). 0 < length (progress_at course.records o.frame).hops)
       (port_state_at course port).held
+  pub time : now ≤ END
+
+-- the transmission of a frame ends now, at the port of its last hop record
+pub record MayEnd {T : Type 0} (network : DeclaredNetwork) (course : Course T) (now frame : ℕ) : Type 0 where
+  pub stages : length course.stages ≡ length course.records
+  pub placed : IsPlaced network course.records frame
+  pub port : place_at network course frame < length course.ports
+  pub turns : length course.turns ≡ length course.ports
+  pub arrivals : length course.arrives_from ≡ length course.ports
+  pub links : length course.ports ≡ length network.topology.ports
+  pub sending : (port_state_at course (place_at network course frame)).is_sending ≡ true
+  pub end : last_end (port_state_at course (place_at network course frame)).sent ≡ now
+  pub spread : spread_of (port_at network.topology.ports (place_at network course frame)) ≤ MAX_SPREAD
+  pub earliest : (port_at network.topology.ports (place_at network course frame)).earliest.0 ≤ END
+  pub from : arrives_from_at course (place_at network course frame) ≤ END
   pub time : now ≤ END

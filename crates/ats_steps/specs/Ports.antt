@@ -1,4 +1,4 @@
-use Rattle.std.specs.Prelude.{◌≡◌, ◌≢◌, ℕ, ◌+◌, ◌<◌, ◌≤◌, ◌==◌, ◌&&◌, Bool, true, false, List, [], length, map}
+use Rattle.std.specs.Prelude.{◌≡◌, ◌≢◌, ℕ, ◌<◌, ◌≤◌, ◌==◌, ◌&&◌, Bool, true, false, List, [], length, map}
 use Rattle.std.specs.Prelude.{◌++◌, slice_index, slice_index_or, count_by, All, AllPairs, Contains, IsPermutation}
 use Rattle.std.specs.List.{list_any}
 use Rattle.ats_num.specs.declared.time.Ps.{Ps}
@@ -12,7 +12,7 @@ use Rattle.ats_transmit.specs.declared.offer.Offer.{Offer}
 use Rattle.ats_transmit.specs.declared.sent.Sent.{Sent}
 use Rattle.ats_events.specs.declared.phase.TheConstants.{SELECTION}
 use Rattle.ats_trace.specs.Projections.{sent_by}
-use Rattle.ats_records.specs.Progress.{Progress, progress_at}
+use Rattle.ats_records.specs.Progress.{Progress}
 use Rattle.ats_steps.specs.Course.{Course, travels, stage_at, turn_at, place_at, offer_at, sender_of, path_of}
 use Rattle.ats_steps.specs.declared.stage.Stage.TheVariants.{Waiting, Sending}
 use Rattle.ats_steps.specs.declared.turn.Turn.{Turn}

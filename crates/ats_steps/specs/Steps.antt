@@ -1,5 +1,5 @@
 use Rattle.std.specs.Prelude.{◌≡◌, ℕ, ◌+◌, ◌-◌, ◌==◌, List, [], ◌∷◌, ◌++◌, length, slice_index, slice_set}
-use Rattle.std.specs.Prelude.{Bool, true, false, None, IsPermutation, if◌then◌else◌}
+use Rattle.std.specs.Prelude.{false, None, IsPermutation, if◌then◌else◌}
 use Rattle.ats_num.specs.declared.time.Ps.{Ps}
 use Rattle.ats_topology.specs.Port.{port_at}
 use Rattle.ats_network.specs.Network.{DeclaredNetwork}

@@ -3,6 +3,7 @@
 
 pub mod event;
 mod judging;
+mod leaving;
 mod offering;
 pub mod stage;
 pub mod state;
@@ -12,5 +13,5 @@ pub mod turn;
 pub use event::Event;
 pub use stage::Stage;
 pub use state::State;
-pub use steps::{become_eligible, come, select};
+pub use steps::{become_eligible, come, end, select};
 pub use turn::Turn;

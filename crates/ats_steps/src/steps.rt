@@ -1,13 +1,14 @@
 //! What each kind of event makes of a run. Each function gives what is to happen then.
 
-ghost use Rattle.std.specs.Prelude.{◌≡◌, ◌<◌, ◌≤◌, [], ◌∷◌, length};
+ghost use Rattle.std.specs.Prelude.{◌≡◌, ◌<◌, ◌≤◌, [], ◌∷◌, ◌++◌, length};
 ghost use Rattle.std.specs.Option.{option_to_list};
-ghost use Rattle.ats_steps.specs.Conditions.{MayComeNow, MayBeOffered, MaySelect};
+ghost use Rattle.ats_steps.specs.Conditions.{MayComeNow, MayBeOffered, MayEnd, MaySelect};
 ghost use Rattle.ats_steps.specs.Seen.{course_of};
-ghost use Rattle.ats_steps.specs.Steps.{BecomesEligible, Comes, Selects};
+ghost use Rattle.ats_steps.specs.Steps.{BecomesEligible, Comes, Ends, Selects};
 
 use crate::event::Event;
 use crate::judging::judge;
+use crate::leaving::{arrival_behind, leave, link_of, selection_of, turn_of};
 use crate::offering::{offer_of, place_of};
 use crate::stage::Stage;
 use crate::state::State;
@@ -16,7 +17,7 @@ use ats_events::Moment;
 use ats_events::phase::{ELIGIBLE, SELECTION, TRANSMISSION_END};
 use ats_group::Verdict;
 use ats_network::Network;
-use ats_num::Tie;
+use ats_num::{Pace, Ps, Tie};
 use ats_trace::{Ending, HopRecord};
 use ats_transmit::Pick;
 
@@ -114,4 +115,32 @@ pub fn select<T: Tie>(state: &mut State<T>, now: Moment, port: u32) -> (Moment, 
         id: frame,
     };
     (moment, Event::End(frame))
+}
+
+/// The transmission of a frame ends: the frame is on its way behind the port, and this gives the
+/// moment at which it arrives there, where that is at a port; and the moment at which the port
+/// selects again, where it holds a frame.
+pub fn end<T: Tie, P: Pace>(
+    net: &Network,
+    state: &mut State<T>,
+    pace: &P,
+    now: Moment,
+    frame: u32,
+) -> (Option<(Moment, Event)>, Option<(Moment, Event)>)
+    requires { MayEnd net.now (course_of state.old) now.at.0 frame }
+    ensures { Ends T.key (P.wait pace.now) net.now (course_of state.old) (course_of state.new) now frame
+        (option_to_list result.0 ++ option_to_list result.1) }
+{
+    let port = place_of(net, &state.records, frame);
+    let standing = &mut state.ports[port as usize];
+    standing.finish(now.at);
+    let turn = turn_of(standing);
+    state.turns[port as usize] = turn;
+    let link = link_of(net, port);
+    let from = state.arrives_from[port as usize];
+    let at = arrival_behind(&link, pace, frame, now.at, from);
+    state.arrives_from[port as usize] = Ps(at.0 + 1);
+    state.last = now;
+    let arrival = leave(net, &mut state.stages, &mut state.records, frame, at);
+    (arrival, selection_of(port, turn))
 }
