@@ -1,21 +1,10 @@
-use Rattle.std.specs.Prelude.{ℕ, ◌+◌, ◌<◌, ◌≤◌, ◌==◌, List, [], ◌∷◌, length, map, All, if◌then◌else◌}
-use Rattle.std.specs.Prelude.{slice_index_or}
-use Rattle.std.specs.List.Sorted.{IsNonDecreasing}
-use Rattle.ats_num.specs.Wire.{IsFrameSize, bits_of}
-use Rattle.ats_network.specs.Network.{DeclaredNetwork, senders_of}
+use Rattle.std.specs.Prelude.{ℕ, ◌+◌, ◌==◌, List, [], ◌∷◌, slice_index_or, if◌then◌else◌}
+use Rattle.ats_num.specs.Wire.{bits_of}
+use Rattle.ats_network.specs.Network.{DeclaredNetwork}
 use Rattle.ats_trace.specs.Talker.{KeepsBuckets}
 use Rattle.ats_trace.specs.declared.journey.Release.{Release}
-use Rattle.ats_trace.specs.declared.run.TheConstants.{MAX_FRAMES}
 use Rattle.ats_conform.specs.declared.meter.Metered.{Metered}
 use Rattle.ats_conform.specs.Metering.{metered}
-
--- what a run may release: no more frames than a run may have, in the order of their times, of the network's senders, of
--- frame sizes
-pub record AreReleases (network : DeclaredNetwork) (releases : List Release) : Type 0 where
-  pub few : length releases ≤ MAX_FRAMES
-  pub in_order : IsNonDecreasing (map (λ (r : Release). r.at.0) releases)
-  pub senders : All (λ (r : Release). r.sender < length (senders_of network)) releases
-  pub sizes : All (λ (r : Release). IsFrameSize r.octets) releases
 
 -- for numbers past the last release
 abbrev pub no_release : Release

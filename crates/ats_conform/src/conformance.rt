@@ -6,7 +6,8 @@ ghost use Rattle.ats_group.specs.Group.{is_declared_size};
 ghost use Rattle.ats_trace.specs.Eligibility.{declared_by};
 ghost use Rattle.ats_conform.specs.Broken.{Breaks, BreaksOrFails};
 ghost use Rattle.ats_trace.specs.Talker.{IsDeclaredSize};
-ghost use Rattle.ats_conform.specs.Releases.{AllKeepBuckets, AreReleases, release_at};
+ghost use Rattle.ats_conform.specs.Releases.{AllKeepBuckets, release_at};
+ghost use Rattle.ats_trace.specs.Releases.{AreReleases};
 ghost use Rattle.ats_conform.specs.Steps.{AreMeters, KeepSoFar};
 
 use crate::broken::Broken;
@@ -25,8 +26,8 @@ use std::alloc::Global;
 ///
 /// # Errors
 ///
-/// Exactly where some station does not: the first frame that is outside its sizes or breaks its bucket, as `Size` where
-/// it is outside its sizes, else as `Bucket`. `Failure::NoMemory` where memory runs out.
+/// The first frame with which the releases so far do not: as `Size` where it is outside its sizes, else as `Bucket`.
+/// `Failure::NoMemory` where memory runs out.
 pub fn conform(
     alloc: Global,
     network: &Network,

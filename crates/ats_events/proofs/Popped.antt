@@ -4,7 +4,7 @@ use Rattle.std.specs.Option.{ForSome}
 use Rattle.std.proofs.lemmas.List.Elements.{All-cons, All-head, All-tail}
 use Rattle.std.proofs.lemmas.List.Sorted.{All-permutation}
 use Rattle.ats_heap.specs.Steps.{Pops as HeapPops}
-use Rattle.ats_heap.proofs.Pairs.{pairs_more, pairs_less}
+use Rattle.ats_facts.proofs.Pairs.{pairs_more, pairs_less}
 use Rattle.ats_events.specs.declared.moment.Moment.{Moment}
 use Rattle.ats_events.specs.Order.{IsInRange, IsTotal}
 use Rattle.ats_events.specs.Inside.{IsKept}

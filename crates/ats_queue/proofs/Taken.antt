@@ -6,7 +6,7 @@ use Rattle.std.proofs.lemmas.List.Sorted.{All-permutation, IsPermutation-sym}
 use Rattle.ats_num.specs.Tie.{AreDistinct as KeysAreDistinct}
 use Rattle.ats_heap.specs.Contents.{Contents}
 use Rattle.ats_heap.specs.Steps.{Pops, IsFirst}
-use Rattle.ats_heap.proofs.Pairs.{pairs_more, pairs_less}
+use Rattle.ats_facts.proofs.Pairs.{pairs_more, pairs_less}
 use Rattle.ats_queue.specs.declared.queued.Queued.{Queued}
 use Rattle.ats_queue.specs.Order.{GoesBefore, Takes}
 use Rattle.ats_queue.specs.Inside.{IsInRange, IsKept}

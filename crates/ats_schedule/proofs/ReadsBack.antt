@@ -20,16 +20,16 @@ use Rattle.ats_network.specs.Network.{DeclaredNetwork, IsNetwork, names_of, send
 use Rattle.ats_network.specs.Sender.{Sender}
 use Rattle.ats_network.specs.Senders.{no_sender, sender_at}
 use Rattle.ats_trace.specs.declared.journey.Release.{Release}
-use Rattle.ats_trace.specs.declared.run.TheConstants.{MAX_FRAMES}
+use Rattle.ats_trace.specs.declared.run.TheConstants.{MAX_FRAMES, MAX_RELEASE_PS}
 use Rattle.ats_csv.specs.Plain.{IsPlain}
 use Rattle.ats_csv.specs.Reading.{same_fields}
 use Rattle.ats_csv.proofs.ReadsBack.{plain_reads_back}
 use Rattle.ats_schedule.specs.Laws.{AreNamed, ScheduleReadsBack}
 use Rattle.ats_schedule.specs.Reading.{header, in_order, in_size, number_in, record_after, release_after}
 use Rattle.ats_schedule.specs.Reading.{releases_from, releases_under, sender_in, within_limits}
-use Rattle.ats_schedule.specs.Releases.{AreReleases, Follows, IsRelease, last_time}
+use Rattle.ats_trace.specs.Releases.{AreReleases, IsRelease}
+use Rattle.ats_schedule.specs.Releases.{Follows, last_time}
 use Rattle.ats_schedule.specs.Text.{fields_of}
-use Rattle.ats_schedule.specs.declared.release.TheConstants.{MAX_RELEASE_PS}
 use Rattle.ats_schedule.specs.declared.fault.ScheduleFault.{ScheduleFault}
 use Rattle.ats_schedule.specs.declared.fault.ScheduleFault.TheVariants.{BadNumber, BadRow, BadSize, Limit, TimeBack}
 use Rattle.ats_schedule.specs.declared.fault.ScheduleFault.TheVariants.{UnknownName}

@@ -8,7 +8,8 @@ use Rattle.std.proofs.lemmas.List.Sorted.{IsNonDecreasingBy-push, IsNonDecreasin
 use Rattle.std.proofs.lemmas.Option.{slice_get-get_or}
 use Rattle.ats_network.specs.Network.{DeclaredNetwork}
 use Rattle.ats_trace.specs.declared.journey.Release.{Release}
-use Rattle.ats_schedule.specs.Releases.{AreReleases, Follows, IsRelease, last_time, time_of}
+use Rattle.ats_trace.specs.Releases.{AreReleases, IsRelease}
+use Rattle.ats_schedule.specs.Releases.{Follows, last_time, time_of}
 
 -- no release
 pub no_release : (network : DeclaredNetwork) (releases : List Release) → releases ≡ [] → AreReleases network releases

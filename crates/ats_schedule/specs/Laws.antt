@@ -4,7 +4,7 @@ use Rattle.ats_network.specs.Network.{DeclaredNetwork, IsNetwork, senders_of}
 use Rattle.ats_network.specs.Sender.{Sender}
 use Rattle.ats_trace.specs.declared.journey.Release.{Release}
 use Rattle.ats_schedule.specs.Reading.{releases_of}
-use Rattle.ats_schedule.specs.Releases.{AreReleases}
+use Rattle.ats_trace.specs.Releases.{AreReleases}
 use Rattle.ats_schedule.specs.Text.{schedule_text}
 
 -- each sender has a proper name, as what is declared has

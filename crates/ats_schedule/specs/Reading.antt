@@ -9,9 +9,8 @@ use Rattle.ats_num.specs.declared.wire.TheConstants.{MIN_OCTETS, MAX_OCTETS}
 use Rattle.ats_network.specs.Network.{DeclaredNetwork, names_of, senders_of}
 use Rattle.ats_csv.specs.Reading.{field_of, records_of, same_fields}
 use Rattle.ats_trace.specs.declared.journey.Release.{Release}
-use Rattle.ats_trace.specs.declared.run.TheConstants.{MAX_FRAMES}
+use Rattle.ats_trace.specs.declared.run.TheConstants.{MAX_FRAMES, MAX_RELEASE_PS}
 use Rattle.ats_schedule.specs.Releases.{last_time}
-use Rattle.ats_schedule.specs.declared.release.TheConstants.{MAX_RELEASE_PS}
 use Rattle.ats_schedule.specs.declared.fault.ScheduleFault.{ScheduleFault}
 use Rattle.ats_schedule.specs.declared.fault.ScheduleFault.TheVariants.{BadRow, UnknownName, BadNumber, BadSize}
 use Rattle.ats_schedule.specs.declared.fault.ScheduleFault.TheVariants.{TimeBack, Limit}

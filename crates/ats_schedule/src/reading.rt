@@ -5,7 +5,7 @@ ghost use Rattle.std.specs.Global.{Vec};
 ghost use Rattle.ats_num.specs.Failure.{GivesSeen};
 ghost use Rattle.ats_csv.specs.Reading.{same_fields};
 ghost use Rattle.ats_schedule.specs.Reading.{header, releases_from, releases_of, releases_under};
-ghost use Rattle.ats_schedule.specs.Releases.{AreReleases};
+ghost use Rattle.ats_trace.specs.Releases.{AreReleases};
 
 use crate::fault::ScheduleFault;
 use crate::release::{record_after, release_after};

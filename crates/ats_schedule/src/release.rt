@@ -8,7 +8,7 @@ ghost use Rattle.ats_network.specs.Network.{senders_of};
 ghost use Rattle.ats_schedule.specs.Reading.{in_order, in_size, number_in, release_after, record_after, sender_in};
 ghost use Rattle.ats_schedule.specs.Reading.{within_limits};
 ghost use Rattle.ats_schedule.specs.Releases.{Follows, last_time};
-ghost use Rattle.ats_trace.specs.declared.run.TheConstants.{MAX_FRAMES};
+ghost use Rattle.ats_trace.specs.declared.run.TheConstants.{MAX_FRAMES, MAX_RELEASE_PS};
 
 use crate::fault::ScheduleFault;
 use ats_csv::Records;
@@ -16,10 +16,7 @@ use ats_network::Network;
 use ats_num::wire::{MAX_OCTETS, MIN_OCTETS};
 use ats_num::{Name, Ps, number};
 use ats_trace::Release;
-use ats_trace::run::MAX_FRAMES;
-
-/// The greatest time of a release, in picoseconds.
-pub const MAX_RELEASE_PS: u64 = 100_000_000_000_000_000;
+use ats_trace::run::{MAX_FRAMES, MAX_RELEASE_PS};
 
 // The number of the record that follows those of these releases.
 pub(crate) fn record_after(releases: &[Release]) -> u32

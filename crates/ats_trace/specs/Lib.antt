@@ -2,6 +2,7 @@ pub mod Journey
 pub mod Projections
 pub mod Links
 pub mod Eligibility
+pub mod Releases
 pub mod Run
 pub mod ExactLinks
 pub mod Stored

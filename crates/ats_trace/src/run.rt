@@ -9,6 +9,9 @@ use std::marker::Model;
 /// The most frames of a run.
 pub const MAX_FRAMES: usize = 200_000;
 
+/// The greatest time of a release, in picoseconds.
+pub const MAX_RELEASE_PS: u64 = 100_000_000_000_000_000;
+
 /// What happened to each frame of a run, by frame number. Contracts see one list with the release, the hop records and
 /// the ending of each frame.
 #[derive(Drop)]

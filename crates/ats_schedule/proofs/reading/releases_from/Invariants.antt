@@ -1,6 +1,6 @@
 use Rattle.std.proofs.Common.{◌≡◌, length, [], Some}
 use Rattle.ats_schedule.specs.Reading.{releases_from}
-use Rattle.ats_schedule.specs.Releases.{AreReleases}
+use Rattle.ats_trace.specs.Releases.{AreReleases}
 use Rattle.ats_schedule.proofs.reading.releases_from.Given as goal
 
 -- the releases so far and the records left give what all records give
