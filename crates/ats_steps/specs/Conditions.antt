@@ -5,6 +5,7 @@ use Rattle.ats_topology.specs.Port.{port_at, spread_of}
 use Rattle.ats_streams.specs.declared.path.TheConstants.{MAX_PORTS}
 use Rattle.ats_network.specs.Network.{DeclaredNetwork, senders_of}
 use Rattle.ats_group.specs.GroupsState.{GroupsState}
+use Rattle.ats_schedulers.specs.Schedulers.{members_of}
 use Rattle.ats_num.specs.Wire.{IsFrameSize}
 use Rattle.ats_transmit.specs.Picks.{IsFirstStart}
 use Rattle.ats_transmit.specs.Sending.{last_start, last_end}
@@ -14,10 +15,9 @@ use Rattle.ats_transmit.specs.declared.offer.Offer.{Offer}
 use Rattle.ats_records.specs.Progress.{Progress, progress_at}
 use Rattle.ats_steps.specs.Course.{Course, path_of, place_at, offer_at, arrives_from_at}
 use Rattle.ats_steps.specs.Steps.{class_behind}
-use Rattle.ats_steps.specs.Judging.{member_number}
 use Rattle.ats_steps.specs.Ports.{port_state_at}
 
--- a frame may come now to the next port of its path: the group behind the port before knows it, where it is of a stream
+-- a frame may come now to the next port of its path; the groups are those of the network
 pub record MayCome (network : DeclaredNetwork) (records : List Progress) (groups : GroupsState) (now frame : ℕ)
     : Type 0 where
   pub within : frame < length records
@@ -25,9 +25,7 @@ pub record MayCome (network : DeclaredNetwork) (records : List Progress) (groups
   pub path : (progress_at records frame).room ≡ length (path_of network (progress_at records frame))
   pub most : (progress_at records frame).room ≤ MAX_PORTS
   pub more : length (progress_at records frame).hops < (progress_at records frame).room
-  pub known : 1 ≤ class_behind network (progress_at records frame)
-      → member_number (progress_at records frame).release.sender (length (progress_at records frame).hops - 1)
-      < length groups.members
+  pub known : groups.members ≡ members_of network
   pub stream : 1 ≤ class_behind network (progress_at records frame)
       → (progress_at records frame).release.sender < length network.streams
   pub time : now + PS_PER_SECOND ≤ END

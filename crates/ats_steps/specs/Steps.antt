@@ -9,6 +9,7 @@ use Rattle.ats_group.specs.Group.{is_declared_size}
 use Rattle.ats_group.specs.GroupsState.{GroupsState, verdict_of, value_after}
 use Rattle.ats_group.specs.declared.verdict.Verdict.{Verdict}
 use Rattle.ats_group.specs.declared.verdict.Verdict.TheVariants.{Eligible, Size}
+use Rattle.ats_schedulers.specs.Schedulers.{scheduler_of}
 use Rattle.ats_transmit.specs.Picks.{Starts}
 use Rattle.ats_transmit.specs.State.{PortState, IsLawfulPort}
 use Rattle.ats_trace.specs.Eligibility.{declared_by}
@@ -17,7 +18,6 @@ use Rattle.ats_trace.specs.declared.journey.HopRecord.{HopRecord}
 use Rattle.ats_records.specs.Progress.{Progress, progress_at, with_hop, with_sent, with_ending}
 use Rattle.ats_steps.specs.Course.{Course, place_at, offer_at, turn_at, arrives_from_at, sender_of, path_of}
 use Rattle.ats_steps.specs.Entries.{arrival_moment, eligible_moment, end_moment, selection_moment}
-use Rattle.ats_steps.specs.Judging.{member_number}
 use Rattle.ats_steps.specs.Paces.{arrival_behind}
 use Rattle.ats_steps.specs.Ports.{IsTurn, port_state_at}
 use Rattle.ats_steps.specs.declared.event.Event.{Event}
@@ -60,7 +60,7 @@ judged_by network groups class progress now =
     if class == 0
     then (if is_declared_size (declared_by network progress.release.sender) progress.release.octets
     then Eligible (record { 0 = now }) else Size)
-    else verdict_of groups (member_number progress.release.sender (length progress.hops - 1)) now
+    else verdict_of groups (scheduler_of network progress.release.sender (length progress.hops)) now
     progress.release.octets
 
 -- the class in which a frame came, behind the port of its last record
@@ -78,7 +78,7 @@ abbrev pub groups_now : DeclaredNetwork → GroupsState → Progress → ℕ →
 groups_now network groups progress now =
     if length progress.hops == 0 then groups
     else (if class_behind network progress == 0 then groups
-    else value_after groups (member_number progress.release.sender (length progress.hops - 1)) now
+    else value_after groups (scheduler_of network progress.release.sender (length progress.hops)) now
     progress.release.octets)
 
 -- the hop record of a frame that came at this time

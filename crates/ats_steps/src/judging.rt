@@ -4,11 +4,9 @@ ghost use Rattle.std.specs.Prelude.{◌≡◌, ◌-◌, ◌<◌, ◌≤◌, leng
 ghost use Rattle.ats_num.specs.declared.time.TheConstants.{PS_PER_SECOND, END};
 ghost use Rattle.ats_network.specs.Network.{senders_of};
 ghost use Rattle.ats_group.specs.Group.{is_declared_size};
-ghost use Rattle.ats_streams.specs.declared.path.TheConstants.{MAX_PORTS};
 ghost use Rattle.ats_trace.specs.Eligibility.{declared_by};
 ghost use Rattle.ats_records.specs.Progress.{progress_at};
 ghost use Rattle.ats_steps.specs.Conditions.{MayCome};
-ghost use Rattle.ats_steps.specs.Judging.{member_number};
 ghost use Rattle.ats_steps.specs.Steps.{verdict_now, groups_now};
 
 use ats_group::{Groups, Verdict};
@@ -16,7 +14,7 @@ use ats_network::Network;
 use ats_num::Ps;
 use ats_num::wire::MIN_OCTETS;
 use ats_records::Records;
-use ats_streams::path::MAX_PORTS;
+use ats_schedulers::Schedulers;
 
 /// Whether a sender declares frames of so many octets.
 fn allows(net: &Network, sender: u32, octets: u32) -> bool
@@ -33,24 +31,18 @@ fn allows(net: &Network, sender: u32, octets: u32) -> bool
     octets >= MIN_OCTETS && octets <= flow.max_octets()
 }
 
-/// The number of the member of groups that a stream is behind the port of one of its hops.
-fn member_of(stream: u32, hop: u32) -> u32
-    requires { (stream < 4096) × (hop < MAX_PORTS) }
-    ensures { result ≡ member_number stream hop }
-{
-    MAX_PORTS as u32 * stream + hop
-}
-
 /// The verdict on a frame that comes now to the next port of its path, by the group behind the port
 /// before.
 pub(crate) fn judge(
     net: &Network,
+    schedulers: &Schedulers,
     records: &Records,
     groups: &mut Groups,
     now: Ps,
     frame: u32,
 ) -> Verdict
-    requires { MayCome net.now records.now groups.old now.0 frame }
+    requires schedulers { schedulers.now ≡ net.now }
+    requires may_come { MayCome net.now records.now groups.old now.0 frame }
     ensures verdict { result ≡ verdict_now net.now groups.old (progress_at records.now frame) now.0 }
     ensures groups { groups.new ≡ groups_now net.now groups.old (progress_at records.now frame) now.0 }
 {
@@ -60,7 +52,8 @@ pub(crate) fn judge(
     }
     let release = records.release(frame);
     if net.sender_class(release.sender, hops - 1) != 0 {
-        return groups.process(member_of(release.sender, hops - 1), now, release.octets);
+        let member = schedulers.scheduler(release.sender, hops);
+        return groups.process(member, now, release.octets);
     }
     if allows(net, release.sender, release.octets) {
         Verdict::Eligible(now)

@@ -18,6 +18,7 @@ use ats_events::phase::{ELIGIBLE, SELECTION, TRANSMISSION_END};
 use ats_group::Verdict;
 use ats_network::Network;
 use ats_num::{Pace, Ps, Tie};
+use ats_schedulers::Schedulers;
 use ats_trace::{Ending, HopRecord};
 use ats_transmit::Pick;
 
@@ -25,14 +26,16 @@ use ats_transmit::Pick;
 /// the moment that this gives, or is discarded.
 pub fn come<T: Tie>(
     net: &Network,
+    schedulers: &Schedulers,
     state: &mut State<T>,
     now: Moment,
     frame: u32,
 ) -> Option<(Moment, Event)>
-    requires { MayComeNow net.now (course_of state.old) now.at.0 frame }
+    requires schedulers { schedulers.now ≡ net.now }
+    requires may_come { MayComeNow net.now (course_of state.old) now.at.0 frame }
     ensures { Comes net.now (course_of state.old) (course_of state.new) now frame (option_to_list result) }
 {
-    let verdict = judge(net, &state.records, &mut state.groups, now.at, frame);
+    let verdict = judge(net, schedulers, &state.records, &mut state.groups, now.at, frame);
     let hop = HopRecord {
         arrival: now.at,
         verdict,

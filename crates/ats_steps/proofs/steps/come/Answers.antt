@@ -20,7 +20,7 @@ returns-in-Late g c =
       groups = gs;
       last = c.args.now;
     }) c.args.now c.args.frame []) (sym c.in-Late.ensures.groups)
-    (discarded c.args.net.now old c.args.now c.args.frame v c.push.new.self c.close.new.self c.requires.may_come.within
+    (discarded c.args.net.now old c.args.now c.args.frame v c.push.new.self c.close.new.self c.requires.may_come.may_come.within
     c.in-Late.ensures.verdict refl
     (c.push.ensures ∙ ap (λ (w : Verdict). set c.args.state.now.records c.args.frame
     (with_hop p (came c.args.now.at w))) c.in-Late.is)
@@ -38,7 +38,7 @@ returns-in-Size g c =
       last = c.args.now;
     }) c.args.now c.args.frame []) (sym c.in-Size.ensures.groups)
     (discarded c.args.net.now old c.args.now c.args.frame v c.push.new.self c.close-in-Size.new.self
-    c.requires.may_come.within
+    c.requires.may_come.may_come.within
     c.in-Size.ensures.verdict refl
     (c.push.ensures ∙ ap (λ (w : Verdict). set c.args.state.now.records c.args.frame
     (with_hop p (came c.args.now.at w))) c.in-Size.is)
