@@ -1,0 +1,23 @@
+pub comes-holds : {T : Type 0} {key : T → ℕ → ℕ → ℕ} {wait : ℕ → ℕ → ℕ} {network : DeclaredNetwork}
+    {releases : List Release} {old new : Course T} {now : Moment} {frame : ℕ} {entries more : List (Moment × Event)}
+    → IsNext key wait network releases old now (Arrival frame) entries → Comes network old new now frame more
+    → Holds key wait network releases new (more ++ entries)
+comes-holds next step = ?
+
+pub offered-holds : {T : Type 0} {key : T → ℕ → ℕ → ℕ} {wait : ℕ → ℕ → ℕ} {network : DeclaredNetwork}
+    {releases : List Release} {old new : Course T} {now : Moment} {frame : ℕ} {entries more : List (Moment × Event)}
+    → IsNext key wait network releases old now (Eligibility frame) entries → BecomesEligible key network old new now frame more
+    → Holds key wait network releases new (more ++ entries)
+offered-holds next step = ?
+
+pub selects-holds : {T : Type 0} {key : T → ℕ → ℕ → ℕ} {wait : ℕ → ℕ → ℕ} {network : DeclaredNetwork}
+    {releases : List Release} {old new : Course T} {now : Moment} {port : ℕ} {entries more : List (Moment × Event)}
+    → IsNext key wait network releases old now (Selection port) entries → Selects key old new now port more
+    → Holds key wait network releases new (more ++ entries)
+selects-holds next step = ?
+
+pub ends-holds : {T : Type 0} {key : T → ℕ → ℕ → ℕ} {wait : ℕ → ℕ → ℕ} {network : DeclaredNetwork}
+    {releases : List Release} {old new : Course T} {now : Moment} {frame : ℕ} {entries more : List (Moment × Event)}
+    → WaitsWithin wait → IsNext key wait network releases old now (End frame) entries
+    → Ends key wait network old new now frame more → Holds key wait network releases new (more ++ entries)
+ends-holds within next step = ?

@@ -1,0 +1,11 @@
+pub mod Allowed
+pub mod Conclusion
+pub mod Entries
+pub mod Frames
+pub mod Groups
+pub mod Kept
+pub mod Opened
+pub mod Paces
+pub mod Ports
+pub mod Times
+pub mod Travels
