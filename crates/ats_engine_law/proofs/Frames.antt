@@ -28,6 +28,7 @@ use Rattle.ats_steps.specs.declared.event.Event.{Event}
 use Rattle.ats_steps.specs.declared.event.Event.TheVariants.{End, Arrival, Eligibility, Selection}
 use Rattle.ats_steps.specs.declared.stage.Stage.{Stage}
 use Rattle.ats_steps.specs.declared.stage.Stage.TheVariants.{Coming, Due, Waiting, Sending, Over}
+use Rattle.ats_steps.specs.declared.turn.Turn.TheVariants.{Selecting}
 use Rattle.ats_steps.proofs.Stepping.{started-frame}
 use Rattle.ats_engine_law.specs.Next.{IsNext}
 use Rattle.ats_engine_law.proofs.Stages.{next-coming, next-due, next-sending, next-selecting, stage-within, turn-within}
