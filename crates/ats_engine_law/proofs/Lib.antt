@@ -4,8 +4,14 @@ pub mod Entries
 pub mod Frames
 pub mod Groups
 pub mod Kept
+pub mod Moving
 pub mod Opened
 pub mod Paces
+pub mod PortEnded
+pub mod PortKept
+pub mod PortLists
+pub mod PortOffered
+pub mod PortStarted
 pub mod Ports
 pub mod Stages
 pub mod Times
