@@ -1,4 +1,5 @@
 pub mod Allowed
+pub mod Away
 pub mod Conclusion
 pub mod Entries
 pub mod Frames
@@ -12,6 +13,7 @@ pub mod PortKept
 pub mod PortLists
 pub mod PortOffered
 pub mod PortStarted
+pub mod PortSteps
 pub mod Ports
 pub mod Stages
 pub mod Times

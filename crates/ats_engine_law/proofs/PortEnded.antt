@@ -1,17 +1,15 @@
-use Rattle.std.proofs.Common.{◌≡◌, ℕ, ◌<◌, ◌≤◌, true, false, List, length, All, ap, ◌∙◌, sym, subst, arith, ⊥}
-use Rattle.std.specs.Prelude.{◌≢◌, Contains, IsPermutation}
+use Rattle.std.proofs.Common.{◌≡◌, ℕ, ◌<◌, false, List, length, ap, ◌∙◌, sym, subst, arith}
+use Rattle.std.specs.Prelude.{◌≢◌, IsPermutation}
 use Rattle.std.proofs.lemmas.Bool.{true≢false}
 use Rattle.std.proofs.lemmas.List.Elements.{All-weaker}
 use Rattle.ats_num.specs.declared.time.Ps.{Ps}
 use Rattle.ats_port_rule.specs.Transmission.{Transmission}
 use Rattle.ats_network.specs.Network.{DeclaredNetwork}
-use Rattle.ats_transmit.specs.Sending.{last_of, last_end, transmissions}
+use Rattle.ats_transmit.specs.Sending.{transmissions}
 use Rattle.ats_transmit.specs.State.{PortState, IsLawfulPort}
-use Rattle.ats_transmit.specs.declared.offer.Offer.{Offer}
 use Rattle.ats_trace.specs.Projections.{sent_by}
 use Rattle.ats_steps.specs.Course.{Course, travels, stage_at, turn_at, place_at}
 use Rattle.ats_steps.specs.Ports.{IsTurn, IsHeld, Sends, IsPortOf}
-use Rattle.ats_steps.specs.declared.stage.Stage.{Stage}
 use Rattle.ats_steps.specs.declared.stage.Stage.TheVariants.{Waiting, Sending}
 use Rattle.ats_steps.specs.declared.turn.Turn.{Turn}
 use Rattle.ats_engine_law.proofs.Moving.{Changes}
@@ -28,6 +26,7 @@ pub record IsEnding {T : Type 0} (network : DeclaredNetwork) (old new : Course T
   pub away : IsAway network new port frame
   pub last : new.last.at ≡ now
 
+-- a frame that is being sent does not wait
 sending-waiting : (until : Ps) → Sending until ≡ Waiting → ⊥
 sending-waiting until e = cc
 

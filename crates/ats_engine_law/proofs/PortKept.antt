@@ -1,6 +1,5 @@
-use Rattle.std.proofs.Common.{◌≡◌, ℕ, ◌<◌, ◌≤◌, true, false, List, length, All, ap, ◌∙◌, sym, subst, inl, inr, arith}
+use Rattle.std.proofs.Common.{◌≡◌, ℕ, ◌<◌, ◌≤◌, List, length, All, ap, ◌∙◌, sym, subst, arith}
 use Rattle.std.specs.Prelude.{◌≢◌, Contains, IsPermutation}
-use Rattle.std.proofs.lemmas.Bool.{cases_eq}
 use Rattle.std.proofs.lemmas.List.Elements.{All-weaker}
 use Rattle.ats_num.specs.declared.time.Ps.{Ps}
 use Rattle.ats_port_rule.specs.Transmission.{Transmission}
@@ -11,12 +10,9 @@ use Rattle.ats_transmit.specs.declared.offer.Offer.{Offer}
 use Rattle.ats_transmit.specs.declared.sent.Sent.{Sent}
 use Rattle.ats_events.specs.declared.phase.TheConstants.{SELECTION}
 use Rattle.ats_trace.specs.Projections.{sent_by}
-use Rattle.ats_records.specs.Progress.{Progress, progress_at}
 use Rattle.ats_steps.specs.Course.{Course, travels, stage_at, turn_at, place_of, place_at, offer_of, offer_at}
-use Rattle.ats_steps.specs.Entries.{IsReached}
 use Rattle.ats_steps.specs.Ports.{IsTurn, IsHeld, IsUnderWay, Sends, IsPortOf}
 use Rattle.ats_steps.specs.declared.stage.Stage.TheVariants.{Waiting, Sending}
-use Rattle.ats_steps.specs.declared.turn.Turn.{Turn}
 use Rattle.ats_engine_law.proofs.Moving.{Changes}
 
 -- another frame that waits at a port still does
@@ -69,6 +65,7 @@ selected-later {T} {network} {old} {new} key port s c is some now =
     let first : SELECTION ≤ old.last.phase = is.selected some (omega arith) in
     omega arith
 
+-- it is no later than the last event
 pub started-later : {T : Type 0} {network : DeclaredNetwork} {old new : Course T} {frame : ℕ} (key : T → ℕ → ℕ → ℕ)
     (port : ℕ) (s : PortState T) → Changes network old new frame → IsPortOf key network old port s
     → 0 < length s.sent → last_start s.sent ≤ new.last.at.0
@@ -97,6 +94,7 @@ held-apart : {T : Type 0} {network : DeclaredNetwork} {course : Course T} {port 
 held-apart {T} {network} {course} {port} {frame} o away h e =
     away.waiting (ap (stage_at course) (sym e) ∙ h.stage) (ap (place_at network course) (sym e) ∙ h.place)
 
+-- nor is one that it sends
 under-way-apart : {T : Type 0} {network : DeclaredNetwork} {course : Course T} {port frame : ℕ} (x : Sent)
     → IsAway network course port frame → IsUnderWay network course port x → x.frame ≢ frame
 under-way-apart {T} {network} {course} {port} {frame} x away h e =

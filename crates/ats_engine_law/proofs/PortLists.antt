@@ -1,4 +1,4 @@
-use Rattle.std.proofs.Common.{◌≡◌, ℕ, zero, suc, ◌+◌, ◌<◌, List, [], ◌∷◌, ◌++◌, length, get_or, ◌⊎◌, subst, sym, ap, ◌∙◌}
+use Rattle.std.proofs.Common.{◌≡◌, ℕ, zero, suc, ◌<◌, List, [], ◌∷◌, ◌++◌, length, get_or, ◌⊎◌, subst, sym, ap, ◌∙◌}
 use Rattle.std.proofs.Common.{refl, inl, inr, arith}
 use Rattle.std.specs.Prelude.{◌≢◌, ◌-◌, Any, Contains, IsPermutation, map}
 use Rattle.std.proofs.lemmas.List.{get_or_push, length_push, map_push}

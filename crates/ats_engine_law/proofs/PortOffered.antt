@@ -1,5 +1,5 @@
-use Rattle.std.proofs.Common.{◌≡◌, ℕ, ◌<◌, ◌≤◌, true, false, List, [], ◌∷◌, ◌++◌, length, All, ap, ◌∙◌, sym, subst}
-use Rattle.std.proofs.Common.{inl, inr, arith, ⊥}
+use Rattle.std.proofs.Common.{◌≡◌, ℕ, ◌<◌, ◌≤◌, false, List, [], ◌∷◌, ◌++◌, length, All, ap, ◌∙◌, sym, subst}
+use Rattle.std.proofs.Common.{inl, inr, arith}
 use Rattle.std.specs.Prelude.{◌≢◌, Any, AllPairs, Contains, IsPermutation, map}
 use Rattle.std.proofs.lemmas.Bool.{cases_eq}
 use Rattle.std.proofs.lemmas.List.Elements.{All-cons, All-append, All-map, All-weaker, All-contains}
@@ -8,18 +8,16 @@ use Rattle.ats_facts.proofs.Pairs.{pairs_more}
 use Rattle.ats_num.specs.declared.time.Ps.{Ps}
 use Rattle.ats_port_rule.specs.Transmission.{Transmission}
 use Rattle.ats_network.specs.Network.{DeclaredNetwork}
-use Rattle.ats_transmit.specs.Picks.{MaySend, IsFirstStart}
+use Rattle.ats_transmit.specs.Picks.{IsFirstStart}
 use Rattle.ats_transmit.specs.Sending.{last_of, last_end, transmissions}
 use Rattle.ats_transmit.specs.State.{PortState, IsLawfulPort}
 use Rattle.ats_transmit.specs.declared.offer.Offer.{Offer}
 use Rattle.ats_transmit.specs.declared.sent.Sent.{Sent}
-use Rattle.ats_trace.specs.Journey.{Travel}
 use Rattle.ats_trace.specs.Projections.{sent_by}
-use Rattle.ats_records.specs.Progress.{Progress, progress_at}
+use Rattle.ats_records.specs.Progress.{progress_at}
 use Rattle.ats_steps.specs.Course.{Course, travels, stage_at, turn_at, place_of, place_at, offer_of, offer_at}
-use Rattle.ats_steps.specs.Ports.{IsTurn, IsHeld, Sends, IsPortOf, frames_at}
+use Rattle.ats_steps.specs.Ports.{IsTurn, IsHeld, IsPortOf, frames_at}
 use Rattle.ats_steps.specs.Steps.{turn_once_offered}
-use Rattle.ats_steps.specs.declared.stage.Stage.{Stage}
 use Rattle.ats_steps.specs.declared.stage.Stage.TheVariants.{Due, Waiting, Sending}
 use Rattle.ats_steps.specs.declared.turn.Turn.{Turn}
 use Rattle.ats_steps.specs.declared.turn.Turn.TheVariants.{Resting, Selecting, Occupied}
@@ -40,12 +38,15 @@ pub record IsOffering {T : Type 0} (network : DeclaredNetwork) (old new : Course
   pub eligible : (offer_at network old frame).eligible ≡ now
   pub last : new.last.at ≡ now
 
+-- a frame that is due does not wait
 due-waiting : (at : Ps) → Due at ≡ Waiting → ⊥
 due-waiting at e = cc
 
+-- nor is it being sent
 due-sending : (at until : Ps) → Due at ≡ Sending until → ⊥
 due-sending at until e = cc
 
+-- and one that waits is not being sent
 waiting-sending : (until : Ps) → Waiting ≡ Sending until → ⊥
 waiting-sending until e = cc
 
@@ -163,9 +164,9 @@ turn-selecting {T} {network} {old} {new} {now} {frame} key s held at o is p was 
           let By : Offer → Type 0 = λ (x : Offer). x.eligible.0 ≤ earlier in
           elim (any-split By offer s.held held p may.eligible) as (λ _. at ≤ earlier) [
             | inl by ↦ was.first earlier (record {
-                free = may.free;
-                eligible = (some.0, some.1, some.2, some.3, omega arith);
-              })
+              free = may.free;
+              eligible = (some.0, some.1, some.2, some.3, omega arith);
+            })
             | inr other ↦ was.first earlier (record { free = may.free; eligible = other })
           ]);
     }

@@ -1,9 +1,9 @@
 use Rattle.std.proofs.Common.{◌≡◌, ℕ, ◌+◌, ◌*◌, ◌<◌, ◌≤◌, true, false, List, [], ◌∷◌, ◌++◌, length, All, ap, ◌∙◌, sym, subst}
-use Rattle.std.proofs.Common.{refl, inl, inr, arith, ⊥}
-use Rattle.std.specs.Prelude.{◌≢◌, AllPairs, Contains, IsPermutation, map}
+use Rattle.std.proofs.Common.{refl, inl, inr, arith}
+use Rattle.std.specs.Prelude.{◌≢◌, Contains, IsPermutation, map}
 use Rattle.std.proofs.lemmas.Bool.{cases_eq, true≢false}
 use Rattle.std.proofs.lemmas.List.{map_push}
-use Rattle.std.proofs.lemmas.List.Elements.{All-head, All-tail}
+use Rattle.std.proofs.lemmas.List.Elements.{All-tail}
 use Rattle.std.proofs.lemmas.List.Sorted.{All-permutation, Contains-permutation, IsPermutation-trans, IsPermutation-cons}
 use Rattle.std.proofs.lemmas.List.Sorted.{IsPermutation-to_front}
 use Rattle.ats_facts.proofs.Lists.{all_left, all_unmapped}
@@ -12,18 +12,15 @@ use Rattle.ats_num.specs.Wire.{bits_of}
 use Rattle.ats_num.specs.declared.time.Ps.{Ps}
 use Rattle.ats_port_rule.specs.Transmission.{Transmission}
 use Rattle.ats_network.specs.Network.{DeclaredNetwork}
-use Rattle.ats_transmit.specs.Sending.{begun, last_of, last_end, last_start, sent_at, transmission_of, transmissions}
+use Rattle.ats_transmit.specs.Sending.{begun, last_of, last_start, sent_at, transmission_of, transmissions}
 use Rattle.ats_transmit.specs.State.{PortState, IsLawfulPort}
 use Rattle.ats_transmit.specs.declared.offer.Offer.{Offer}
 use Rattle.ats_transmit.specs.declared.sent.Sent.{Sent}
-use Rattle.ats_events.specs.declared.moment.Moment.{Moment}
 use Rattle.ats_events.specs.declared.phase.TheConstants.{SELECTION}
 use Rattle.ats_trace.specs.Projections.{sent_by}
 use Rattle.ats_steps.specs.Course.{Course, travels, stage_at, turn_at, place_at, offer_at}
 use Rattle.ats_steps.specs.Ports.{IsTurn, IsHeld, IsUnderWay, Sends, IsPortOf, frames_at}
-use Rattle.ats_steps.specs.declared.stage.Stage.{Stage}
 use Rattle.ats_steps.specs.declared.stage.Stage.TheVariants.{Waiting, Sending}
-use Rattle.ats_steps.specs.declared.turn.Turn.{Turn}
 use Rattle.ats_steps.specs.declared.turn.Turn.TheVariants.{Occupied}
 use Rattle.ats_engine_law.proofs.Moving.{Changes}
 use Rattle.ats_engine_law.proofs.PortKept.{held-else, waiting-else, sending-else, eligible-later}
@@ -36,7 +33,7 @@ pub record IsStarting {T : Type 0} (network : DeclaredNetwork) (old new : Course
   pub within : frame < length old.records
   pub named : started.frame ≡ frame
   pub ends : end.0 ≡ now.0 + s.ps_per_bit * bits_of started.octets
-  pub held : IsPermutation s.held (started ∷ held)
+  pub takes : IsPermutation s.held (started ∷ held)
   pub goes : stage_at new frame ≡ Sending end
   pub place : place_at network new frame ≡ port
   pub last : new.last.at ≡ now
@@ -44,9 +41,11 @@ pub record IsStarting {T : Type 0} (network : DeclaredNetwork) (old new : Course
   pub free : s.is_sending ≡ false
   pub turn : turn_at new port ≡ Occupied
 
+-- a frame that is being sent does not wait
 waiting-sending : (until : Ps) → Sending until ≡ Waiting → ⊥
 waiting-sending until e = cc
 
+-- and is sent until one time
 same-end : (end until : Ps) → Sending end ≡ Sending until → end ≡ until
 same-end end until e = cc
 
@@ -73,7 +72,7 @@ still-apart {T} {network} {old} {new} {now} {end} {frame} {port} {s} {held} {sta
     let Other : ℕ → Type 0 = λ (n : ℕ). started.frame ≢ n in
     let rest : All Other (map of_offer held ++ map of_sent s.sent) =
     (pairs_less (λ (x y : ℕ). x ≢ y) flip started.frame (frames_at s) (map of_offer held ++ map of_sent s.sent)
-    (frames-taken started s.held held s.sent o.held) is.apart).0 in
+    (frames-taken started s.held held s.sent o.takes) is.apart).0 in
     let each : All (λ (x : Offer). started.frame ≢ x.frame) held =
     all_unmapped Other of_offer held (all_left Other (map of_offer held) (map of_sent s.sent) rest) in
     subst (λ (n : ℕ). All (λ (x : Offer). n ≢ x.frame) held) o.named each
@@ -86,7 +85,7 @@ still-held : {T : Type 0} {network : DeclaredNetwork} {old new : Course T} {now 
 still-held {T} {network} {old} {new} {now} {end} {frame} {port} {s} {held} {started} key o is =
     let before : All (IsHeld network old port) held =
     All-tail (IsHeld network old port) started held
-    (All-permutation (IsHeld network old port) s.held (started ∷ held) o.held is.held) in
+    (All-permutation (IsHeld network old port) s.held (started ∷ held) o.takes is.held) in
     let apart = still-apart key o is in
     λ k d h. held-else port _ o.changes (flip _ _ (apart k d h)) (before k d h)
 
@@ -111,7 +110,7 @@ still-there : {T : Type 0} {network : DeclaredNetwork} {old new : Course T} {now
 still-there {T} {network} {old} {new} {now} {end} {frame} {port} {s} {held} {started} key o is other within stage place =
     let offer : Offer = offer_at network new other in
     let apart : other ≢ frame = λ e. waiting-sending end (sym o.goes ∙ ap (stage_at new) (sym e) ∙ stage) in
-    contains-rest started offer held (Contains-permutation s.held (started ∷ held) offer o.held
+    contains-rest started offer held (Contains-permutation s.held (started ∷ held) offer o.takes
     (waiting-else key port other s o.changes apart is within stage place))
     (λ e. apart (sym (ap (λ (x : Offer). x.frame) e) ∙ o.named))
 
@@ -180,7 +179,7 @@ port-started {T} {network} {old} {new} {now} {end} {frame} {port} {s} {held} {st
       held = still-held key o is;
       waiting = still-there key o is;
       apart = AllPairs-permutation (λ (a b : ℕ). a ≢ b) flip (frames_at s) (frames_at t)
-          (frames-started started x s.held held s.sent o.held refl) is.apart;
+          (frames-started started x s.held held s.sent o.takes refl) is.apart;
       under_way = λ _. subst (IsUnderWay network new port) (sym last) (under-way-starts o);
       sending = sends-started key o is;
       turn = subst (IsTurn t) (sym o.turn) refl;
@@ -188,5 +187,5 @@ port-started {T} {network} {old} {new} {now} {end} {frame} {port} {s} {held} {st
       selected = λ _ _. o.phase;
       ended = λ free. absurd (true≢false free);
       eligible = All-tail Eligible started held
-          (All-permutation Eligible s.held (started ∷ held) o.held (eligible-later key port s c is));
+          (All-permutation Eligible s.held (started ∷ held) o.takes (eligible-later key port s c is));
     }
