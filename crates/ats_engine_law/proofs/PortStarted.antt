@@ -1,10 +1,12 @@
-use Rattle.std.proofs.Common.{◌≡◌, ℕ, ◌+◌, ◌*◌, ◌<◌, ◌≤◌, true, false, List, [], ◌∷◌, ◌++◌, length, All, ap, ◌∙◌, sym, subst}
+use Rattle.std.proofs.Common.{◌≡◌, ℕ, ◌+◌, ◌*◌, ◌<◌, ◌≤◌, true, false, List, [], ◌∷◌, ◌++◌, length, All, ap, ◌∙◌, sym}
+use Rattle.std.proofs.Common.{subst}
 use Rattle.std.proofs.Common.{refl, inl, inr, arith}
 use Rattle.std.specs.Prelude.{◌≢◌, Contains, IsPermutation, map}
 use Rattle.std.proofs.lemmas.Bool.{cases_eq, true≢false}
 use Rattle.std.proofs.lemmas.List.{map_push}
 use Rattle.std.proofs.lemmas.List.Elements.{All-tail}
-use Rattle.std.proofs.lemmas.List.Sorted.{All-permutation, Contains-permutation, IsPermutation-trans, IsPermutation-cons}
+use Rattle.std.proofs.lemmas.List.Sorted.{All-permutation, Contains-permutation, IsPermutation-trans}
+use Rattle.std.proofs.lemmas.List.Sorted.{IsPermutation-cons}
 use Rattle.std.proofs.lemmas.List.Sorted.{IsPermutation-to_front}
 use Rattle.ats_facts.proofs.Lists.{all_left, all_unmapped}
 use Rattle.ats_facts.proofs.Pairs.{AllPairs-permutation, pairs_less}
@@ -107,7 +109,8 @@ still-there : {T : Type 0} {network : DeclaredNetwork} {old new : Course T} {now
     → IsStarting network old new now end frame port s held started → IsPortOf key network old port s
     → (other : ℕ) → other < length new.records → stage_at new other ≡ Waiting → place_at network new other ≡ port
     → Contains held (offer_at network new other)
-still-there {T} {network} {old} {new} {now} {end} {frame} {port} {s} {held} {started} key o is other within stage place =
+still-there {T} {network} {old} {new} {now} {end} {frame} {port} {s} {held} {started} key o is other within stage
+    place =
     let offer : Offer = offer_at network new other in
     let apart : other ≢ frame = λ e. waiting-sending end (sym o.goes ∙ ap (stage_at new) (sym e) ∙ stage) in
     contains-rest started offer held (Contains-permutation s.held (started ∷ held) offer o.takes
@@ -135,8 +138,8 @@ sends-started : {T : Type 0} {network : DeclaredNetwork} {old new : Course T} {n
     → IsStarting network old new now end frame port s held started → IsPortOf key network old port s
     → (other : ℕ) (until : Ps) → other < length new.records → stage_at new other ≡ Sending until
     → place_at network new other ≡ port → Sends (once_started s held started now) other until.0
-sends-started {T} {network} {old} {new} {now} {end} {frame} {port} {s} {held} {started} key o is other until within stage
-    place =
+sends-started {T} {network} {old} {new} {now} {end} {frame} {port} {s} {held} {started} key o is other until within
+    stage place =
     let x : Sent = starting s started now in
     let last : last_of (s.sent ++ x ∷ []) ≡ x = last-push s.sent x in
     elim (cases_eq other frame) as (λ _. Sends (once_started s held started now) other until.0) [

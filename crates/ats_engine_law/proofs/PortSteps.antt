@@ -34,7 +34,8 @@ use Rattle.ats_engine_law.proofs.PortEnded.{IsEnding, port-ended}
 use Rattle.ats_engine_law.proofs.Stages.{next-moment, next-due, next-sending, next-selecting}
 use Rattle.ats_engine_law.proofs.Stages.{turn-within}
 use Rattle.ats_engine_law.proofs.Travels.{offered-travels, selects-here, ends-sent}
-use Rattle.ats_engine_law.proofs.Away.{between-away, next-reached, frame-within, due-over, resting-selecting, sent-place, leaves-release, leaves-between, sending-over}
+use Rattle.ats_engine_law.proofs.Away.{between-away, next-reached, frame-within, due-over, resting-selecting}
+use Rattle.ats_engine_law.proofs.Away.{sent-place, leaves-release, leaves-between, sending-over}
 
 -- a frame that becomes eligible is offered with the time of the event
 pub offered-eligible : {T : Type 0} {key : T → ℕ → ℕ → ℕ} {wait : ℕ → ℕ → ℕ} {network : DeclaredNetwork}

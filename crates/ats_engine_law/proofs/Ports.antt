@@ -26,8 +26,10 @@ use Rattle.ats_engine_law.proofs.PortKept.{port-stays}
 use Rattle.ats_engine_law.proofs.PortOffered.{IsOffering}
 use Rattle.ats_engine_law.proofs.Stages.{next-coming}
 use Rattle.ats_engine_law.proofs.Travels.{comes-sent, offered-travels, selects-elsewhere, ends-sent}
-use Rattle.ats_engine_law.proofs.Away.{between-away, placed-away, next-reached, frame-within, comes-release, comes-between, coming-over}
-use Rattle.ats_engine_law.proofs.PortSteps.{offering, offered-here, starts-held, starting, selects-this, ends-changes, ends-away, ends-this}
+use Rattle.ats_engine_law.proofs.Away.{between-away, placed-away, next-reached, frame-within, comes-release}
+use Rattle.ats_engine_law.proofs.Away.{comes-between, coming-over}
+use Rattle.ats_engine_law.proofs.PortSteps.{offering, offered-here, starts-held, starting, selects-this, ends-changes}
+use Rattle.ats_engine_law.proofs.PortSteps.{ends-away, ends-this}
 
 -- what is kept of each port is so after a frame came
 pub comes-ports : {T : Type 0} {key : T → ℕ → ℕ → ℕ} {wait : ℕ → ℕ → ℕ} {network : DeclaredNetwork}
@@ -71,7 +73,8 @@ offered-ports {T} {key} {wait} {network} {releases} {old} {new} {now} {frame} ne
     let turn : Turn = turn_once_offered (turn_at old port) now.at in
     let Goal : ℕ → Type 0 = λ (n : ℕ). IsPortOf key network new n (port_state_at new n) in
     elim (cases_eq port other) as (λ _. Goal other) [
-      | inl e ↦ subst Goal e (offered-here next step (subst (λ (n : ℕ). n < length network.topology.ports) (sym e) within))
+      | inl e ↦ subst Goal e (offered-here next step
+          (subst (λ (n : ℕ). n < length network.topology.ports) (sym e) within))
       | inr apart ↦ (
           let differs : other ≢ port = λ e. apart (sym e) in
           subst (IsPortOf key network new other)
