@@ -1,9 +1,12 @@
 pub mod Allowed
+pub mod Arriving
 pub mod Conclusion
 pub mod Entries
 pub mod Frames
 pub mod Groups
+pub mod Judged
 pub mod Kept
+pub mod Now
 pub mod Opened
 pub mod Paces
 pub mod Ports
