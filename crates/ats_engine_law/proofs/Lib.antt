@@ -1,4 +1,5 @@
 pub mod Allowed
+pub mod Beginning
 pub mod Conclusion
 pub mod Entries
 pub mod Frames
