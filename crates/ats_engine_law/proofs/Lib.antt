@@ -1,5 +1,6 @@
 pub mod Allowed
 pub mod Arriving
+pub mod Beginning
 pub mod Conclusion
 pub mod Entries
 pub mod Frames
@@ -10,5 +11,7 @@ pub mod Now
 pub mod Opened
 pub mod Paces
 pub mod Ports
+pub mod Stages
 pub mod Times
 pub mod Travels
+pub mod Ways
