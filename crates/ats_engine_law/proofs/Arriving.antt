@@ -1,5 +1,5 @@
 -- What one more frame does to those that have crossed a port, where it was sent after all of them.
-use Rattle.std.proofs.Common.{◌≡◌, ℕ, ◌+◌, ◌-◌, ◌<◌, ◌≤◌, max, nat_lt, Bool, true, List, [], ◌∷◌, length, get_or, map, filter}
+use Rattle.std.proofs.Common.{◌≡◌, ℕ, ◌+◌, ◌<◌, ◌≤◌, max, nat_lt, Bool, true, List, [], ◌∷◌, get_or, map, filter}
 use Rattle.std.proofs.Common.{fold, All, IsPermutation, sym, ◌∙◌, arith}
 use Rattle.std.proofs.lemmas.Bool.{lt-ltb, ltb-true}
 use Rattle.std.proofs.lemmas.List.Elements.{All-nil, All-cons, All-head, All-tail, All-weaker, All-map, All-filter}
@@ -149,8 +149,12 @@ pace-more wait port from x old new newest moved pace =
     ∙ from-all x.sent.end END old newest.later (omega (arith, newest.end)) ∙ sym newest.allowed in
     let first : By x = omega (arith, newest.arrives, same) in
     let others : All By old = λ k d h.
-    omega (arith, pace k d h, from-later (get_or old k d).sent.end x old new moved
-    (omega (arith, newest.later k d h))) in
+    omega (
+      arith,
+      pace k d h,
+      from-later (get_or old k d).sent.end x old new moved
+          (omega (arith, newest.later k d h)),
+    ) in
     All-permutation By (x ∷ old) new moved (All-cons By x old first others)
 
 -- and the next frame may arrive a picosecond after it

@@ -1,19 +1,18 @@
-use Rattle.std.proofs.Common.{◌≡◌, ℕ, ◌-◌, ◌<◌, ◌≤◌, Bool, cond, List, [], ◌∷◌, ◌++◌, length, get_or, map, All}
+use Rattle.std.proofs.Common.{◌≡◌, ℕ, ◌-◌, ◌<◌, ◌≤◌, List, [], ◌∷◌, ◌++◌, length, map, All}
 use Rattle.std.proofs.Common.{IsPermutation, sym, ap, ◌∙◌, subst, refl, inl, inr, arith}
 use Rattle.std.specs.Prelude.{◌==◌, if◌then◌else◌}
 use Rattle.std.specs.List.Sorted.{IsNonDecreasing}
 use Rattle.std.proofs.lemmas.Bool.{cases_eq, cases_lt, cond-true, cond-false, eq-eqb, ne_eqb}
 use Rattle.std.proofs.lemmas.List.{map_push, length-map, get_or-map}
-use Rattle.std.proofs.lemmas.List.Elements.{All-cons, All-push, All-weaker}
+use Rattle.std.proofs.lemmas.List.Elements.{All-cons, All-push}
 use Rattle.std.proofs.lemmas.List.Sorted.{All-permutation, IsPermutation-sym, IsPermutation-trans, IsPermutation-cons}
 use Rattle.std.proofs.lemmas.List.Sorted.{IsPermutation-to_front, IsNonDecreasingBy-push}
-use Rattle.ats_network.specs.Class.{class_at}
 use Rattle.ats_network.specs.Network.{DeclaredNetwork}
 use Rattle.ats_network.specs.Senders.{IsSender, sender_at}
 use Rattle.ats_network.proofs.ClassLemmas.{class_at-le}
 use Rattle.ats_network.proofs.SenderLemmas.{sender_keeps}
 use Rattle.ats_group.specs.Group.{State, Offer, judged, after, first, verdicts_of, state_after, is_declared_size}
-use Rattle.ats_group.specs.GroupsState.{GroupsState, verdict_of, value_after, groups_after}
+use Rattle.ats_group.specs.GroupsState.{GroupsState, verdict_of, value_after}
 use Rattle.ats_group.specs.Laws.{Outlasts}
 use Rattle.ats_group.specs.declared.member.Declared.{Declared}
 use Rattle.ats_group.specs.declared.verdict.Verdict.{Verdict}
@@ -174,7 +173,6 @@ own_group {T} network old new now stream hop port class octets h sender are belo
     ∙ ap (λ (o : Offer). offers ++ o ∷ []) (told_offer network old.groups stream hop port class now.at.0 octets h told)
     in
     let time : new.last.at.0 ≡ now.at.0 = ap (λ (m : Moment). m.at.0) last in
-    let at : Handed → ℕ = λ (g : Handed). g.crossing.arrival in
     let v : Verdict = verdict_of old.groups (scheduler_of network stream hop) now.at.0 octets in
     record {
       arrivals = arrivals;
@@ -210,8 +208,11 @@ own_group {T} network old new now stream hop port class octets h sender are belo
         let many : length (map at arrivals) ≡ length arrivals = length-map arrivals at in
         subst IsNonDecreasing (sym (map_push at arrivals h))
         (IsNonDecreasingBy-push (λ (n : ℕ). n) (map at arrivals) (at h) order
-        (λ d some. omega (arith, get_or-map at arrivals (length (map at arrivals) - 1) h d (omega arith),
-        past (length (map at arrivals) - 1) h (omega arith))))
+        (λ d some. omega (
+          arith,
+          get_or-map at arrivals (length (map at arrivals) - 1) h d (omega arith),
+          past (length (map at arrivals) - 1) h (omega arith),
+        )))
 
 -- what a frame that comes to a bridge meets there: a sender's rules, and behind the port that it left a class of at
 -- most 7

@@ -1,6 +1,6 @@
 -- What one more frame does to a group: by the numbers of members and by the numbers of senders it is the same step.
-use Rattle.std.proofs.Common.{◌≡◌, ◌≢◌, ℕ, ◌+◌, ◌-◌, ◌*◌, ◌/◌, ◌<◌, ◌≤◌, Bool, true, cond, List, [], ◌∷◌, ◌++◌, length}
-use Rattle.std.proofs.Common.{get_or, set, map, All, AllPairs, sym, ap, ◌∙◌, subst, refl, inl, inr, arith}
+use Rattle.std.proofs.Common.{◌≡◌, ◌≢◌, ℕ, ◌+◌, ◌-◌, ◌*◌, ◌/◌, ◌<◌, ◌≤◌, List, [], ◌∷◌, ◌++◌, length}
+use Rattle.std.proofs.Common.{get_or, set, AllPairs, sym, ap, ◌∙◌, subst, refl, inl, inr, arith}
 use Rattle.std.specs.Prelude.{ℤ, pos, ◌==◌, if◌then◌else◌}
 use Rattle.std.proofs.lemmas.Bool.{cases_eq, cases_order, cond-true, cond-false, eq-eqb, ne_eqb}
 use Rattle.std.proofs.lemmas.List.{get_or-set_same, get_or-set_other}
@@ -8,18 +8,17 @@ use Rattle.std.proofs.lemmas.List.FromFn.{get_or-map-range_with_len}
 use Rattle.std.proofs.lemmas.Nat.{div-mul-add}
 use Rattle.ats_num.specs.declared.time.Ps.{Ps}
 use Rattle.ats_network.specs.Class.{class_at}
-use Rattle.ats_network.specs.Network.{DeclaredNetwork, IsNetwork}
-use Rattle.ats_network.specs.Sender.{Sender}
-use Rattle.ats_network.specs.Senders.{IsSender, sender_at}
+use Rattle.ats_network.specs.Network.{DeclaredNetwork}
+use Rattle.ats_network.specs.Senders.{sender_at}
 use Rattle.ats_group.specs.Group.{State, Offer, judged, after, next, verdicts_of, state_after, verdict_on, empty_once}
-use Rattle.ats_group.specs.GroupsState.{GroupsState, AreGroups, member_at, time_at, empty_at, group_of, declared_of}
+use Rattle.ats_group.specs.GroupsState.{GroupsState, member_at, time_at, empty_at, group_of, declared_of}
 use Rattle.ats_group.specs.GroupsState.{residence_of, verdict_of, groups_after, no_member}
 use Rattle.ats_group.specs.declared.member.Declared.{Declared}
 use Rattle.ats_group.specs.declared.member.Member.{Member}
 use Rattle.ats_group.specs.declared.verdict.Verdict.{Verdict}
 use Rattle.ats_group.specs.declared.verdict.Verdict.TheVariants.{Eligible, Late, Size}
 use Rattle.ats_schedulers.specs.Schedulers as schedulers
-use Rattle.ats_schedulers.specs.Schedulers.{IsHop, group_behind, member_behind, residences_of, members_of, scheduler_of}
+use Rattle.ats_schedulers.specs.Schedulers.{IsHop, group_behind, member_behind, residences_of, scheduler_of}
 use Rattle.ats_schedulers.proofs.Places.{scheduler_within, scheduler_there, schedulers_are_apart}
 use Rattle.ats_trace.specs.Eligibility.{declared_by, residence_of_groups}
 use Rattle.ats_steps.specs.Judging.{AreGroupsOf, IsStateOf}

@@ -1,5 +1,5 @@
 -- What is known of the time of the next event, and of the ports of its network.
-use Rattle.std.proofs.Common.{ℕ, ◌+◌, ◌<◌, ◌≤◌, List, ◌∷◌, length, arith}
+use Rattle.std.proofs.Common.{ℕ, ◌+◌, ◌<◌, ◌≤◌, List, length, arith}
 use Rattle.std.proofs.lemmas.List.Elements.{All-head}
 use Rattle.ats_num.specs.declared.time.TheConstants.{END}
 use Rattle.ats_topology.specs.Port.{port_at, no_port}

@@ -1,18 +1,15 @@
-use Rattle.std.proofs.Common.{◌≡◌, ◌≢◌, ℕ, ◌+◌, ◌-◌, ◌*◌, ◌<◌, ◌≤◌, List, ◌∷◌, length, get_or, set, All, Some}
+use Rattle.std.proofs.Common.{◌≡◌, ◌≢◌, ℕ, ◌+◌, ◌-◌, ◌*◌, ◌<◌, ◌≤◌, List, ◌∷◌, length, get_or, set, All}
 use Rattle.std.proofs.Common.{sym, ap, ◌∙◌, subst, refl, inl, inr, arith, mul-pos}
 use Rattle.std.proofs.lemmas.Bool.{cases_eq}
 use Rattle.std.proofs.lemmas.List.{length-map, get_or-map, get_or-set_same, get_or-set_other}
-use Rattle.std.proofs.lemmas.List.Elements.{All-cons, All-contains, All-head}
+use Rattle.std.proofs.lemmas.List.Elements.{All-cons, All-contains}
 use Rattle.std.proofs.lemmas.List.Sorted.{All-permutation}
-use Rattle.std.proofs.lemmas.Option.{none-some, same_Some}
 use Rattle.ats_num.specs.Pace.{WaitsWithin}
 use Rattle.ats_num.specs.Wire.{bits_of}
 use Rattle.ats_num.specs.declared.time.Ps.{Ps}
 use Rattle.ats_num.specs.declared.time.TheConstants.{END}
-use Rattle.ats_topology.specs.Port.{port_at, no_port}
-use Rattle.ats_topology.specs.Topology.{IsPort}
+use Rattle.ats_topology.specs.Port.{port_at}
 use Rattle.ats_topology.specs.declared.port.Port.{Port}
-use Rattle.ats_topology.proofs.Rules.{ports_are_lawful}
 use Rattle.ats_network.specs.Network.{DeclaredNetwork}
 use Rattle.ats_port_rule.specs.Transmission.{Transmission}
 use Rattle.ats_transmit.specs.Sending.{transmission_of, transmissions, never, last_of, last_end, IsLawful}
@@ -23,16 +20,12 @@ use Rattle.ats_events.specs.declared.moment.Moment.{Moment}
 use Rattle.ats_trace.specs.Links.{KeepsLinkRule, KeepsPace, in_order_from}
 use Rattle.ats_trace.specs.Projections.{Crossing, crossings_by, sent_by}
 use Rattle.ats_trace.specs.declared.journey.Release.{Release}
-use Rattle.ats_steps.specs.Bounds.{all_left, horizon}
-use Rattle.ats_steps.specs.Course.{Course, travels, stage_at, place_at, arrives_from_at}
-use Rattle.ats_steps.specs.Entries.{IsReached, moment_of, end_by}
+use Rattle.ats_steps.specs.Course.{Course, travels, place_at, arrives_from_at}
 use Rattle.ats_steps.specs.Paces.{IsPaced, arrival_behind}
 use Rattle.ats_steps.specs.Ports.{IsPortOf, Sends, port_state_at}
 use Rattle.ats_steps.specs.Steps.{Comes, BecomesEligible, Selects, Ends}
 use Rattle.ats_steps.specs.declared.event.Event.{Event}
 use Rattle.ats_steps.specs.declared.event.Event.TheVariants.{End, Arrival, Eligibility, Selection}
-use Rattle.ats_steps.specs.declared.stage.Stage.{Stage}
-use Rattle.ats_steps.specs.declared.stage.Stage.TheVariants.{Coming, Due, Waiting, Sending, Over}
 use Rattle.ats_engine_law.specs.Next.{IsNext}
 use Rattle.ats_engine_law.proofs.Allowed.{may-end}
 use Rattle.ats_engine_law.proofs.Arriving.{IsNewest, rule-more, pace-more, from-more}
@@ -130,8 +123,12 @@ crossed_before {T} {key} {wait} {network} {releases} {old} {new} {now} {frame} {
     let Sooner : Transmission → Type 0 = λ (t : Transmission). t.frame ≢ frame → t.end < now.at.0 in
     let rate = (next-port next place below).rate.least in
     let before : All Sooner (transmissions standing.sent) = λ i e within other.
-    omega (arith, sends.end, ended_before (key standing.tie) standing.ps_per_bit standing.held standing.sent is.lawful
-    (omega (arith, is.ps_per_bit, rate)) i e within (λ same. other (same ∙ sends.named))) in
+    omega (
+      arith,
+      sends.end,
+      ended_before (key standing.tie) standing.ps_per_bit standing.held standing.sent is.lawful
+          (omega (arith, is.ps_per_bit, rate)) i e within (λ same. other (same ∙ sends.named)),
+    ) in
     let all = All-permutation Sooner (transmissions standing.sent) (sent_by network (travels old) place) is.sent before in
     All-contains Sooner (sent_by network (travels old) place)
     (get_or (crossings_by network (travels old) place) k d).sent all
