@@ -108,7 +108,7 @@ ended_before key ps held sent lawful rate i d h other =
     ]
 
 -- whatever has crossed the port of a transmission that ends now was sent to its end before now
-crossed_before : {T : Type 0} {key : T → ℕ → ℕ → ℕ} {wait : ℕ → ℕ → ℕ} {network : DeclaredNetwork}
+pub crossed_before : {T : Type 0} {key : T → ℕ → ℕ → ℕ} {wait : ℕ → ℕ → ℕ} {network : DeclaredNetwork}
     {releases : List Release} {old new : Course T} {now : Moment} {frame : ℕ} {entries more : List (Moment × Event)}
     → IsNext key wait network releases old now (End frame) entries → Ends key wait network old new now frame more
     → place_at network old frame < length network.topology.ports
