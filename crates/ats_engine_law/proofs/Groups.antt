@@ -298,7 +298,8 @@ comes_other {T} {key} {wait} {network} {releases} {old} {new} {now} {frame} {ent
     ] in
     same_group network old new now other class (comes-elsewhere next step other class apart)
     (λ state is. subst (Keeps state) (sym now_groups) (kept state is))
-    (ap (λ (c : Course T). c.last) step.becomes) (next-reached next).time (next.holds.groups other class below least most)
+    (ap (λ (c : Course T). c.last) step.becomes) (next-reached next).time
+    (next.holds.groups other class below least most)
 
 -- at its own station it comes to none
 comes_first : {T : Type 0} {key : T → ℕ → ℕ → ℕ} {wait : ℕ → ℕ → ℕ} {network : DeclaredNetwork}
@@ -313,7 +314,8 @@ comes_first {T} {key} {wait} {network} {releases} {old} {new} {now} {frame} {ent
     ap (λ (c : Course T). c.groups) step.becomes ∙ first_groups network old.groups p now.at.0 none in
     same_group network old new now other class (comes-first next step none other class)
     (λ state is. subst (λ (g : GroupsState). IsStateOf network g other class state) (sym groups) is)
-    (ap (λ (c : Course T). c.last) step.becomes) (next-reached next).time (next.holds.groups other class below least most)
+    (ap (λ (c : Course T). c.last) step.becomes) (next-reached next).time
+    (next.holds.groups other class below least most)
 
 -- and each has judged the frames of its port and class that arrived so far
 pub comes-groups : {T : Type 0} {key : T → ℕ → ℕ → ℕ} {wait : ℕ → ℕ → ℕ} {network : DeclaredNetwork}
@@ -420,7 +422,8 @@ offered-groups {T} {key} {wait} {network} {releases} {old} {new} {now} next step
     (ap (λ run. handed_by network run other class) (offered-travels next step))
     (λ state is. subst (λ (g : GroupsState). IsStateOf network g other class state)
     (sym (ap (λ (c : Course T). c.groups) step.becomes)) is)
-    (ap (λ (c : Course T). c.last) step.becomes) (next-reached next).time (next.holds.groups other class below least most)
+    (ap (λ (c : Course T). c.last) step.becomes) (next-reached next).time
+    (next.holds.groups other class below least most)
 
 -- and flows' frames were passed
 pub offered-flows : {T : Type 0} {key : T → ℕ → ℕ → ℕ} {wait : ℕ → ℕ → ℕ} {network : DeclaredNetwork}
@@ -450,7 +453,8 @@ selects-groups {T} {key} {wait} {network} {releases} {old} {new} {now} next step
     same_group network old new now other class (selects-handed next step other class)
     (λ state is. subst (λ (g : GroupsState). IsStateOf network g other class state)
     (sym (ap (λ (c : Course T). c.groups) step.becomes)) is)
-    (ap (λ (c : Course T). c.last) step.becomes) (next-reached next).time (next.holds.groups other class below least most)
+    (ap (λ (c : Course T). c.last) step.becomes) (next-reached next).time
+    (next.holds.groups other class below least most)
 
 -- and flows' frames were passed
 pub selects-flows : {T : Type 0} {key : T → ℕ → ℕ → ℕ} {wait : ℕ → ℕ → ℕ} {network : DeclaredNetwork}
@@ -478,7 +482,8 @@ ends-groups {T} {key} {wait} {network} {releases} {old} {new} {now} next step ot
     same_group network old new now other class (ends-handed next step other class)
     (λ state is. subst (λ (g : GroupsState). IsStateOf network g other class state)
     (sym (ap (λ (c : Course T). c.groups) step.becomes)) is)
-    (ap (λ (c : Course T). c.last) step.becomes) (next-reached next).time (next.holds.groups other class below least most)
+    (ap (λ (c : Course T). c.last) step.becomes) (next-reached next).time
+    (next.holds.groups other class below least most)
 
 -- and flows' frames were passed
 pub ends-flows : {T : Type 0} {key : T → ℕ → ℕ → ℕ} {wait : ℕ → ℕ → ℕ} {network : DeclaredNetwork}

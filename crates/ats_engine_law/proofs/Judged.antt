@@ -133,7 +133,8 @@ state-own network groups stream hop port class state arrival octets (Eligible e)
     let member : ℕ = scheduler_of network stream hop in
     let group = group-is network groups stream hop port class are is in
     let there : member < length groups.members =
-    subst (λ (ms : List Member). member < length ms) (sym are.members) (scheduler_within network stream hop is.is_hop) in
+    subst (λ (ms : List Member). member < length ms) (sym are.members)
+    (scheduler_within network stream hop is.is_hop) in
     let grouped : group_of groups member < length groups.times =
     omega (arith, are.lawful.times, (are.lawful.members member no_member there).group) in
     let once : ℤ = empty_once (declared_of groups member) (empty_at groups.empties member) e.0 octets in

@@ -31,8 +31,8 @@ use Rattle.ats_engine_law.proofs.Allowed.{may-end}
 use Rattle.ats_engine_law.proofs.Arriving.{IsNewest, rule-more, pace-more, from-more}
 use Rattle.ats_engine_law.proofs.Now.{next-reached, next-in_time, next-port}
 use Rattle.ats_engine_law.proofs.Stages.{next-sending}
-use Rattle.ats_engine_law.proofs.Travels.{comes-crossings, offered-travels, selects-crossings, ends-here, ends-elsewhere}
-use Rattle.ats_engine_law.proofs.Travels.{ends-others, crossings-are-sent}
+use Rattle.ats_engine_law.proofs.Travels.{comes-crossings, offered-travels, selects-crossings, ends-here}
+use Rattle.ats_engine_law.proofs.Travels.{ends-elsewhere, ends-others, crossings-are-sent}
 
 -- a port behind which nothing happened
 same_paces : {T : Type 0} (wait : ℕ → ℕ → ℕ) (network : DeclaredNetwork) (old new : Course T) (now : Moment)
@@ -129,7 +129,8 @@ crossed_before {T} {key} {wait} {network} {releases} {old} {new} {now} {frame} {
       ended_before (key standing.tie) standing.ps_per_bit standing.held standing.sent is.lawful
           (omega (arith, is.ps_per_bit, rate)) i e within (λ same. other (same ∙ sends.named)),
     ) in
-    let all = All-permutation Sooner (transmissions standing.sent) (sent_by network (travels old) place) is.sent before in
+    let all = All-permutation Sooner (transmissions standing.sent) (sent_by network (travels old) place) is.sent before
+    in
     All-contains Sooner (sent_by network (travels old) place)
     (get_or (crossings_by network (travels old) place) k d).sent all
     (crossings-are-sent network (travels old) place k d h) (ends-others next step k d h)
