@@ -1,11 +1,15 @@
 pub mod Allowed
+pub mod Arriving
 pub mod Away
+pub mod Beginning
 pub mod Conclusion
 pub mod Entries
 pub mod Frames
 pub mod Groups
+pub mod Judged
 pub mod Kept
 pub mod Moving
+pub mod Now
 pub mod Opened
 pub mod Paces
 pub mod PortEnded
