@@ -1,14 +1,17 @@
 -- What holds where a run begins.
 use Rattle.std.proofs.Common.{◌≡◌, ◌≢◌, ℕ, ◌+◌, ◌-◌, ◌*◌, ◌<◌, ◌≤◌, true, false, List, [], ◌∷◌, length, map, get_or, All}
 use Rattle.std.proofs.Common.{Option, None, Some, refl, sym, ap, ◌∙◌, subst, inl, inr, arith, replicate, IsPermutation}
-use Rattle.std.specs.Prelude.{AllPairs, Contains, IfSome}
+use Rattle.std.specs.Prelude.{AllPairs, Contains, IfSome, ℤ, pos}
+use Rattle.std.specs.List.{zip, sum_by}
 use Rattle.std.proofs.lemmas.Bool.{cases_lt, true≢false}
 use Rattle.std.proofs.lemmas.List.{get_or-map, get_or-replicate, get_or_past, length-map, length-replicate}
 use Rattle.std.proofs.lemmas.List.Elements.{All-nil}
 use Rattle.std.proofs.lemmas.List.FromFn.{length-map-range_with_len}
 use Rattle.std.proofs.lemmas.List.Sorted.{IsPermutation-refl}
 use Rattle.ats_num.specs.declared.time.Ps.{Ps}
+use Rattle.ats_num.specs.declared.time.TheConstants.{END}
 use Rattle.ats_topology.specs.Port.{port_at}
+use Rattle.ats_topology.specs.declared.port.Port.{Port}
 use Rattle.ats_network.specs.Network.{DeclaredNetwork, IsNetwork}
 use Rattle.ats_network.specs.Sender.{Sender}
 use Rattle.ats_network.specs.Senders.{IsSender, sender_at}
@@ -24,7 +27,7 @@ use Rattle.ats_schedulers.specs.Schedulers.{IsHop, group_behind, residence_of, r
 use Rattle.ats_schedulers.proofs.Listing.{members_are}
 use Rattle.ats_schedulers.proofs.Places.{scheduler_within, scheduler_there}
 use Rattle.ats_port_rule.specs.Transmission.{Transmission}
-use Rattle.ats_transmit.specs.State as port
+use Rattle.ats_transmit.specs.State as standing
 use Rattle.ats_transmit.specs.State.{PortState}
 use Rattle.ats_transmit.specs.declared.offer.Offer.{Offer}
 use Rattle.ats_transmit.specs.declared.sent.Sent.{Sent}
@@ -44,7 +47,7 @@ use Rattle.ats_steps.specs.Frames.{IsFrame, IsAtStage, Goes}
 use Rattle.ats_steps.specs.Invariant.{Holds, IsShaped}
 use Rattle.ats_steps.specs.Judging.{AreGroupsOf, IsGroupOf, IsStateOf, ArePassed}
 use Rattle.ats_steps.specs.Paces.{IsPaced}
-use Rattle.ats_steps.specs.Ports.{IsPortOf, IsHeld, IsTurn, frames_at, port_state_at}
+use Rattle.ats_steps.specs.Ports.{IsPortOf, IsHeld, IsTurn, frames_at, port_state_at, room_of}
 use Rattle.ats_steps.specs.declared.event.Event.{Event}
 use Rattle.ats_steps.specs.declared.event.Event.TheVariants.{End, Arrival, Eligibility, Selection}
 use Rattle.ats_steps.specs.declared.stage.Stage.{Stage}
@@ -239,3 +242,182 @@ opened-awaited network releases course opened =
       reached = λ i d h. subst (λ (m : Moment). IsReached m (get_or (released_from 0 releases) i d).0)
           (sym opened.last) (record { time = omega arith; phase = λ _. omega arith });
     }
+
+-- a port that was just opened holds, sends and has sent nothing
+fresh-port : {T : Type 0} (key : T → ℕ → ℕ → ℕ) (network : DeclaredNetwork) (releases : List Release)
+    (course : Course T) (port : ℕ) (rooms : List ℕ) → IsOpened network releases course
+    → ((class : ℕ) → class ≤ 7 → get_or rooms class 0 ≡ room_of network course.records port class)
+    → IsPortOf key network course port
+    (standing.opened (port_at network.topology.ports port).ps_per_bit rooms course.tie)
+fresh-port {T} key network releases course port rooms opened each =
+    let ps : ℕ = (port_at network.topology.ports port).ps_per_bit in
+    let fresh : PortState T = standing.opened ps rooms course.tie in
+    let nothing : List Transmission = [] in
+    record {
+      ps_per_bit = refl;
+      tie = refl;
+      rooms = each;
+      lawful = lawful-open (key course.tie) ps;
+      sent = subst (IsPermutation nothing) (sym (sent-nothing network releases course port opened))
+          (IsPermutation-refl nothing);
+      held = All-nil (IsHeld network course port);
+      waiting = λ frame within waits place. absurd (never-waits frame within waits);
+      apart = λ i j d less h. absurd (omega arith);
+      under_way = λ sends. absurd (true≢false (sym sends));
+      sending = λ frame until within sends place. absurd (never-sends frame until within sends);
+      turn = subst (IsTurn fresh) (sym (turn-is network releases course port opened)) (refl, refl);
+      started = λ some. absurd (omega arith);
+      selected = λ some. absurd (omega arith);
+      ended = λ free. omega arith;
+      eligible = All-nil (λ (o : Offer). o.eligible.0 ≤ course.last.at.0);
+    }
+  where
+    comes : (frame : ℕ) → frame < length course.records
+        → stage_at course frame ≡ Coming (get_or releases frame no_release).at
+    comes frame within =
+        let records = length-records network releases course opened in
+        stage-is network releases course frame opened (omega arith)
+
+    differ : (at : Ps) → Coming at ≡ Waiting → ⊥
+    differ at same = cc
+
+    differ_too : (at until : Ps) → Coming at ≡ Sending until → ⊥
+    differ_too at until same = cc
+
+    never-waits : (frame : ℕ) → frame < length course.records → stage_at course frame ≡ Waiting → ⊥
+    never-waits frame within waits =
+        differ (get_or releases frame no_release).at (sym (comes frame within) ∙ waits)
+
+    never-sends : (frame : ℕ) (until : Ps) → frame < length course.records → stage_at course frame ≡ Sending until
+        → ⊥
+    never-sends frame until within sends =
+        differ_too (get_or releases frame no_release).at until (sym (comes frame within) ∙ sends)
+
+opened-ports : {T : Type 0} (key : T → ℕ → ℕ → ℕ) (network : DeclaredNetwork) (releases : List Release)
+    (course : Course T) → IsOpened network releases course → (port : ℕ) → port < length network.topology.ports
+    → IsPortOf key network course port (port_state_at course port)
+opened-ports key network releases course opened port within =
+    let is : IsFresh network course port = opened.ports port within in
+    subst (IsPortOf key network course port) (sym is.fresh)
+    (fresh-port key network releases course port is.rooms opened is.each)
+
+-- behind no port has a frame arrived
+arrives-from-is : {T : Type 0} (network : DeclaredNetwork) (releases : List Release) (course : Course T) (port : ℕ)
+    → IsOpened network releases course → port < length network.topology.ports → arrives_from_at course port ≡ 0
+arrives-from-is network releases course port opened within =
+    let nowhere : Ps = record { 0 = 0 } in
+    ap (λ (ts : List Ps). (get_or ts port nowhere).0) opened.arrives_from
+    ∙ ap (λ (p : Ps). p.0) (get_or-replicate (length network.topology.ports) port nowhere nowhere within)
+
+opened-paces : {T : Type 0} (wait : ℕ → ℕ → ℕ) (network : DeclaredNetwork) (releases : List Release)
+    (course : Course T) → IsOpened network releases course → (port : ℕ) → port < length network.topology.ports
+    → IsPaced wait network course port
+opened-paces wait network releases course opened port within =
+    let link : Port = port_at network.topology.ports port in
+    let none : [] ≡ crossings_by network (travels course) port =
+    sym (crossed-nothing network releases course port opened) in
+    record {
+      rule = subst (KeepsLinkRule link) none (record {
+        within = λ k d h. absurd (omega arith);
+        order = λ k d h. absurd (omega arith);
+      });
+      pace = subst (KeepsPace wait link) none (λ k d h. absurd (omega arith));
+      next = arrives-from-is network releases course port opened within ∙ ap (in_order_from END) none;
+      ended = subst (All (λ (x : Crossing). x.sent.end ≤ course.last.at.0)) none (λ k d h. absurd (omega arith));
+    }
+
+-- the groups at first
+length-residences : (network : DeclaredNetwork)
+    → length (residences_of network) ≡ 8 * length network.topology.ports
+length-residences network =
+    length-map-range_with_len (residence_of network) 0 (8 * length network.topology.ports)
+
+groups-opened : (network : DeclaredNetwork) → IsNetwork network
+    → AreGroupsOf network (groups.opened (residences_of network) (members_of network))
+groups-opened network rules =
+    let nowhere : Ps = record { 0 = 0 } in
+    record {
+      lawful = record {
+        times = length-replicate (length (residences_of network)) nowhere;
+        empties = length-map (members_of network) (λ (m : Member). first_empty m.declared.burst_bits);
+        members = subst (λ (n : ℕ). AreMembers n (members_of network)) (sym (length-residences network))
+            (members_are network rules);
+      };
+      residences = refl;
+      members = refl;
+    }
+
+-- each scheduler has the bucket that its stream has at first
+empty-opened : (network : DeclaredNetwork) (stream hop : ℕ) → IsHop network stream hop
+    → empty_at (first_empties (members_of network)) (scheduler_of network stream hop)
+    ≡ first_empty (declared_by network stream).burst_bits
+empty-opened network stream hop is =
+    let place : ℕ = scheduler_of network stream hop in
+    let empty : Member → ℤ = λ (m : Member). first_empty m.declared.burst_bits in
+    get_or-map empty (members_of network) place no_member (pos 0) (scheduler_within network stream hop is)
+    ∙ ap empty (scheduler_there network stream hop is)
+
+state-opened : (network : DeclaredNetwork) (port class : ℕ)
+    → IsStateOf network (groups.opened (residences_of network) (members_of network)) port class
+    (first (declared_by network))
+state-opened network port class = record {
+  time = ap (λ (s : State). s.time)
+      (opened_first (residences_of network) (members_of network) (group_behind port class));
+  empties = λ stream hop is behind own. empty-opened network stream hop is;
+}
+
+opened-groups : {T : Type 0} (network : DeclaredNetwork) (releases : List Release) (course : Course T)
+    → IsOpened network releases course → (port class : ℕ) → IsGroupOf network course port class
+opened-groups network releases course opened port class =
+    let nothing : List Handed = [] in
+    record {
+      arrivals = [];
+      same = subst (λ (hs : List Handed). IsPermutation hs nothing)
+          (sym (handed-nothing network releases course port class opened)) (IsPermutation-refl nothing);
+      in_order = λ i j d less h. absurd (omega arith);
+      verdicts = refl;
+      state = subst (λ (g : GroupsState). IsStateOf network g port class (first (declared_by network)))
+          (sym opened.groups) (state-opened network port class);
+      reached = All-nil (λ (h : Handed). h.crossing.arrival ≤ course.last.at.0);
+    }
+
+-- all is over in time
+opened-bounds : {T : Type 0} (network : DeclaredNetwork) (releases : List Release) (course : Course T)
+    → IsNetwork network → AreReleases network releases → IsOpened network releases course
+    → IsInTime course (released_from 0 releases)
+opened-bounds network releases course rules are opened =
+    let left : all_left course ≡ sum_by most_left (zip (map coming releases) (map (start network) releases)) =
+    ap (λ (ss : List Stage). sum_by most_left (zip ss course.records)) opened.stages
+    ∙ ap (λ (ps : List Progress). sum_by most_left (zip (map coming releases) ps))
+    (records-are network releases course opened) in
+    let most = most-opened network releases rules are.each in
+    let long = length-released 0 releases in
+    let first : course.last.at.0 ≡ 0 = ap (λ (m : Moment). m.at.0) opened.last in
+    record {
+      last = omega (arith, are.few);
+      each = λ i d h.
+          (let within : i < length releases = omega arith in
+          let at = ap (λ (entry : Moment × Event). entry.0.at.0) (entry-at releases i d within) in
+          let time = (are.each i no_release within).time in
+          omega (arith, are.few));
+    }
+
+-- a run that is to begin: each frame comes at its release, nothing has happened yet
+pub opened-holds : {T : Type 0} (key : T → ℕ → ℕ → ℕ) (wait : ℕ → ℕ → ℕ) (network : DeclaredNetwork)
+    (releases : List Release) (course : Course T) (entries : List (Moment × Event)) → IsNetwork network
+    → AreReleases network releases → IsOpened network releases course
+    → entries ≡ released_from 0 releases → Holds key wait network releases course entries
+opened-holds key wait network releases course entries rules are opened entered =
+    subst (Holds key wait network releases course) (sym entered) (record {
+      rules = rules;
+      shape = opened-shape network releases course are opened;
+      frames = opened-frames network releases course rules are opened;
+      awaited = opened-awaited network releases course opened;
+      ports = opened-ports key network releases course opened;
+      paces = opened-paces wait network releases course opened;
+      members = subst (AreGroupsOf network) (sym opened.groups) (groups-opened network rules);
+      groups = λ port class within least most. opened-groups network releases course opened port class;
+      flows = λ port within. subst (All (IsPassed network))
+          (sym (handed-nothing network releases course port 0 opened)) (All-nil (IsPassed network));
+      bounds = opened-bounds network releases course rules are opened;
+    })
