@@ -1,5 +1,6 @@
 pub mod Allowed
 pub mod Conclusion
+pub mod Counting
 pub mod Entries
 pub mod Frames
 pub mod Groups
