@@ -4,6 +4,7 @@ pub mod Counting
 pub mod Entries
 pub mod Frames
 pub mod Groups
+pub mod Hops
 pub mod Kept
 pub mod Opened
 pub mod Paces
