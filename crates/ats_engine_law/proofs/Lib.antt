@@ -9,5 +9,7 @@ pub mod Kept
 pub mod Opened
 pub mod Paces
 pub mod Ports
+pub mod Stages
 pub mod Times
 pub mod Travels
+pub mod Ways
