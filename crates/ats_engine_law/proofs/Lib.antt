@@ -8,6 +8,7 @@ pub mod Hops
 pub mod Kept
 pub mod Opened
 pub mod Paces
+pub mod Placed
 pub mod Ports
 pub mod Stages
 pub mod Times
