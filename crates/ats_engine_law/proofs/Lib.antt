@@ -2,10 +2,12 @@ pub mod Allowed
 pub mod Conclusion
 pub mod Entries
 pub mod Frames
+pub mod Gathered
 pub mod Groups
 pub mod Kept
 pub mod Opened
 pub mod Paces
+pub mod Parts
 pub mod Ports
 pub mod Times
 pub mod Travels
