@@ -6,6 +6,7 @@ pub mod Conclusion
 pub mod Counting
 pub mod Entries
 pub mod Frames
+pub mod Gathered
 pub mod Groups
 pub mod Hops
 pub mod Judged
@@ -14,6 +15,7 @@ pub mod Moving
 pub mod Now
 pub mod Opened
 pub mod Paces
+pub mod Parts
 pub mod Placed
 pub mod PortEnded
 pub mod PortKept
