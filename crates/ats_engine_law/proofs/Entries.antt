@@ -1,16 +1,18 @@
-use Rattle.std.proofs.Common.{◌≡◌, ℕ, ◌+◌, ◌-◌, ◌*◌, ◌<◌, ◌≤◌, Bool, true, false, List, [], ◌∷◌, ◌++◌, length, get_or, set, All, Option, Some, None}
-use Rattle.std.proofs.Common.{IsPermutation, refl, sym, ap, ◌∙◌, subst, inl, inr, arith}
-use Rattle.std.specs.Prelude.{◌≢◌, ◌==◌, AllPairs, Contains, IfSome, slice_index_or, if◌then◌else◌}
-use Rattle.std.proofs.lemmas.Bool.{cases_lt, true≢false}
-use Rattle.std.proofs.lemmas.List.{get_or-set_same, get_or-set_other, get_or_past}
-use Rattle.std.proofs.lemmas.List.Elements.{All-append, All-cons, All-head, All-nil}
-use Rattle.std.proofs.lemmas.List.Sorted.{All-permutation}
+use Rattle.std.proofs.Common.{◌≡◌, ℕ, ◌+◌, ◌-◌, ◌*◌, ◌<◌, ◌≤◌, Bool, true, false, List, [], ◌∷◌, ◌++◌, length, get_or, set, All}
+use Rattle.std.proofs.Common.{Option, Some, None, map, IsPermutation, refl, sym, ap, ◌∙◌, subst, inl, inr, arith}
+use Rattle.std.specs.Prelude.{◌≢◌, ◌==◌, nat_lt, AllPairs, slice_index_or, if◌then◌else◌}
+use Rattle.std.proofs.lemmas.Bool.{cases_lt, true≢false, lt-ltb, le-ltb, cond-true, cond-false}
+use Rattle.std.proofs.lemmas.List.{get_or-set_same, get_or-set_other, get_or_past, get_or-map, length-map}
+use Rattle.std.proofs.lemmas.List.Elements.{All-append, All-cons, All-head, All-map, All-nil}
+use Rattle.std.proofs.lemmas.List.Sorted.{All-permutation, Contains-permutation}
 use Rattle.std.proofs.Math.Nat.{mul-le-mul_right}
-use Rattle.std.proofs.lemmas.Option.{none-some, same_Some}
+use Rattle.std.proofs.lemmas.Option.{none-some, same_Some, IfSome_then}
+use Rattle.ats_facts.proofs.Pairs.{AllPairs-permutation}
 use Rattle.ats_num.specs.declared.time.Ps.{Ps}
 use Rattle.ats_num.specs.Wire.{bits_of}
 use Rattle.ats_topology.specs.Port.{port_at, no_port}
 use Rattle.ats_topology.specs.Topology.{DeclaredTopology, IsTopology}
+use Rattle.ats_topology.specs.declared.link.TheConstants.{MAX_LINKS}
 use Rattle.ats_topology.proofs.Rules.{ports_are_lawful}
 use Rattle.ats_network.specs.Network.{DeclaredNetwork, IsNetwork}
 use Rattle.ats_network.proofs.SenderLemmas.{sender_keeps}
@@ -26,6 +28,8 @@ use Rattle.ats_events.specs.declared.moment.Moment.{Moment}
 use Rattle.ats_events.specs.declared.phase.TheConstants.{TRANSMISSION_END, ARRIVAL, ELIGIBLE, SELECTION}
 use Rattle.ats_events.specs.Order.{IsInRange, IsIrreflexive, IsTransitive, IsTimed}
 use Rattle.ats_trace.specs.declared.journey.Release.{Release}
+use Rattle.ats_trace.specs.declared.run.TheConstants.{MAX_FRAMES}
+use Rattle.ats_steps.specs.Bounds.{all_left, horizon}
 use Rattle.ats_steps.specs.Course.{Course, stage_at, turn_at, place_at, path_of}
 use Rattle.ats_steps.specs.Entries.{AreAwaited, IsReached, moment_of, arrival_by, eligibility_by, end_by, selection_by}
 use Rattle.ats_steps.specs.Entries.{arrival_moment, eligible_moment, end_moment, selection_moment}
@@ -42,6 +46,7 @@ use Rattle.ats_steps.specs.declared.turn.Turn.{Turn}
 use Rattle.ats_steps.specs.declared.turn.Turn.TheVariants.{Resting, Selecting, Occupied}
 use Rattle.ats_engine_law.specs.Next.{IsNext, IsAfter}
 use Rattle.ats_engine_law.proofs.Awaited.{Brings, awaited-after}
+use Rattle.ats_engine_law.proofs.Counting.{numbers_below}
 use Rattle.ats_engine_law.proofs.Fates.{entries_by, IsHere, Steps, Turns, brings_one, brings_both}
 use Rattle.ats_engine_law.proofs.Stages.{next-moment, next-coming, next-due, next-sending, next-selecting}
 use Rattle.ats_engine_law.proofs.Stages.{stage-within, turn-within}
@@ -554,3 +559,239 @@ ends-awaited {T} {key} {wait} {network} {releases} {old} {new} {now} {frame} {en
     (sym (step.brings ∙ ap (λ (es : List (Moment × Event)). es ++ selections step.port step.turn) own))
     (brings_both old new (End frame) frame step.port (Sending now.at) t Occupied step.turn steps turns))
     (ends-after next step)
+
+-- what holds does not depend on the order of the entries
+pub holds-permuted : {T : Type 0} {key : T → ℕ → ℕ → ℕ} {wait : ℕ → ℕ → ℕ} {network : DeclaredNetwork}
+    {releases : List Release} {course : Course T} {entries other : List (Moment × Event)} → IsPermutation entries other
+    → Holds key wait network releases course entries → Holds key wait network releases course other
+holds-permuted {T} {key} {wait} {network} {releases} {course} {entries} {other} moved holds =
+    let awaited = holds.awaited in
+    let own : AreAwaited course other = record {
+      each = All-permutation (λ (x : Moment × Event). moment_of course x.1 ≡ Some x.0) entries other moved awaited.each;
+      there = λ event. IfSome_then (moment_of course event) (awaited.there event)
+          (λ (m : Moment) c. Contains-permutation entries other (m, event) moved c);
+      apart = AllPairs-permutation (λ (x y : Moment × Event). x.1 ≢ y.1) (λ x y n same. n (sym same)) entries other moved
+          awaited.apart;
+      reached = All-permutation (λ (x : Moment × Event). IsReached course.last x.0) entries other moved awaited.reached;
+    } in
+    record {
+      rules = holds.rules;
+      shape = holds.shape;
+      frames = holds.frames;
+      awaited = own;
+      ports = holds.ports;
+      paces = holds.paces;
+      members = holds.members;
+      groups = holds.groups;
+      flows = holds.flows;
+      bounds = record {
+        last = holds.bounds.last;
+        each = All-permutation (λ (x : Moment × Event). x.0.at.0 + all_left course ≤ horizon) entries other moved
+            holds.bounds.each;
+      };
+    }
+
+-- the number of an event that is to happen is that of a frame or a port
+event-within : {T : Type 0} (course : Course T) (event : Event) → Type 0
+event-within course (End frame) = frame < length course.stages
+event-within course (Arrival frame) = frame < length course.stages
+event-within course (Eligibility frame) = frame < length course.stages
+event-within course (Selection port) = port < length course.turns
+
+below-length : {X : Type 0} (xs : List X) (k : ℕ) (default : X) (next : X → Option Moment) (moment : Moment)
+    → next default ≡ None → next (get_or xs k default) ≡ Some moment → k < length xs
+below-length xs k default next moment none some = elim (cases_lt k (length xs)) as (λ _. k < length xs) [
+  | inl within ↦ within
+  | inr past ↦ absurd (none-some moment (sym none ∙ sym (ap next (get_or_past xs k default past)) ∙ some))
+]
+
+is-within : {T : Type 0} (course : Course T) (event : Event) (moment : Moment) → moment_of course event ≡ Some moment
+    → event-within course event
+is-within course (End frame) moment is = below-length course.stages frame Over (end_by frame) moment refl is
+is-within course (Arrival frame) moment is = below-length course.stages frame Over (arrival_by frame) moment refl is
+is-within course (Eligibility frame) moment is =
+    below-length course.stages frame Over (eligibility_by frame) moment refl is
+is-within course (Selection port) moment is =
+    below-length course.turns port Resting (selection_by port) moment refl is
+
+-- frames and ports numbered together: the frames first
+abbrev place_by : ℕ → Event → ℕ
+place_by frames (End frame) = frame
+place_by frames (Arrival frame) = frame
+place_by frames (Eligibility frame) = frame
+place_by frames (Selection port) = frames + port
+
+place-below : {T : Type 0} (course : Course T) (event : Event) → event-within course event
+    → place_by (length course.stages) event < length course.stages + length course.turns
+place-below course (End frame) within = omega arith
+place-below course (Arrival frame) within = omega arith
+place-below course (Eligibility frame) within = omega arith
+place-below course (Selection port) within = omega arith
+
+-- the event that a frame at a stage can have, and the one that is to happen at a place
+abbrev event_by : ℕ → Stage → Event
+event_by frame (Coming at) = Arrival frame
+event_by frame (Due at) = Eligibility frame
+event_by frame stage = End frame
+
+abbrev event_at : {T : Type 0} → Course T → ℕ → Event
+event_at course place =
+    if nat_lt place (length course.stages) then event_by place (stage_at course place)
+    else Selection (place - length course.stages)
+
+end-only : (frame : ℕ) (stage : Stage) (moment : Moment) → end_by frame stage ≡ Some moment
+    → event_by frame stage ≡ End frame
+end-only frame (Sending until) moment is = refl
+end-only frame (Coming at) moment is = absurd (none-some moment is)
+end-only frame (Due at) moment is = absurd (none-some moment is)
+end-only frame Waiting moment is = refl
+end-only frame Over moment is = refl
+
+arrival-only : (frame : ℕ) (stage : Stage) (moment : Moment) → arrival_by frame stage ≡ Some moment
+    → event_by frame stage ≡ Arrival frame
+arrival-only frame (Coming at) moment is = refl
+arrival-only frame (Due at) moment is = absurd (none-some moment is)
+arrival-only frame Waiting moment is = absurd (none-some moment is)
+arrival-only frame (Sending until) moment is = absurd (none-some moment is)
+arrival-only frame Over moment is = absurd (none-some moment is)
+
+eligibility-only : (frame : ℕ) (stage : Stage) (moment : Moment) → eligibility_by frame stage ≡ Some moment
+    → event_by frame stage ≡ Eligibility frame
+eligibility-only frame (Due at) moment is = refl
+eligibility-only frame (Coming at) moment is = absurd (none-some moment is)
+eligibility-only frame Waiting moment is = absurd (none-some moment is)
+eligibility-only frame (Sending until) moment is = absurd (none-some moment is)
+eligibility-only frame Over moment is = absurd (none-some moment is)
+
+at-frame : {T : Type 0} (course : Course T) (frame : ℕ) → frame < length course.stages
+    → event_at course frame ≡ event_by frame (stage_at course frame)
+at-frame course frame within =
+    cond-true (nat_lt frame (length course.stages)) (event_by frame (stage_at course frame))
+    (Selection (frame - length course.stages)) (lt-ltb frame (length course.stages) within)
+
+at-place : {T : Type 0} (course : Course T) (event : Event) (moment : Moment) → moment_of course event ≡ Some moment
+    → event-within course event → event_at course (place_by (length course.stages) event) ≡ event
+at-place course (End frame) moment is within =
+    at-frame course frame within ∙ end-only frame (stage_at course frame) moment is
+at-place course (Arrival frame) moment is within =
+    at-frame course frame within ∙ arrival-only frame (stage_at course frame) moment is
+at-place course (Eligibility frame) moment is within =
+    at-frame course frame within ∙ eligibility-only frame (stage_at course frame) moment is
+at-place course (Selection port) moment is within =
+    let place : ℕ = length course.stages + port in
+    cond-false (nat_lt place (length course.stages)) (event_by place (stage_at course place))
+    (Selection (place - length course.stages)) (le-ltb place (length course.stages) (omega arith))
+    ∙ ap Selection (omega arith)
+
+-- what holds of the images of each two elements holds of each two images
+pairs-map : {X : Type 0} (R : ℕ → ℕ → Type 0) (f : X → ℕ) (xs : List X) → AllPairs (λ (a b : X). R (f a) (f b)) xs
+    → AllPairs R (map f xs)
+pairs-map R f [] pairs i j d before within = absurd (omega arith)
+pairs-map {X} R f (x ∷ xs) pairs i j d before within =
+    let long = length-map (x ∷ xs) f in
+    let first = get_or-map f (x ∷ xs) i x d (omega (arith, long)) in
+    let second = get_or-map f (x ∷ xs) j x d (omega (arith, long)) in
+    subst (λ (a : ℕ). R a (get_or (map f (x ∷ xs)) j d)) (sym first)
+    (subst (λ (b : ℕ). R (f (get_or (x ∷ xs) i x)) b) (sym second) (pairs i j x before (omega (arith, long))))
+
+-- there is one entry for each frame and each port at most
+pub room-for-all : {T : Type 0} {key : T → ℕ → ℕ → ℕ} {wait : ℕ → ℕ → ℕ} {network : DeclaredNetwork}
+    {releases : List Release} {course : Course T} {entries : List (Moment × Event)}
+    → Holds key wait network releases course entries
+    → length entries ≤ length releases + length network.topology.ports
+room-for-all {T} {key} {wait} {network} {releases} {course} {entries} holds =
+    let Is : Moment × Event → Type 0 = λ (x : Moment × Event). moment_of course x.1 ≡ Some x.0 in
+    let frames : ℕ = length course.stages in
+    let all : ℕ = frames + length course.turns in
+    let place : Moment × Event → ℕ = λ (x : Moment × Event). place_by frames x.1 in
+    let each : All Is entries = holds.awaited.each in
+    let own : (x : Moment × Event) → Is x → event_at course (place x) ≡ x.1 =
+    λ (x : Moment × Event) is. at-place course x.1 x.0 is (is-within course x.1 x.0 is) in
+    let apart : AllPairs (λ (x y : Moment × Event). place x ≢ place y) entries =
+    λ i j d before within same. (
+        let x : Moment × Event = slice_index_or entries i d in
+        let y : Moment × Event = slice_index_or entries j d in
+        holds.awaited.apart i j d before within
+        (sym (own x (each i d (omega arith))) ∙ ap (event_at course) same ∙ own y (each j d within))) in
+    let below : All (λ (x : Moment × Event). place x < all) entries = λ k d h. (
+        let x : Moment × Event = slice_index_or entries k d in
+        place-below course x.1 (is-within course x.1 x.0 (each k d h))) in
+    let few : length (map place entries) ≤ all =
+    numbers_below all (map place entries) (pairs-map (λ (a b : ℕ). a ≢ b) place entries apart)
+    (All-map (λ (n : ℕ). n < all) place entries below) in
+    omega (
+      arith,
+      length-map entries place,
+      length-map course.records (λ (p : Progress). p.release),
+      ap (λ (rs : List Release). length rs) holds.shape.released,
+      holds.shape.stages,
+      holds.shape.turns,
+    )
+
+-- no two entries have one moment
+pub moments-apart : {T : Type 0} {key : T → ℕ → ℕ → ℕ} {wait : ℕ → ℕ → ℕ} {network : DeclaredNetwork}
+    {releases : List Release} {course : Course T} {entries : List (Moment × Event)}
+    → Holds key wait network releases course entries
+    → AllPairs (λ (x y : Moment × Event). x.0 ≢ y.0) entries
+moments-apart {T} {key} {wait} {network} {releases} {course} {entries} holds i j d before within same =
+    let x : Moment × Event = slice_index_or entries i d in
+    let y : Moment × Event = slice_index_or entries j d in
+    let one : IsOf x.1 x.0 = is-of course x.1 x.0 (holds.awaited.each i d (omega arith)) in
+    let two : IsOf y.1 y.0 = is-of course y.1 y.0 (holds.awaited.each j d within) in
+    holds.awaited.apart i j d before within
+    (same-event x.1 y.1 (sym one.phase ∙ ap (λ (m : Moment). m.phase) same ∙ two.phase)
+    (sym one.number ∙ ap (λ (m : Moment). m.id) same ∙ two.number))
+
+-- the number and the phase of an event are small
+number-below : {T : Type 0} (course : Course T) (event : Event) → event-within course event
+    → number_of event < length course.stages + length course.turns
+number-below course (End frame) within = omega arith
+number-below course (Arrival frame) within = omega arith
+number-below course (Eligibility frame) within = omega arith
+number-below course (Selection port) within = omega arith
+
+phase-below : (event : Event) → phase_of event < 4
+phase-below (End frame) = omega arith
+phase-below (Arrival frame) = omega arith
+phase-below (Eligibility frame) = omega arith
+phase-below (Selection port) = omega arith
+
+-- the numbers of each moment fit their types
+pub moments-in-range : {T : Type 0} {key : T → ℕ → ℕ → ℕ} {wait : ℕ → ℕ → ℕ} {network : DeclaredNetwork}
+    {releases : List Release} {course : Course T} {entries : List (Moment × Event)}
+    → Holds key wait network releases course entries
+    → All (λ (x : Moment × Event). IsInRange x.0) entries
+moments-in-range {T} {key} {wait} {network} {releases} {course} {entries} holds k d h =
+    let x : Moment × Event = slice_index_or entries k d in
+    let is : moment_of course x.1 ≡ Some x.0 = holds.awaited.each k d h in
+    let own : IsOf x.1 x.0 = is-of course x.1 x.0 is in
+    let few : number_of x.1 < length course.stages + length course.turns =
+    number-below course x.1 (is-within course x.1 x.0 is) in
+    let phase : phase_of x.1 < 4 = phase-below x.1 in
+    let time : x.0.at.0 + all_left course ≤ horizon = holds.bounds.each k d h in
+    let ports : length network.topology.ports ≤ 2 * MAX_LINKS = omega (
+      arith,
+      (ports_are_lawful network.topology holds.rules.topology).two_each,
+      holds.rules.topology.few_links,
+    ) in
+    record {
+      at = omega arith;
+      phase = omega (arith, own.phase);
+      id = omega (arith, own.number, holds.shape.few, holds.shape.stages, holds.shape.turns);
+    }
+
+-- a moment that is before another one by a lawful order is not after it by time and phase
+pub before-is-reached : (before : Moment → Moment → Type 0) → IsIrreflexive before → IsTransitive before → IsTimed before
+    → (now next : Moment) → IsInRange now → IsInRange next → before now next → IsReached now next
+before-is-reached before irreflexive transitive timed now next hn hx first =
+    let never : before next now → ⊥ = λ back. irreflexive now hn (transitive now next now hn hx hn first back) in
+    record {
+      time = elim (cases_lt next.at.0 now.at.0) as (λ _. now.at.0 ≤ next.at.0) [
+        | inl earlier ↦ absurd (never (timed.time next now hx hn earlier))
+        | inr later ↦ later
+      ];
+      phase = λ same. elim (cases_lt next.phase now.phase) as (λ _. now.phase ≤ next.phase) [
+        | inl earlier ↦ absurd (never (timed.phase next now hx hn (sym same) earlier))
+        | inr later ↦ later
+      ];
+    }
