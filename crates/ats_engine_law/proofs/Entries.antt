@@ -592,11 +592,11 @@ holds-permuted {T} {key} {wait} {network} {releases} {course} {entries} {other} 
     }
 
 -- the number of an event that is to happen is that of a frame or a port
-event-within : {T : Type 0} (course : Course T) (event : Event) → Type 0
-event-within course (End frame) = frame < length course.stages
-event-within course (Arrival frame) = frame < length course.stages
-event-within course (Eligibility frame) = frame < length course.stages
-event-within course (Selection port) = port < length course.turns
+abbrev IsEventOf : {T : Type 0} → Course T → Event → Type 0
+IsEventOf course (End frame) = frame < length course.stages
+IsEventOf course (Arrival frame) = frame < length course.stages
+IsEventOf course (Eligibility frame) = frame < length course.stages
+IsEventOf course (Selection port) = port < length course.turns
 
 below-length : {X : Type 0} (xs : List X) (k : ℕ) (default : X) (next : X → Option Moment) (moment : Moment)
     → next default ≡ None → next (get_or xs k default) ≡ Some moment → k < length xs
@@ -606,7 +606,7 @@ below-length xs k default next moment none some = elim (cases_lt k (length xs)) 
 ]
 
 is-within : {T : Type 0} (course : Course T) (event : Event) (moment : Moment) → moment_of course event ≡ Some moment
-    → event-within course event
+    → IsEventOf course event
 is-within course (End frame) moment is = below-length course.stages frame Over (end_by frame) moment refl is
 is-within course (Arrival frame) moment is = below-length course.stages frame Over (arrival_by frame) moment refl is
 is-within course (Eligibility frame) moment is =
@@ -621,7 +621,7 @@ place_by frames (Arrival frame) = frame
 place_by frames (Eligibility frame) = frame
 place_by frames (Selection port) = frames + port
 
-place-below : {T : Type 0} (course : Course T) (event : Event) → event-within course event
+place-below : {T : Type 0} (course : Course T) (event : Event) → IsEventOf course event
     → place_by (length course.stages) event < length course.stages + length course.turns
 place-below course (End frame) within = omega arith
 place-below course (Arrival frame) within = omega arith
@@ -670,7 +670,7 @@ at-frame course frame within =
     (Selection (frame - length course.stages)) (lt-ltb frame (length course.stages) within)
 
 at-place : {T : Type 0} (course : Course T) (event : Event) (moment : Moment) → moment_of course event ≡ Some moment
-    → event-within course event → event_at course (place_by (length course.stages) event) ≡ event
+    → IsEventOf course event → event_at course (place_by (length course.stages) event) ≡ event
 at-place course (End frame) moment is within =
     at-frame course frame within ∙ end-only frame (stage_at course frame) moment is
 at-place course (Arrival frame) moment is within =
@@ -743,7 +743,7 @@ moments-apart {T} {key} {wait} {network} {releases} {course} {entries} holds i j
     (sym one.number ∙ ap (λ (m : Moment). m.id) same ∙ two.number))
 
 -- the number and the phase of an event are small
-number-below : {T : Type 0} (course : Course T) (event : Event) → event-within course event
+number-below : {T : Type 0} (course : Course T) (event : Event) → IsEventOf course event
     → number_of event < length course.stages + length course.turns
 number-below course (End frame) within = omega arith
 number-below course (Arrival frame) within = omega arith
