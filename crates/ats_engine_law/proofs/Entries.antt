@@ -218,9 +218,9 @@ frame-within : {T : Type 0} (course : Course T) (frame : ℕ) (s : Stage) → st
     → frame < length course.stages
 frame-within course frame s is other = elim (cases_lt frame (length course.stages)) as (λ _. frame
     < length course.stages) [
-  | inl within ↦ within
-  | inr past ↦ absurd (other (sym is ∙ get_or_past course.stages frame Over past))
-]
+      | inl within ↦ within
+      | inr past ↦ absurd (other (sym is ∙ get_or_past course.stages frame Over past))
+    ]
 
 -- a move brings the entry of the stage that it leads to
 comes-entries : (frame : ℕ) (p : Progress) (at : Ps) (v : Verdict)
@@ -234,7 +234,7 @@ moved-entries : (frame : ℕ) (m n : Move) → m ≡ n → n.entries ≡ entries
 moved-entries frame m n same is = subst (λ (x : Move). x.entries ≡ entries_by frame x.stage) (sym same) is
 
 -- where a frame that was sent goes, by whether that was its last port
-abbrev left_by : ℕ → Progress → Progress → Ps → Bool → Move
+abbrev pub left_by : ℕ → Progress → Progress → Ps → Bool → Move
 left_by frame over p at last =
     if last then record { stage = Over; progress = over; entries = [] }
     else record { stage = Coming at; progress = p; entries = (arrival_moment frame at, Arrival frame) ∷ [] }
@@ -312,7 +312,7 @@ place-within network course frame s Last rules is stands =
     (sender_keeps network p.release.sender rules is.sender).ports (length p.hops - 1) 0 (omega (arith, few.0, few.1))
 
 -- what is kept of a frame at this stage
-frame-at : {T : Type 0} {key : T → ℕ → ℕ → ℕ} {wait : ℕ → ℕ → ℕ} {network : DeclaredNetwork}
+pub frame-at : {T : Type 0} {key : T → ℕ → ℕ → ℕ} {wait : ℕ → ℕ → ℕ} {network : DeclaredNetwork}
     {releases : List Release} {course : Course T} {entries : List (Moment × Event)} (frame : ℕ) (s : Stage)
     → Holds key wait network releases course entries → stage_at course frame ≡ s → s ≢ Over
     → IsFrame network (progress_at course.records frame) s
@@ -387,7 +387,7 @@ sending-takes topology port octets rules within =
     omega (arith, mul-le-mul_right (bits_of octets) least)
 
 -- a port that selects is one of the network
-selecting-within : {T : Type 0} {key : T → ℕ → ℕ → ℕ} {wait : ℕ → ℕ → ℕ} {network : DeclaredNetwork}
+pub selecting-within : {T : Type 0} {key : T → ℕ → ℕ → ℕ} {wait : ℕ → ℕ → ℕ} {network : DeclaredNetwork}
     {releases : List Release} {course : Course T} {now : Moment} {port : ℕ} {entries : List (Moment × Event)}
     → IsNext key wait network releases course now (Selection port) entries
     → port < length network.topology.ports
@@ -396,7 +396,7 @@ selecting-within {T} {key} {wait} {network} {releases} {course} {now} {port} nex
     omega (arith, next.holds.shape.turns)
 
 -- when a transmission that starts now ends
-selects-end : {T : Type 0} {key : T → ℕ → ℕ → ℕ} {wait : ℕ → ℕ → ℕ} {network : DeclaredNetwork}
+pub selects-end : {T : Type 0} {key : T → ℕ → ℕ → ℕ} {wait : ℕ → ℕ → ℕ} {network : DeclaredNetwork}
     {releases : List Release} {old new : Course T} {now : Moment} {port : ℕ} {entries more : List (Moment × Event)}
     → IsNext key wait network releases old now (Selection port) entries → (step : Selects key old new now port more)
     → step.end.0 ≡ now.at.0 + (port_at network.topology.ports port).ps_per_bit * bits_of step.starts.started.octets
@@ -419,7 +419,7 @@ selects-after {T} {key} {wait} {network} {releases} {old} {new} {now} {port} {en
     (All-nil (λ (x : Moment × Event). IsAfter now x.0)))
 
 -- the frame that starts was held
-selects-held : {T : Type 0} {key : T → ℕ → ℕ → ℕ} {wait : ℕ → ℕ → ℕ} {network : DeclaredNetwork}
+pub selects-held : {T : Type 0} {key : T → ℕ → ℕ → ℕ} {wait : ℕ → ℕ → ℕ} {network : DeclaredNetwork}
     {releases : List Release} {old new : Course T} {now : Moment} {port : ℕ} {entries more : List (Moment × Event)}
     → IsNext key wait network releases old now (Selection port) entries → (step : Selects key old new now port more)
     → IsHeld network old port step.starts.started
@@ -460,7 +460,7 @@ selects-awaited {T} {key} {wait} {network} {releases} {old} {new} {now} {port} {
     (selects-after next step)
 
 -- the frame whose transmission ends next is sent by the port of its last hop record
-ending-port : {T : Type 0} {key : T → ℕ → ℕ → ℕ} {wait : ℕ → ℕ → ℕ} {network : DeclaredNetwork}
+pub ending-port : {T : Type 0} {key : T → ℕ → ℕ → ℕ} {wait : ℕ → ℕ → ℕ} {network : DeclaredNetwork}
     {releases : List Release} {course : Course T} {now : Moment} {frame : ℕ} {entries : List (Moment × Event)}
     → IsNext key wait network releases course now (End frame) entries
     → place_at network course frame < length network.topology.ports
@@ -468,7 +468,7 @@ ending-port {T} {key} {wait} {network} {releases} {course} {now} {frame} next =
     let is = frame-at frame (Sending now.at) next.holds (next-sending next) (λ e. cc) in
     place-within network course frame (Sending now.at) (IsSentUntil now.at) next.holds.rules is is.stands.here.0
 
-ending-sends : {T : Type 0} {key : T → ℕ → ℕ → ℕ} {wait : ℕ → ℕ → ℕ} {network : DeclaredNetwork}
+pub ending-sends : {T : Type 0} {key : T → ℕ → ℕ → ℕ} {wait : ℕ → ℕ → ℕ} {network : DeclaredNetwork}
     {releases : List Release} {course : Course T} {now : Moment} {frame : ℕ} {entries : List (Moment × Event)}
     → IsNext key wait network releases course now (End frame) entries
     → Sends (port_state_at course (place_at network course frame)) frame now.at.0
@@ -709,13 +709,13 @@ room-for-all {T} {key} {wait} {network} {releases} {course} {entries} holds =
     λ (x : Moment × Event) is. at-place course x.1 x.0 is (is-within course x.1 x.0 is) in
     let apart : AllPairs (λ (x y : Moment × Event). place x ≢ place y) entries =
     λ i j d before within same. (
-        let x : Moment × Event = slice_index_or entries i d in
-        let y : Moment × Event = slice_index_or entries j d in
-        holds.awaited.apart i j d before within
-        (sym (own x (each i d (omega arith))) ∙ ap (event_at course) same ∙ own y (each j d within))) in
+    let x : Moment × Event = slice_index_or entries i d in
+    let y : Moment × Event = slice_index_or entries j d in
+    holds.awaited.apart i j d before within
+    (sym (own x (each i d (omega arith))) ∙ ap (event_at course) same ∙ own y (each j d within))) in
     let below : All (λ (x : Moment × Event). place x < all) entries = λ k d h. (
-        let x : Moment × Event = slice_index_or entries k d in
-        place-below course x.1 (is-within course x.1 x.0 (each k d h))) in
+    let x : Moment × Event = slice_index_or entries k d in
+    place-below course x.1 (is-within course x.1 x.0 (each k d h))) in
     let few : length (map place entries) ≤ all =
     numbers_below all (map place entries) (pairs-map (λ (a b : ℕ). a ≢ b) place entries apart)
     (All-map (λ (n : ℕ). n < all) place entries below) in

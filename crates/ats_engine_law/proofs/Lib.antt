@@ -13,6 +13,7 @@ pub mod Groups
 pub mod Hops
 pub mod Judged
 pub mod Kept
+pub mod Left
 pub mod Moving
 pub mod Now
 pub mod Opened
