@@ -1,5 +1,6 @@
 pub mod Allowed
 pub mod Beginning
+pub mod Classes
 pub mod Conclusion
 pub mod Entries
 pub mod Frames

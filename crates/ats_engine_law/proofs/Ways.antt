@@ -1,5 +1,5 @@
 -- What a step does to the hop records of a frame along its path.
-use Rattle.std.proofs.Common.{◌≡◌, ◌≢◌, ℕ, zero, suc, ◌-◌, ◌<◌, List, [], ◌∷◌, ◌++◌, length, get_or, set, Some, refl}
+use Rattle.std.proofs.Common.{◌≡◌, ◌≢◌, ℕ, zero, suc, ◌-◌, ◌<◌, ◌≤◌, List, [], ◌∷◌, ◌++◌, length, get_or, set, Some, refl}
 use Rattle.std.proofs.Common.{ap, ◌∙◌, arith}
 use Rattle.ats_num.specs.declared.time.Ps.{Ps}
 use Rattle.ats_group.specs.declared.verdict.Verdict.{Verdict}
@@ -40,6 +40,15 @@ pub stands-some : (Last : HopRecord → Type 0) (path : List ℕ) (hops : List H
 stands-some Last [] hops stands = absurd stands
 stands-some Last (p ∷ path) [] stands = absurd stands
 stands-some Last (p ∷ path) (hop ∷ hops) stands = omega arith
+
+-- and no more of them than its path has ports
+pub stands-within : (Last : HopRecord → Type 0) (path : List ℕ) (hops : List HopRecord) → Stands Last path hops
+    → length hops ≤ length path
+stands-within Last [] hops stands = absurd stands
+stands-within Last (p ∷ path) [] stands = absurd stands
+stands-within Last (p ∷ path) (hop ∷ []) stands = omega arith
+stands-within Last (p ∷ path) (hop ∷ next ∷ hops) stands =
+    omega (arith, stands-within Last path (next ∷ hops) stands.1)
 
 -- what the last record says may be weakened
 pub stands-weaker : (Last Other : HopRecord → Type 0) → ((hop : HopRecord) → Last hop → Other hop) → (path : List ℕ)
