@@ -1,19 +1,19 @@
 -- The lists of a run that is to begin.
 use Rattle.std.proofs.Common.{◌≡◌, ℕ, zero, suc, ◌+◌, ◌*◌, ◌<◌, ◌≤◌, List, [], ◌∷◌, ◌++◌, length, map, get_or, All}
-use Rattle.std.proofs.Common.{refl, sym, ap, ◌∙◌, subst, arith}
+use Rattle.std.proofs.Common.{refl, ap, ◌∙◌, arith}
 use Rattle.std.specs.List.{zip, filter, sum_by}
 use Rattle.std.specs.Prelude.{◌==◌, ◌&&◌}
-use Rattle.std.proofs.lemmas.List.{get_or-map, length-map}
+use Rattle.std.proofs.lemmas.List.{length-map}
 use Rattle.std.proofs.lemmas.List.Elements.{All-map}
 use Rattle.std.proofs.lemmas.List.Sums.{sum_by-le}
-use Rattle.ats_network.specs.Network.{DeclaredNetwork, IsNetwork, senders_of}
+use Rattle.ats_network.specs.Network.{DeclaredNetwork, IsNetwork}
 use Rattle.ats_network.specs.Sender.{Sender}
 use Rattle.ats_network.specs.Senders.{IsSender, sender_at}
 use Rattle.ats_network.proofs.SenderLemmas.{sender_keeps}
 use Rattle.ats_events.specs.declared.moment.Moment.{Moment}
 use Rattle.ats_trace.specs.Journey.{Travel}
-use Rattle.ats_trace.specs.Projections.{Hop, Crossing, Handed, hops_along, crossings_along, handed_along}
-use Rattle.ats_trace.specs.Projections.{hops_from, crossings_from, handed_from, sent_by, crossings_by, handed_by}
+use Rattle.ats_trace.specs.Projections.{Hop, Crossing, Handed, hops_along, crossings_along, handed_along, hops_from}
+use Rattle.ats_trace.specs.Projections.{crossings_from, handed_from, sent_by, crossings_by, handed_by}
 use Rattle.ats_trace.specs.Releases.{IsRelease}
 use Rattle.ats_trace.specs.declared.journey.Ending.{Ending}
 use Rattle.ats_trace.specs.declared.journey.Ending.TheVariants.{Sink}
@@ -138,7 +138,8 @@ entry-at releases i d within =
 
 -- what the frames take at the most
 rows-opened : (network : DeclaredNetwork) (releases : List Release)
-    → zip (map coming releases) (map (start network) releases) ≡ map (λ (r : Release). (coming r, start network r)) releases
+    → zip (map coming releases) (map (start network) releases)
+    ≡ map (λ (r : Release). (coming r, start network r)) releases
 rows-opened network [] = refl
 rows-opened network (r ∷ releases) =
     ap (λ (rows : List (Stage × Progress)). (coming r, start network r) ∷ rows) (rows-opened network releases)
@@ -146,7 +147,8 @@ rows-opened network (r ∷ releases) =
 most-one : (network : DeclaredNetwork) (r : Release) → IsNetwork network → IsRelease network r
     → most_left (coming r, start network r) ≤ 16 * most_hop
 most-one network r rules is =
-    let sender : IsSender network.topology (sender_at network r.sender) = sender_keeps network r.sender rules is.sender in
+    let sender : IsSender network.topology (sender_at network r.sender) =
+    sender_keeps network r.sender rules is.sender in
     omega (arith, sender.path.most)
 
 pub most-opened : (network : DeclaredNetwork) (releases : List Release) → IsNetwork network
@@ -160,6 +162,6 @@ most-opened network releases rules each =
     let sum = sum_by-le most_left (16 * most_hop) (map row releases) few in
     let long : length (map row releases) ≡ length releases = length-map releases row in
     let same : sum_by most_left (zip (map coming releases) (map (start network) releases))
-        ≡ sum_by most_left (map row releases) =
+    ≡ sum_by most_left (map row releases) =
     ap (sum_by most_left) (rows-opened network releases) in
     omega arith

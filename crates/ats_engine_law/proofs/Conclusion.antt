@@ -1,16 +1,13 @@
 -- Where nothing is to happen any more, the run is over.
-use Rattle.std.proofs.Common.{◌≡◌, ◌≢◌, ℕ, ◌-◌, ◌<◌, ◌≤◌, true, false, List, [], ◌∷◌, length, map, get_or, All}
-use Rattle.std.proofs.Common.{Option, None, Some, refl, sym, ap, ◌∙◌, subst, inl, inr, arith, IsPermutation, IsTrue}
+use Rattle.std.proofs.Common.{◌≡◌, ℕ, ◌-◌, ◌<◌, ◌≤◌, true, List, [], ◌∷◌, length, map, get_or, All, Option, Some, refl}
+use Rattle.std.proofs.Common.{sym, ap, ◌∙◌, subst, inl, inr, arith, IsTrue}
 use Rattle.std.specs.Prelude.{is_some, unwrap_or, Contains, IfSome, ◌⊎◌}
 use Rattle.std.specs.List.Sorted.{IsNonDecreasing}
 use Rattle.std.proofs.lemmas.Bool.{cases_lt}
-use Rattle.std.proofs.lemmas.List.{length-map}
 use Rattle.std.proofs.lemmas.List.Elements.{All-head, All-tail, All-map, All-from_get_or}
 use Rattle.std.proofs.lemmas.List.Sorted.{IsPermutation-refl}
-use Rattle.ats_num.specs.declared.time.Ps.{Ps}
 use Rattle.ats_topology.specs.Port.{port_at}
-use Rattle.ats_network.specs.Network.{DeclaredNetwork, IsNetwork}
-use Rattle.ats_network.specs.Sender.{Sender}
+use Rattle.ats_network.specs.Network.{DeclaredNetwork}
 use Rattle.ats_network.specs.Senders.{IsSender, sender_at}
 use Rattle.ats_network.proofs.SenderLemmas.{sender_keeps}
 use Rattle.ats_group.specs.Judge.{ats_judge}
@@ -20,23 +17,21 @@ use Rattle.ats_transmit.specs.Sending.{transmissions, last_of}
 use Rattle.ats_transmit.specs.State.{PortState}
 use Rattle.ats_transmit.specs.declared.offer.Offer.{Offer}
 use Rattle.ats_events.specs.declared.moment.Moment.{Moment}
-use Rattle.ats_trace.specs.Eligibility.{IsJudged, IsPassed, residence_of_groups}
+use Rattle.ats_trace.specs.Eligibility.{IsJudged, residence_of_groups}
 use Rattle.ats_trace.specs.Journey.{Travel, IsJourney, IsWay}
-use Rattle.ats_trace.specs.Links.{KeepsLinkRule, KeepsPace}
-use Rattle.ats_trace.specs.Projections.{Handed, sent_by, crossings_by, handed_by}
-use Rattle.ats_trace.specs.Run.{IsLegal, IsRunBy, HasReleases, releases_of}
+use Rattle.ats_trace.specs.Projections.{Handed, sent_by, handed_by}
+use Rattle.ats_trace.specs.Run.{IsRunBy, HasReleases, releases_of}
 use Rattle.ats_trace.specs.declared.journey.Ending.{Ending}
 use Rattle.ats_trace.specs.declared.journey.Ending.TheVariants.{Discard}
-use Rattle.ats_trace.specs.declared.journey.HopRecord.{HopRecord}
 use Rattle.ats_trace.specs.declared.journey.Release.{Release}
 use Rattle.ats_records.specs.Progress.{Progress, progress_at, no_progress, finished}
-use Rattle.ats_steps.specs.Course.{Course, stage_at, turn_at, travel_of, travels_of, travels, path_of, place_at, offer_at}
+use Rattle.ats_steps.specs.Course.{Course, stage_at, turn_at, travel_of, travels_of, travels, path_of, place_at}
+use Rattle.ats_steps.specs.Course.{offer_at}
 use Rattle.ats_steps.specs.Entries.{moment_of, arrival_by, eligibility_by, end_by, selection_by}
-use Rattle.ats_steps.specs.Frames.{IsFrame, IsWhole, IsUnsent, Stands}
+use Rattle.ats_steps.specs.Frames.{IsFrame, IsWhole, IsUnsent}
 use Rattle.ats_steps.specs.Invariant.{Holds}
 use Rattle.ats_steps.specs.Judging.{IsGroupOf}
-use Rattle.ats_steps.specs.Paces.{IsPaced}
-use Rattle.ats_steps.specs.Ports.{IsPortOf, IsUnderWay, IsTurn, port_state_at}
+use Rattle.ats_steps.specs.Ports.{IsPortOf, IsTurn, port_state_at}
 use Rattle.ats_steps.specs.declared.event.Event.{Event}
 use Rattle.ats_steps.specs.declared.event.Event.TheVariants.{End, Arrival, Eligibility, Selection}
 use Rattle.ats_steps.specs.declared.stage.Stage.{Stage}
@@ -55,8 +50,8 @@ none-to-come : {T : Type 0} {key : T → ℕ → ℕ → ℕ} {wait : ℕ → �
     {releases : List Release} {course : Course T} → Holds key wait network releases course []
     → (event : Event) (moment : Moment) → moment_of course event ≡ Some moment → ⊥
 none-to-come holds event moment is =
-    none-contained (moment, event)
-    (subst (λ (o : Option Moment). IfSome o (λ (m : Moment). Contains {X = Moment × Event} [] (m, event))) is (holds.awaited.there event))
+    let IsThere : Moment → Type 0 = λ (m : Moment). Contains {X = Moment × Event} [] (m, event) in
+    none-contained (moment, event) (subst (λ (o : Option Moment). IfSome o IsThere) is (holds.awaited.there event))
 
 -- so each frame waits or is over
 waits-or-over : {T : Type 0} {key : T → ℕ → ℕ → ℕ} {wait : ℕ → ℕ → ℕ} {network : DeclaredNetwork}
@@ -115,7 +110,8 @@ each-whole {T} {key} {wait} {network} {releases} {course} holds =
     All-from_get_or (λ (p : Progress). IsFrame network p Over) course.records no_progress
     (λ frame within. by frame within (waits-or-over holds frame (stage_at course frame) refl))
   where
-    by : (frame : ℕ) → frame < length course.records → (stage_at course frame ≡ Waiting) ⊎ (stage_at course frame ≡ Over)
+    by : (frame : ℕ) → frame < length course.records
+        → (stage_at course frame ≡ Waiting) ⊎ (stage_at course frame ≡ Over)
         → IsFrame network (progress_at course.records frame) Over
     by frame within (inl waits) = absurd (none-waits holds frame within waits)
     by frame within (inr over) =
@@ -247,11 +243,10 @@ ended-run {T} {key} {wait} {network} {releases} {course} holds =
     let has : HasReleases releases run = releases-finished course.records ∙ holds.shape.released in
     let journeys : All (IsJourney network) run =
     All-map (IsJourney network) finished course.records
-    (λ k d h. journey-finished network (get_or course.records k d) (whole k d h)) in
-    (
+    (λ k d h. journey-finished network (get_or course.records k d) (whole k d h)) in (
       λ k d h. has-ending (get_or course.records k d) (ended k d h),
       subst (IsRunBy (key course.tie) wait network) same
-      (run-holds holds (subst (HasReleases releases) (sym same) has)
-      (subst (All (IsJourney network)) (sym same) journeys)),
+          (run-holds holds (subst (HasReleases releases) (sym same) has)
+          (subst (All (IsJourney network)) (sym same) journeys)),
       has,
     )

@@ -1,6 +1,6 @@
 -- The lists and the frames after each step.
-use Rattle.std.proofs.Common.{◌≡◌, ◌≢◌, ℕ, ◌-◌, ◌<◌, List, [], ◌∷◌, ◌++◌, length, map, get_or, set, None, Some}
-use Rattle.std.proofs.Common.{refl, sym, ap, ◌∙◌, subst, inl, inr, arith}
+use Rattle.std.proofs.Common.{◌≡◌, ◌≢◌, ℕ, ◌-◌, ◌<◌, List, [], ◌∷◌, length, map, get_or, set, refl, sym, ap, ◌∙◌, subst}
+use Rattle.std.proofs.Common.{inl, inr, arith}
 use Rattle.std.specs.Prelude.{◌==◌, if◌then◌else◌}
 use Rattle.std.proofs.lemmas.Bool.{cases_eq, cond-true, cond-false, eq-eqb, ne_eqb}
 use Rattle.std.proofs.lemmas.List.{get_or-set_same, get_or-set_other, length-set}
@@ -10,20 +10,16 @@ use Rattle.ats_network.specs.Network.{DeclaredNetwork}
 use Rattle.ats_group.specs.declared.verdict.Verdict.{Verdict}
 use Rattle.ats_group.specs.declared.verdict.Verdict.TheVariants.{Eligible, Late, Size}
 use Rattle.ats_events.specs.declared.moment.Moment.{Moment}
-use Rattle.ats_trace.specs.Journey.{IsReleased}
 use Rattle.ats_trace.specs.declared.journey.Ending.TheVariants.{Sink, Discard}
-use Rattle.ats_trace.specs.declared.journey.HopRecord.{HopRecord}
 use Rattle.ats_trace.specs.declared.journey.Release.{Release}
 use Rattle.ats_records.specs.Progress.{Progress, progress_at, no_progress, with_sent, with_ending}
-use Rattle.ats_transmit.specs.State.{PortState}
-use Rattle.ats_transmit.specs.declared.offer.Offer.{Offer}
 use Rattle.ats_steps.specs.Course.{Course, stage_at, path_of}
 use Rattle.ats_steps.specs.Entries.{arrival_moment}
-use Rattle.ats_steps.specs.Frames.{IsDueAt, IsUnsent, IsSentUntil, Goes, Stands, IsFrame, IsAtStage}
+use Rattle.ats_steps.specs.Frames.{IsDueAt, IsUnsent, IsFrame}
 use Rattle.ats_steps.specs.Invariant.{IsShaped}
-use Rattle.ats_steps.specs.Ports.{IsHeld, IsPortOf, port_state_at}
-use Rattle.ats_steps.specs.Steps.{Move, came, comes_by, verdict_now, judged_by, class_behind, leaves_for}
-use Rattle.ats_steps.specs.Steps.{Comes, BecomesEligible, Selects, Ends}
+use Rattle.ats_steps.specs.Ports.{port_state_at}
+use Rattle.ats_steps.specs.Steps.{Move, came, comes_by, verdict_now, judged_by, class_behind, leaves_for, Comes}
+use Rattle.ats_steps.specs.Steps.{BecomesEligible, Selects, Ends}
 use Rattle.ats_steps.specs.declared.event.Event.{Event}
 use Rattle.ats_steps.specs.declared.event.Event.TheVariants.{End, Arrival, Eligibility, Selection}
 use Rattle.ats_steps.specs.declared.stage.Stage.{Stage}
@@ -32,8 +28,8 @@ use Rattle.ats_steps.specs.declared.turn.Turn.TheVariants.{Selecting}
 use Rattle.ats_steps.proofs.Stepping.{started-frame}
 use Rattle.ats_engine_law.specs.Next.{IsNext}
 use Rattle.ats_engine_law.proofs.Stages.{next-coming, next-due, next-sending, next-selecting, stage-within, turn-within}
-use Rattle.ats_engine_law.proofs.Ways.{stands-some, stands-weaker, goes-stands, goes-discarded, released-more}
-use Rattle.ats_engine_law.proofs.Ways.{stands-sent, released-sent, sent-goes, sent-way, released-comes}
+use Rattle.ats_engine_law.proofs.Ways.{stands-weaker, goes-stands, goes-discarded, released-more, stands-sent}
+use Rattle.ats_engine_law.proofs.Ways.{released-sent, sent-goes, sent-way, released-comes}
 
 -- one frame of a run took a move
 record IsMoved {T : Type 0} (old new : Course T) (frame : ℕ) (stage : Stage) (progress : Progress) : Type 0 where
@@ -80,7 +76,7 @@ moved-frames {T} network old new frame stage progress even moved frames own f wi
     let now_progress : progress_at new.records f ≡ get_or (set old.records frame progress) f no_progress =
     ap (λ (ps : List Progress). get_or ps f no_progress) moved.records in
     let at : (p : Progress) (s : Stage) → progress_at new.records f ≡ p → stage_at new f ≡ s → IsFrame network p s
-        → IsFrame network (progress_at new.records f) (stage_at new f) =
+    → IsFrame network (progress_at new.records f) (stage_at new f) =
     λ p s hp hs is. subst (λ (q : Progress). IsFrame network q (stage_at new f)) (sym hp)
     (subst (IsFrame network p) (sym hs) is) in
     elim (cases_eq f frame) as (λ _. IsFrame network (progress_at new.records f) (stage_at new f)) [
@@ -117,7 +113,8 @@ known-frame {T} {network} course frame stage frames is within =
     subst (IsFrame network (progress_at course.records frame)) is (frames frame within)
 
 -- a frame that comes to its first port is eligible at once
-first-verdict : (network : DeclaredNetwork) (progress : Progress) (at : Ps) (judged : Verdict) → length progress.hops ≡ 0
+first-verdict : (network : DeclaredNetwork) (progress : Progress) (at : Ps) (judged : Verdict)
+    → length progress.hops ≡ 0
     → (if length progress.hops == 0 then Eligible (record { 0 = at.0 }) else judged) ≡ Eligible at
 first-verdict network progress at judged none =
     cond-true (length progress.hops == 0) (Eligible at) judged (eq-eqb (length progress.hops) 0 none)
@@ -133,7 +130,7 @@ come-stands network frame progress at (Eligible e) first is = record {
   stands = record {
     here = (
       goes-stands (IsDueAt e) (path_of network progress) progress.hops (came at (Eligible e)) is.stands.here.0
-      (record { verdict = refl; sent = refl }),
+          (record { verdict = refl; sent = refl }),
       released-more progress.release progress.hops at (Eligible e) is.stands.here.1 first,
     );
     unended = is.stands.unended;
@@ -245,8 +242,8 @@ due-waits network progress at is = record {
   stands = record {
     here = (
       stands-weaker (IsDueAt at) IsUnsent
-      (λ hop due. record { eligible = at; verdict = due.verdict; sent = due.sent })
-      (path_of network progress) progress.hops is.stands.here.0,
+          (λ hop due. record { eligible = at; verdict = due.verdict; sent = due.sent })
+          (path_of network progress) progress.hops is.stands.here.0,
       is.stands.here.1,
     );
     unended = is.stands.unended;

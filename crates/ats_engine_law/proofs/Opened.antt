@@ -1,7 +1,7 @@
 -- What holds where a run begins.
-use Rattle.std.proofs.Common.{◌≡◌, ◌≢◌, ℕ, ◌+◌, ◌-◌, ◌*◌, ◌<◌, ◌≤◌, true, false, List, [], ◌∷◌, length, map, get_or, All}
-use Rattle.std.proofs.Common.{Option, None, Some, refl, sym, ap, ◌∙◌, subst, inl, inr, arith, replicate, IsPermutation}
-use Rattle.std.specs.Prelude.{AllPairs, Contains, IfSome, ℤ, pos}
+use Rattle.std.proofs.Common.{◌≡◌, ℕ, ◌*◌, ◌<◌, ◌≤◌, true, false, List, [], ◌∷◌, length, map, get_or, All, Option, None}
+use Rattle.std.proofs.Common.{Some, refl, sym, ap, ◌∙◌, subst, inl, inr, arith, replicate, IsPermutation}
+use Rattle.std.specs.Prelude.{Contains, IfSome, ℤ, pos}
 use Rattle.std.specs.List.{zip, sum_by}
 use Rattle.std.proofs.lemmas.Bool.{cases_lt, true≢false}
 use Rattle.std.proofs.lemmas.List.{get_or-map, get_or-replicate, get_or_past, length-map, length-replicate}
@@ -13,14 +13,12 @@ use Rattle.ats_num.specs.declared.time.TheConstants.{END}
 use Rattle.ats_topology.specs.Port.{port_at}
 use Rattle.ats_topology.specs.declared.port.Port.{Port}
 use Rattle.ats_network.specs.Network.{DeclaredNetwork, IsNetwork}
-use Rattle.ats_network.specs.Sender.{Sender}
 use Rattle.ats_network.specs.Senders.{IsSender, sender_at}
-use Rattle.ats_network.specs.Class.{class_at}
 use Rattle.ats_network.proofs.SenderLemmas.{sender_keeps}
 use Rattle.ats_bucket.specs.Scheduler.{first_empty}
 use Rattle.ats_group.specs.Group.{State, first}
 use Rattle.ats_group.specs.GroupsState as groups
-use Rattle.ats_group.specs.GroupsState.{GroupsState, AreGroups, AreMembers, empty_at, first_empties, no_member}
+use Rattle.ats_group.specs.GroupsState.{GroupsState, AreMembers, empty_at, first_empties, no_member}
 use Rattle.ats_group.specs.declared.member.Member.{Member}
 use Rattle.ats_group.proofs.StepLemmas.{opened_first}
 use Rattle.ats_schedulers.specs.Schedulers.{IsHop, group_behind, residence_of, residences_of, members_of, scheduler_of}
@@ -30,24 +28,23 @@ use Rattle.ats_port_rule.specs.Transmission.{Transmission}
 use Rattle.ats_transmit.specs.State as standing
 use Rattle.ats_transmit.specs.State.{PortState}
 use Rattle.ats_transmit.specs.declared.offer.Offer.{Offer}
-use Rattle.ats_transmit.specs.declared.sent.Sent.{Sent}
 use Rattle.ats_transmit.proofs.Lawful.{lawful-open}
 use Rattle.ats_events.specs.declared.moment.Moment.{Moment}
 use Rattle.ats_trace.specs.Eligibility.{IsPassed, declared_by}
 use Rattle.ats_trace.specs.Journey.{Travel}
-use Rattle.ats_trace.specs.Links.{KeepsLinkRule, KeepsPace, ArrivesWithin, ArrivesByPace, in_order_from}
+use Rattle.ats_trace.specs.Links.{KeepsLinkRule, KeepsPace, in_order_from}
 use Rattle.ats_trace.specs.Projections.{Crossing, Handed, sent_by, crossings_by, handed_by}
 use Rattle.ats_trace.specs.Releases.{AreReleases, IsRelease}
 use Rattle.ats_trace.specs.declared.journey.Release.{Release}
 use Rattle.ats_records.specs.Progress.{Progress, progress_at, no_progress}
-use Rattle.ats_steps.specs.Bounds.{all_left, most_left, horizon, IsInTime}
-use Rattle.ats_steps.specs.Course.{Course, stage_at, turn_at, travels, travels_of, arrives_from_at, path_of}
+use Rattle.ats_steps.specs.Bounds.{all_left, most_left, IsInTime}
+use Rattle.ats_steps.specs.Course.{Course, stage_at, turn_at, travels, travels_of, arrives_from_at}
 use Rattle.ats_steps.specs.Entries.{AreAwaited, IsReached, moment_of, arrival_by, eligibility_by, end_by, selection_by}
-use Rattle.ats_steps.specs.Frames.{IsFrame, IsAtStage, Goes}
+use Rattle.ats_steps.specs.Frames.{IsFrame, Goes}
 use Rattle.ats_steps.specs.Invariant.{Holds, IsShaped}
-use Rattle.ats_steps.specs.Judging.{AreGroupsOf, IsGroupOf, IsStateOf, ArePassed}
+use Rattle.ats_steps.specs.Judging.{AreGroupsOf, IsGroupOf, IsStateOf}
 use Rattle.ats_steps.specs.Paces.{IsPaced}
-use Rattle.ats_steps.specs.Ports.{IsPortOf, IsHeld, IsTurn, frames_at, port_state_at, room_of}
+use Rattle.ats_steps.specs.Ports.{IsPortOf, IsHeld, IsTurn, port_state_at, room_of}
 use Rattle.ats_steps.specs.declared.event.Event.{Event}
 use Rattle.ats_steps.specs.declared.event.Event.TheVariants.{End, Arrival, Eligibility, Selection}
 use Rattle.ats_steps.specs.declared.stage.Stage.{Stage}
@@ -55,9 +52,9 @@ use Rattle.ats_steps.specs.declared.stage.Stage.TheVariants.{Coming, Waiting, Se
 use Rattle.ats_steps.specs.declared.turn.Turn.{Turn}
 use Rattle.ats_steps.specs.declared.turn.Turn.TheVariants.{Resting}
 use Rattle.ats_engine_law.specs.Opened.{IsOpened, IsFresh, released_from}
-use Rattle.ats_engine_law.proofs.Beginning.{coming, start, still, no_release, entry_of}
-use Rattle.ats_engine_law.proofs.Beginning.{records-opened, releases-kept, travels-opened, none-sent, none-crossed}
-use Rattle.ats_engine_law.proofs.Beginning.{none-handed, length-released, entry-at, most-opened}
+use Rattle.ats_engine_law.proofs.Beginning.{coming, start, still, no_release, entry_of, records-opened, releases-kept}
+use Rattle.ats_engine_law.proofs.Beginning.{travels-opened, none-sent, none-crossed, none-handed, length-released}
+use Rattle.ats_engine_law.proofs.Beginning.{entry-at, most-opened}
 
 -- the records of a run that is to begin
 records-are : {T : Type 0} (network : DeclaredNetwork) (releases : List Release) (course : Course T)
