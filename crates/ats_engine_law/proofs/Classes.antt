@@ -34,6 +34,7 @@ low-transmission frame r class (Eligible e) None low = tt
 low-transmission frame r class (Late e) times low = tt
 low-transmission frame r class Size times low = tt
 
+-- a frame that is handed on is in the class of its transmission
 low-at : (octets came port : ℕ) (sent : Option Transmission) (hops : List HopRecord)
     → IfSome sent (λ (x : Transmission). x.class ≤ 7) → All IsLow (handed_at octets came port sent hops)
 low-at octets came port None hops low = All-nil IsLow
@@ -44,6 +45,7 @@ low-at octets came port (Some sent) (next ∷ hops) low =
       verdict = next.verdict;
     }) [] low (All-nil IsLow)
 
+-- so along a path no frame is handed on in a class above 7, where its sender has no such class
 low-along : (frame : ℕ) (r : Release) (s : Sender) (path : List ℕ) (hops : List HopRecord)
     → ((port : ℕ) → class_at s port ≤ 7) → All IsLow (handed_along frame r s path hops)
 low-along frame r s [] hops low = All-nil IsLow
@@ -55,6 +57,7 @@ low-along frame r s (p ∷ path) (hop ∷ hops) low =
     (low-transmission frame r (class_at s p) hop.verdict hop.sent (low p)))
     (low-along frame r s path hops low)
 
+-- which no sender has
 low-journey : (network : DeclaredNetwork) (frame : ℕ) (j : Travel) → IsNetwork network
     → j.release.sender < length (senders_of network) → All IsLow (journey_handed network frame j)
 low-journey network frame j rules within =
@@ -62,9 +65,11 @@ low-journey network frame j rules within =
     let is : IsSender network.topology s = sender_keeps network j.release.sender rules within in
     low-along frame j.release s s.path j.hops (λ port. class_at-le s port is.classes)
 
+-- the sender of a journey is one of the network
 abbrev pub IsKnown : DeclaredNetwork → Travel → Type 0
 IsKnown network j = j.release.sender < length (senders_of network)
 
+-- so it is in a whole run
 low-from : (network : DeclaredNetwork) (frame : ℕ) (run : List Travel) → IsNetwork network
     → All (IsKnown network) run → All IsLow (handed_from network frame run)
 low-from network frame [] rules known = All-nil IsLow

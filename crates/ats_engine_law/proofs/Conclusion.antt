@@ -121,6 +121,7 @@ each-whole {T} {key} {wait} {network} {releases} {course} holds =
 abbrev HasEnding : Progress → Type 0
 HasEnding p = (ending : Ending) × (p.ending ≡ Some ending)
 
+-- a frame that is over has one
 ending-of : (path : List ℕ) (p : Progress) → IsWhole path p → HasEnding p
 ending-of path p whole = (whole.end, whole.ended)
 
@@ -130,6 +131,7 @@ travel-finished stage p ending =
     ap (λ (o : Option Ending). travel_of (stage, record p { ending = o })) ending.1
     ∙ sym (ap (λ (o : Option Ending). finished (record p { ending = o })) ending.1)
 
+-- so the run so far is the run that is finished
 travels-finished : (stages : List Stage) (records : List Progress) → length stages ≡ length records
     → All HasEnding records → travels_of stages records ≡ map finished records
 travels-finished [] [] even ended = refl
@@ -147,6 +149,7 @@ releases-finished : (records : List Progress)
 releases-finished [] = refl
 releases-finished (p ∷ records) = ap (λ (rs : List Release). p.release ∷ rs) (releases-finished records)
 
+-- the journey of a frame that is over is one
 journey-finished : (network : DeclaredNetwork) (p : Progress) → IsFrame network p Over → IsJourney network (finished p)
 journey-finished network p is = record {
   sender = is.sender;
@@ -165,6 +168,7 @@ port-rule {T} {key} {network} {course} port standing is =
     (rule-permutation standing.ps_per_bit (transmissions standing.sent) (sent_by network (travels course) port) is.sent
     is.lawful.rule)
 
+-- and so it keeps its tie
 port-tie : {T : Type 0} {key : T → ℕ → ℕ → ℕ} {network : DeclaredNetwork} {course : Course T} (port : ℕ)
     (standing : PortState T) → IsPortOf key network course port standing
     → KeepsTie (key course.tie) (sent_by network (travels course) port)
@@ -192,6 +196,7 @@ none-judged network residence handed none =
       verdicts = refl;
     })
 
+-- so the groups have judged all streams' frames
 all-judged : {T : Type 0} {key : T → ℕ → ℕ → ℕ} {wait : ℕ → ℕ → ℕ} {network : DeclaredNetwork}
     {releases : List Release} {course : Course T} {entries : List (Moment × Event)}
     → Holds key wait network releases course entries → All (IsKnown network) (travels course) → (port class : ℕ)
@@ -225,6 +230,7 @@ run-holds {T} {key} {wait} {network} {releases} {course} holds has journeys = re
   tie = λ port within. port-tie port (port_state_at course port) (holds.ports port within);
 }
 
+-- what has an ending has a value there
 has-ending : (p : Progress) → HasEnding p → IsTrue (is_some p.ending)
 has-ending p ending = subst (λ (o : Option Ending). IsTrue (is_some o)) (sym ending.1) refl
 

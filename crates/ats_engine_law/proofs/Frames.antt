@@ -94,13 +94,15 @@ moved-frames {T} network old new frame stage progress even moved frames own f wi
           (frames f (omega arith))
     ]
 
--- stages of different kinds differ
+-- a frame that is to come is not over
 coming-not_over : (at : Ps) → Coming at ≢ Over
 coming-not_over at same = cc
 
+-- nor is one that is due
 due-not_over : (at : Ps) → Due at ≢ Over
 due-not_over at same = cc
 
+-- or one that is sent
 sending-not_over : (at : Ps) → Sending at ≢ Over
 sending-not_over at same = cc
 
@@ -161,12 +163,14 @@ come-stands network frame progress at Size first is = record {
   };
 }
 
+-- it keeps its release
 come-release : (frame : ℕ) (progress : Progress) (at : Ps) (verdict : Verdict)
     → (comes_by frame progress at verdict).progress.release ≡ progress.release
 come-release frame progress at (Eligible e) = refl
 come-release frame progress at (Late e) = refl
 come-release frame progress at Size = refl
 
+-- an arrival moves one frame
 comes-moved : {T : Type 0} {key : T → ℕ → ℕ → ℕ} {wait : ℕ → ℕ → ℕ} {network : DeclaredNetwork}
     {releases : List Release} {old new : Course T} {now : Moment} {frame : ℕ} {entries more : List (Moment × Event)}
     → IsNext key wait network releases old now (Arrival frame) entries → (step : Comes network old new now frame more)
@@ -185,6 +189,7 @@ comes-moved {T} {key} {wait} {network} {releases} {old} {new} {now} {frame} next
       arrives_from = ap (λ (c : Course T). length c.arrives_from) step.becomes;
     }
 
+-- after an arrival the lists fit as before
 pub comes-shape : {T : Type 0} {key : T → ℕ → ℕ → ℕ} {wait : ℕ → ℕ → ℕ} {network : DeclaredNetwork}
     {releases : List Release} {old new : Course T} {now : Moment} {frame : ℕ} {entries more : List (Moment × Event)}
     → IsNext key wait network releases old now (Arrival frame) entries → Comes network old new now frame more
@@ -193,6 +198,7 @@ comes-shape {T} {key} {wait} {network} {releases} {old} {new} {now} {frame} next
     moved-shape network releases old new frame step.move.stage step.move.progress next.holds.shape
     (comes-moved next step)
 
+-- and each frame is as far as its stage says
 pub comes-frames : {T : Type 0} {key : T → ℕ → ℕ → ℕ} {wait : ℕ → ℕ → ℕ} {network : DeclaredNetwork}
     {releases : List Release} {old new : Course T} {now : Moment} {frame : ℕ} {entries more : List (Moment × Event)}
     → IsNext key wait network releases old now (Arrival frame) entries → Comes network old new now frame more
@@ -209,6 +215,7 @@ comes-frames {T} {key} {wait} {network} {releases} {old} {new} {now} {frame} nex
     (come-stands network frame p now.at (verdict_now network old.groups p now.at.0)
     (first-verdict network p now.at (judged_by network old.groups (class_behind network p) p now.at.0)) here))
 
+-- a frame that becomes eligible is the one that moves
 offered-moved : {T : Type 0} {key : T → ℕ → ℕ → ℕ} {wait : ℕ → ℕ → ℕ} {network : DeclaredNetwork}
     {releases : List Release} {old new : Course T} {now : Moment} {frame : ℕ} {entries more : List (Moment × Event)}
     → IsNext key wait network releases old now (Eligibility frame) entries
@@ -224,6 +231,7 @@ offered-moved {T} {key} {wait} {network} {releases} {old} {new} {now} {frame} ne
   arrives_from = ap (λ (c : Course T). length c.arrives_from) step.becomes;
 }
 
+-- once a frame is eligible the lists fit as before
 pub offered-shape : {T : Type 0} {key : T → ℕ → ℕ → ℕ} {wait : ℕ → ℕ → ℕ} {network : DeclaredNetwork}
     {releases : List Release} {old new : Course T} {now : Moment} {frame : ℕ} {entries more : List (Moment × Event)}
     → IsNext key wait network releases old now (Eligibility frame) entries
@@ -250,6 +258,7 @@ due-waits network progress at is = record {
   };
 }
 
+-- and each frame is as far as its stage says
 pub offered-frames : {T : Type 0} {key : T → ℕ → ℕ → ℕ} {wait : ℕ → ℕ → ℕ} {network : DeclaredNetwork}
     {releases : List Release} {old new : Course T} {now : Moment} {frame : ℕ} {entries more : List (Moment × Event)}
     → IsNext key wait network releases old now (Eligibility frame) entries
@@ -275,6 +284,7 @@ selected-held {T} {key} {wait} {network} {releases} {old} {new} {now} {port} nex
     (λ (f : ℕ). (f < length old.records) × (stage_at old f ≡ Waiting))
     (λ k d h. ((held k d h).within, (held k d h).stage))
 
+-- a selection moves the frame that it starts
 selects-moved : {T : Type 0} {key : T → ℕ → ℕ → ℕ} {wait : ℕ → ℕ → ℕ} {network : DeclaredNetwork}
     {releases : List Release} {old new : Course T} {now : Moment} {port : ℕ} {entries more : List (Moment × Event)}
     → IsNext key wait network releases old now (Selection port) entries → (step : Selects key old new now port more)
@@ -289,6 +299,7 @@ selects-moved {T} {key} {wait} {network} {releases} {old} {new} {now} {port} nex
   arrives_from = ap (λ (c : Course T). length c.arrives_from) step.becomes;
 }
 
+-- after a selection the lists fit as before
 pub selects-shape : {T : Type 0} {key : T → ℕ → ℕ → ℕ} {wait : ℕ → ℕ → ℕ} {network : DeclaredNetwork}
     {releases : List Release} {old new : Course T} {now : Moment} {port : ℕ} {entries more : List (Moment × Event)}
     → IsNext key wait network releases old now (Selection port) entries → Selects key old new now port more
@@ -313,6 +324,7 @@ waiting-sends network progress start end is = record {
   };
 }
 
+-- and each frame is as far as its stage says
 pub selects-frames : {T : Type 0} {key : T → ℕ → ℕ → ℕ} {wait : ℕ → ℕ → ℕ} {network : DeclaredNetwork}
     {releases : List Release} {old new : Course T} {now : Moment} {port : ℕ} {entries more : List (Moment × Event)}
     → IsNext key wait network releases old now (Selection port) entries → Selects key old new now port more
@@ -326,10 +338,11 @@ selects-frames {T} {key} {wait} {network} {releases} {old} {new} {now} {port} ne
     (waiting-sends network p now.at step.end
     (known-frame old step.frame Waiting next.holds.frames held.1 held.0))
 
--- a frame that was sent goes to its listener, or to the next port
+-- a frame that was sent goes to its listener
 abbrev sunk : Progress → Ps → Move
 sunk progress at = record { stage = Over; progress = with_ending progress (Sink at); entries = [] }
 
+-- or goes to the next port
 abbrev goes_on : ℕ → Progress → Ps → Move
 goes_on frame progress at = record {
   stage = Coming at;
@@ -337,6 +350,7 @@ goes_on frame progress at = record {
   entries = (arrival_moment frame at, Arrival frame) ∷ [];
 }
 
+-- what holds of both, each where it is the case, holds of what comes of it
 leaves-by : (P : Move → Type 0) (network : DeclaredNetwork) (frame : ℕ) (progress : Progress) (at : Ps)
     → (length progress.hops ≡ length (path_of network progress) → P (sunk progress at))
     → (length progress.hops ≢ length (path_of network progress) → P (goes_on frame progress at))
@@ -353,7 +367,7 @@ leaves-by P network frame progress at last more =
           (more other)
     ]
 
--- as far as it then is
+-- it is then as far as its stage says
 leave-stands : (network : DeclaredNetwork) (frame : ℕ) (progress : Progress) (until at : Ps)
     → IsFrame network progress (Sending until)
     → IsFrame network (leaves_for network frame progress at).progress (leaves_for network frame progress at).stage
@@ -384,6 +398,7 @@ leave-stands network frame progress until at is =
       };
     })
 
+-- the end of a transmission moves its frame
 ends-moved : {T : Type 0} {key : T → ℕ → ℕ → ℕ} {wait : ℕ → ℕ → ℕ} {network : DeclaredNetwork}
     {releases : List Release} {old new : Course T} {now : Moment} {frame : ℕ} {entries more : List (Moment × Event)}
     → IsNext key wait network releases old now (End frame) entries
@@ -404,6 +419,7 @@ ends-moved {T} {key} {wait} {network} {releases} {old} {new} {now} {frame} next 
       arrives_from = ap (λ (c : Course T). length c.arrives_from) step.becomes ∙ simp length-set;
     }
 
+-- after the end of a transmission the lists fit as before
 pub ends-shape : {T : Type 0} {key : T → ℕ → ℕ → ℕ} {wait : ℕ → ℕ → ℕ} {network : DeclaredNetwork}
     {releases : List Release} {old new : Course T} {now : Moment} {frame : ℕ} {entries more : List (Moment × Event)}
     → IsNext key wait network releases old now (End frame) entries → Ends key wait network old new now frame more
@@ -412,6 +428,7 @@ ends-shape {T} {key} {wait} {network} {releases} {old} {new} {now} {frame} next 
     moved-shape network releases old new frame step.move.stage step.move.progress next.holds.shape
     (ends-moved next step)
 
+-- and each frame is as far as its stage says
 pub ends-frames : {T : Type 0} {key : T → ℕ → ℕ → ℕ} {wait : ℕ → ℕ → ℕ} {network : DeclaredNetwork}
     {releases : List Release} {old new : Course T} {now : Moment} {frame : ℕ} {entries more : List (Moment × Event)}
     → IsNext key wait network releases old now (End frame) entries → Ends key wait network old new now frame more

@@ -88,6 +88,7 @@ released-more release (hop ∷ hops) at verdict comes first = comes
 abbrev pub sent_hops : List HopRecord → ℕ → Ps → Ps → List HopRecord
 sent_hops hops k start end = set hops k (record (get_or hops k no_hop) { sent = Some (start, end) })
 
+-- where its last record has this place, it is sent until then
 stands-sent-at : (path : List ℕ) (hops : List HopRecord) (k : ℕ) (start end : Ps) → length hops ≡ suc k
     → Stands IsUnsent path hops → Stands (IsSentUntil end) path (sent_hops hops k start end)
 stands-sent-at [] hops k start end long stands = absurd stands
@@ -104,6 +105,7 @@ stands-sent-at (p ∷ path) (hop ∷ next ∷ hops) (suc k) start end long stand
     stands-more (IsSentUntil end) p path hop (sent_hops (next ∷ hops) k start end) stands.0
     (stands-sent-at path (next ∷ hops) k start end (omega arith) stands.1)
 
+-- so it is
 pub stands-sent : (path : List ℕ) (hops : List HopRecord) (start end : Ps) → Stands IsUnsent path hops
     → Stands (IsSentUntil end) path (sent_hops hops (length hops - 1) start end)
 stands-sent path hops start end stands =
