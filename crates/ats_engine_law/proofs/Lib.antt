@@ -6,6 +6,7 @@ pub mod Frames
 pub mod Groups
 pub mod Hops
 pub mod Kept
+pub mod Offering
 pub mod Opened
 pub mod Paces
 pub mod Placed
