@@ -16,6 +16,7 @@ pub mod Judged
 pub mod Kept
 pub mod Moving
 pub mod Now
+pub mod Offering
 pub mod Opened
 pub mod Paces
 pub mod Parts
