@@ -14,6 +14,7 @@ pub mod Groups
 pub mod Hops
 pub mod Judged
 pub mod Kept
+pub mod Left
 pub mod Moving
 pub mod Now
 pub mod Offering

@@ -70,10 +70,10 @@ node_most : (nodes : List Node) (n : ℕ) → All IsNode nodes
     → node.residence_of (node_at nodes n).kind ≤ MAX_RESIDENCE_NS
 node_most nodes n each = elim (cases_lt n (length nodes)) as (λ _. node.residence_of (node_at nodes n).kind
     ≤ MAX_RESIDENCE_NS) [
-  | inl within ↦ (each n no_node within).residence
-  | inr past ↦ subst (λ (x : Node). node.residence_of x.kind ≤ MAX_RESIDENCE_NS)
-      (sym (get_or_past nodes n no_node past)) (omega arith)
-]
+      | inl within ↦ (each n no_node within).residence
+      | inr past ↦ subst (λ (x : Node). node.residence_of x.kind ≤ MAX_RESIDENCE_NS)
+          (sym (get_or_past nodes n no_node past)) (omega arith)
+    ]
 
 group_most : (network : DeclaredNetwork) → IsNetwork network → (group : ℕ)
     → residence_of network group ≤ MAX_RESIDENCE_NS
