@@ -6,8 +6,10 @@ pub mod Gathered
 pub mod Groups
 pub mod Kept
 pub mod Opened
+pub mod OwnParts
 pub mod Paces
 pub mod Parts
 pub mod Ports
+pub mod Standing
 pub mod Times
 pub mod Travels

@@ -1,6 +1,6 @@
-use Rattle.std.proofs.Common.{◌≡◌, ◌≢◌, ℕ, ◌-◌, ◌<◌, Bool, true, false, cond, List, [], ◌∷◌, ◌++◌, map, filter, length}
-use Rattle.std.proofs.Common.{get_or, set, All, Some, None, refl, sym, ap, ◌∙◌, subst, arith}
-use Rattle.std.specs.Prelude.{◌==◌, Option}
+use Rattle.std.proofs.Common.{◌≡◌, ℕ, ◌-◌, List, [], ◌∷◌, ◌++◌, length}
+use Rattle.std.proofs.Common.{get_or, set, Some, None, refl, sym, ap, ◌∙◌, arith}
+use Rattle.std.specs.Prelude.{Option}
 use Rattle.std.proofs.lemmas.List.{append-nil, append_assoc, get_or_at, set_at, length-append}
 use Rattle.ats_num.specs.declared.time.Ps.{Ps}
 use Rattle.ats_num.specs.Wire.{bits_of}
@@ -200,7 +200,7 @@ module _ (frame : ℕ) (release : Release) (sender : Sender) where
       ∙ ap (λ (xs : List Handed). handed_at release.octets hop.arrival.0 p t (next ∷ before ++ last ∷ []) ++ xs)
       (handed-timeless passed (next ∷ before) last sent (omega arith))
 
--- a frame came to this port of its path last, and this is its record of it: the records before it are those of the ports
+-- a frame came to this port of its path last, and this is its record there; the records before are those of the ports
 -- before
 pub record IsLast (Here : HopRecord → Type 0) (path : List ℕ) (hops : List HopRecord) : Type 0 where
   pub passed : List ℕ
@@ -216,8 +216,11 @@ pub record IsLast (Here : HopRecord → Type 0) (path : List ℕ) (hops : List H
 module _ (Here : HopRecord → Type 0) (path : List ℕ) (hops : List HopRecord) (at : IsLast Here path hops) where
   -- its last record stands where the records before it end, and so does the port
   pub place-of-last : length hops - 1 ≡ length at.before
-  place-of-last = omega (arith, ap (λ (hs : List HopRecord). length hs) at.recorded,
-    length-append at.before (at.last ∷ []))
+  place-of-last = omega (
+    arith,
+    ap (λ (hs : List HopRecord). length hs) at.recorded,
+    length-append at.before (at.last ∷ []),
+  )
 
   pub port-of-last : (d : ℕ) → get_or path (length hops - 1) d ≡ at.port
   port-of-last d =
@@ -293,7 +296,8 @@ module _ (frame : ℕ) (release : Release) (sender : Sender) (Here : HopRecord �
   hops-sent last t more is none =
       let first : List Hop = hops_along frame release sender at.passed at.before in
       hops-to last more
-      ∙ ap (λ (o : Option Transmission). first ++ (hop_at at.port o ++ hops_along frame release sender at.ahead more)) is
+      ∙ ap (λ (o : Option Transmission). first
+      ++ (hop_at at.port o ++ hops_along frame release sender at.ahead more)) is
       ∙ ap (λ (hs : List Hop). first ++ record { port = at.port; sent = t } ∷ hs) none
 
   -- a frame that has not arrived behind the last port has crossed those before alone
@@ -344,7 +348,8 @@ module _ (frame : ℕ) (release : Release) (sender : Sender) (Here : HopRecord �
   crossings-came last next t is none =
       let first : List Crossing = crossings_along frame release sender at.passed at.before (Sink last.arrival) in
       crossings-to last (next ∷ []) Discard
-      ∙ ap (λ (o : Option Transmission). first ++ (crossing_at release.octets last.arrival.0 at.port o (next ∷ []) Discard
+      ∙ ap (λ (o : Option Transmission). first
+      ++ (crossing_at release.octets last.arrival.0 at.port o (next ∷ []) Discard
       ++ crossings_along frame release sender at.ahead (next ∷ []) Discard)) is
       ∙ ap (λ (xs : List Crossing). first ++ crossing_of release.octets last.arrival.0 at.port t next.arrival.0 ∷ xs)
       (unsent-crossings frame release sender at.ahead next Discard none)
