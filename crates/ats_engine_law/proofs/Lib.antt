@@ -1,10 +1,12 @@
 pub mod Allowed
 pub mod Arriving
+pub mod Awaited
 pub mod Away
 pub mod Beginning
 pub mod Conclusion
 pub mod Counting
 pub mod Entries
+pub mod Fates
 pub mod Frames
 pub mod Gathered
 pub mod Groups
@@ -25,8 +27,9 @@ pub mod PortOffered
 pub mod PortStarted
 pub mod PortSteps
 pub mod Ports
-pub mod Standing
 pub mod Stages
+pub mod Standing
 pub mod Times
 pub mod Travels
+pub mod Verdicts
 pub mod Ways
