@@ -1,154 +1,73 @@
-use Rattle.std.proofs.Common.{◌≡◌, ◌≢◌, ℕ, ◌+◌, ◌<◌, List, [], ◌∷◌, map, length, get_or, set}
-use Rattle.std.proofs.Common.{IsPermutation, Some, None, refl, sym, ap, ◌∙◌, subst, inl, inr, suc, zero, arith}
+use Rattle.std.proofs.Common.{◌≡◌, ℕ, ◌+◌, ◌<◌, List, [], ◌∷◌, map, length, get_or, set}
+use Rattle.std.proofs.Common.{IsPermutation, None, refl, sym, ap, ◌∙◌, subst, suc, zero, arith}
 use Rattle.std.specs.Prelude.{Option}
 use Rattle.std.specs.List.{zip}
-use Rattle.std.proofs.lemmas.Bool.{cases_lt}
-use Rattle.std.proofs.lemmas.List.{get_or_past, get_or-map, length-map, map-set}
-use Rattle.std.proofs.lemmas.List.Elements.{All-head}
-use Rattle.std.proofs.lemmas.Option.{none-some, same_Some}
-use Rattle.std.proofs.lemmas.Slice.Zip.{length-zip, get_or-zip}
+use Rattle.std.proofs.lemmas.List.{map-set}
 use Rattle.ats_network.specs.Network.{DeclaredNetwork}
 use Rattle.ats_events.specs.declared.moment.Moment.{Moment}
 use Rattle.ats_trace.specs.Journey.{Travel}
 use Rattle.ats_trace.specs.declared.journey.Release.{Release}
 use Rattle.ats_trace.specs.declared.journey.HopRecord.{HopRecord}
 use Rattle.ats_trace.specs.declared.journey.Ending.{Ending}
-use Rattle.ats_records.specs.Progress.{Progress, progress_at, no_progress}
-use Rattle.ats_steps.specs.Course.{Course, stage_at, turn_at, travel_of, travels, travels_of, ending_by}
-use Rattle.ats_steps.specs.Entries.{arrival_by, eligibility_by, end_by, selection_by, moment_of, arrival_moment}
-use Rattle.ats_steps.specs.Entries.{eligible_moment, end_moment, selection_moment}
+use Rattle.ats_records.specs.Progress.{Progress, progress_at}
+use Rattle.ats_steps.specs.Course.{Course, stage_at, travel_of, travels, travels_of, ending_by}
 use Rattle.ats_steps.specs.Frames.{IsFrame, Goes, Stands, IsSent}
 use Rattle.ats_steps.specs.declared.event.Event.{Event}
 use Rattle.ats_steps.specs.declared.event.Event.TheVariants.{End, Arrival, Eligibility, Selection}
 use Rattle.ats_steps.specs.declared.stage.Stage.{Stage}
-use Rattle.ats_steps.specs.declared.stage.Stage.TheVariants.{Coming, Due, Waiting, Sending, Over}
-use Rattle.ats_steps.specs.declared.turn.Turn.{Turn}
-use Rattle.ats_steps.specs.declared.turn.Turn.TheVariants.{Resting, Selecting, Occupied}
+use Rattle.ats_steps.specs.declared.stage.Stage.TheVariants.{Coming, Due, Sending}
+use Rattle.ats_steps.specs.declared.turn.Turn.TheVariants.{Selecting}
 use Rattle.ats_engine_law.specs.Next.{IsNext}
 use Rattle.ats_engine_law.proofs.Gathered.{gather, gather-same, gather-more}
+use Rattle.ats_engine_law.proofs.Hops.{travel_at, travels_long}
 use Rattle.ats_engine_law.proofs.Parts.{IsLast}
-
--- a frame that is to arrive, become eligible or have been sent at this moment is at that stage
-arrival-stage : (frame : ℕ) (stage : Stage) (now : Moment) → arrival_by frame stage ≡ Some now → stage ≡ Coming now.at
-arrival-stage frame (Coming at) now e = ap (λ (m : Moment). Coming m.at) (same_Some (arrival_moment frame at) now e)
-arrival-stage frame (Due at) now e = absurd (none-some now e)
-arrival-stage frame Waiting now e = absurd (none-some now e)
-arrival-stage frame (Sending until) now e = absurd (none-some now e)
-arrival-stage frame Over now e = absurd (none-some now e)
-
-eligibility-stage : (frame : ℕ) (stage : Stage) (now : Moment) → eligibility_by frame stage ≡ Some now
-    → stage ≡ Due now.at
-eligibility-stage frame (Coming at) now e = absurd (none-some now e)
-eligibility-stage frame (Due at) now e = ap (λ (m : Moment). Due m.at) (same_Some (eligible_moment frame at) now e)
-eligibility-stage frame Waiting now e = absurd (none-some now e)
-eligibility-stage frame (Sending until) now e = absurd (none-some now e)
-eligibility-stage frame Over now e = absurd (none-some now e)
-
-end-stage : (frame : ℕ) (stage : Stage) (now : Moment) → end_by frame stage ≡ Some now → stage ≡ Sending now.at
-end-stage frame (Coming at) now e = absurd (none-some now e)
-end-stage frame (Due at) now e = absurd (none-some now e)
-end-stage frame Waiting now e = absurd (none-some now e)
-end-stage frame (Sending until) now e = ap (λ (m : Moment). Sending m.at) (same_Some (end_moment frame until) now e)
-end-stage frame Over now e = absurd (none-some now e)
-
--- and a port that is to select then has that turn
-selection-turn : (port : ℕ) (turn : Turn) (now : Moment) → selection_by port turn ≡ Some now → turn ≡ Selecting now.at
-selection-turn port Resting now e = absurd (none-some now e)
-selection-turn port (Selecting at) now e =
-    ap (λ (m : Moment). Selecting m.at) (same_Some (selection_moment port at) now e)
-selection-turn port Occupied now e = absurd (none-some now e)
-
--- a stage that is not that of numbers past the last frame is one of the list
-stage-within : (stages : List Stage) (frame : ℕ) → get_or stages frame Over ≢ Over → frame < length stages
-stage-within stages frame apart =
-    elim (cases_lt frame (length stages)) as (λ _. frame < length stages) [
-      | inl less ↦ less
-      | inr past ↦ absurd (apart (get_or_past stages frame Over past))
-    ]
-
-turn-within : (turns : List Turn) (port : ℕ) → get_or turns port Resting ≢ Resting → port < length turns
-turn-within turns port apart =
-    elim (cases_lt port (length turns)) as (λ _. port < length turns) [
-      | inl less ↦ less
-      | inr past ↦ absurd (apart (get_or_past turns port Resting past))
-    ]
+use Rattle.ats_engine_law.proofs.Stages.{next-coming, next-due, next-sending, next-selecting, stage-within, turn-within}
 
 module _ {T : Type 0} {key : T → ℕ → ℕ → ℕ} {wait : ℕ → ℕ → ℕ} {network : DeclaredNetwork} {releases : List Release}
     {course : Course T} {now : Moment} {entries : List (Moment × Event)} where
-  -- the event that is to happen next is one of the course
-  pub next-moment : (event : Event) → IsNext key wait network releases course now event entries
-      → moment_of course event ≡ Some now
-  next-moment event next =
-      All-head (λ (entry : Moment × Event). moment_of course entry.1 ≡ Some entry.0) (now, event) entries
-      next.holds.awaited.each
-
-  -- a frame at a stage other than the last is one of the records
-  pub stage-known : {event : Event} (frame : ℕ) → IsNext key wait network releases course now event entries
-      → stage_at course frame ≢ Over → frame < length course.records
-  stage-known frame next apart = omega (arith, stage-within course.stages frame apart, next.holds.shape.stages)
-
-  -- where the frame of the next event is
-  pub arriving-at : {frame : ℕ} → IsNext key wait network releases course now (Arrival frame) entries
-      → stage_at course frame ≡ Coming now.at
-  arriving-at {frame} next = arrival-stage frame (stage_at course frame) now (next-moment (Arrival frame) next)
-
-  pub due-at : {frame : ℕ} → IsNext key wait network releases course now (Eligibility frame) entries
-      → stage_at course frame ≡ Due now.at
-  due-at {frame} next = eligibility-stage frame (stage_at course frame) now (next-moment (Eligibility frame) next)
-
-  pub ending-at : {frame : ℕ} → IsNext key wait network releases course now (End frame) entries
-      → stage_at course frame ≡ Sending now.at
-  ending-at {frame} next = end-stage frame (stage_at course frame) now (next-moment (End frame) next)
-
-  -- and what its port does next
-  pub selecting-at : {port : ℕ} → IsNext key wait network releases course now (Selection port) entries
-      → turn_at course port ≡ Selecting now.at
-  selecting-at {port} next = selection-turn port (turn_at course port) now (next-moment (Selection port) next)
-
-  -- they are of the course
+  -- the frame that arrives next, becomes eligible next, or has been sent next is one of the course, and stands so
   pub arriving-within : {frame : ℕ} → IsNext key wait network releases course now (Arrival frame) entries
       → frame < length course.records
   arriving-within {frame} next =
-      stage-known frame next (λ (e : stage_at course frame ≡ Over). let s = arriving-at next in cc)
+      stage-within course frame (Coming now.at) next.holds.shape.stages (next-coming next) (λ e. cc)
+
+  pub arriving-frame : {frame : ℕ} → IsNext key wait network releases course now (Arrival frame) entries
+      → IsFrame network (progress_at course.records frame) (Coming now.at)
+  arriving-frame {frame} next =
+      subst (IsFrame network (progress_at course.records frame)) (next-coming next)
+      (next.holds.frames frame (arriving-within next))
 
   pub due-within : {frame : ℕ} → IsNext key wait network releases course now (Eligibility frame) entries
       → frame < length course.records
   due-within {frame} next =
-      stage-known frame next (λ (e : stage_at course frame ≡ Over). let s = due-at next in cc)
+      stage-within course frame (Due now.at) next.holds.shape.stages (next-due next) (λ e. cc)
+
+  pub due-frame : {frame : ℕ} → IsNext key wait network releases course now (Eligibility frame) entries
+      → IsFrame network (progress_at course.records frame) (Due now.at)
+  due-frame {frame} next =
+      subst (IsFrame network (progress_at course.records frame)) (next-due next)
+      (next.holds.frames frame (due-within next))
 
   pub ending-within : {frame : ℕ} → IsNext key wait network releases course now (End frame) entries
       → frame < length course.records
   ending-within {frame} next =
-      stage-known frame next (λ (e : stage_at course frame ≡ Over). let s = ending-at next in cc)
+      stage-within course frame (Sending now.at) next.holds.shape.stages (next-sending next) (λ e. cc)
 
+  pub ending-frame : {frame : ℕ} → IsNext key wait network releases course now (End frame) entries
+      → IsFrame network (progress_at course.records frame) (Sending now.at)
+  ending-frame {frame} next =
+      subst (IsFrame network (progress_at course.records frame)) (next-sending next)
+      (next.holds.frames frame (ending-within next))
+
+  -- and the port that selects next is one of the network
   pub selecting-within : {port : ℕ} → IsNext key wait network releases course now (Selection port) entries
       → port < length network.topology.ports
   selecting-within {port} next =
       omega (
         arith,
         next.holds.shape.turns,
-        turn-within course.turns port
-            (λ (e : turn_at course port ≡ Resting). let s = selecting-at next in cc),
+        turn-within course port (Selecting now.at) (next-selecting next) (λ e. cc),
       )
-
-  -- and the frames stand so
-  pub arriving-frame : {frame : ℕ} → IsNext key wait network releases course now (Arrival frame) entries
-      → IsFrame network (progress_at course.records frame) (Coming now.at)
-  arriving-frame {frame} next =
-      subst (IsFrame network (progress_at course.records frame)) (arriving-at next)
-      (next.holds.frames frame (arriving-within next))
-
-  pub due-frame : {frame : ℕ} → IsNext key wait network releases course now (Eligibility frame) entries
-      → IsFrame network (progress_at course.records frame) (Due now.at)
-  due-frame {frame} next =
-      subst (IsFrame network (progress_at course.records frame)) (due-at next)
-      (next.holds.frames frame (due-within next))
-
-  pub ending-frame : {frame : ℕ} → IsNext key wait network releases course now (End frame) entries
-      → IsFrame network (progress_at course.records frame) (Sending now.at)
-  ending-frame {frame} next =
-      subst (IsFrame network (progress_at course.records frame)) (ending-at next)
-      (next.holds.frames frame (ending-within next))
 
 -- a frame that has a last record, of which this is said, stands at the port of it
 pub stands-split : (Last : HopRecord → Type 0) (path : List ℕ) (hops : List HopRecord) → Stands Last path hops
@@ -235,19 +154,13 @@ module _ {T : Type 0} {old new : Course T} {frame : ℕ} {stage : Stage} {progre
       ∙ ap (map travel_of) (zip-set old.stages old.records frame stage progress)
       ∙ map-set travel_of (zip old.stages old.records) frame (stage, progress)
 
-  in-rows : Advances old new frame stage progress → frame < length (zip old.stages old.records)
-  in-rows step = omega (arith, length-zip old.stages old.records, step.within, step.stages)
-
-  pub in-travels : Advances old new frame stage progress → frame < length (travels old)
-  in-travels step = omega (arith, in-rows step, length-map (zip old.stages old.records) travel_of)
+  in-travels : Advances old new frame stage progress → frame < length (travels old)
+  in-travels step = omega (arith, travels_long old step.stages, step.within)
 
   -- before it had this one
   pub travels-at : Advances old new frame stage progress → (d : Travel)
       → get_or (travels old) frame d ≡ travel_of (stage_at old frame, progress_at old.records frame)
-  travels-at step d =
-      get_or-map travel_of (zip old.stages old.records) frame (Over, no_progress) d (in-rows step)
-      ∙ ap travel_of (get_or-zip old.stages old.records frame (Over, no_progress)
-      (omega (arith, step.within, step.stages)) step.within)
+  travels-at step d = travel_at old frame d step.stages step.within
 
   -- so what is gathered of the run stays where the frame's own part does
   pub advances-same : {X : Type 0} (part : ℕ → Travel → List X) (before after : Travel)

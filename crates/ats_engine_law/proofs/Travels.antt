@@ -43,14 +43,15 @@ use Rattle.ats_engine_law.proofs.Gathered.{crossings_part, handed_part, sent-gat
 use Rattle.ats_engine_law.proofs.Gathered.{handed_on-gathered}
 use Rattle.ats_engine_law.proofs.Parts.{IsLast, transmitted, port-of-last, record-of-last, set-last}
 use Rattle.ats_engine_law.proofs.Standing.{Advances, advances-same, advances-more, travels-at, travels-set, travel-by}
-use Rattle.ats_engine_law.proofs.Standing.{arriving-at, arriving-within, arriving-frame, due-at, due-within, due-frame}
-use Rattle.ats_engine_law.proofs.Standing.{ending-at, ending-within, ending-frame, selecting-within, stands-split}
+use Rattle.ats_engine_law.proofs.Standing.{arriving-within, arriving-frame, due-within, due-frame}
+use Rattle.ats_engine_law.proofs.Standing.{ending-within, ending-frame, selecting-within, stands-split}
 use Rattle.ats_engine_law.proofs.Standing.{goes-split}
 use Rattle.ats_engine_law.proofs.OwnParts.{pushed, hops_at-more, hops_at-same, crossings_at-more, crossings_at-same}
 use Rattle.ats_engine_law.proofs.OwnParts.{handed_in-more, handed_in-same, sent-there, coming-hops, coming-crossings}
 use Rattle.ats_engine_law.proofs.OwnParts.{coming-first, coming-handed, selected-hops, selected-crossings}
 use Rattle.ats_engine_law.proofs.OwnParts.{selected-handed, ended-crossings, ended-before, crossings-numbered}
 use Rattle.ats_engine_law.proofs.OwnParts.{crossings-elsewhere, passed-apart, crossings-of-sent}
+use Rattle.ats_engine_law.proofs.Stages.{next-coming, next-due, next-sending}
 
 -- one element more, in lists that are these
 permuted-by : {X : Type 0} (x : X) (xs ys us vs : List X) → xs ≡ us → ys ≡ vs → IsPermutation (x ∷ us) vs
@@ -79,7 +80,7 @@ comes-before : {T : Type 0} {key : T → ℕ → ℕ → ℕ} {wait : ℕ → �
     → travel_of (stage_at old frame, progress_at old.records frame)
     ≡ way (progress_at old.records frame) (progress_at old.records frame).hops (Sink now.at)
 comes-before {old = old} {now = now} {frame = frame} next =
-    travel-by (stage_at old frame) (Coming now.at) (progress_at old.records frame) (arriving-at next)
+    travel-by (stage_at old frame) (Coming now.at) (progress_at old.records frame) (next-coming next)
     (arriving-frame next).stands.unended
 
 module _ {T : Type 0} {key : T → ℕ → ℕ → ℕ} {wait : ℕ → ℕ → ℕ} {network : DeclaredNetwork} {releases : List Release}
@@ -250,7 +251,7 @@ offered-travels {old = old} {new = new} {now = now} {frame = frame} next step =
     } in
     let unended : p.ending ≡ None = (due-frame next).stands.unended in
     let before : travel_of (stage_at old frame, p) ≡ d =
-    travel-by (stage_at old frame) (Due now.at) p (due-at next) unended in
+    travel-by (stage_at old frame) (Due now.at) p (next-due next) unended in
     let after : travel_of (Waiting, p) ≡ d = travel-by Waiting Waiting p refl unended in
     travels-set advances
     ∙ ap (set (travels old) frame) (after ∙ sym before ∙ sym (travels-at advances d))
@@ -518,7 +519,7 @@ module _ {T : Type 0} {key : T → ℕ → ℕ → ℕ} {wait : ℕ → ℕ → 
       → travel_of (stage_at old frame, progress_at old.records frame)
       ≡ way (progress_at old.records frame) (progress_at old.records frame).hops Discard
   ends-before next =
-      travel-by (stage_at old frame) (Sending now.at) (progress_at old.records frame) (ending-at next)
+      travel-by (stage_at old frame) (Sending now.at) (progress_at old.records frame) (next-sending next)
       (ending-frame next).stands.unended
 
   -- with a last record that tells of that transmission
