@@ -1,3 +1,4 @@
+-- What one frame gives to the projections of a run, before and after each step.
 use Rattle.std.proofs.Common.{◌≡◌, ◌≢◌, ℕ, ◌+◌, Bool, true, false, cond, List, [], ◌∷◌, ◌++◌, map, filter, length}
 use Rattle.std.proofs.Common.{All, IsPermutation, Some, None, refl, sym, ap, ◌∙◌, subst, arith}
 use Rattle.std.specs.Prelude.{◌==◌, ◌&&◌, Option, AllPairs}
@@ -30,12 +31,13 @@ use Rattle.ats_engine_law.proofs.Parts.{hops-sent, crossings-waiting, crossings-
 use Rattle.ats_engine_law.proofs.Parts.{handed-here, handed-came}
 use Rattle.ats_engine_law.proofs.Standing.{goes-split}
 
--- one element more at the end of a list of which some are kept: it is kept too, or nothing is changed
+-- one element more at the end of a list of which some are kept is kept too, where it passes the test
 pub kept-more : {X : Type 0} (test : X → Bool) (xs : List X) (x : X) → test x ≡ true
     → filter test (xs ++ x ∷ []) ≡ filter test xs ++ x ∷ []
 kept-more {X} test xs x pass =
     filter-append test xs (x ∷ []) ∙ ap (λ (ys : List X). filter test xs ++ ys) (cond-true (test x) (x ∷ []) [] pass)
 
+-- where it fails the test, nothing is changed
 pub kept-same : {X : Type 0} (test : X → Bool) (xs : List X) (x : X) → test x ≡ false
     → filter test (xs ++ x ∷ []) ≡ filter test xs
 kept-same {X} test xs x fails =
@@ -43,32 +45,37 @@ kept-same {X} test xs x fails =
     ∙ ap (λ (ys : List X). filter test xs ++ ys) (cond-false (test x) (x ∷ []) [] fails)
     ∙ append-nil (filter test xs)
 
+-- the list with it at the end is that with it in front, in another order
 pub pushed : {X : Type 0} (xs ys : List X) (x : X) → ys ≡ xs ++ x ∷ [] → IsPermutation (x ∷ xs) ys
 pushed {X} xs ys x is =
     subst (IsPermutation (x ∷ xs)) (sym is)
     (IsPermutation-sym (xs ++ x ∷ []) (x ∷ xs) (IsPermutation-to_front xs x))
 
--- so a transmission at the end of a frame's own is one more of its port, and none of another
+-- so a transmission at the end is one more of its port
 pub hops_at-more : (port : ℕ) (hops : List Hop) (h : Hop) → h.port ≡ port
     → hops_at port (hops ++ h ∷ []) ≡ hops_at port hops ++ h.sent ∷ []
 hops_at-more port hops h is =
     ap (map (λ (g : Hop). g.sent)) (kept-more (λ (g : Hop). g.port == port) hops h (eq-eqb h.port port is))
     ∙ map-append (λ (g : Hop). g.sent) (filter (λ (g : Hop). g.port == port) hops) (h ∷ [])
 
+-- and none of another port
 pub hops_at-same : (port : ℕ) (hops : List Hop) (h : Hop) → h.port ≢ port
     → hops_at port (hops ++ h ∷ []) ≡ hops_at port hops
 hops_at-same port hops h apart =
     ap (map (λ (g : Hop). g.sent)) (kept-same (λ (g : Hop). g.port == port) hops h (ne_eqb h.port port apart))
 
+-- a crossing at the end is one more of its port
 pub crossings_at-more : (port : ℕ) (crossings : List Crossing) (x : Crossing) → x.port ≡ port
     → crossings_at port (crossings ++ x ∷ []) ≡ crossings_at port crossings ++ x ∷ []
 crossings_at-more port crossings x is = kept-more (λ (c : Crossing). c.port == port) crossings x (eq-eqb x.port port is)
 
+-- and none of another port
 pub crossings_at-same : (port : ℕ) (crossings : List Crossing) (x : Crossing) → x.port ≢ port
     → crossings_at port (crossings ++ x ∷ []) ≡ crossings_at port crossings
 crossings_at-same port crossings x apart =
     kept-same (λ (c : Crossing). c.port == port) crossings x (ne_eqb x.port port apart)
 
+-- a frame handed on at the end is one more of its port and class
 pub handed_in-more : (port class : ℕ) (handed : List Handed) (h : Handed)
     → h.crossing.port ≡ port → h.crossing.sent.class ≡ class
     → handed_in port class (handed ++ h ∷ []) ≡ handed_in port class handed ++ h ∷ []
@@ -77,6 +84,7 @@ handed_in-more port class handed h at ranked =
     (and_from (h.crossing.port == port) (h.crossing.sent.class == class) (eq-eqb h.crossing.port port at)
     (eq-eqb h.crossing.sent.class class ranked))
 
+-- and none of another port, or of another class
 pub handed_in-same : (port class : ℕ) (handed : List Handed) (h : Handed)
     → ¬ ((h.crossing.port ≡ port) × (h.crossing.sent.class ≡ class))
     → handed_in port class (handed ++ h ∷ []) ≡ handed_in port class handed
@@ -92,6 +100,7 @@ sent-there frame release sender port last sent =
     transmitted frame release (class_at sender port) sent.eligible sent.times
 
 module _ (frame : ℕ) (release : Release) (sender : Sender) (path : List ℕ) where
+  -- is what its record tells of
   sent-is : (port : ℕ) (last : HopRecord) (sent : IsSent last)
       → transmission_of frame release (class_at sender port) last
       ≡ Some (sent-there frame release sender port last sent)
@@ -132,13 +141,14 @@ module _ (frame : ℕ) (release : Release) (sender : Sender) (path : List ℕ) w
       ∙ sym (ap (λ (hs : List HopRecord). crossings_along frame release sender path hs (Sink hop.arrival)) at.recorded
       ∙ crossings-left frame release sender IsSent path hops at at.last t hop.arrival is)
 
-  -- it was handed on by the last, unless this is its first
+  -- where this is its first port, no port has handed it on
   pub coming-first : (hops : List HopRecord) (hop : HopRecord) → length hops ≡ 0
       → handed_along frame release sender path (hops ++ hop ∷ []) ≡ handed_along frame release sender path hops
   coming-first [] hop none =
       last-handed frame release sender path hop ∙ sym (no-handed frame release sender path)
   coming-first (first ∷ rest) hop none = absurd (omega arith)
 
+  -- else the last one has, with this arrival and verdict
   pub coming-handed : (hops : List HopRecord) (hop : HopRecord) (at : IsLast IsSent path hops)
       → handed_along frame release sender path (hops ++ hop ∷ [])
       ≡ handed_along frame release sender path hops
@@ -298,6 +308,7 @@ kept-crossing P true port x all =
     All-cons (λ (c : Crossing). P c.sent) x [] (All-head P x.sent [] all) (All-nil (λ (c : Crossing). P c.sent))
 kept-crossing P false port x all = All-nil (λ (c : Crossing). P c.sent)
 
+-- at one port of its path
 crossing-is-sent : (P : Transmission → Type 0) (port octets came p : ℕ) (t : Option Transmission)
     (hops : List HopRecord) (ending : Ending) → All P (hops_at port (hop_at p t))
     → All (λ (x : Crossing). P x.sent) (crossings_at port (crossing_at octets came p t hops ending))
@@ -308,12 +319,14 @@ crossing-is-sent P port octets came p (Some t) [] Discard all = All-nil (λ (x :
 crossing-is-sent P port octets came p (Some t) (next ∷ hops) ending all =
     kept-crossing P (p == port) p (crossing_of octets came p t next.arrival.0) all
 
+-- the transmissions of a port in two lists are those in the first and those in the second
 hops_at-append : (port : ℕ) (xs ys : List Hop) → hops_at port (xs ++ ys) ≡ hops_at port xs ++ hops_at port ys
 hops_at-append port xs ys =
     ap (map (λ (h : Hop). h.sent)) (filter-append (λ (h : Hop). h.port == port) xs ys)
     ∙ map-append (λ (h : Hop). h.sent) (filter (λ (h : Hop). h.port == port) xs)
     (filter (λ (h : Hop). h.port == port) ys)
 
+-- and along what is left of its path
 crossings-are-of-hops : (P : Transmission → Type 0) (port frame : ℕ) (release : Release) (sender : Sender)
     (path : List ℕ) (hops : List HopRecord) (ending : Ending)
     → All P (hops_at port (hops_along frame release sender path hops))

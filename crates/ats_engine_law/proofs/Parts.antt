@@ -1,3 +1,4 @@
+-- What one frame gives to the projections of a run, by its path and its records: the last record is told apart.
 use Rattle.std.proofs.Common.{◌≡◌, ℕ, ◌-◌, List, [], ◌∷◌, ◌++◌, length}
 use Rattle.std.proofs.Common.{get_or, set, Some, None, refl, sym, ap, ◌∙◌, arith}
 use Rattle.std.specs.Prelude.{Option}
@@ -53,10 +54,12 @@ module _ (frame : ℕ) (release : Release) (sender : Sender) where
   no-hops [] = refl
   no-hops (p ∷ path) = refl
 
+  -- no crossing
   pub no-crossings : (path : List ℕ) (ending : Ending) → crossings_along frame release sender path [] ending ≡ []
   no-crossings [] ending = refl
   no-crossings (p ∷ path) ending = refl
 
+  -- and nothing that was handed on
   pub no-handed : (path : List ℕ) → handed_along frame release sender path [] ≡ []
   no-handed [] = refl
   no-handed (p ∷ path) = refl
@@ -70,6 +73,7 @@ module _ (frame : ℕ) (release : Release) (sender : Sender) where
       (never-sent frame release (class_at sender p) hop none)
       ∙ no-hops path
 
+  -- neither has it crossed the port
   pub unsent-crossings : (path : List ℕ) (hop : HopRecord) (ending : Ending) → hop.sent ≡ None
       → crossings_along frame release sender path (hop ∷ []) ending ≡ []
   unsent-crossings [] hop ending none = refl
@@ -79,6 +83,7 @@ module _ (frame : ℕ) (release : Release) (sender : Sender) where
       (never-sent frame release (class_at sender p) hop none)
       ∙ no-crossings path ending
 
+  -- a frame that came to no port behind was handed on to none
   handed-none : (octets came p : ℕ) (t : Option Transmission) → handed_at octets came p t [] ≡ []
   handed-none octets came p None = refl
   handed-none octets came p (Some t) = refl
@@ -104,12 +109,14 @@ module _ (frame : ℕ) (release : Release) (sender : Sender) where
       ∙ sym (append_assoc here (hops_along frame release sender passed before)
       (hops_along frame release sender ahead more))
 
+  -- of what follows a record the next record alone tells when a frame crossed
   crossing-next : (octets came p : ℕ) (t : Option Transmission) (next : HopRecord) (hops more : List HopRecord)
       (ending other : Ending)
       → crossing_at octets came p t (next ∷ hops) ending ≡ crossing_at octets came p t (next ∷ more) other
   crossing-next octets came p None next hops more ending other = refl
   crossing-next octets came p (Some t) next hops more ending other = refl
 
+  -- and it tells the same as an ending with that arrival
   crossing-last : (octets came p : ℕ) (t : Option Transmission) (next : HopRecord) (hops : List HopRecord)
       (ending : Ending)
       → crossing_at octets came p t (next ∷ hops) ending ≡ crossing_at octets came p t [] (Sink next.arrival)
@@ -143,6 +150,7 @@ module _ (frame : ℕ) (release : Release) (sender : Sender) where
       (crossings-split passed ahead (next ∷ before) last more ending (omega arith))
       ∙ sym (append_assoc here (crossings_along frame release sender passed (next ∷ before) (Sink last.arrival)) rest)
 
+  -- the same of what was handed on
   handed-next : (octets came p : ℕ) (t : Option Transmission) (next : HopRecord) (hops more : List HopRecord)
       → handed_at octets came p t (next ∷ hops) ≡ handed_at octets came p t (next ∷ more)
   handed-next octets came p None next hops more = refl
@@ -174,6 +182,7 @@ module _ (frame : ℕ) (release : Release) (sender : Sender) where
       ∙ ap (λ (xs : List Handed). here ++ xs) (handed-split passed ahead (next ∷ before) last more (omega arith))
       ∙ sym (append_assoc here (handed_along frame release sender passed (next ∷ before ++ last ∷ [])) rest)
 
+  -- whatever times the next record has
   handed-by : (octets came p : ℕ) (t : Option Transmission) (last : HopRecord) (sent : Option (Ps × Ps))
       → handed_at octets came p t (record last { sent = sent } ∷ []) ≡ handed_at octets came p t (last ∷ [])
   handed-by octets came p None last sent = refl
@@ -222,11 +231,13 @@ module _ (Here : HopRecord → Type 0) (path : List ℕ) (hops : List HopRecord)
     length-append at.before (at.last ∷ []),
   )
 
+  -- at the port's place in the path
   pub port-of-last : (d : ℕ) → get_or path (length hops - 1) d ≡ at.port
   port-of-last d =
       ap (λ (ps : List ℕ). get_or ps (length hops - 1) d) at.along
       ∙ get_or_at at.passed at.port at.ahead d (length hops - 1) (omega (arith, place-of-last, at.same))
 
+  -- and at its own among the records
   pub record-of-last : (d : HopRecord) → get_or hops (length hops - 1) d ≡ at.last
   record-of-last d =
       ap (λ (hs : List HopRecord). get_or hs (length hops - 1) d) at.recorded
@@ -255,6 +266,7 @@ module _ (frame : ℕ) (release : Release) (sender : Sender) (Here : HopRecord �
       ap (λ (ps : List ℕ). hops_along frame release sender ps (at.before ++ last ∷ more)) at.along
       ∙ hops-split frame release sender at.passed (at.port ∷ at.ahead) at.before (last ∷ more) at.same
 
+  -- its crossings
   crossings-to : (last : HopRecord) (more : List HopRecord) (ending : Ending)
       → crossings_along frame release sender path (at.before ++ last ∷ more) ending
       ≡ crossings_along frame release sender at.passed at.before (Sink last.arrival)
@@ -265,6 +277,7 @@ module _ (frame : ℕ) (release : Release) (sender : Sender) (Here : HopRecord �
       ap (λ (ps : List ℕ). crossings_along frame release sender ps (at.before ++ last ∷ more) ending) at.along
       ∙ crossings-split frame release sender at.passed (at.port ∷ at.ahead) at.before last more ending at.same
 
+  -- and what was handed on of it
   handed-to : (last : HopRecord) (more : List HopRecord)
       → handed_along frame release sender path (at.before ++ last ∷ more)
       ≡ handed_along frame release sender at.passed (at.before ++ last ∷ [])
@@ -313,6 +326,7 @@ module _ (frame : ℕ) (release : Release) (sender : Sender) (Here : HopRecord �
       ∙ ap (λ (xs : List Crossing). first ++ xs) (no-crossings frame release sender at.ahead Discard)
       ∙ append-nil first
 
+  -- also while it is sent, and until it is known when it arrives
   pub crossings-sent : (last : HopRecord) (t : Transmission)
       → transmission_of frame release (class_at sender at.port) last ≡ Some t
       → crossings_along frame release sender path (at.before ++ last ∷ []) Discard

@@ -1,3 +1,4 @@
+-- Where the frame of the next event stands, and the run so far as that frame goes on.
 use Rattle.std.proofs.Common.{◌≡◌, ℕ, ◌+◌, ◌<◌, List, [], ◌∷◌, map, length, get_or, set}
 use Rattle.std.proofs.Common.{IsPermutation, None, refl, sym, ap, ◌∙◌, subst, suc, zero, arith}
 use Rattle.std.specs.Prelude.{Option}
@@ -25,34 +26,39 @@ use Rattle.ats_engine_law.proofs.Stages.{next-coming, next-due, next-sending, ne
 
 module _ {T : Type 0} {key : T → ℕ → ℕ → ℕ} {wait : ℕ → ℕ → ℕ} {network : DeclaredNetwork} {releases : List Release}
     {course : Course T} {now : Moment} {entries : List (Moment × Event)} where
-  -- the frame that arrives next, becomes eligible next, or has been sent next is one of the course, and stands so
+  -- the frame that arrives next is one of the course
   pub arriving-within : {frame : ℕ} → IsNext key wait network releases course now (Arrival frame) entries
       → frame < length course.records
   arriving-within {frame} next =
       stage-within course frame (Coming now.at) next.holds.shape.stages (next-coming next) (λ e. cc)
 
+  -- and stands so
   pub arriving-frame : {frame : ℕ} → IsNext key wait network releases course now (Arrival frame) entries
       → IsFrame network (progress_at course.records frame) (Coming now.at)
   arriving-frame {frame} next =
       subst (IsFrame network (progress_at course.records frame)) (next-coming next)
       (next.holds.frames frame (arriving-within next))
 
+  -- the one that becomes eligible next too
   pub due-within : {frame : ℕ} → IsNext key wait network releases course now (Eligibility frame) entries
       → frame < length course.records
   due-within {frame} next =
       stage-within course frame (Due now.at) next.holds.shape.stages (next-due next) (λ e. cc)
 
+  -- which stands so
   pub due-frame : {frame : ℕ} → IsNext key wait network releases course now (Eligibility frame) entries
       → IsFrame network (progress_at course.records frame) (Due now.at)
   due-frame {frame} next =
       subst (IsFrame network (progress_at course.records frame)) (next-due next)
       (next.holds.frames frame (due-within next))
 
+  -- and the one whose transmission ends next
   pub ending-within : {frame : ℕ} → IsNext key wait network releases course now (End frame) entries
       → frame < length course.records
   ending-within {frame} next =
       stage-within course frame (Sending now.at) next.holds.shape.stages (next-sending next) (λ e. cc)
 
+  -- which stands so
   pub ending-frame : {frame : ℕ} → IsNext key wait network releases course now (End frame) entries
       → IsFrame network (progress_at course.records frame) (Sending now.at)
   ending-frame {frame} next =
@@ -134,6 +140,7 @@ pub record Advances {T : Type 0} (old new : Course T) (frame : ℕ) (stage : Sta
   pub stages : length old.stages ≡ length old.records
   pub becomes : travels new ≡ travels_of (set old.stages frame stage) (set old.records frame progress)
 
+-- two lists that are set at one place, pair by pair
 zip-set : {X Y : Type 0} (xs : List X) (ys : List Y) (n : ℕ) (x : X) (y : Y)
     → zip (set xs n x) (set ys n y) ≡ set (zip xs ys) n (x, y)
 zip-set [] ys n x y = refl
@@ -154,6 +161,7 @@ module _ {T : Type 0} {old new : Course T} {frame : ℕ} {stage : Stage} {progre
       ∙ ap (map travel_of) (zip-set old.stages old.records frame stage progress)
       ∙ map-set travel_of (zip old.stages old.records) frame (stage, progress)
 
+  -- which is one of the run
   in-travels : Advances old new frame stage progress → frame < length (travels old)
   in-travels step = omega (arith, travels_long old step.stages, step.within)
 

@@ -1,3 +1,4 @@
+-- What each step does to the projections of the run so far.
 use Rattle.std.proofs.Common.{◌≡◌, ◌≢◌, ℕ, ◌+◌, ◌*◌, ◌<◌, Bool, true, false, List, [], ◌∷◌, ◌++◌, length, set}
 use Rattle.std.proofs.Common.{get_or, All, IsPermutation, Some, None, refl, sym, ap, ◌∙◌, subst, inl, inr, arith}
 use Rattle.std.specs.Prelude.{◌==◌, if◌then◌else◌, AllPairs}
@@ -274,17 +275,19 @@ module _ {T : Type 0} {key : T → ℕ → ℕ → ℕ} {wait : ℕ → ℕ → 
   selects-within next step =
       subst (λ (f : ℕ). f < length old.records) step.starts.named (selects-held next step).within
 
-  -- at this stage and this port, which holds it as it was offered
+  -- at this stage
   pub selects-stage : IsNext key wait network releases old now (Selection port) entries
       → (step : Selects key old new now port more) → stage_at old step.frame ≡ Waiting
   selects-stage next step =
       subst (λ (f : ℕ). stage_at old f ≡ Waiting) step.starts.named (selects-held next step).stage
 
+  -- at this port
   pub selects-place : IsNext key wait network releases old now (Selection port) entries
       → (step : Selects key old new now port more) → place_at network old step.frame ≡ port
   selects-place next step =
       subst (λ (f : ℕ). place_at network old f ≡ port) step.starts.named (selects-held next step).place
 
+  -- which holds it as it was offered
   pub selects-offer : IsNext key wait network releases old now (Selection port) entries
       → (step : Selects key old new now port more) → offer_at network old step.frame ≡ step.starts.started
   selects-offer next step =
