@@ -19,6 +19,7 @@ pub mod Moving
 pub mod Now
 pub mod Offering
 pub mod Opened
+pub mod OwnParts
 pub mod Paces
 pub mod Parts
 pub mod Placed
@@ -30,6 +31,7 @@ pub mod PortStarted
 pub mod PortSteps
 pub mod Ports
 pub mod Stages
+pub mod Standing
 pub mod Times
 pub mod Travels
 pub mod Verdicts
