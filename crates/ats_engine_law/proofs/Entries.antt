@@ -28,7 +28,6 @@ use Rattle.ats_events.specs.declared.moment.Moment.{Moment}
 use Rattle.ats_events.specs.declared.phase.TheConstants.{TRANSMISSION_END, ARRIVAL, ELIGIBLE, SELECTION}
 use Rattle.ats_events.specs.Order.{IsInRange, IsIrreflexive, IsTransitive, IsTimed}
 use Rattle.ats_trace.specs.declared.journey.Release.{Release}
-use Rattle.ats_trace.specs.declared.run.TheConstants.{MAX_FRAMES}
 use Rattle.ats_steps.specs.Bounds.{all_left, horizon}
 use Rattle.ats_steps.specs.Course.{Course, stage_at, turn_at, place_at, path_of}
 use Rattle.ats_steps.specs.Entries.{AreAwaited, IsReached, moment_of, arrival_by, eligibility_by, end_by, selection_by}

@@ -1,11 +1,11 @@
-use Rattle.std.proofs.Common.{◌≡◌, ℕ, ◌+◌, ◌-◌, ◌*◌, ◌<◌, ◌≤◌, Bool, true, false, List, [], ◌∷◌, ◌++◌, length, set, All}
-use Rattle.std.proofs.Common.{refl, sym, ap, ◌∙◌, subst, arith}
+use Rattle.std.proofs.Common.{◌≡◌, ℕ, ◌+◌, ◌-◌, ◌*◌, ◌<◌, ◌≤◌, Bool, true, false, List, [], ◌∷◌, ◌++◌, length, All}
+use Rattle.std.proofs.Common.{sym, ap, subst, arith}
 use Rattle.std.specs.Prelude.{◌==◌, sum_by, Some}
 use Rattle.std.specs.List.{zip}
 use Rattle.std.proofs.lemmas.List.{length-append, length-set}
 use Rattle.std.proofs.lemmas.List.Elements.{All-append, All-cons, All-head, All-nil, All-tail}
 use Rattle.std.proofs.lemmas.List.Sorted.{All-permutation, IsPermutation-sym}
-use Rattle.std.proofs.Math.Nat.{mul-le-mul_left, mul-le-mul_right}
+use Rattle.std.proofs.Math.Nat.{mul-le-mul_right}
 use Rattle.ats_num.specs.Pace.{WaitsWithin}
 use Rattle.ats_num.specs.Wire.{bits_of}
 use Rattle.ats_num.specs.declared.time.Ps.{Ps}
@@ -26,7 +26,7 @@ use Rattle.ats_trace.specs.Projections.{Crossing, crossings_by}
 use Rattle.ats_trace.specs.declared.journey.Ending.TheVariants.{Sink}
 use Rattle.ats_trace.specs.declared.journey.Release.{Release}
 use Rattle.ats_records.specs.Progress.{Progress, progress_at, last_hop, with_ending, with_hop, with_sent}
-use Rattle.ats_steps.specs.Bounds.{IsInTime, all_left, events_left, horizon, most_hop, most_latency, most_left}
+use Rattle.ats_steps.specs.Bounds.{IsInTime, all_left, events_left, horizon, most_latency, most_left}
 use Rattle.ats_steps.specs.Bounds.{most_sending, ports_left, steps_left}
 use Rattle.ats_steps.specs.Course.{Course, path_of, place_at, stage_at, travels, turn_at}
 use Rattle.ats_steps.specs.Entries.{arrival_moment, eligible_moment, end_moment, selection_moment}
@@ -36,7 +36,7 @@ use Rattle.ats_steps.specs.Steps.{selections, selections_once_offered}
 use Rattle.ats_steps.specs.declared.event.Event.{Event}
 use Rattle.ats_steps.specs.declared.event.Event.TheVariants.{End, Arrival, Eligibility, Selection}
 use Rattle.ats_steps.specs.declared.stage.Stage.{Stage}
-use Rattle.ats_steps.specs.declared.stage.Stage.TheVariants.{Coming, Due, Waiting, Sending, Over}
+use Rattle.ats_steps.specs.declared.stage.Stage.TheVariants.{Coming, Due, Waiting, Sending}
 use Rattle.ats_steps.specs.declared.turn.Turn.{Turn}
 use Rattle.ats_steps.specs.declared.turn.Turn.TheVariants.{Resting, Selecting, Occupied}
 use Rattle.ats_engine_law.specs.Next.{IsNext}
