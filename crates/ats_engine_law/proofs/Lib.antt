@@ -3,6 +3,7 @@ pub mod Arriving
 pub mod Awaited
 pub mod Away
 pub mod Beginning
+pub mod Classes
 pub mod Conclusion
 pub mod Counting
 pub mod Entries
@@ -18,7 +19,9 @@ pub mod Kept
 pub mod Left
 pub mod Moving
 pub mod Now
+pub mod Offering
 pub mod Opened
+pub mod OwnParts
 pub mod Paces
 pub mod Parts
 pub mod Placed
@@ -30,6 +33,7 @@ pub mod PortStarted
 pub mod PortSteps
 pub mod Ports
 pub mod Stages
+pub mod Standing
 pub mod Times
 pub mod Travels
 pub mod Verdicts
