@@ -9,7 +9,6 @@ use Rattle.ats_events.specs.declared.moment.Moment.{Moment}
 use Rattle.ats_trace.specs.declared.journey.Release.{Release}
 use Rattle.ats_steps.specs.Course.{Course, stage_at, turn_at}
 use Rattle.ats_steps.specs.Entries.{AreAwaited, IsReached, moment_of}
-use Rattle.ats_steps.specs.Steps.{selections}
 use Rattle.ats_steps.specs.declared.event.Event.{Event}
 use Rattle.ats_steps.specs.declared.event.Event.TheVariants.{End, Arrival, Eligibility, Selection}
 use Rattle.ats_steps.specs.declared.stage.Stage.{Stage}
