@@ -1,0 +1,6 @@
+pub mod Entering
+pub mod Opened
+pub mod Ready
+pub mod Rooms
+pub mod Setting
+pub mod Starts
