@@ -1,3 +1,16 @@
+use Rattle.std.specs.Prelude.{ℕ, ◌<◌, List, length}
+use Rattle.ats_network.specs.Network.{DeclaredNetwork}
+use Rattle.ats_events.specs.declared.moment.Moment.{Moment}
+use Rattle.ats_trace.specs.declared.journey.Release.{Release}
+use Rattle.ats_records.specs.Progress.{progress_at}
+use Rattle.ats_steps.specs.Course.{Course, stage_at}
+use Rattle.ats_steps.specs.Frames.{IsFrame}
+use Rattle.ats_steps.specs.Invariant.{IsShaped}
+use Rattle.ats_steps.specs.Steps.{Comes, BecomesEligible, Selects, Ends}
+use Rattle.ats_steps.specs.declared.event.Event.{Event}
+use Rattle.ats_steps.specs.declared.event.Event.TheVariants.{End, Arrival, Eligibility, Selection}
+use Rattle.ats_engine_law.specs.Next.{IsNext}
+
 pub comes-shape : {T : Type 0} {key : T → ℕ → ℕ → ℕ} {wait : ℕ → ℕ → ℕ} {network : DeclaredNetwork}
     {releases : List Release} {old new : Course T} {now : Moment} {frame : ℕ} {entries more : List (Moment × Event)}
     → IsNext key wait network releases old now (Arrival frame) entries → Comes network old new now frame more

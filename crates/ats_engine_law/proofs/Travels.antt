@@ -1,3 +1,19 @@
+use Rattle.std.specs.Prelude.{◌≡◌, ◌≢◌, ℕ, ◌<◌, List, ◌∷◌, length, All, IsPermutation}
+use Rattle.std.specs.List.{Contains}
+use Rattle.ats_network.specs.Network.{DeclaredNetwork}
+use Rattle.ats_events.specs.declared.moment.Moment.{Moment}
+use Rattle.ats_transmit.specs.Sending.{begun}
+use Rattle.ats_trace.specs.Journey.{Travel}
+use Rattle.ats_trace.specs.Projections.{Crossing, Handed, sent_by, crossings_by, handed_by}
+use Rattle.ats_trace.specs.declared.journey.Release.{Release}
+use Rattle.ats_records.specs.Progress.{progress_at}
+use Rattle.ats_steps.specs.Course.{Course, place_at, travels}
+use Rattle.ats_steps.specs.Ports.{port_state_at}
+use Rattle.ats_steps.specs.Steps.{Comes, BecomesEligible, Selects, Ends, verdict_now, class_behind}
+use Rattle.ats_steps.specs.declared.event.Event.{Event}
+use Rattle.ats_steps.specs.declared.event.Event.TheVariants.{End, Arrival, Eligibility, Selection}
+use Rattle.ats_engine_law.specs.Next.{IsNext, IsArrival, IsCrossing}
+
 -- what a frame that comes does to the run so far
 pub comes-sent : {T : Type 0} {key : T → ℕ → ℕ → ℕ} {wait : ℕ → ℕ → ℕ} {network : DeclaredNetwork}
     {releases : List Release} {old new : Course T} {now : Moment} {frame : ℕ} {entries more : List (Moment × Event)}

@@ -27,18 +27,18 @@ pub record IsAfter (now next : Moment) : Type 0 where
 -- a frame that was sent by the port of its last record arrives behind it at this time, with this verdict
 pub record IsArrival (network : DeclaredNetwork) (frame : ℕ) (progress : Progress) (at : ℕ) (verdict : Verdict)
     (h : Handed) : Type 0 where
-  pub frame : h.crossing.sent.frame ≡ frame
-  pub sender : h.crossing.sent.sender ≡ progress.release.sender
+  pub named : h.crossing.sent.frame ≡ frame
+  pub of_sender : h.crossing.sent.sender ≡ progress.release.sender
   pub octets : h.crossing.octets ≡ progress.release.octets
-  pub port : h.crossing.port ≡ place_of network progress
-  pub class : h.crossing.sent.class ≡ class_at (sender_of network progress) (place_of network progress)
-  pub arrival : h.crossing.arrival ≡ at
-  pub verdict : h.verdict ≡ verdict
+  pub behind : h.crossing.port ≡ place_of network progress
+  pub in_class : h.crossing.sent.class ≡ class_at (sender_of network progress) (place_of network progress)
+  pub arrives : h.crossing.arrival ≡ at
+  pub judged : h.verdict ≡ verdict
 
 -- a frame whose transmission by the port of its last record ends at this time crosses it, and arrives behind it at that
 pub record IsCrossing (network : DeclaredNetwork) (frame : ℕ) (progress : Progress) (end at : ℕ) (x : Crossing)
     : Type 0 where
-  pub frame : x.sent.frame ≡ frame
-  pub port : x.port ≡ place_of network progress
-  pub end : x.sent.end ≡ end
-  pub arrival : x.arrival ≡ at
+  pub named : x.sent.frame ≡ frame
+  pub behind : x.port ≡ place_of network progress
+  pub ends : x.sent.end ≡ end
+  pub arrives : x.arrival ≡ at

@@ -1,15 +1,14 @@
-use Rattle.std.specs.Prelude.{◌≡◌, ℕ, ◌+◌, ◌<◌, ◌≤◌, List, [], ◌∷◌, length, map, slice_index}
-use Rattle.std.specs.List.{replicate}
+use Rattle.std.specs.Prelude.{◌≡◌, ℕ, ◌+◌, ◌<◌, ◌≤◌, List, [], ◌∷◌, length, map, replicate, slice_index}
 use Rattle.ats_num.specs.declared.time.Ps.{Ps}
 use Rattle.ats_topology.specs.Port.{port_at}
 use Rattle.ats_network.specs.Network.{DeclaredNetwork}
 use Rattle.ats_network.specs.Senders.{sender_at}
-use Rattle.ats_group.specs.GroupsState as groups
+use Rattle.ats_group.specs.GroupsState as groups_states
 use Rattle.ats_schedulers.specs.Schedulers.{residences_of, members_of}
-use Rattle.ats_transmit.specs.State as port
+use Rattle.ats_transmit.specs.State as states
 use Rattle.ats_events.specs.declared.moment.Moment.{Moment}
 use Rattle.ats_trace.specs.declared.journey.Release.{Release}
-use Rattle.ats_records.specs.Progress as records
+use Rattle.ats_records.specs.Progress as progress
 use Rattle.ats_steps.specs.Course.{Course}
 use Rattle.ats_steps.specs.Entries.{arrival_moment}
 use Rattle.ats_steps.specs.Ports.{port_state_at, room_of}
@@ -32,17 +31,17 @@ rooms_of network releases = map (λ (r : Release). length (sender_at network r.s
 -- a port that was just opened, with room for all frames that pass it
 pub record IsFresh {T : Type 0} (network : DeclaredNetwork) (course : Course T) (port : ℕ) : Type 0 where
   pub rooms : List ℕ
-  pub fresh : port_state_at course port ≡ port.opened (port_at network.topology.ports port).ps_per_bit rooms course.tie
+  pub fresh : port_state_at course port ≡ states.opened (port_at network.topology.ports port).ps_per_bit rooms course.tie
   pub each : (class : ℕ) → class ≤ 7 → slice_index rooms class ≡ room_of network course.records port class
 
 -- a run in which nothing has happened yet
 pub record IsOpened {T : Type 0} (network : DeclaredNetwork) (releases : List Release) (course : Course T)
     : Type 0 where
   pub stages : course.stages ≡ map (λ (r : Release). Coming r.at) releases
-  pub records : course.records ≡ records.opened releases (rooms_of network releases)
+  pub records : course.records ≡ progress.opened releases (rooms_of network releases)
   pub count : length course.ports ≡ length network.topology.ports
   pub ports : (port : ℕ) → port < length network.topology.ports → IsFresh network course port
   pub turns : course.turns ≡ replicate (length network.topology.ports) Resting
   pub arrives_from : course.arrives_from ≡ replicate (length network.topology.ports) (record { 0 = 0 })
-  pub groups : course.groups ≡ groups.opened (residences_of network) (members_of network)
+  pub groups : course.groups ≡ groups_states.opened (residences_of network) (members_of network)
   pub last : course.last ≡ record { at = record { 0 = 0 }; phase = 0; id = 0 }

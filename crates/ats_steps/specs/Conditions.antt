@@ -1,4 +1,4 @@
-use Rattle.std.specs.Prelude.{◌≡◌, ◌≢◌, ℕ, ◌+◌, ◌-◌, ◌<◌, ◌≤◌, true, false, List, length, slice_index, All}
+use Rattle.std.specs.Prelude.{◌≡◌, ◌≢◌, ℕ, ◌+◌, ◌<◌, ◌≤◌, true, false, List, length, slice_index, All}
 use Rattle.ats_num.specs.declared.time.TheConstants.{PS_PER_SECOND, END}
 use Rattle.ats_num.specs.declared.pace.TheConstants.{MAX_SPREAD}
 use Rattle.ats_topology.specs.Port.{port_at, spread_of}

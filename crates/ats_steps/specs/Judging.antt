@@ -6,8 +6,7 @@ use Rattle.ats_network.specs.Senders.{sender_at}
 use Rattle.ats_network.specs.Class.{class_at}
 use Rattle.ats_group.specs.Group.{State, first, verdicts_of, state_after}
 use Rattle.ats_group.specs.GroupsState.{GroupsState, AreGroups, time_at, empty_at}
-use Rattle.ats_schedulers.specs.Laws.{IsHop}
-use Rattle.ats_schedulers.specs.Schedulers.{group_behind, residences_of, members_of, scheduler_of}
+use Rattle.ats_schedulers.specs.Schedulers.{group_behind, residences_of, members_of, scheduler_of, IsHop}
 use Rattle.ats_trace.specs.Projections.{Handed, handed_by}
 use Rattle.ats_trace.specs.Eligibility.{IsPassed, declared_by, offer_of, residence_of_groups}
 use Rattle.ats_steps.specs.Course.{Course, travels}

@@ -35,7 +35,14 @@ pub fn come<T: Tie>(
     requires may_come { MayComeNow net.now (course_of state.old) now.at.0 frame }
     ensures { Comes net.now (course_of state.old) (course_of state.new) now frame (option_to_list result) }
 {
-    let verdict = judge(net, schedulers, &state.records, &mut state.groups, now.at, frame);
+    let verdict = judge(
+        net,
+        schedulers,
+        &state.records,
+        &mut state.groups,
+        now.at,
+        frame,
+    );
     let hop = HopRecord {
         arrival: now.at,
         verdict,
