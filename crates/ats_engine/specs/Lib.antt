@@ -1,4 +1,5 @@
 pub mod Entering
+pub mod Following
 pub mod Opened
 pub mod Ready
 pub mod Rooms

@@ -10,12 +10,12 @@ use Rattle.ats_engine_law.specs.Opened.{IsOpened, released_from}
 pub record IsStart {T : Type 0} (network : DeclaredNetwork) (releases : List Release) (tie : T) (course : Course T)
     : Type 0 where
   pub opened : IsOpened network releases course
-  pub tie : course.tie ≡ tie
+  pub tied : course.tie ≡ tie
 
 -- an agenda with the arrivals of all frames at their own stations, and room for an entry of each frame and each port
 pub record AreReleased {O : Type 0} (network : DeclaredNetwork) (releases : List Release) (order : O)
     (agenda : Contents O Event) : Type 0 where
   pub entries : IsPermutation (released_from 0 releases) agenda.entries
   pub capacity : agenda.capacity ≡ length releases + length network.topology.ports
-  pub order : agenda.order ≡ order
+  pub ordered : agenda.order ≡ order
   pub last : agenda.last ≡ None

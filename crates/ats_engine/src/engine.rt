@@ -79,6 +79,8 @@ impl<'a, T: Tie, O: TimeOrder, P: Pace> Engine<'a, T, O, P> {
             mut agenda,
         } = self;
         drive(&mut runner, &mut agenda);
-        runner.state.records.finish()
+        let state = runner.state;
+        let records = state.records;
+        records.finish()
     }
 }

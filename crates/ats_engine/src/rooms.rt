@@ -1,6 +1,6 @@
 //! How many frames each port may be offered, and how many hop records each frame may get.
 
-ghost use Rattle.std.specs.Prelude.{◌≡◌, ◌<◌, ◌≤◌, length, IfOk};
+ghost use Rattle.std.specs.Prelude.{◌≡◌, ◌+◌, ◌*◌, ◌<◌, ◌≤◌, length, IfOk};
 ghost use Rattle.ats_network.specs.Network.{senders_of};
 ghost use Rattle.ats_trace.specs.declared.run.TheConstants.{MAX_FRAMES};
 ghost use Rattle.ats_trace.specs.Releases.{AreReleases};

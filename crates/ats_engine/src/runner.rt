@@ -5,7 +5,8 @@ ghost use Rattle.ats_events.specs.declared.moment.Moment.{Moment};
 ghost use Rattle.ats_steps.specs.Bounds.{steps_left};
 ghost use Rattle.ats_steps.specs.Seen.{course_of};
 ghost use Rattle.ats_steps.specs.declared.event.Event.TheVariants.{Arrival, Eligibility, Selection, End};
-ghost use Rattle.ats_engine.specs.Ready.{IsReady, IsAtEvent, Goes, Follows, follows-itself, follows-both, ready-permuted};
+ghost use Rattle.ats_engine.specs.Ready.{IsReady, IsAtEvent, Goes, Follows};
+ghost use Rattle.ats_engine.specs.Following.{follows-itself, follows-both, ready-permuted};
 
 use crate::entering::{enter, enter_both};
 use ats_events::{Actor, Agenda, Moment, TimeOrder};
