@@ -1,3 +1,4 @@
 pub mod Concluding
+pub mod Counting
 pub mod Going
 pub mod Joining

@@ -9,9 +9,13 @@ use Rattle.ats_network.specs.Class.{class_at}
 use Rattle.ats_trace.specs.declared.journey.Release.{Release}
 use Rattle.ats_transmit.specs.State.{PortState, opened}
 
--- the port is on a path of a sender, which has this class there
+-- the port is one of these, and the sender has this class there
+abbrev pub goes_over : List ℕ → ℕ → ℕ → Sender → Bool
+goes_over ports port class sender = list_any (λ p. p == port) ports && class_at sender port == class
+
+-- the port is on the path of a sender, which has this class there
 abbrev pub goes_through : ℕ → ℕ → Sender → Bool
-goes_through port class sender = list_any (λ p. p == port) sender.path && class_at sender port == class
+goes_through port class sender = goes_over sender.path port class sender
 
 -- how many of these releases are of frames that pass the port in this class
 abbrev pub count_at : DeclaredNetwork → List Release → ℕ → ℕ → ℕ
@@ -34,12 +38,16 @@ pub record AreBelow (network : DeclaredNetwork) (counts : List ℕ) : Type 0 whe
   pub each : (port class : ℕ) → port < length network.topology.ports → class ≤ 7
       → count_in counts port class + 1 < 2 ^ 32
 
--- a sender's frame is counted at each port of its path
-pub record Counts (network : DeclaredNetwork) (sender : ℕ) (old new : List ℕ) : Type 0 where
+-- a sender's frame is counted at each of these ports, in its class there
+pub record CountsOver (network : DeclaredNetwork) (sender : ℕ) (ports old new : List ℕ) : Type 0 where
   pub all : length new ≡ length old
   pub each : (port class : ℕ) → port < length network.topology.ports → class ≤ 7
       → count_in new port class
-      ≡ count_in old port class + cond (goes_through port class (sender_at network sender)) 1 0
+      ≡ count_in old port class + cond (goes_over ports port class (sender_at network sender)) 1 0
+
+-- and so at each port of its path
+abbrev pub Counts : DeclaredNetwork → ℕ → List ℕ → List ℕ → Type 0
+Counts network sender old new = CountsOver network sender (sender_at network sender).path old new
 
 -- the counts of one port, by class
 abbrev pub rooms_at : List ℕ → ℕ → List ℕ
