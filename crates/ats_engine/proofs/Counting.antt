@@ -2,16 +2,19 @@ use Rattle.std.proofs.Common.{◌≡◌, ℕ, ◌+◌, ◌*◌, ◌<◌, ◌≤�
 use Rattle.std.proofs.Common.{refl, sym, ap, ◌∙◌, subst, inl, inr, arith, add-zero}
 use Rattle.std.specs.Prelude.{◌≢◌, ◌==◌, ◌&&◌, ◌||◌, cond, AllPairs}
 use Rattle.std.specs.List.{list_any}
-use Rattle.std.proofs.Math.ListN.{length-set}
+use Rattle.std.proofs.Math.ListN.{length-set, replicate}
 use Rattle.std.proofs.lemmas.Bool.{cases_eq, eq-eqb, ne_eqb}
-use Rattle.std.proofs.lemmas.List.{get_or_default, get_or-set_same, get_or-set_other, get_or-take, length-take-le}
+use Rattle.std.proofs.lemmas.List.{get_or_default, get_or-replicate, get_or-set_same, get_or-set_other}
+use Rattle.std.proofs.lemmas.List.{get_or-take, length-replicate, length-take-le}
 use Rattle.std.proofs.lemmas.List.Elements.{All-get_or}
 use Rattle.std.proofs.lemmas.List.Folds.{list_any_more, list_any_none}
+use Rattle.std.proofs.lemmas.List.Sums.{count_by-le-length, sum_by_more}
 use Rattle.ats_network.proofs.SenderLemmas.{each_is_sender}
 use Rattle.ats_network.specs.Class.{class_at}
 use Rattle.ats_network.specs.Network.{DeclaredNetwork, IsNetwork, senders_of}
 use Rattle.ats_network.specs.Senders.{IsSender, sender_at, no_sender}
-use Rattle.ats_engine.specs.Rooms.{CountsOver, count_in, goes_over}
+use Rattle.ats_trace.specs.declared.journey.Release.{Release}
+use Rattle.ats_engine.specs.Rooms.{AreBelow, AreCounts, Counts, CountsOver, count_in, goes_over, goes_through}
 
 -- a sender of a network keeps a sender's rules
 pub sender-kept : (network : DeclaredNetwork) (sender : ℕ) → IsNetwork network → sender < length (senders_of network)
@@ -140,3 +143,35 @@ counts-more network sender hop path old now class apart within here low fits cou
         ]
       );
     }
+
+-- no release is counted in a list of zeros
+pub none-counted : (network : DeclaredNetwork)
+    → AreCounts network [] (replicate (8 * length network.topology.ports) 0)
+none-counted network = record {
+  all = length-replicate (8 * length network.topology.ports) 0;
+  each = λ port class some low. get_or-replicate (8 * length network.topology.ports) (8 * port + class) 0 0
+      (omega arith);
+}
+
+-- counts of few releases are small
+pub counts-below : (network : DeclaredNetwork) (releases : List Release) (counts : List ℕ)
+    → length releases ≤ 200000 → AreCounts network releases counts → AreBelow network counts
+counts-below network releases counts few are = record {
+  all = are.all;
+  each = λ port class some low. omega (arith, are.each port class some low, count_by-le-length (λ (r : Release).
+      goes_through port class (sender_at network r.sender)) releases);
+}
+
+-- the frame of one release more is counted
+pub counted-more : (network : DeclaredNetwork) (releases : List Release) (n : ℕ) (d : Release) (old new : List ℕ)
+    → n < length releases → AreCounts network (take n releases) old
+    → Counts network (get_or releases n d).sender old new → AreCounts network (take (n + 1) releases) new
+counted-more network releases n d old new within are counts = record {
+  all = counts.all ∙ are.all;
+  each = λ port class some low.
+      counts.each port class some low
+      ∙ ap (λ (k : ℕ). k + cond (goes_through port class (sender_at network (get_or releases n d).sender)) 1 0)
+      (are.each port class some low)
+      ∙ sym (sum_by_more (λ (r : Release). cond (goes_through port class (sender_at network r.sender)) 1 0) releases n d
+      within);
+}

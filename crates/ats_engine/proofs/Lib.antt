@@ -2,3 +2,5 @@ pub mod Concluding
 pub mod Counting
 pub mod Going
 pub mod Joining
+pub mod Releasing
+pub mod Starting

@@ -69,9 +69,13 @@ pub record IsOpenedPort {T : Type 0} (network : DeclaredNetwork) (releases : Lis
   pub fresh : standing ≡ opened (port_at network.topology.ports port).ps_per_bit rooms tie
   pub each : (class : ℕ) → class ≤ 7 → slice_index rooms class ≡ count_at network releases port class
 
--- the ports of a network, each so
-pub record AreOpened {T : Type 0} (network : DeclaredNetwork) (releases : List Release) (tie : T)
+-- the first so many ports of a network, each so
+pub record AreOpenedTo {T : Type 0} (network : DeclaredNetwork) (releases : List Release) (tie : T) (count : ℕ)
     (ports : List (PortState T)) : Type 0 where
-  pub all : length ports ≡ length network.topology.ports
-  pub each : (port : ℕ) → port < length network.topology.ports
+  pub all : length ports ≡ count
+  pub each : (port : ℕ) → port < count
       → (d : PortState T) → IsOpenedPort network releases tie port (slice_index_or ports port d)
+
+-- all of them
+abbrev pub AreOpened : {T : Type 0} → DeclaredNetwork → List Release → T → List (PortState T) → Type 0
+AreOpened network releases tie ports = AreOpenedTo network releases tie (length network.topology.ports) ports
