@@ -1,0 +1,51 @@
+//! The records of a run while it is made.
+
+ghost use Rattle.std.specs.Prelude.{◌≡◌, length};
+
+use ats_group::Verdict;
+use ats_num::Ps;
+use ats_records::Records;
+use ats_trace::{Ending, HopRecord, Release};
+use std::alloc::AllocGlobal;
+use std::process::Abort;
+
+// A release of 64 octets at this time.
+fn release(at: u64) -> Release {
+    Release {
+        at: Ps(at),
+        sender: 0,
+        octets: 64,
+    }
+}
+
+// A frame that comes at this time is eligible then, and is not sent yet.
+fn came(at: u64) -> HopRecord {
+    HopRecord {
+        arrival: Ps(at),
+        verdict: Verdict::Eligible(Ps(at)),
+        sent: None,
+    }
+}
+
+#[test]
+fn records_of_two_frames(rt: HostRuntime) {
+    let releases = [release(5), release(7)];
+    let rooms = [1, 2];
+    let mut records = Records::open(rt.alloc(), &releases, &rooms).expect(&rt, "room");
+    records.push(1, came(7));
+    records.push(0, came(5));
+    records.send(1, Ps(7), Ps(9));
+    records.push(1, came(10));
+    records.close(0, Ending::Discard);
+    records.close(1, Ending::Sink(Ps(12)));
+    let sent = HopRecord {
+        arrival: Ps(7),
+        verdict: Verdict::Eligible(Ps(7)),
+        sent: Some((Ps(7), Ps(9))),
+    };
+    assert!(rt; records.hops_of(0) == [came(5)].as_slice());
+    assert!(rt; records.hops_of(1) == [sent, came(10)].as_slice());
+    let run = records.finish();
+    assert!(rt; run.journeys().len() == 2);
+    assert!(rt; run.hops_of(1) == [sent, came(10)].as_slice());
+}
