@@ -1,5 +1,5 @@
-use Rattle.std.proofs.Common.{◌≡◌, ℕ, List, [], map, All, IsTrue, sym, ap, ◌∙◌, subst}
-use Rattle.std.specs.Prelude.{is_some, IsSome}
+use Rattle.std.proofs.Common.{◌≡◌, ℕ, List, [], map, All, sym, ap, ◌∙◌, subst}
+use Rattle.std.specs.Prelude.{IsSome}
 use Rattle.ats_network.specs.Network.{DeclaredNetwork}
 use Rattle.ats_events.specs.Contents.{Contents}
 use Rattle.ats_events.specs.declared.moment.Moment.{Moment}

@@ -1,4 +1,4 @@
-use Rattle.std.proofs.Common.{◌≡◌, ℕ, ◌+◌, ◌*◌, ◌<◌, ◌≤◌, Bool, true, false, List, [], ◌∷◌, length, get_or, set, take, All}
+use Rattle.std.proofs.Common.{◌≡◌, ℕ, ◌+◌, ◌*◌, ◌<◌, ◌≤◌, Bool, true, false, List, [], length, get_or, set, take, All}
 use Rattle.std.proofs.Common.{refl, sym, ap, ◌∙◌, subst, inl, inr, arith, add-zero}
 use Rattle.std.specs.Prelude.{◌≢◌, ◌==◌, ◌&&◌, ◌||◌, cond, AllPairs}
 use Rattle.std.specs.List.{list_any}
@@ -104,7 +104,7 @@ counts-more network sender hop path old now class apart within here low fits cou
     let value : ℕ = count_in now p class + 1 in
     let new : List ℕ = set now place value in
     let more : (port : ℕ) → list_any (λ q. q == port) (take (hop + 1) path)
-        ≡ (list_any (λ q. q == port) (take hop path) || (p == port)) =
+    ≡ (list_any (λ q. q == port) (take hop path) || (p == port)) =
     λ port. list_any_more (λ q. q == port) path hop 0 within in
     let counted : count_in new p class ≡ count_in old p class + cond (goes_over (take (hop + 1) path) p class s) 1 0 =
     get_or-set_same now place value 0 fits
@@ -115,33 +115,33 @@ counts-more network sender hop path old now class apart within here low fits cou
     ∙ eq-eqb (class_at s p) class (sym here))) in
     let never : (port other : ℕ) → port ≡ p → other ≢ class → (class_at s port == other) ≡ false =
     λ port other same differ. ne_eqb (class_at s port) other
-        (λ e. differ (sym e ∙ ap (class_at s) same ∙ sym here)) in
+    (λ e. differ (sym e ∙ ap (class_at s) same ∙ sym here)) in
     record {
       all = length-set now place value ∙ counts.all;
       each = λ port other some least. (
-        let Goal : Type 0 = count_in new port other
-        ≡ count_in old port other + cond (goes_over (take (hop + 1) path) port other s) 1 0 in
-        let kept : 8 * port + other ≢ place → goes_over (take (hop + 1) path) port other s
-            ≡ goes_over (take hop path) port other s → Goal =
-        λ apart same. get_or-set_other now place (8 * port + other) value 0 apart ∙ counts.each port other some least
-            ∙ ap (λ (b : Bool). count_in old port other + cond b 1 0) (sym same) in
-        elim (cases_eq port p) as (λ _. Goal) [
-          | inl same ↦ elim (cases_eq other class) as (λ _. Goal) [
-            | inl alike ↦ subst (λ (q : ℕ). count_in new q other
-                ≡ count_in old q other + cond (goes_over (take (hop + 1) path) q other s) 1 0) (sym same)
-                (subst (λ (k : ℕ). count_in new p k
-                ≡ count_in old p k + cond (goes_over (take (hop + 1) path) p k s) 1 0) (sym alike) counted)
-            | inr differ ↦ kept (place-apart p class port other low least (λ e. differ e.1))
-                (and-no (list_any (λ q. q == port) (take (hop + 1) path)) (class_at s port == other) (never port other
-                same differ)
-                ∙ sym (and-no (list_any (λ q. q == port) (take hop path)) (class_at s port == other) (never port other
-                same differ)))
+          let Goal : Type 0 = count_in new port other
+          ≡ count_in old port other + cond (goes_over (take (hop + 1) path) port other s) 1 0 in
+          let kept : 8 * port + other ≢ place → goes_over (take (hop + 1) path) port other s
+          ≡ goes_over (take hop path) port other s → Goal =
+          λ apart same. get_or-set_other now place (8 * port + other) value 0 apart ∙ counts.each port other some least
+          ∙ ap (λ (b : Bool). count_in old port other + cond b 1 0) (sym same) in
+          elim (cases_eq port p) as (λ _. Goal) [
+            | inl same ↦ elim (cases_eq other class) as (λ _. Goal) [
+              | inl alike ↦ subst (λ (q : ℕ). count_in new q other
+                  ≡ count_in old q other + cond (goes_over (take (hop + 1) path) q other s) 1 0) (sym same)
+                  (subst (λ (k : ℕ). count_in new p k
+                  ≡ count_in old p k + cond (goes_over (take (hop + 1) path) p k s) 1 0) (sym alike) counted)
+              | inr differ ↦ kept (place-apart p class port other low least (λ e. differ e.1))
+                  (and-no (list_any (λ q. q == port) (take (hop + 1) path)) (class_at s port == other) (never port other
+                  same differ)
+                  ∙ sym (and-no (list_any (λ q. q == port) (take hop path)) (class_at s port == other) (never port other
+                  same differ)))
+            ]
+            | inr differ ↦ kept (place-apart p class port other low least (λ e. differ e.0))
+                (ap (λ (b : Bool). b && class_at s port == other) (more port
+                ∙ or-no (list_any (λ q. q == port) (take hop path)) (p == port) (ne_eqb p port (λ e. differ (sym e)))))
           ]
-          | inr differ ↦ kept (place-apart p class port other low least (λ e. differ e.0))
-              (ap (λ (b : Bool). b && class_at s port == other) (more port
-              ∙ or-no (list_any (λ q. q == port) (take hop path)) (p == port) (ne_eqb p port (λ e. differ (sym e)))))
-        ]
-      );
+          );
     }
 
 -- no release is counted in a list of zeros
@@ -158,8 +158,12 @@ pub counts-below : (network : DeclaredNetwork) (releases : List Release) (counts
     → length releases ≤ 200000 → AreCounts network releases counts → AreBelow network counts
 counts-below network releases counts few are = record {
   all = are.all;
-  each = λ port class some low. omega (arith, are.each port class some low, count_by-le-length (λ (r : Release).
-      goes_through port class (sender_at network r.sender)) releases);
+  each = λ port class some low. omega (
+    arith,
+    are.each port class some low,
+    count_by-le-length (λ (r : Release).
+        goes_through port class (sender_at network r.sender)) releases,
+  );
 }
 
 -- the frame of one release more is counted

@@ -1,25 +1,21 @@
-use Rattle.std.proofs.Common.{◌≡◌, ℕ, ◌+◌, ◌<◌, List, [], ◌∷◌, ◌++◌, length, get_or, All, Some, IsPermutation, refl, sym, ap}
+use Rattle.std.proofs.Common.{◌≡◌, ℕ, ◌+◌, ◌<◌, List, ◌++◌, length, get_or, All, Some, refl, sym, ap}
 use Rattle.std.proofs.Common.{◌∙◌, subst, inl, inr, arith}
-use Rattle.std.specs.Prelude.{◌≢◌, AllPairs}
-use Rattle.std.specs.Option.{ForSome}
 use Rattle.std.proofs.lemmas.Bool.{cases_order}
 use Rattle.std.proofs.lemmas.List.Elements.{All-head, All-tail}
-use Rattle.ats_facts.proofs.Lists.{all_left, all_right}
-use Rattle.ats_network.specs.Network.{DeclaredNetwork}
+use Rattle.ats_facts.proofs.Lists.{all_left}
 use Rattle.ats_events.specs.Contents.{Contents}
 use Rattle.ats_events.specs.Order.{IsInRange, IsIrreflexive, IsTransitive, IsTimed}
 use Rattle.ats_events.specs.declared.moment.Moment.{Moment}
 use Rattle.ats_trace.specs.declared.journey.Release.{Release}
 use Rattle.ats_steps.specs.Bounds.{steps_left}
 use Rattle.ats_steps.specs.Course.{Course}
-use Rattle.ats_steps.specs.Entries.{IsReached}
 use Rattle.ats_steps.specs.Invariant.{Holds}
 use Rattle.ats_steps.specs.Seen.{course_of}
 use Rattle.ats_steps.specs.declared.event.Event.{Event}
 use Rattle.ats_steps.specs.declared.state.State.{State}
 use Rattle.ats_engine_law.specs.Next.{IsNext, IsAfter}
 use Rattle.ats_engine.specs.Entering.{MayEnter, Enters}
-use Rattle.ats_engine.specs.Ready.{IsReady, IsAtEvent, Goes, releases_in}
+use Rattle.ats_engine.specs.Ready.{IsAtEvent, Goes, releases_in}
 use Rattle.ats_engine_law.proofs.Entries.{before-is-reached, holds-permuted, moments-apart, moments-in-range, room-for-all}
 use Rattle.ats_engine.specs.declared.runner.Runner.{Runner}
 
@@ -36,31 +32,30 @@ before-if-after before timed now next hn hx after =
     ]
 
 -- the event whose entry was popped is the next one
-pub is-next : {T O P : Type 0} (key : T → ℕ → ℕ → ℕ) (wait : P → ℕ → ℕ → ℕ) (before : O → Moment → Moment → Type 0)
-    (runner : Runner T P) (agenda : Contents O Event) (now : Moment) (event : Event)
-    → ((order : O) → IsIrreflexive (before order)) → ((order : O) → IsTransitive (before order))
-    → ((order : O) → IsTimed (before order)) → IsAtEvent key wait before runner agenda now event
+pub is-next : {T O P : Type 0} {key : T → ℕ → ℕ → ℕ} {wait : P → ℕ → ℕ → ℕ} {before : O → Moment → Moment → Type 0}
+    {runner : Runner T P} {agenda : Contents O Event} {now : Moment} {event : Event}
+    → IsAtEvent key wait before runner agenda now event → ((order : O) → IsIrreflexive (before order))
+    → ((order : O) → IsTransitive (before order)) → ((order : O) → IsTimed (before order))
     → IsNext key (wait runner.pace) runner.network.now (releases_in runner.state.records) (course_of runner.state) now
     event agenda.entries
-is-next key wait before runner agenda now event irreflexive transitive timed at =
+is-next {T} {O} {P} {key} {wait} {before} {runner} {agenda} {now} {event} at irreflexive transitive timed =
     let ranges = moments-in-range at.ready.holds in
     let here = All-head (λ (x : Moment × Event). IsInRange x.0) (now, event) agenda.entries ranges in
     let there = All-tail (λ (x : Moment × Event). IsInRange x.0) (now, event) agenda.entries ranges in
     record {
       holds = at.ready.holds;
       first = λ k d within. before-is-reached (before agenda.order) (irreflexive agenda.order)
-          (transitive agenda.order) (timed agenda.order) now _ here
-          (there k d within) (at.first k d within);
+          (transitive agenda.order) (timed agenda.order) now _ here (there k d within) (at.first k d within);
     }
 
 -- entries that a step brings, so that what holds does so with them, may be put into the agenda
-pub may-enter : {T O P : Type 0} (key : T → ℕ → ℕ → ℕ) (wait : P → ℕ → ℕ → ℕ)
-    (before : O → Moment → Moment → Type 0) (runner : Runner T P) (agenda : Contents O Event) (now : Moment)
-    (event : Event) (new : Course T) (more : List (Moment × Event)) → ((order : O) → IsTimed (before order))
-    → IsAtEvent key wait before runner agenda now event
+pub may-enter : {T O P : Type 0} {key : T → ℕ → ℕ → ℕ} {wait : P → ℕ → ℕ → ℕ}
+    {before : O → Moment → Moment → Type 0} {runner : Runner T P} {agenda : Contents O Event} {now : Moment}
+    {event : Event} {new : Course T} {more : List (Moment × Event)}
+    → IsAtEvent key wait before runner agenda now event → ((order : O) → IsTimed (before order))
     → Holds key (wait runner.pace) runner.network.now (releases_in runner.state.records) new (more ++ agenda.entries)
     → All (λ (entry : Moment × Event). IsAfter now entry.0) more → MayEnter before agenda more
-may-enter key wait before runner agenda now event new more timed at holds after =
+may-enter {T} {O} {P} {key} {wait} {before} {runner} {agenda} {now} {event} {new} {more} at timed holds after =
     let here = All-head (λ (x : Moment × Event). IsInRange x.0) (now, event) agenda.entries
     (moments-in-range at.ready.holds) in
     let there = all_left (λ (x : Moment × Event). IsInRange x.0) more agenda.entries (moments-in-range holds) in
@@ -75,14 +70,14 @@ may-enter key wait before runner agenda now event new more timed at holds after 
     }
 
 -- a step was taken, and its entries were put into the agenda
-pub goes : {T O P : Type 0} (key : T → ℕ → ℕ → ℕ) (wait : P → ℕ → ℕ → ℕ) (before : O → Moment → Moment → Type 0)
-    (runner : Runner T P) (agenda after : Contents O Event) (now : Moment) (event : Event) (state : State T)
-    (more : List (Moment × Event)) → IsAtEvent key wait before runner agenda now event
+pub goes : {T O P : Type 0} {key : T → ℕ → ℕ → ℕ} {wait : P → ℕ → ℕ → ℕ} {before : O → Moment → Moment → Type 0}
+    {runner : Runner T P} {agenda after : Contents O Event} {now : Moment} {event : Event} (state : State T)
+    {more : List (Moment × Event)} → IsAtEvent key wait before runner agenda now event
     → Holds key (wait runner.pace) runner.network.now (releases_in runner.state.records) (course_of state)
     (more ++ agenda.entries)
     → steps_left (course_of state) < steps_left (course_of runner.state) → state.tie ≡ runner.state.tie
     → Enters agenda after more → Goes key wait runner (record runner { state = state }) agenda after
-goes key wait before runner agenda after now event state more at holds less tie enters =
+goes {T} {O} {P} {key} {wait} {before} {runner} {agenda} {after} state at holds less tie enters =
     let released = holds.shape.released in
     record {
       left = less;

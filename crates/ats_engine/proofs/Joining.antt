@@ -1,4 +1,4 @@
-use Rattle.std.proofs.Common.{◌≡◌, ℕ, ◌+◌, ◌<◌, ◌≤◌, List, [], ◌∷◌, ◌++◌, length, All, Option, Some, IsPermutation, refl, sym, ap, ◌∙◌}
+use Rattle.std.proofs.Common.{◌≡◌, ◌≤◌, List, [], ◌∷◌, ◌++◌, length, All, Option, Some, IsPermutation, sym, ◌∙◌}
 use Rattle.std.proofs.Common.{subst, append_assoc, length-append, arith}
 use Rattle.std.specs.Prelude.{◌≢◌, AllPairs}
 use Rattle.std.specs.Option.{ForSome, option_to_list}
@@ -7,7 +7,6 @@ use Rattle.std.proofs.lemmas.List.Sorted.{length_permutation, IsPermutation-appe
 use Rattle.ats_facts.proofs.Lists.{all_left, all_right, pairs_head, pairs_tail}
 use Rattle.ats_facts.proofs.Pairs.{AllPairs-permutation}
 use Rattle.ats_events.specs.Contents.{Contents}
-use Rattle.ats_events.specs.Steps.{Inserts}
 use Rattle.ats_events.specs.declared.moment.Moment.{Moment}
 use Rattle.ats_steps.specs.declared.event.Event.{Event}
 use Rattle.ats_engine.specs.Entering.{MayEnter, Enters}

@@ -1,5 +1,5 @@
-use Rattle.std.proofs.Common.{◌≡◌, ℕ, suc, ◌+◌, ◌<◌, ◌≤◌, List, [], ◌∷◌, ◌++◌, length, get_or, take, All, IsPermutation}
-use Rattle.std.proofs.Common.{None, Some, refl, sym, ap, ◌∙◌, subst, arith, length-append, add-zero}
+use Rattle.std.proofs.Common.{◌≡◌, ℕ, suc, ◌+◌, ◌<◌, List, [], ◌∷◌, ◌++◌, length, get_or, take, All, IsPermutation}
+use Rattle.std.proofs.Common.{None, refl, sym, ap, ◌∙◌, subst, arith, add-zero}
 use Rattle.std.specs.Prelude.{◌≢◌}
 use Rattle.std.specs.Option.{ForSome}
 use Rattle.std.proofs.lemmas.List.{length-take-le, take_more}
@@ -58,8 +58,13 @@ pub released-room : {O : Type 0} (network : DeclaredNetwork) (releases : List Re
     (agenda : Contents O Event) → n < length releases → AreReleasedTo network releases order n agenda
     → length agenda.entries < agenda.capacity
 released-room network releases order n agenda within are =
-    omega (arith, length_permutation (released_from 0 (take n releases)) agenda.entries are.entries,
-    length-released 0 (take n releases), length-take-le n releases (omega arith), are.capacity)
+    omega (
+      arith,
+      length_permutation (released_from 0 (take n releases)) agenda.entries are.entries,
+      length-released 0 (take n releases),
+      length-take-le n releases (omega arith),
+      are.capacity,
+    )
 
 -- which has another moment
 pub released-apart : {O : Type 0} (network : DeclaredNetwork) (releases : List Release) (order : O) (n : ℕ)

@@ -1,4 +1,4 @@
-use Rattle.std.proofs.Common.{◌≡◌, ℕ, zero, suc, ◌+◌, ◌<◌, ◌≤◌, List, [], ◌∷◌, ◌++◌, length, get_or, map, All, IsPermutation}
+use Rattle.std.proofs.Common.{◌≡◌, ℕ, zero, suc, ◌+◌, ◌<◌, ◌≤◌, List, [], ◌∷◌, ◌++◌, length, get_or, All, IsPermutation}
 use Rattle.std.proofs.Common.{refl, sym, ap, ◌∙◌, subst, inl, inr, arith, length-append}
 use Rattle.std.specs.Prelude.{cond}
 use Rattle.std.proofs.Math.Seq.{take-length}
@@ -90,15 +90,15 @@ opened-more {T} network releases tie n counts old new standing within are opened
     record {
       all = omega (arith, ap (λ (l : List (PortState T)). length l) more, length-append old (standing ∷ []), opened.all);
       each = λ port below e. subst (λ (l : List (PortState T)). Of port (get_or l port e)) (sym more) (
-        elim (cases_lt port n) as (λ _. Of port (get_or (old ++ standing ∷ []) port e)) [
-          | inl less ↦ subst (Of port)
-              (sym (get_or_append_left old (standing ∷ []) e port (omega (arith, less, opened.all))))
-              (opened.each port less e)
-          | inr least ↦ (let here : n ≡ port = omega arith in
-              subst (λ (q : ℕ). Of q (get_or (old ++ standing ∷ []) q e)) here
-              (subst (Of n) (sym (get_or_push old standing e n opened.all)) last))
-        ]
-      );
+          elim (cases_lt port n) as (λ _. Of port (get_or (old ++ standing ∷ []) port e)) [
+            | inl less ↦ subst (Of port)
+                (sym (get_or_append_left old (standing ∷ []) e port (omega (arith, less, opened.all))))
+                (opened.each port less e)
+            | inr least ↦ (let here : n ≡ port = omega arith in
+                subst (λ (q : ℕ). Of q (get_or (old ++ standing ∷ []) q e)) here
+                (subst (Of n) (sym (get_or_push old standing e n opened.all)) last))
+          ]
+          );
     }
 
 -- the ports that were opened are fresh in a run that begins with them
@@ -132,7 +132,7 @@ ready-first key wait releases order tie runner agenda are schedulers start relea
     record {
       ready = record {
         holds = subst (λ (l : List Release). Holds key (wait runner.pace) runner.network.now l (course_of runner.state)
-        agenda.entries) (sym same) (holds-permuted entries first);
+            agenda.entries) (sym same) (holds-permuted entries first);
         schedulers = schedulers;
         room = released.capacity
             ∙ ap (λ (l : List Release). length l + length runner.network.now.topology.ports) (sym same);

@@ -1,4 +1,4 @@
-use Rattle.std.proofs.Common.{◌≡◌, ℕ, List, IsPermutation, refl, ◌∙◌}
+use Rattle.std.proofs.Common.{ℕ, List, IsPermutation, refl, ◌∙◌}
 use Rattle.ats_events.specs.declared.moment.Moment.{Moment}
 use Rattle.ats_steps.specs.declared.event.Event.{Event}
 use Rattle.ats_engine.specs.declared.runner.Runner.{Runner}

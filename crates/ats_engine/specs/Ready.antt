@@ -1,11 +1,9 @@
-use Rattle.std.specs.Prelude.{◌≡◌, ℕ, ◌+◌, ◌<◌, List, ◌∷◌, length, map, Some, All, IsPermutation}
-use Rattle.ats_network.specs.Network.{DeclaredNetwork}
+use Rattle.std.specs.Prelude.{◌≡◌, ℕ, ◌+◌, ◌<◌, List, ◌∷◌, length, map, Some, All}
 use Rattle.ats_events.specs.Contents.{Contents}
 use Rattle.ats_events.specs.declared.moment.Moment.{Moment}
 use Rattle.ats_trace.specs.declared.journey.Release.{Release}
 use Rattle.ats_records.specs.Progress.{Progress}
 use Rattle.ats_steps.specs.Bounds.{steps_left}
-use Rattle.ats_steps.specs.Course.{Course}
 use Rattle.ats_steps.specs.Invariant.{Holds}
 use Rattle.ats_steps.specs.Seen.{course_of}
 use Rattle.ats_steps.specs.declared.event.Event.{Event}

@@ -50,11 +50,11 @@ impl<'a, T: Tie, O: TimeOrder, P: Pace> Engine<'a, T, O, P> {
     ) -> Result<Self, AllocError>
         requires { AreReleases net.now releases.now }
         ensures { IfOk result (λ engine. engine ≡ record {
-            network = net.now;
-            releases = releases.now;
-            tie = tie;
-            order = order;
-            pace = pace;
+          network = net.now;
+          releases = releases.now;
+          tie = tie;
+          order = order;
+          pace = pace;
         }) }
     {
         let schedulers = Schedulers::new(alloc, net)?;

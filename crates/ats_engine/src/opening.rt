@@ -25,7 +25,10 @@ use std::alloc::{AllocError, Global};
 fn stages_of(alloc: Global, releases: &[Release]) -> Result<Vec<Stage>, AllocError>
     ensures { IfOk result (λ stages. stages.items ≡ map (λ (r : Release). Coming r.at) releases.now) }
 {
-    releases.iter().map(|release| Stage::Coming(release.at)).collect(alloc)
+    releases
+        .iter()
+        .map(|release| Stage::Coming(release.at))
+        .collect(alloc)
 }
 
 /// The ports of a network, each with room for all frames of these releases that pass it.

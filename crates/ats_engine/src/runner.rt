@@ -35,7 +35,12 @@ impl<'a, T: Tie, P: Pace> Runner<'a, T, P> {
     }
 
     /// A frame becomes eligible.
-    fn become_eligible<O: TimeOrder>(&mut self, now: Moment, frame: u32, agenda: &mut Agenda<O, Event>)
+    fn become_eligible<O: TimeOrder>(
+        &mut self,
+        now: Moment,
+        frame: u32,
+        agenda: &mut Agenda<O, Event>,
+    )
         requires { IsAtEvent T.key P.wait O.before self.old agenda.old now (Eligibility frame) }
         ensures { Goes T.key P.wait self.old self.new agenda.old agenda.new }
     {

@@ -1,7 +1,6 @@
-use Rattle.std.proofs.Common.{get_or, refl}
+use Rattle.std.proofs.Common.{refl}
 use Rattle.ats_events.specs.declared.moment.Moment.{Moment}
 use Rattle.ats_trace.specs.declared.journey.Release.{Release}
-use Rattle.ats_steps.specs.Entries.{arrival_moment}
 use Rattle.ats_engine.proofs.Releasing.{released-room, released-apart, released-after, released-inserted}
 use Rattle.ats_engine.proofs.opening.agenda_of.Goals as goal
 

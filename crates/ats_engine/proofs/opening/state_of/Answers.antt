@@ -3,8 +3,6 @@ use Rattle.ats_num.specs.declared.time.Ps.{Ps}
 use Rattle.ats_topology.specs.Topology.{DeclaredTopology}
 use Rattle.ats_topology.specs.declared.port.Port.{Port}
 use Rattle.ats_group.specs.GroupsState as groups_states
-use Rattle.ats_group.specs.declared.member.Member.{Member}
-use Rattle.ats_network.specs.Network.{DeclaredNetwork}
 use Rattle.ats_schedulers.specs.Schedulers.{members_of, residences_of}
 use Rattle.ats_records.specs.Progress.{opened}
 use Rattle.ats_steps.specs.declared.turn.Turn.{Turn}

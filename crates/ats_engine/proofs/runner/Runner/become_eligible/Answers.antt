@@ -1,8 +1,5 @@
 use Rattle.std.proofs.Common.{ap}
-use Rattle.std.specs.Option.{option_to_list}
 use Rattle.ats_steps.specs.Course.{Course}
-use Rattle.ats_steps.specs.Seen.{course_of}
-use Rattle.ats_steps.specs.declared.event.Event.TheVariants.{Eligibility}
 use Rattle.ats_engine_law.proofs.Allowed.{may-be-offered}
 use Rattle.ats_engine_law.proofs.Entries.{offered-after}
 use Rattle.ats_engine_law.proofs.Kept.{offered-holds}
@@ -12,22 +9,20 @@ use Rattle.ats_engine.proofs.runner.Runner.become_eligible.Goals as goal
 
 pub become_eligible-entry-requires : goal.become_eligible-entry-requires
 become_eligible-entry-requires g c =
-    may-be-offered (is-next g.T.Tie.key g.P.Pace.wait g.O.TimeOrder.before c.args.self.now c.args.agenda.now c.args.now
-    (Eligibility c.args.frame) g.met.O.TimeOrder.irreflexive g.met.O.TimeOrder.transitive g.met.O.TimeOrder.timed c.requires)
+    may-be-offered
+    (is-next c.requires g.met.O.TimeOrder.irreflexive g.met.O.TimeOrder.transitive g.met.O.TimeOrder.timed)
 
 pub enter-requires : goal.enter-requires
 enter-requires g c =
-    let next = is-next g.T.Tie.key g.P.Pace.wait g.O.TimeOrder.before c.args.self.now c.args.agenda.now c.args.now
-    (Eligibility c.args.frame) g.met.O.TimeOrder.irreflexive g.met.O.TimeOrder.transitive g.met.O.TimeOrder.timed c.requires in
-    may-enter g.T.Tie.key g.P.Pace.wait g.O.TimeOrder.before c.args.self.now c.args.agenda.now c.args.now
-    (Eligibility c.args.frame) (course_of c.become_eligible-entry.new.state) (option_to_list c.become_eligible-entry.result) g.met.O.TimeOrder.timed c.requires
-    (offered-holds next c.become_eligible-entry.ensures) (offered-after next c.become_eligible-entry.ensures)
+    let next =
+    is-next c.requires g.met.O.TimeOrder.irreflexive g.met.O.TimeOrder.transitive g.met.O.TimeOrder.timed in
+    may-enter c.requires g.met.O.TimeOrder.timed (offered-holds next c.become_eligible-entry.ensures)
+    (offered-after next c.become_eligible-entry.ensures)
 
 pub returns : goal.returns
 returns g c =
-    let next = is-next g.T.Tie.key g.P.Pace.wait g.O.TimeOrder.before c.args.self.now c.args.agenda.now c.args.now
-    (Eligibility c.args.frame) g.met.O.TimeOrder.irreflexive g.met.O.TimeOrder.transitive g.met.O.TimeOrder.timed c.requires in
-    goes g.T.Tie.key g.P.Pace.wait g.O.TimeOrder.before c.args.self.now c.args.agenda.now
-    c.enter.new.agenda c.args.now (Eligibility c.args.frame) c.become_eligible-entry.new.state (option_to_list c.become_eligible-entry.result) c.requires
-    (offered-holds next c.become_eligible-entry.ensures) (offered-less next c.become_eligible-entry.ensures)
+    let next =
+    is-next c.requires g.met.O.TimeOrder.irreflexive g.met.O.TimeOrder.transitive g.met.O.TimeOrder.timed in
+    goes c.become_eligible-entry.new.state c.requires (offered-holds next c.become_eligible-entry.ensures)
+    (offered-less next c.become_eligible-entry.ensures)
     (ap (λ (course : Course g.row.T.Denot). course.tie) c.become_eligible-entry.ensures.becomes) c.enter.ensures

@@ -1,7 +1,5 @@
-use Rattle.std.proofs.Common.{ap, ◌∷◌, []}
+use Rattle.std.proofs.Common.{ap}
 use Rattle.ats_steps.specs.Course.{Course}
-use Rattle.ats_steps.specs.Seen.{course_of}
-use Rattle.ats_steps.specs.declared.event.Event.TheVariants.{Selection}
 use Rattle.ats_engine_law.proofs.Allowed.{may-select}
 use Rattle.ats_engine_law.proofs.Entries.{selects-after}
 use Rattle.ats_engine_law.proofs.Kept.{selects-holds}
@@ -11,22 +9,20 @@ use Rattle.ats_engine.proofs.runner.Runner.select.Goals as goal
 
 pub select-entry-requires : goal.select-entry-requires
 select-entry-requires g c =
-    may-select (is-next g.T.Tie.key g.P.Pace.wait g.O.TimeOrder.before c.args.self.now c.args.agenda.now c.args.now
-    (Selection c.args.port) g.met.O.TimeOrder.irreflexive g.met.O.TimeOrder.transitive g.met.O.TimeOrder.timed c.requires)
+    may-select
+    (is-next c.requires g.met.O.TimeOrder.irreflexive g.met.O.TimeOrder.transitive g.met.O.TimeOrder.timed)
 
 pub enter-requires : goal.enter-requires
 enter-requires g c =
-    let next = is-next g.T.Tie.key g.P.Pace.wait g.O.TimeOrder.before c.args.self.now c.args.agenda.now c.args.now
-    (Selection c.args.port) g.met.O.TimeOrder.irreflexive g.met.O.TimeOrder.transitive g.met.O.TimeOrder.timed c.requires in
-    may-enter g.T.Tie.key g.P.Pace.wait g.O.TimeOrder.before c.args.self.now c.args.agenda.now c.args.now
-    (Selection c.args.port) (course_of c.select-entry.new.state) (c.select-entry.result ∷ []) g.met.O.TimeOrder.timed c.requires
-    (selects-holds next c.select-entry.ensures) (selects-after next c.select-entry.ensures)
+    let next =
+    is-next c.requires g.met.O.TimeOrder.irreflexive g.met.O.TimeOrder.transitive g.met.O.TimeOrder.timed in
+    may-enter c.requires g.met.O.TimeOrder.timed (selects-holds next c.select-entry.ensures)
+    (selects-after next c.select-entry.ensures)
 
 pub returns : goal.returns
 returns g c =
-    let next = is-next g.T.Tie.key g.P.Pace.wait g.O.TimeOrder.before c.args.self.now c.args.agenda.now c.args.now
-    (Selection c.args.port) g.met.O.TimeOrder.irreflexive g.met.O.TimeOrder.transitive g.met.O.TimeOrder.timed c.requires in
-    goes g.T.Tie.key g.P.Pace.wait g.O.TimeOrder.before c.args.self.now c.args.agenda.now
-    c.enter.new.agenda c.args.now (Selection c.args.port) c.select-entry.new.state (c.select-entry.result ∷ []) c.requires
-    (selects-holds next c.select-entry.ensures) (selects-less next c.select-entry.ensures)
+    let next =
+    is-next c.requires g.met.O.TimeOrder.irreflexive g.met.O.TimeOrder.transitive g.met.O.TimeOrder.timed in
+    goes c.select-entry.new.state c.requires (selects-holds next c.select-entry.ensures)
+    (selects-less next c.select-entry.ensures)
     (ap (λ (course : Course g.row.T.Denot). course.tie) c.select-entry.ensures.becomes) c.enter.ensures
