@@ -25,30 +25,29 @@ holds-empty {T} {P} {key} {wait} {runner} ready empty =
     (releases_in runner.state.records) (course_of runner.state) es) empty ready.holds
 
 -- then each journey has ended
-pub all-ended : {T P : Type 0} (key : T → ℕ → ℕ → ℕ) (wait : P → ℕ → ℕ → ℕ) (runner : Runner T P)
-    (entries : List (Moment × Event)) (capacity : ℕ) → IsReady key wait runner entries capacity → entries ≡ []
+pub all-ended : {T P : Type 0} {key : T → ℕ → ℕ → ℕ} {wait : P → ℕ → ℕ → ℕ} {runner : Runner T P}
+    {entries : List (Moment × Event)} {capacity : ℕ} → IsReady key wait runner entries capacity → entries ≡ []
     → All (λ (p : Progress). IsSome p.ending) runner.state.records
-all-ended key wait runner entries capacity ready empty = (ended-run (holds-empty ready empty)).0
+all-ended ready empty = (ended-run (holds-empty ready empty)).0
 
 -- and the finished journeys are a run of what the engine was opened with, by its tie and its pace
-pub run-by : {T O P : Type 0} (key : T → ℕ → ℕ → ℕ) (wait : P → ℕ → ℕ → ℕ) (setting : Setting T O P)
-    (first last : Runner T P) (agenda : Contents O Event) (entries : List (Moment × Event)) (capacity : ℕ)
-    (run : List Travel) → setting_of first agenda ≡ setting → Follows last first
+pub run-by : {T O P : Type 0} {key : T → ℕ → ℕ → ℕ} {wait : P → ℕ → ℕ → ℕ} (setting : Setting T O P)
+    {first last : Runner T P} (agenda : Contents O Event) {entries : List (Moment × Event)} {capacity : ℕ}
+    {run : List Travel} → setting_of first agenda ≡ setting → Follows last first
     → IsReady key wait last entries capacity → entries ≡ [] → run ≡ map finished last.state.records
     → IsRunBy (key setting.tie) (wait setting.pace) setting.network run × HasReleases setting.releases run
-run-by {T} {O} {P} key wait setting first last agenda entries capacity run seen follows ready empty is =
+run-by {T} {O} {P} {key} {wait} setting {first} {last} agenda seen follows ready empty is =
     let tie : last.state.tie ≡ setting.tie = follows.tie ∙ ap (λ (s : Setting T O P). s.tie) seen in
     let pace : last.pace ≡ setting.pace = follows.pace ∙ ap (λ (s : Setting T O P). s.pace) seen in
     let network : last.network.now ≡ setting.network = follows.network ∙ ap (λ (s : Setting T O P). s.network) seen in
     let releases : releases_in last.state.records ≡ setting.releases =
     follows.releases ∙ ap (λ (s : Setting T O P). s.releases) seen in
-    let ended = ended-run (holds-empty ready empty) in (
-      subst (λ (r : List Travel). IsRunBy (key setting.tie) (wait setting.pace) setting.network r) (sym is)
-          (subst (λ (n : DeclaredNetwork). IsRunBy (key setting.tie) (wait setting.pace) n
-          (map finished last.state.records)) network
-          (subst (λ (p : P). IsRunBy (key setting.tie) (wait p) last.network.now (map finished last.state.records)) pace
-          (subst (λ (t : T). IsRunBy (key t) (wait last.pace) last.network.now (map finished last.state.records)) tie
-          ended.1))),
-      subst (λ (r : List Travel). HasReleases setting.releases r) (sym is)
-          (subst (λ (rs : List Release). HasReleases rs (map finished last.state.records)) releases ended.2),
+    let ended = ended-run (holds-empty ready empty) in
+    let whole = map finished last.state.records in (
+      subst (IsRunBy (key setting.tie) (wait setting.pace) setting.network) (sym is)
+          (subst (λ (n : DeclaredNetwork). IsRunBy (key setting.tie) (wait setting.pace) n whole) network
+          (subst (λ (p : P). IsRunBy (key setting.tie) (wait p) last.network.now whole) pace
+          (subst (λ (t : T). IsRunBy (key t) (wait last.pace) last.network.now whole) tie ended.1))),
+      subst (HasReleases setting.releases) (sym is)
+          (subst (λ (rs : List Release). HasReleases rs whole) releases ended.2),
     )

@@ -104,15 +104,3 @@ released-inserted before network releases order n old new r d within is are inse
       ordered = inserts.order ∙ are.ordered;
       last = inserts.last ∙ are.last;
     }
-
--- an agenda that was just opened has no arrival
-pub none-released : {O : Type 0} (network : DeclaredNetwork) (releases : List Release) (order : O)
-    (agenda : Contents O Event) → agenda.entries ≡ []
-    → agenda.capacity ≡ length releases + length network.topology.ports → agenda.order ≡ order → agenda.last ≡ None
-    → AreReleasedTo network releases order 0 agenda
-none-released network releases order agenda empty capacity ordered last = record {
-  entries = subst (IsPermutation []) (sym empty) (IsPermutation-refl []);
-  capacity = capacity;
-  ordered = ordered;
-  last = last;
-}

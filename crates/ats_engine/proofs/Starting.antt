@@ -63,7 +63,8 @@ room-counted network (r ∷ releases) (x ∷ rooms) port class same =
     ∙ sym (count_by-cons (λ (s : Release). goes_through port class (sender_at network s.sender)) r releases)
 
 -- the count of each class among the counts of a port
-each-room : (counts : List ℕ) (port class : ℕ) → class ≤ 7 → get_or (rooms_at counts port) class 0 ≡ count_in counts port class
+each-room : (counts : List ℕ) (port class : ℕ) → class ≤ 7
+    → get_or (rooms_at counts port) class 0 ≡ count_in counts port class
 each-room counts port zero low = refl
 each-room counts port (suc zero) low = refl
 each-room counts port (suc (suc zero)) low = refl
@@ -88,7 +89,8 @@ opened-more {T} network releases tie n counts old new standing within are opened
       each = λ class low. each-room counts n class low ∙ are.each n class within low;
     } in
     record {
-      all = omega (arith, ap (λ (l : List (PortState T)). length l) more, length-append old (standing ∷ []), opened.all);
+      all = omega (arith, ap (λ (l : List (PortState T)). length l) more, length-append old (standing ∷ []),
+      opened.all);
       each = λ port below e. subst (λ (l : List (PortState T)). Of port (get_or l port e)) (sym more) (
           elim (cases_lt port n) as (λ _. Of port (get_or (old ++ standing ∷ []) port e)) [
             | inl less ↦ subst (Of port)
@@ -110,7 +112,8 @@ ports-fresh {T} network releases tie course opened tied records port within =
     let this = opened.each port within (states.opened 0 [] course.tie) in
     record {
       rooms = this.rooms;
-      fresh = this.fresh ∙ ap (λ (t : T). states.opened (port_at network.topology.ports port).ps_per_bit this.rooms t) (sym tied);
+      fresh = this.fresh
+          ∙ ap (states.opened (port_at network.topology.ports port).ps_per_bit this.rooms) (sym tied);
       each = λ class low. this.each class low
           ∙ sym (room-counted network releases (rooms_of network releases) port class
           (length-map releases (λ (r : Release). length (sender_at network r.sender).path)))

@@ -3,16 +3,10 @@ use Rattle.ats_engine.proofs.Joining.{enters-both, may-enter-earlier, may-enter-
 use Rattle.ats_engine.proofs.entering.enter_both.Goals as goal
 
 pub enter-requires : goal.enter-requires
-enter-requires g c =
-    may-enter-later g.O.TimeOrder.before c.args.agenda.now (option_to_list c.args.one) (option_to_list c.args.other)
-    c.requires
+enter-requires g c = may-enter-later (option_to_list c.args.one) c.requires
 
 pub enter-requires-2 : goal.enter-requires-2
-enter-requires-2 g c =
-    may-enter-earlier g.O.TimeOrder.before c.args.agenda.now c.enter.new.agenda (option_to_list c.args.one)
-    (option_to_list c.args.other) c.requires c.enter.ensures
+enter-requires-2 g c = may-enter-earlier c.requires c.enter.ensures
 
 pub returns : goal.returns
-returns g c =
-    enters-both c.args.agenda.now c.enter.new.agenda c.enter-2.new.agenda (option_to_list c.args.one)
-    (option_to_list c.args.other) c.enter.ensures c.enter-2.ensures
+returns g c = enters-both c.enter.ensures c.enter-2.ensures
