@@ -1,20 +1,18 @@
-use Rattle.std.proofs.Common.{◌≡◌, ℕ, ◌+◌, ◌*◌, ◌<◌, ◌≤◌, Bool, true, false, List, [], length, get_or, set, take, All}
+use Rattle.std.proofs.Common.{◌≡◌, ℕ, ◌+◌, ◌*◌, ◌<◌, ◌≤◌, Bool, true, false, List, length, get_or, set, take, All}
 use Rattle.std.proofs.Common.{refl, sym, ap, ◌∙◌, subst, inl, inr, arith, add-zero}
 use Rattle.std.specs.Prelude.{◌≢◌, ◌==◌, ◌&&◌, ◌||◌, cond, AllPairs}
 use Rattle.std.specs.List.{list_any}
-use Rattle.std.proofs.Math.ListN.{length-set, replicate}
+use Rattle.std.proofs.Math.ListN.{length-set}
 use Rattle.std.proofs.lemmas.Bool.{cases_eq, eq-eqb, ne_eqb}
-use Rattle.std.proofs.lemmas.List.{get_or_default, get_or-replicate, get_or-set_same, get_or-set_other}
-use Rattle.std.proofs.lemmas.List.{get_or-take, length-replicate, length-take-le}
+use Rattle.std.proofs.lemmas.List.{get_or_default, get_or-set_same, get_or-set_other}
+use Rattle.std.proofs.lemmas.List.{get_or-take, length-take-le}
 use Rattle.std.proofs.lemmas.List.Elements.{All-get_or}
 use Rattle.std.proofs.lemmas.List.Folds.{list_any_more, list_any_none}
-use Rattle.std.proofs.lemmas.List.Sums.{count_by-le-length, sum_by_more}
 use Rattle.ats_network.proofs.SenderLemmas.{each_is_sender}
 use Rattle.ats_network.specs.Class.{class_at}
 use Rattle.ats_network.specs.Network.{DeclaredNetwork, IsNetwork, senders_of}
 use Rattle.ats_network.specs.Senders.{IsSender, sender_at, no_sender}
-use Rattle.ats_trace.specs.declared.journey.Release.{Release}
-use Rattle.ats_engine.specs.Rooms.{AreBelow, AreCounts, Counts, CountsOver, count_in, goes_over, goes_through}
+use Rattle.ats_engine.specs.Rooms.{CountsOver, count_in, goes_over}
 
 -- a sender of a network keeps a sender's rules
 pub sender-kept : (network : DeclaredNetwork) (sender : ℕ) → IsNetwork network → sender < length (senders_of network)
@@ -109,7 +107,8 @@ counts-more {network} {sender} {hop} {path} {old} {now} {class} at here fits cou
     let more : (port : ℕ) → after port ≡ (before port || (p == port)) =
     λ port. list_any_more (λ q. q == port) path hop 0 at.within in
     let Counted : ℕ → ℕ → Type 0 =
-    λ port other. count_in new port other ≡ count_in old port other + cond (after port && class_at s port == other) 1 0 in
+    λ port other. count_in new port other
+    ≡ count_in old port other + cond (after port && class_at s port == other) 1 0 in
     let counted : Counted p class =
     get_or-set_same now place value 0 fits
     ∙ ap (λ (n : ℕ). n + 1) (none-here at counts)

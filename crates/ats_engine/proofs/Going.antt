@@ -16,7 +16,8 @@ use Rattle.ats_steps.specs.declared.state.State.{State}
 use Rattle.ats_engine_law.specs.Next.{IsNext, IsAfter}
 use Rattle.ats_engine.specs.Entering.{MayEnter, Enters}
 use Rattle.ats_engine.specs.Ready.{IsAtEvent, Goes, releases_in}
-use Rattle.ats_engine_law.proofs.Entries.{before-is-reached, holds-permuted, moments-apart, moments-in-range, room-for-all}
+use Rattle.ats_engine_law.proofs.Entries.{before-is-reached, holds-permuted, moments-apart, moments-in-range}
+use Rattle.ats_engine_law.proofs.Entries.{room-for-all}
 use Rattle.ats_engine.specs.declared.runner.Runner.{Runner}
 
 -- a moment that is after another one by time and phase is so by a lawful order
@@ -83,7 +84,7 @@ goes {T} {O} {P} {key} {wait} {before} {runner} {agenda} {after} state at holds 
       left = less;
       ready = record {
         holds = subst (λ (rs : List Release). Holds key (wait runner.pace) runner.network.now rs (course_of state)
-        after.entries) (sym released) (holds-permuted enters.entries holds);
+            after.entries) (sym released) (holds-permuted enters.entries holds);
         schedulers = at.ready.schedulers;
         room = enters.capacity ∙ at.ready.room
             ∙ ap (λ (rs : List Release). length rs + length runner.network.now.topology.ports) (sym released);

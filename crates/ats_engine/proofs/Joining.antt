@@ -18,7 +18,8 @@ pairs_right R (x ∷ xs) ys pairs = pairs_right R xs ys (pairs_tail R x (xs ++ y
 
 -- entries that may be put in by two parts: the later one may be put in
 pub may-enter-later : {O : Type 0} {before : O → Moment → Moment → Type 0} {agenda : Contents O Event}
-    (one : List (Moment × Event)) {other : List (Moment × Event)} → MayEnter before agenda (one ++ other) → MayEnter before agenda other
+    (one : List (Moment × Event)) {other : List (Moment × Event)} → MayEnter before agenda (one ++ other)
+    → MayEnter before agenda other
 may-enter-later {O} {before} {agenda} one {other} may =
     let joined = append_assoc one other agenda.entries in
     let room : length (one ++ (other ++ agenda.entries)) ≤ agenda.capacity =

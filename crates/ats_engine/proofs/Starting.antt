@@ -89,8 +89,12 @@ opened-more {T} network releases tie n counts old new standing within are opened
       each = λ class low. each-room counts n class low ∙ are.each n class within low;
     } in
     record {
-      all = omega (arith, ap (λ (l : List (PortState T)). length l) more, length-append old (standing ∷ []),
-      opened.all);
+      all = omega (
+        arith,
+        ap (λ (l : List (PortState T)). length l) more,
+        length-append old (standing ∷ []),
+        opened.all,
+      );
       each = λ port below e. subst (λ (l : List (PortState T)). Of port (get_or l port e)) (sym more) (
           elim (cases_lt port n) as (λ _. Of port (get_or (old ++ standing ∷ []) port e)) [
             | inl less ↦ subst (Of port)
