@@ -1,4 +1,4 @@
-mod Hops
+pub mod Hops
 mod Rates
 mod Named
 mod Tightness

@@ -39,13 +39,21 @@ abbrev pub stay_text : Option Stay → List ℕ
 stay_text None = []
 stay_text (Some stay) = codes " stay " ++ decimal stay.need ++ codes " of " ++ decimal stay.residence
 
--- ` lower B NAME bursts U higher H frame F latency L bound D` and the stay
-unfoldable pub parts_text : Parts → List ℕ
-parts_text parts =
+-- ` lower B NAME bursts U higher H`: the parts of the wait
+unfoldable pub wait_text : Parts → List ℕ
+wait_text parts =
     codes " lower " ++ decimal parts.lower ++ codes " " ++ sender_text parts.sender
     ++ codes " bursts " ++ decimal parts.bursts ++ codes " higher " ++ decimal parts.higher
-    ++ codes " frame " ++ decimal parts.frame ++ codes " latency " ++ decimal parts.latency
-    ++ codes " bound " ++ decimal parts.bound ++ stay_text parts.stay
+
+-- ` frame F latency L bound D`: the other parts, and the bound
+unfoldable pub bound_text : Parts → List ℕ
+bound_text parts =
+    codes " frame " ++ decimal parts.frame ++ codes " latency " ++ decimal parts.latency
+    ++ codes " bound " ++ decimal parts.bound
+
+-- all of them, and the stay
+abbrev pub parts_text : Parts → List ℕ
+parts_text parts = wait_text parts ++ bound_text parts ++ stay_text parts.stay
 
 -- `hop PORT CLASS` and the parts
 unfoldable pub hop_line : DeclaredTopology → ℕ → ℕ → Parts → List ℕ
@@ -54,11 +62,13 @@ hop_line topology port class parts =
 
 -- the line of a port of a stream's path
 abbrev pub hop_text : DeclaredNetwork → DeclaredStream → ℕ → List ℕ
-hop_text network stream port = hop_line network.topology port (class_at (stream_sender stream) port) (parts_of_hop network stream port)
+hop_text network stream port =
+    hop_line network.topology port (class_at (stream_sender stream) port) (parts_of_hop network stream port)
 
 -- the line of a stream, and one for each port of its path
 abbrev pub stream_text : DeclaredNetwork → DeclaredStream → List ℕ
-stream_text network stream = stream_line stream.name (margin_of network stream) ++ flat_map (hop_text network stream) stream.path
+stream_text network stream =
+    stream_line stream.name (margin_of network stream) ++ flat_map (hop_text network stream) stream.path
 
 -- `port PORT load LOAD`
 unfoldable pub port_line : DeclaredTopology → ℕ → ℕ → List ℕ
@@ -74,11 +84,15 @@ abbrev pub tightest_text : Option Tightest → List ℕ
 tightest_text None = []
 tightest_text (Some tightest) = codes " tightest " ++ tightest.name ++ slack_text tightest.margin
 
--- `total streams N late K over R` and the tightest
-unfoldable pub totals_line : Totals → List ℕ
-totals_line totals =
+-- `total streams N late K over R`
+unfoldable pub counts_text : Totals → List ℕ
+counts_text totals =
     codes "total streams " ++ decimal totals.streams ++ codes " late " ++ decimal totals.late
-    ++ codes " over " ++ decimal totals.over ++ tightest_text totals.tightest ++ codes "\n"
+    ++ codes " over " ++ decimal totals.over
+
+-- and the tightest
+abbrev pub totals_line : Totals → List ℕ
+totals_line totals = counts_text totals ++ tightest_text totals.tightest ++ codes "\n"
 
 -- what is printed of a network: each stream in order with its hops, each port that a stream uses by number, and totals
 unfoldable pub explain_text : DeclaredNetwork → List ℕ

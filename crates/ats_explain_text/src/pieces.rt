@@ -1,9 +1,10 @@
 //! Pieces of lines.
 
 ghost use Rattle.std.specs.Prelude.{◌≡◌, ◌++◌, OnOk};
-ghost use Rattle.ats_explain_text.specs.Text.{parts_text, sender_text, slack_text, stay_text, tightest_text};
+ghost use Rattle.ats_explain_text.specs.Text.{bound_text, counts_text, parts_text, sender_text, slack_text, stay_text};
+ghost use Rattle.ats_explain_text.specs.Text.{tightest_text, wait_text};
 
-use ats_explain::{Margin, Parts, Stay, Tightest};
+use ats_explain::{Margin, Parts, Stay, Tightest, Totals};
 use ats_num::Name;
 use itoa::{Buffer, Integer};
 use std::alloc::AllocError;
@@ -33,20 +34,35 @@ pub(crate) fn write_slack(out: &mut Vec<u8>, margin: &Margin) -> Result<(), Allo
     }
 }
 
-// The parts of a bound.
-#[tactic(auto, unfolding(crate::specs::Text::parts_text))]
+// The parts of a bound, and the bound.
 pub(crate) fn write_parts(out: &mut Vec<u8>, parts: &Parts) -> Result<(), AllocError>
     ensures { OnOk result (out.new.items ≡ out.old.items ++ parts_text parts.now) }
+{
+    write_wait(out, parts)?;
+    write_bound(out, parts)?;
+    write_stay(out, &parts.stay)
+}
+
+// The parts of the wait.
+#[tactic(auto, unfolding(crate::specs::Text::wait_text))]
+fn write_wait(out: &mut Vec<u8>, parts: &Parts) -> Result<(), AllocError>
+    ensures { OnOk result (out.new.items ≡ out.old.items ++ wait_text parts.now) }
 {
     write_number(out, b" lower ", parts.lower)?;
     out.extend_from_slice(b" ")?;
     write_sender(out, &parts.sender)?;
     write_number(out, b" bursts ", parts.bursts)?;
-    write_number(out, b" higher ", parts.higher)?;
+    write_number(out, b" higher ", parts.higher)
+}
+
+// The other parts, and the bound.
+#[tactic(auto, unfolding(crate::specs::Text::bound_text))]
+fn write_bound(out: &mut Vec<u8>, parts: &Parts) -> Result<(), AllocError>
+    ensures { OnOk result (out.new.items ≡ out.old.items ++ bound_text parts.now) }
+{
     write_number(out, b" frame ", parts.frame)?;
     write_number(out, b" latency ", parts.latency)?;
-    write_number(out, b" bound ", parts.bound)?;
-    write_stay(out, &parts.stay)
+    write_number(out, b" bound ", parts.bound)
 }
 
 // The name of a sender, if there is one.
@@ -83,4 +99,14 @@ pub(crate) fn write_tightest(
     out.extend_from_slice(b" tightest ")?;
     out.extend_from_slice(tightest.name.bytes())?;
     write_slack(out, &tightest.margin)
+}
+
+// The counts of totals.
+#[tactic(auto, unfolding(crate::specs::Text::counts_text))]
+pub(crate) fn write_counts(out: &mut Vec<u8>, totals: &Totals) -> Result<(), AllocError>
+    ensures { OnOk result (out.new.items ≡ out.old.items ++ counts_text totals.now) }
+{
+    write_number(out, b"total streams ", totals.streams)?;
+    write_number(out, b" late ", totals.late)?;
+    write_number(out, b" over ", totals.over)
 }

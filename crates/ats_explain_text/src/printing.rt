@@ -5,13 +5,13 @@ ghost use Rattle.std.specs.List.{flat_map, enumerate_from};
 ghost use Rattle.ats_topology.specs.Port.{port_at};
 ghost use Rattle.ats_explain.specs.Margins.{margin_of};
 ghost use Rattle.ats_explain.specs.Parts.{HopIsUsed};
-ghost use Rattle.ats_explain.specs.Totals.{totals_of};
+ghost use Rattle.ats_network.specs.Class.{class_at};
+ghost use Rattle.ats_network.specs.Sender.{stream_sender};
 ghost use Rattle.ats_explain_text.specs.Text.{explain_text, hop_line, hop_text, port_line, port_text, stream_line};
 ghost use Rattle.ats_explain_text.specs.Text.{stream_text, totals_line};
 
-use crate::pieces::{write_number, write_parts, write_slack, write_tightest};
+use crate::pieces::{write_counts, write_number, write_parts, write_slack, write_tightest};
 use ats_explain::{Explanation, Margin, Parts, Totals};
-use ats_network::Network;
 use ats_num::Name;
 use ats_port_names::write_port;
 use ats_streams::Stream;
@@ -85,18 +85,33 @@ fn write_hops(
     ensures { OnOk result
         (out.new.items ≡ out.old.items ++ flat_map (hop_text explanation.now stream.now) stream.now.path) }
 {
-    let topology = explanation.network().topology();
     let classes = stream.classes();
     for (hop, port) in stream.path().iter().enumerate() {
-        let parts = explanation.parts(*port, classes[hop]);
-        write_hop(out, topology, *port, classes[hop], &parts)?;
+        write_hop(out, explanation, stream, *port, classes[hop])?;
     }
     Ok(())
 }
 
 // The line of a port, at which the stream has this class.
-#[tactic(auto, unfolding(crate::specs::Text::hop_line))]
 fn write_hop(
+    out: &mut Vec<u8>,
+    explanation: &Explanation,
+    stream: &Stream,
+    port: u32,
+    class: u8,
+) -> Result<(), AllocError>
+    requires used { HopIsUsed explanation.now stream.now port }
+    requires class { class ≡ class_at (stream_sender stream.now) port }
+    ensures { OnOk result (out.new.items ≡ out.old.items ++ hop_text explanation.now stream.now port) }
+{
+    let topology = explanation.network().topology();
+    let parts = explanation.parts(port, class);
+    write_line(out, topology, port, class, &parts)
+}
+
+// The line of a port and a class with these parts.
+#[tactic(auto, unfolding(crate::specs::Text::hop_line))]
+fn write_line(
     out: &mut Vec<u8>,
     topology: &Topology,
     port: u32,
@@ -157,13 +172,10 @@ fn write_load(
 }
 
 // The line of totals.
-#[tactic(auto, unfolding(crate::specs::Text::totals_line))]
 fn write_totals(out: &mut Vec<u8>, totals: &Totals) -> Result<(), AllocError>
     ensures { OnOk result (out.new.items ≡ out.old.items ++ totals_line totals.now) }
 {
-    write_number(out, b"total streams ", totals.streams)?;
-    write_number(out, b" late ", totals.late)?;
-    write_number(out, b" over ", totals.over)?;
+    write_counts(out, totals)?;
     write_tightest(out, &totals.tightest)?;
     out.extend_from_slice(b"\n")?;
     Ok(())
