@@ -1,0 +1,5 @@
+pub mod Lists
+pub mod Networks
+pub mod Sums
+pub mod Falls
+pub mod PortFalls
