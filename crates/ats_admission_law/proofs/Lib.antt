@@ -3,3 +3,5 @@ pub mod Networks
 pub mod Sums
 pub mod Falls
 pub mod PortFalls
+pub mod LeastRows
+pub mod NoneRises
