@@ -5,3 +5,5 @@ pub mod Falls
 pub mod PortFalls
 pub mod LeastRows
 pub mod NoneRises
+pub mod Others
+pub mod Along
