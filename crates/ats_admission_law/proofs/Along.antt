@@ -1,5 +1,5 @@
 -- Where there was no reason, the first that a stream more brings is the first along its path.
-use Rattle.std.proofs.Common.{◌≡◌, ℕ, ◌+◌, ◌≤◌, Bool, true, false, cond, List, [], ◌∷◌, ◌++◌, length, map, filter, get_or}
+use Rattle.std.proofs.Common.{◌≡◌, ℕ, ◌+◌, ◌<◌, ◌≤◌, Bool, true, false, cond, List, [], ◌∷◌, ◌++◌, length, map, filter, get_or}
 use Rattle.std.proofs.Common.{Option, None, refl, sym, ap, ◌∙◌, eqb, arith}
 use Rattle.std.specs.Prelude.{◌||◌}
 use Rattle.std.specs.List.{All, list_any}
@@ -18,6 +18,7 @@ use Rattle.ats_certificate.specs.declared.row.Row.{Row}
 use Rattle.ats_tally.specs.Reason.{first_some, overstay, row_need, late}
 use Rattle.ats_tally.specs.declared.reason.Reason.{Reason}
 use Rattle.ats_tally.proofs.Lists.{none_first}
+use Rattle.ats_tally.proofs.Paths.{paths_inside}
 use Rattle.ats_tally.proofs.Places.{places_used}
 use Rattle.ats_tally.proofs.Reasons.{by_stay, by_time, in_time_from}
 use Rattle.ats_bound.specs.Least.{least_row, least_certificate}
@@ -25,11 +26,13 @@ use Rattle.ats_bound.specs.Reason.{overload, reason_of}
 use Rattle.ats_bound.proofs.FoundReason.{each_fits}
 use Rattle.ats_bound.proofs.Reasons.{overload-none}
 use Rattle.ats_bound.proofs.Waits.{Fits}
-use Rattle.ats_admission_law.specs.Laws.{StaysSame, ReasonIsAlong}
-use Rattle.ats_admission_law.specs.Less.{IsLess}
-use Rattle.ats_admission_law.specs.Near.{is_on, shares, places_on, rows_on, streams_on, reason_along}
+use Rattle.ats_admission_law.specs.Laws.{StaysSame, ReasonIsAlong, ReasonIsJudged}
+use Rattle.ats_admission_law.specs.Less.{IsLessBy}
+use Rattle.ats_admission_law.specs.Lowest.{at_port_of, first_found, lowest_found}
+use Rattle.ats_admission_law.specs.Near.{found_there, overstay_at, shares, streams_on, reason_along, reason_judged, late_near}
 use Rattle.ats_admission_law.proofs.LeastRows.{may_stay}
 use Rattle.ats_admission_law.proofs.Lists.{all_one}
+use Rattle.ats_admission_law.proofs.Lowest.{path_finds_first}
 use Rattle.ats_admission_law.proofs.Networks.{Parts, less, more, parts_of, by_parts, less_is}
 use Rattle.ats_admission_law.proofs.Others.{stays_same, sum_stays}
 
@@ -80,8 +83,8 @@ module _ (p : Parts) (x : DeclaredStream) (is : IsNetwork (more p x)) (none : re
       (option_or-none (first_some (overstay (less p)) (least_certificate (less p))) _ first.1).1
 
   loads_along : first_some (overload (more p x)) (places_of (more p x))
-      ≡ first_some (overload (more p x)) (places_on (more p x) x)
-  loads_along = first_among (overload (more p x)) (is_on x) (places_of (more p x)) (λ k d h off. (
+      ≡ first_found (overload (more p x)) (more p x) x.path
+  loads_along = first_among (overload (more p x)) (at_port_of x.path) (places_of (more p x)) (λ k d h off. (
       let at = get_or (places_of (more p x)) k d in
       let s : StaysSame (more p x) (less p) (at.0, at.1) = stays_same p x at.0 at.1 off in
       let used : is_used (less p) at.0 at.1 ≡ true = s.used ∙ places_used (more p x) k d h in
@@ -91,10 +94,10 @@ module _ (p : Parts) (x : DeclaredStream) (is : IsNetwork (more p x)) (none : re
       overload-none (more p x) at.0 at.1 (omega (arith, fits, higher, equal))))
 
   stays_along : first_some (overstay (more p x)) (least_certificate (more p x))
-      ≡ first_some (overstay (more p x)) (rows_on (more p x) x)
+      ≡ first_found (overstay_at (more p x)) (more p x) x.path
   stays_along =
       first_mapped (overstay (more p x)) (least_row (more p x)) (places_of (more p x))
-      ∙ first_among (λ (at : ℕ × ℕ). overstay (more p x) (least_row (more p x) at)) (is_on x) (places_of (more p x))
+      ∙ first_among (overstay_at (more p x)) (at_port_of x.path) (places_of (more p x))
       (λ k d h off. (
       let at = get_or (places_of (more p x)) k d in
       let s : StaysSame (more p x) (less p) (at.0, at.1) = stays_same p x at.0 at.1 off in
@@ -105,7 +108,6 @@ module _ (p : Parts) (x : DeclaredStream) (is : IsNetwork (more p x)) (none : re
       let stay = may_stay (less p) at.0 at.1 (less_is p x is) no_stay used ns residence in
       let same = ap (λ (r : Row). r.wait) s.row in
       omega (arith, stay, same)))))
-      ∙ sym (first_mapped (overstay (more p x)) (least_row (more p x)) (places_on (more p x) x))
 
   times_along : first_some (late (least_certificate (more p x))) (more p x).streams
       ≡ first_some (late (least_certificate (more p x))) (streams_on (more p x) x)
@@ -127,8 +129,8 @@ module _ (p : Parts) (x : DeclaredStream) (is : IsNetwork (more p x)) (none : re
   reason_is =
       let stay : Option Reason = first_some (overstay (more p x)) (least_certificate (more p x)) in
       let time : Option Reason = first_some (late (least_certificate (more p x))) (more p x).streams in
-      let load : Option Reason = first_some (overload (more p x)) (places_on (more p x) x) in
-      let row : Option Reason = first_some (overstay (more p x)) (rows_on (more p x) x) in
+      let load : Option Reason = first_found (overload (more p x)) (more p x) x.path in
+      let row : Option Reason = first_found (overstay_at (more p x)) (more p x) x.path in
       ap (λ (o : Option Reason). option_or o (option_or stay time)) loads_along
       ∙ ap (λ (o : Option Reason). option_or load (option_or o time)) stays_along
       ∙ ap (λ (o : Option Reason). option_or load (option_or row o)) times_along
@@ -137,3 +139,27 @@ pub reason_is_along : ReasonIsAlong
 reason_is_along old new x is =
     by_parts (λ (o n : DeclaredNetwork). IsNetwork o → reason_of n ≡ None → reason_of o ≡ reason_along o x) old new x
     is (λ rules none. reason_is (parts_of old new x is) x rules none)
+
+-- the ports of one stream's path are ports of the network
+path_inside : (p : Parts) (x : DeclaredStream) → IsNetwork (more p x)
+    → All (λ port. port < length p.topology.ports) x.path
+path_inside p x is = all_one (λ (s : DeclaredStream). All (λ port. port < length p.topology.ports) s.path) p.front x
+    p.back (paths_inside (more p x) is)
+
+pub reason_is_judged : ReasonIsJudged
+reason_is_judged old new x is =
+    by_parts (λ (o n : DeclaredNetwork). IsNetwork o → reason_of n ≡ None → reason_of o ≡ reason_judged o x) old new x
+    is (λ rules none. judged (parts_of old new x is) rules none)
+  where
+    judged : (p : Parts) → IsNetwork (more p x) → reason_of (less p) ≡ None
+        → reason_of (more p x) ≡ reason_judged (more p x) x
+    judged p rules none =
+        let network : DeclaredNetwork = more p x in
+        let inside = path_inside p x rules in
+        let stays : Option Reason = first_found (overstay_at network) network x.path in
+        let loads : Option Reason = found_there (lowest_found (overload network) network x.path) in
+        reason_is p x rules none
+        ∙ ap (λ (o : Option Reason). option_or o (option_or stays (late_near network x)))
+        (path_finds_first (overload network) network x.path inside)
+        ∙ ap (λ (o : Option Reason). option_or loads (option_or o (late_near network x)))
+        (path_finds_first (overstay_at network) network x.path inside)

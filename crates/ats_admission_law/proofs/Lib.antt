@@ -7,3 +7,5 @@ pub mod LeastRows
 pub mod NoneRises
 pub mod Others
 pub mod Along
+pub mod Edits
+pub mod Lowest

@@ -11,7 +11,7 @@ use Rattle.ats_network.specs.Sender.{Sender, stream_sender, flow_sender}
 use Rattle.ats_network.specs.Path.{IsValidPath}
 use Rattle.ats_network.specs.Network.{DeclaredNetwork, declared_network, IsNetwork, Share, senders_of, names_of}
 use Rattle.ats_network.proofs.NameLemmas.{pairs_from_apart, apart_from_pairs}
-use Rattle.ats_admission_law.specs.Less.{IsLess}
+use Rattle.ats_admission_law.specs.Less.{IsLessBy}
 use Rattle.ats_admission_law.proofs.Lists.{all_less, pairs_less}
 
 -- streams in front, streams behind and flows, over a topology
@@ -29,19 +29,19 @@ abbrev pub more : Parts → DeclaredStream → DeclaredNetwork
 more p x = declared_network p.topology (p.front ++ x ∷ p.back) p.flows
 
 -- two networks of which one is less by a stream are made of such parts
-abbrev pub parts_of : (old new : DeclaredNetwork) (x : DeclaredStream) → IsLess old new x → Parts
-parts_of old new x is = record { topology = old.topology; front = is.front; back = is.back; flows = old.flows }
+abbrev pub parts_of : (old new : DeclaredNetwork) (x : DeclaredStream) → IsLessBy old new x → Parts
+parts_of old new x is = record { topology = old.topology; front = is.streams.front; back = is.streams.back; flows = old.flows }
 
 pub by_parts : (P : DeclaredNetwork → DeclaredNetwork → Type 0) (old new : DeclaredNetwork) (x : DeclaredStream)
-    (is : IsLess old new x) → P (more (parts_of old new x is) x) (less (parts_of old new x is)) → P old new
+    (is : IsLessBy old new x) → P (more (parts_of old new x is) x) (less (parts_of old new x is)) → P old new
 by_parts P old new x is so =
     let p : Parts = parts_of old new x is in
     let before : old ≡ more p x = ap (λ (ss : List DeclaredStream). declared_network old.topology ss old.flows)
-    is.old_is in
+    is.streams.old_is in
     let after : new ≡ less p =
     ap (λ (t : DeclaredTopology). declared_network t new.streams new.flows) is.topology
-    ∙ ap (λ (ss : List DeclaredStream). declared_network old.topology ss new.flows) is.new_is
-    ∙ ap (λ (fs : List DeclaredFlow). declared_network old.topology (is.front ++ is.back) fs) is.flows in
+    ∙ ap (λ (ss : List DeclaredStream). declared_network old.topology ss new.flows) is.streams.new_is
+    ∙ ap (λ (fs : List DeclaredFlow). declared_network old.topology (is.streams.front ++ is.streams.back) fs) is.flows in
     subst (λ (n : DeclaredNetwork). P n new) (sym before) (subst (λ (n : DeclaredNetwork). P (more p x) n)
     (sym after) so)
 
@@ -97,7 +97,7 @@ less_is p x is = record {
   few_flows = is.few_flows;
 }
 
-pub less_is_network : (old new : DeclaredNetwork) (x : DeclaredStream) → IsLess old new x → IsNetwork old
+pub less_is_network : (old new : DeclaredNetwork) (x : DeclaredStream) → IsLessBy old new x → IsNetwork old
     → IsNetwork new
 less_is_network old new x less =
     by_parts (λ (o n : DeclaredNetwork). IsNetwork o → IsNetwork n) old new x less (less_is (parts_of old new x less) x)

@@ -29,7 +29,7 @@ use Rattle.ats_bound.proofs.NoneHolds.{reason_of-none, no_reason_held}
 use Rattle.ats_bound.proofs.Reasons.{overload-none}
 use Rattle.ats_bound.proofs.Waits.{Fits, least_wait-is, remains}
 use Rattle.ats_admission_law.specs.Laws.{Falls, LessHasNoReason, LessHolds, NoSumRises, NothingRises}
-use Rattle.ats_admission_law.specs.Less.{IsLess}
+use Rattle.ats_admission_law.specs.Less.{IsLessBy}
 use Rattle.ats_admission_law.proofs.Falls.{IsLeft, is_left}
 use Rattle.ats_admission_law.proofs.LeastRows.{bound_used, bound_unused, may_stay}
 use Rattle.ats_admission_law.proofs.Lists.{all_less}

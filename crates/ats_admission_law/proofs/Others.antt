@@ -17,7 +17,7 @@ use Rattle.ats_certificate.specs.Certificate.{bound_at, bound_of_hop, bound_alon
 use Rattle.ats_tally.specs.Waits.{least_wait}
 use Rattle.ats_bound.specs.Least.{row_with, least_row, least_certificate}
 use Rattle.ats_admission_law.specs.Laws.{StaysSame, OtherPortsStay, OtherSumsStay}
-use Rattle.ats_admission_law.specs.Less.{IsLess}
+use Rattle.ats_admission_law.specs.Less.{IsLessBy}
 use Rattle.ats_admission_law.specs.Near.{shares}
 use Rattle.ats_admission_law.proofs.LeastRows.{bound_used, bound_unused}
 use Rattle.ats_admission_law.proofs.Networks.{Parts, less, more, behind, senders_less, senders_more, parts_of, by_parts}

@@ -1,7 +1,7 @@
 //! Laws of networks that differ by one stream.
 
 ghost use Rattle.ats_admission_law.specs.Laws.{LessHasNoReason, LessHolds, LessIsNetwork, NoSumRises, NothingRises};
-ghost use Rattle.ats_admission_law.specs.Laws.{OtherPortsStay, OtherSumsStay, ReasonIsAlong};
+ghost use Rattle.ats_admission_law.specs.Laws.{OtherPortsStay, OtherSumsStay, PathFindsFirst, ReasonIsAlong, ReasonIsJudged};
 
 /// A law: a network less one stream is a network.
 pub fn less_is_network()
@@ -44,4 +44,15 @@ pub fn other_sums_stay()
 /// uses one of them.
 pub fn reason_is_along()
     ensures { ReasonIsAlong }
+{}
+
+/// A law: a search along a path in its own order, which keeps what it finds at the lowest port, finds what stands first in
+/// the order of a certificate's rows.
+pub fn path_finds_first()
+    ensures { PathFindsFirst }
+{}
+
+/// A law: so is the reason against a network with one stream more found.
+pub fn reason_is_judged()
+    ensures { ReasonIsJudged }
 {}
