@@ -1,5 +1,5 @@
 -- Where there was no reason, the first that a stream more brings is the first along its path.
-use Rattle.std.proofs.Common.{◌≡◌, ℕ, ◌+◌, ◌<◌, ◌≤◌, Bool, true, false, cond, List, [], ◌∷◌, ◌++◌, length, map, filter, get_or}
+use Rattle.std.proofs.Common.{◌≡◌, ℕ, ◌<◌, ◌≤◌, Bool, true, false, cond, List, [], ◌∷◌, ◌++◌, length, map, filter, get_or}
 use Rattle.std.proofs.Common.{Option, None, refl, sym, ap, ◌∙◌, eqb, arith}
 use Rattle.std.specs.Prelude.{◌||◌}
 use Rattle.std.specs.List.{All, list_any}
@@ -27,7 +27,6 @@ use Rattle.ats_bound.proofs.FoundReason.{each_fits}
 use Rattle.ats_bound.proofs.Reasons.{overload-none}
 use Rattle.ats_bound.proofs.Waits.{Fits}
 use Rattle.ats_admission_law.specs.Laws.{StaysSame, ReasonIsAlong, ReasonIsJudged}
-use Rattle.ats_admission_law.specs.Less.{IsLessBy}
 use Rattle.ats_admission_law.specs.Lowest.{at_port_of, first_found, lowest_found}
 use Rattle.ats_admission_law.specs.Near.{found_there, overstay_at, shares, streams_on, reason_along, reason_judged, late_near}
 use Rattle.ats_admission_law.proofs.LeastRows.{may_stay}

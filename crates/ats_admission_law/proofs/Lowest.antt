@@ -11,13 +11,13 @@ use Rattle.std.proofs.lemmas.List.Elements.{All-nil, All-push, All-weaker, filte
 use Rattle.ats_topology.specs.declared.port.Port.{Port}
 use Rattle.ats_network.specs.Network.{DeclaredNetwork}
 use Rattle.ats_certificate.specs.PortSums.{is_used}
-use Rattle.ats_certificate.specs.Used.{stream_classes, place, places_at, places_from, places_of}
+use Rattle.ats_certificate.specs.Used.{stream_classes, place, places_at, places_from}
 use Rattle.ats_tally.specs.Reason.{first_some}
 use Rattle.ats_tally.specs.declared.reason.Reason.{Reason}
 use Rattle.ats_tally.proofs.Firsts.{first_append}
 use Rattle.ats_tally.proofs.Lists.{any_gives}
 use Rattle.ats_admission_law.specs.Laws.{PathFindsFirst}
-use Rattle.ats_admission_law.specs.Lowest.{found_at, lower_of, lowest_found, at_port_of, first_found}
+use Rattle.ats_admission_law.specs.Lowest.{found_at, lower_of, lowest_found, at_port_of}
 
 -- one search by port, from a number on
 abbrev search_from : (ℕ → Option Reason) → ℕ → List Port → Option Reason

@@ -1,5 +1,5 @@
 -- When a stream is taken out, no least wait, no least bound and no sum of them rises, so no reason comes.
-use Rattle.std.proofs.Common.{◌≡◌, ℕ, ◌+◌, ◌-◌, ◌*◌, ◌≤◌, Bool, true, false, List, get_or, None, ap, inl, inr, arith}
+use Rattle.std.proofs.Common.{◌≡◌, ℕ, ◌+◌, ◌-◌, ◌*◌, ◌≤◌, true, get_or, None, ap, inl, inr, arith}
 use Rattle.std.specs.List.{All}
 use Rattle.std.proofs.lemmas.Bool.{cases_Bool}
 use Rattle.std.proofs.lemmas.List.Elements.{All-map}
@@ -14,7 +14,7 @@ use Rattle.ats_network.specs.Class.{class_at}
 use Rattle.ats_network.specs.Network.{DeclaredNetwork, IsNetwork}
 use Rattle.ats_network.specs.Residence.{residence_after}
 use Rattle.ats_certificate.specs.PortSums.{PortSums, port_sums, is_used}
-use Rattle.ats_certificate.specs.Certificate.{Holds, IsInTime, bound_at, bound_of_hop, bound_along}
+use Rattle.ats_certificate.specs.Certificate.{IsInTime, bound_at, bound_of_hop, bound_along}
 use Rattle.ats_certificate.specs.Used.{places_of}
 use Rattle.ats_certificate.specs.declared.row.Row.{Row}
 use Rattle.ats_tally.specs.Reason.{first_some, overstay, row_need, late}
@@ -27,9 +27,8 @@ use Rattle.ats_bound.proofs.FoundReason.{each_fits}
 use Rattle.ats_bound.proofs.LeastHolds.{least_certificate_holds}
 use Rattle.ats_bound.proofs.NoneHolds.{reason_of-none, no_reason_held}
 use Rattle.ats_bound.proofs.Reasons.{overload-none}
-use Rattle.ats_bound.proofs.Waits.{Fits, least_wait-is, remains}
+use Rattle.ats_bound.proofs.Waits.{Fits, least_wait-is}
 use Rattle.ats_admission_law.specs.Laws.{Falls, LessHasNoReason, LessHolds, NoSumRises, NothingRises}
-use Rattle.ats_admission_law.specs.Less.{IsLessBy}
 use Rattle.ats_admission_law.proofs.Falls.{IsLeft, is_left}
 use Rattle.ats_admission_law.proofs.LeastRows.{bound_used, bound_unused, may_stay}
 use Rattle.ats_admission_law.proofs.Lists.{all_less}

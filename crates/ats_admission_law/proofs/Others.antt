@@ -1,6 +1,6 @@
 -- A port that a stream does not use is the same with it and without it.
 use Rattle.std.proofs.Common.{◌≡◌, ℕ, Bool, true, false, List, ◌∷◌, [], get_or, map, sum_by, sym, ap, ◌∙◌, refl, inl, inr}
-use Rattle.std.proofs.Common.{◌+◌, arith}
+use Rattle.std.proofs.Common.{arith}
 use Rattle.std.specs.Prelude.{◌||◌}
 use Rattle.std.specs.List.{All, list_any}
 use Rattle.std.proofs.lemmas.Bool.{cases_Bool}
@@ -15,9 +15,8 @@ use Rattle.ats_network.specs.Network.{DeclaredNetwork, IsNetwork, senders_of}
 use Rattle.ats_certificate.specs.PortSums.{PortSums, uses, is_of, senders_at, sums_over, port_sums, is_used}
 use Rattle.ats_certificate.specs.Certificate.{bound_at, bound_of_hop, bound_along}
 use Rattle.ats_tally.specs.Waits.{least_wait}
-use Rattle.ats_bound.specs.Least.{row_with, least_row, least_certificate}
+use Rattle.ats_bound.specs.Least.{row_with, least_certificate}
 use Rattle.ats_admission_law.specs.Laws.{StaysSame, OtherPortsStay, OtherSumsStay}
-use Rattle.ats_admission_law.specs.Less.{IsLessBy}
 use Rattle.ats_admission_law.specs.Near.{shares}
 use Rattle.ats_admission_law.proofs.LeastRows.{bound_used, bound_unused}
 use Rattle.ats_admission_law.proofs.Networks.{Parts, less, more, behind, senders_less, senders_more, parts_of, by_parts}

@@ -1,17 +1,16 @@
 -- What the senders at a port make of a class when one goes.
-use Rattle.std.proofs.Common.{◌≡◌, ℕ, ◌+◌, ◌*◌, ◌≤◌, Bool, true, false, cond, List, [], ◌∷◌, ◌++◌, map, filter, get_or}
-use Rattle.std.proofs.Common.{refl, sym, ap, ◌∙◌, subst, eqb, arith}
+use Rattle.std.proofs.Common.{◌≡◌, ℕ, ◌≤◌, Bool, true, false, cond, List, ◌∷◌, ◌++◌, map, filter, get_or}
+use Rattle.std.proofs.Common.{refl, sym, ap, ◌∙◌, subst, arith}
 use Rattle.std.specs.Prelude.{◌||◌}
 use Rattle.std.specs.List.{All, list_any}
 use Rattle.std.proofs.Math.Nat.{mul-le-mul_left}
 use Rattle.std.proofs.lemmas.Bool.{eqb-true, or_right}
 use Rattle.std.proofs.lemmas.List.{map-append}
-use Rattle.ats_num.specs.Wire.{bits_of}
 use Rattle.ats_topology.specs.Port.{port_at}
 use Rattle.ats_streams.specs.Stream.{DeclaredStream}
 use Rattle.ats_network.specs.Sender.{Sender, stream_sender}
 use Rattle.ats_network.specs.Class.{PortSender, seen_at}
-use Rattle.ats_network.specs.Network.{DeclaredNetwork, IsNetwork, senders_of}
+use Rattle.ats_network.specs.Network.{IsNetwork, senders_of}
 use Rattle.ats_network.proofs.SenderLemmas.{each_is_sender}
 use Rattle.ats_certificate.specs.PortSums.{PortSums, uses, is_above, is_of, is_below, longest, shortest, senders_at}
 use Rattle.ats_certificate.specs.PortSums.{sums_over, port_sums, is_used}
