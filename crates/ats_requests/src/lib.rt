@@ -3,6 +3,7 @@
 
 pub mod answer;
 pub mod denied;
+pub mod laws;
 pub mod request;
 
 pub use answer::Answer;
