@@ -9,3 +9,4 @@ pub mod Others
 pub mod Along
 pub mod Edits
 pub mod Lowest
+pub mod Near

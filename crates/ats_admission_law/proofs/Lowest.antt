@@ -88,17 +88,17 @@ module _ (given : ℕ × ℕ → Option Reason) (network : DeclaredNetwork) (pat
       ]
 
 -- what was found so far along some ports is what is found at the lowest of them at which anything is
-record IsLowestOf (g : ℕ → Option Reason) (seen : List ℕ) (best : ℕ × Reason) : Type 0 where
+pub record IsLowestOf (g : ℕ → Option Reason) (seen : List ℕ) (best : ℕ × Reason) : Type 0 where
   pub inside : list_any (λ p. eqb p best.0) seen ≡ true
   pub is : g best.0 ≡ Some best.1
   pub least : All (λ p. p < best.0 → g p ≡ None) seen
 
-abbrev IsBest : (ℕ → Option Reason) → List ℕ → Option (ℕ × Reason) → Type 0
+abbrev pub IsBest : (ℕ → Option Reason) → List ℕ → Option (ℕ × Reason) → Type 0
 IsBest g seen None = All (λ p. g p ≡ None) seen
 IsBest g seen (Some best) = IsLowestOf g seen best
 
 -- what holds of each number of a list holds of one that is in it
-of_one : (P : ℕ → Type 0) (ns : List ℕ) (n : ℕ) → All P ns → list_any (λ p. eqb p n) ns ≡ true → P n
+pub of_one : (P : ℕ → Type 0) (ns : List ℕ) (n : ℕ) → All P ns → list_any (λ p. eqb p n) ns ≡ true → P n
 of_one P ns n all any = any_gives (λ p. eqb p n) (P n) ns
     (λ k d h e. subst P (eqb-true (get_or ns k d) n e) (all k d h)) any
 
@@ -149,7 +149,7 @@ module _ (g : ℕ → Option Reason) (seen : List ℕ) (p : ℕ) where
           old_best best old (λ h. absurd (omega (arith, h, most)))
 
 -- so it is along a path
-best_along : (g : ℕ → Option Reason) (best : Option (ℕ × Reason)) (seen path : List ℕ) → IsBest g seen best
+pub best_along : (g : ℕ → Option Reason) (best : Option (ℕ × Reason)) (seen path : List ℕ) → IsBest g seen best
     → IsBest g (seen ++ path) (fold (λ b port. lower_of b port (g port)) best path)
 best_along g best seen [] old = subst (λ (ps : List ℕ). IsBest g ps best) (sym (append-nil seen)) old
 best_along g best seen (p ∷ path) old =

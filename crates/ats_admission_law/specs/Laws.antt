@@ -11,7 +11,7 @@ use Rattle.ats_bound.specs.Least.{least_row, least_certificate}
 use Rattle.ats_bound.specs.Reason.{load_at, reason_of}
 use Rattle.ats_admission_law.specs.Less.{IsLessBy}
 use Rattle.ats_admission_law.specs.Lowest.{lowest_found, first_found}
-use Rattle.ats_admission_law.specs.Near.{found_there, shares, reason_along, reason_judged}
+use Rattle.ats_admission_law.specs.Near.{AreNear, found_there, late_near, lowest_late, shares, reason_along, reason_judged}
 
 -- a network less one stream is a network
 abbrev pub LessIsNetwork : Type 0
@@ -86,3 +86,9 @@ abbrev pub ReasonIsJudged : Type 0
 ReasonIsJudged =
     (old new : DeclaredNetwork) (x : DeclaredStream) → IsLessBy old new x → IsNetwork old → reason_of new ≡ None
     → reason_of old ≡ reason_judged old x
+
+-- and the late stream that is named is the one with the lowest number, in whichever order they are looked at
+abbrev pub NearFindsLate : Type 0
+NearFindsLate =
+    (network : DeclaredNetwork) (x : DeclaredStream) (numbers : List ℕ) → AreNear network x numbers
+    → late_near network x ≡ found_there (lowest_late network numbers)

@@ -1,7 +1,8 @@
-use Rattle.std.specs.Prelude.{ℕ, Bool, List, filter, Option}
+use Rattle.std.specs.Prelude.{ℕ, ◌<◌, Bool, ◌==◌, IsTrue, List, length, slice_index_or, filter, fold, All, Option, None}
 use Rattle.std.specs.List.{list_any}
 use Rattle.std.specs.Option.{option_or, option_map}
 use Rattle.ats_streams.specs.Stream.{DeclaredStream}
+use Rattle.ats_network.specs.Edits.{no_stream}
 use Rattle.ats_network.specs.Sender.{stream_sender}
 use Rattle.ats_network.specs.Network.{DeclaredNetwork}
 use Rattle.ats_certificate.specs.PortSums.{uses}
@@ -9,7 +10,7 @@ use Rattle.ats_tally.specs.Reason.{first_some, overstay, late}
 use Rattle.ats_tally.specs.declared.reason.Reason.{Reason}
 use Rattle.ats_bound.specs.Least.{least_row, least_certificate}
 use Rattle.ats_bound.specs.Reason.{overload}
-use Rattle.ats_admission_law.specs.Lowest.{first_found, lowest_found}
+use Rattle.ats_admission_law.specs.Lowest.{first_found, lower_of, lowest_found}
 
 -- both streams use some port
 abbrev pub shares : DeclaredStream → DeclaredStream → Bool
@@ -43,3 +44,21 @@ abbrev pub reason_judged : DeclaredNetwork → DeclaredStream → Option Reason
 reason_judged network x =
     option_or (found_there (lowest_found (overload network) network x.path))
     (option_or (found_there (lowest_found (overstay_at network) network x.path)) (late_near network x))
+
+-- the number is that of a stream that uses a port of a stream's path
+pub record IsNear (network : DeclaredNetwork) (x : DeclaredStream) (n : ℕ) : Type 0 where
+  pub within : n < length network.streams
+  pub shares : IsTrue (shares x (slice_index_or network.streams n no_stream))
+
+-- the numbers are those of all streams that use one, in any order
+pub record AreNear (network : DeclaredNetwork) (x : DeclaredStream) (numbers : List ℕ) : Type 0 where
+  pub near : All (IsNear network x) numbers
+  pub complete : (n : ℕ) → IsNear network x n → IsTrue (list_any (λ m. m == n) numbers)
+
+-- the sum over its deadline of the stream with a number, where it is late by the least bounds
+abbrev pub late_at : DeclaredNetwork → ℕ → Option Reason
+late_at network n = late (least_certificate network) (slice_index_or network.streams n no_stream)
+
+-- of the streams with these numbers, the late one with the lowest number
+abbrev pub lowest_late : DeclaredNetwork → List ℕ → Option (ℕ × Reason)
+lowest_late network numbers = fold (λ best n. lower_of best n (late_at network n)) None numbers

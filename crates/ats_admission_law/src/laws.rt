@@ -1,7 +1,8 @@
 //! Laws of networks that differ by one stream.
 
 ghost use Rattle.ats_admission_law.specs.Laws.{LessHasNoReason, LessHolds, LessIsNetwork, NoSumRises, NothingRises};
-ghost use Rattle.ats_admission_law.specs.Laws.{OtherPortsStay, OtherSumsStay, PathFindsFirst, ReasonIsAlong, ReasonIsJudged};
+ghost use Rattle.ats_admission_law.specs.Laws.{NearFindsLate, OtherPortsStay, OtherSumsStay, PathFindsFirst, ReasonIsAlong};
+ghost use Rattle.ats_admission_law.specs.Laws.{ReasonIsJudged};
 
 /// A law: a network less one stream is a network.
 pub fn less_is_network()
@@ -55,4 +56,10 @@ pub fn path_finds_first()
 /// A law: so is the reason against a network with one stream more found.
 pub fn reason_is_judged()
     ensures { ReasonIsJudged }
+{}
+
+/// A law: a search over the streams that share a port with a stream, in any order, which keeps the late one with the
+/// lowest number, finds the first of them that is late.
+pub fn near_finds_late()
+    ensures { NearFindsLate }
 {}

@@ -13,9 +13,9 @@ use Rattle.ats_network.specs.Pushes.{is_name_taken}
 use Rattle.ats_network.specs.declared.network.TheConstants.{MAX_STREAMS}
 use Rattle.ats_certificate.specs.Used.{stream_classes}
 use Rattle.ats_tally.specs.declared.reason.Reason.{Reason}
-use Rattle.ats_requests.specs.Admission.{admit, admit_lowest, class_given, class_reason, entry_fault, first_class}
-use Rattle.ats_requests.specs.Admission.{lowest_class, lowest_of, sum_given, sum_with}
-use Rattle.ats_requests.specs.Laws.{AreReasons, IsFirstAccepted, IsRefused, LowestIsFirst, NoClassHasReasons}
+use Rattle.ats_requests.specs.Admission.{admit, class_given, class_reason, entry_fault, first_class}
+use Rattle.ats_requests.specs.Admission.{lowest_of, sum_given, sum_with}
+use Rattle.ats_requests.specs.Laws.{AreReasons, IsFirstAccepted, LowestIsFirst, NoClassHasReasons}
 use Rattle.ats_requests.specs.declared.denied.Denied.{Denied}
 use Rattle.ats_requests.specs.declared.denied.Denied.TheVariants.{NameTaken, Limit, Because, NoClass}
 
@@ -184,7 +184,7 @@ no_class_has_reasons network stream reasons h =
     by : (o : Option Denied) → entry_fault network stream ≡ o → (r : Result ℕ (List Reason))
         → lowest_of network stream stream_classes ≡ r
         → sum_given network stream (class_given o r) ≡ Err (NoClass reasons) → AreReasons network stream reasons
-    by (Some denied) e r f h = 
+    by (Some denied) e r f h =
         let same : denied ≡ NoClass reasons = cc h in
         entry_other network stream reasons (AreReasons network stream reasons) (e ∙ ap Some same)
     by None e (Ok c) f h = absurd (let no : Ok (c, sum_with network (with_class stream c)) ≡ Err (NoClass reasons) = h

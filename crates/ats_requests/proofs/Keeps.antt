@@ -1,17 +1,16 @@
 -- A network for which a certificate holds stays one after each request.
-use Rattle.std.proofs.Common.{◌≡◌, ℕ, ◌<◌, ◌≤◌, Bool, true, false, cond, List, [], ◌∷◌, length, replicate, Option, Some}
-use Rattle.std.proofs.Common.{None, Ok, Err, Result, refl, sym, ap, subst, ◌∙◌, arith}
+use Rattle.std.proofs.Common.{◌≡◌, ℕ, ◌<◌, Bool, true, false, cond, List, length, Option, Some}
+use Rattle.std.proofs.Common.{None, refl, ap, ◌∙◌}
 use Rattle.std.specs.Prelude.{is_some, nat_le}
-use Rattle.std.specs.List.{All}
-use Rattle.std.specs.Option.{option_or, option_map}
+use Rattle.std.specs.Option.{option_map}
 use Rattle.std.proofs.lemmas.Bool.{leb-false}
-use Rattle.std.proofs.lemmas.List.Elements.{All-head, All-tail, All-replicate}
+use Rattle.std.proofs.lemmas.List.Elements.{All-replicate}
 use Rattle.std.proofs.lemmas.List.{length-replicate}
 use Rattle.ats_facts.proofs.Options.{is_some-false, option_or-none}
 use Rattle.ats_num.specs.Places.{place_of}
 use Rattle.ats_topology.specs.Topology.{DeclaredTopology}
-use Rattle.ats_streams.specs.Stream.{DeclaredStream, IsStream, IsClass, with_class}
-use Rattle.ats_network.specs.Edits.{no_stream, less_at, without_named}
+use Rattle.ats_streams.specs.Stream.{DeclaredStream, IsClass, with_class}
+use Rattle.ats_network.specs.Edits.{less_at, without_named}
 use Rattle.ats_network.specs.Network.{DeclaredNetwork, IsNetwork, senders_of, names_of}
 use Rattle.ats_network.specs.Pushes.{with_stream, is_name_taken, is_identity_taken}
 use Rattle.ats_network.specs.Tables.{stream_names}
@@ -23,7 +22,7 @@ use Rattle.ats_bound.specs.Reason.{reason_of}
 use Rattle.ats_admission_law.proofs.Along.{reason_is_judged}
 use Rattle.ats_admission_law.proofs.Edits.{added_last, taken_out}
 use Rattle.ats_admission_law.proofs.NoneRises.{less_has_no_reason}
-use Rattle.ats_requests.specs.Admission.{admit_fault, after_admit, class_reason, entry_fault, reason_with}
+use Rattle.ats_requests.specs.Admission.{admit_fault, after_admit, entry_fault, reason_with}
 use Rattle.ats_requests.specs.Laws.{AdmitIsJudged, IsCertified, StaysCertified}
 use Rattle.ats_requests.specs.Requests.{MayEnter}
 use Rattle.ats_requests.specs.declared.denied.Denied.{Denied}

@@ -11,7 +11,6 @@ use Rattle.ats_requests.specs.Admission.{added_given, after_lowest, class_given,
 use Rattle.ats_requests.specs.Laws.{IsCertified, RequestKeeps, RequestsKeep, StaysCertified}
 use Rattle.ats_requests.specs.Requests.{MayAsk, MayEnter, after, after_all}
 use Rattle.ats_requests.specs.declared.denied.Denied.{Denied}
-use Rattle.ats_requests.specs.declared.request.Request.{Request}
 use Rattle.ats_requests.specs.declared.request.Request.TheVariants.{Admit, Lowest, Withdraw}
 use Rattle.ats_requests.proofs.Classes.{IsFirstFree, are_classes, ascend, first_free}
 use Rattle.ats_requests.proofs.Keeps.{admit_keeps, admitted_keeps, enters_with, nothing_changes, withdraw_keeps}

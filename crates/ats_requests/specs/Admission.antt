@@ -2,7 +2,7 @@ use Rattle.std.specs.Prelude.{ℕ, nat_le, is_some, if◌then◌else◌, List, [
 use Rattle.std.specs.Option.{option_or, option_map}
 use Rattle.ats_num.specs.Failure.{unless}
 use Rattle.ats_streams.specs.Stream.{DeclaredStream, with_class}
-use Rattle.ats_network.specs.Edits.{stream_named, without_named}
+use Rattle.ats_network.specs.Edits.{stream_named}
 use Rattle.ats_network.specs.Network.{DeclaredNetwork}
 use Rattle.ats_network.specs.Pushes.{with_stream, is_name_taken}
 use Rattle.ats_network.specs.declared.network.TheConstants.{MAX_STREAMS}
