@@ -1,3 +1,4 @@
 pub mod Keeps
 pub mod Classes
 pub mod Requests
+pub mod Entry

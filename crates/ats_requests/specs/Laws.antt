@@ -1,13 +1,15 @@
 use Rattle.std.specs.Prelude.{◌≡◌, ℕ, ◌+◌, ◌<◌, ◌≤◌, List, length, slice_index_or, All, None, Ok, Err}
+use Rattle.std.specs.Option.{option_map}
 use Rattle.ats_streams.specs.Stream.{DeclaredStream, IsClass, with_class}
 use Rattle.ats_network.specs.Network.{DeclaredNetwork, IsNetwork}
-use Rattle.ats_network.specs.Pushes.{with_stream}
+use Rattle.ats_network.specs.Pushes.{with_stream, stream_push_fault}
 use Rattle.ats_tally.specs.declared.reason.Reason.{Reason}
 use Rattle.ats_bound.specs.Reason.{reason_of}
 use Rattle.ats_admission_law.specs.Near.{reason_judged}
 use Rattle.ats_requests.specs.Admission.{entry_fault, reason_with, admit, admit_lowest}
+use Rattle.ats_requests.specs.Entry.{by_fault}
 use Rattle.ats_requests.specs.Requests.{MayEnter, MayAsk, after, after_all}
-use Rattle.ats_requests.specs.declared.denied.Denied.TheVariants.{Because, NoClass}
+use Rattle.ats_requests.specs.declared.denied.Denied.TheVariants.{NameTaken, Limit, Because, NoClass}
 use Rattle.ats_requests.specs.declared.request.Request.{Request}
 
 -- a network for which a certificate holds
@@ -64,3 +66,10 @@ AdmitIsJudged =
     (network : DeclaredNetwork) (stream : DeclaredStream) → IsCertified network → MayEnter network.topology stream
     → entry_fault network stream ≡ None
     → reason_with network stream ≡ reason_judged (with_stream network stream) stream
+
+-- what stands against the entry of a stream without an identity is why it can't be added to the network, so its identity
+-- is never taken
+abbrev pub EntryIsPush : Type 0
+EntryIsPush =
+    (network : DeclaredNetwork) (stream : DeclaredStream) → stream.identity ≡ None
+    → entry_fault network stream ≡ option_map (by_fault NameTaken NameTaken Limit) (stream_push_fault network stream)

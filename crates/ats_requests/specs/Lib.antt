@@ -1,3 +1,4 @@
 pub mod Admission
+pub mod Entry
 pub mod Requests
 pub mod Laws

@@ -1,6 +1,7 @@
 //! Laws of admission.
 
-ghost use Rattle.ats_requests.specs.Laws.{AdmitIsJudged, LowestIsFirst, NoClassHasReasons, RequestKeeps, RequestsKeep};
+ghost use Rattle.ats_requests.specs.Laws.{AdmitIsJudged, EntryIsPush, LowestIsFirst, NoClassHasReasons, RequestKeeps};
+ghost use Rattle.ats_requests.specs.Laws.{RequestsKeep};
 
 /// A law: a network for which a certificate holds stays one after a request, and keeps its topology.
 pub fn request_keeps()
@@ -26,4 +27,10 @@ pub fn no_class_has_reasons()
 /// A law: whether a stream is admitted is judged along its path alone, port by port.
 pub fn admit_is_judged()
     ensures { AdmitIsJudged }
+{}
+
+/// A law: a stream without an identity is refused before any certificate is asked for exactly where it can't be added to
+/// the network, and for the same cause.
+pub fn entry_is_push()
+    ensures { EntryIsPush }
 {}
