@@ -1,7 +1,6 @@
 -- The late stream with the lowest number is the first that is late.
 use Rattle.std.proofs.Common.{◌≡◌, ℕ, zero, suc, ◌<◌, Bool, true, false, cond, List, [], ◌∷◌, length, get_or, filter}
 use Rattle.std.proofs.Common.{Option, Some, None, refl, sym, ap, ◌∙◌, arith}
-use Rattle.std.specs.Prelude.{fold}
 use Rattle.std.specs.List.{All}
 use Rattle.std.specs.Option.{option_or, option_map}
 use Rattle.std.proofs.lemmas.List.{get_or_default}
@@ -15,7 +14,7 @@ use Rattle.ats_tally.proofs.Lists.{first_some-none}
 use Rattle.ats_bound.specs.Least.{least_certificate}
 use Rattle.ats_admission_law.specs.Laws.{NearFindsLate}
 use Rattle.ats_admission_law.specs.Near.{AreNear, IsNear, late_at, late_near, lowest_late, shares}
-use Rattle.ats_admission_law.proofs.Lowest.{IsBest, IsLowestOf, best_along, of_one}
+use Rattle.ats_admission_law.proofs.Lowest.{IsBest, best_along, of_one}
 
 module _ (given : DeclaredStream → Option Reason) (test : DeclaredStream → Bool) where
   -- the first of those that pass a test gives the first value, where those before it that pass give none

@@ -1,16 +1,12 @@
 -- What stands against an entry is why a stream can't be added.
-use Rattle.std.proofs.Common.{◌≡◌, ℕ, Bool, true, false, cond, length, Option, Some, None, refl, sym, ap, ◌∙◌}
+use Rattle.std.proofs.Common.{◌≡◌, Bool, true, false, cond, length, Some, None, refl, sym, ap, ◌∙◌}
 use Rattle.std.specs.Prelude.{nat_le}
 use Rattle.std.specs.Option.{option_map}
-use Rattle.ats_streams.specs.Stream.{DeclaredStream}
-use Rattle.ats_network.specs.Network.{DeclaredNetwork}
 use Rattle.ats_network.specs.Pushes.{is_identity_taken, is_name_taken}
-use Rattle.ats_network.specs.declared.fault.PushFault.{PushFault}
 use Rattle.ats_network.specs.declared.fault.PushFault.TheVariants as fault
 use Rattle.ats_network.specs.declared.network.TheConstants.{MAX_STREAMS}
 use Rattle.ats_requests.specs.Entry.{by_fault}
 use Rattle.ats_requests.specs.Laws.{EntryIsPush}
-use Rattle.ats_requests.specs.declared.denied.Denied.{Denied}
 use Rattle.ats_requests.specs.declared.denied.Denied.TheVariants.{NameTaken, Limit}
 
 pub entry_is_push : EntryIsPush
