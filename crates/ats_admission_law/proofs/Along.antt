@@ -1,5 +1,6 @@
 -- Where there was no reason, the first that a stream more brings is the first along its path.
-use Rattle.std.proofs.Common.{◌≡◌, ℕ, ◌<◌, ◌≤◌, Bool, true, false, cond, List, [], ◌∷◌, ◌++◌, length, map, filter, get_or}
+use Rattle.std.proofs.Common.{◌≡◌, ℕ, ◌<◌, ◌≤◌, Bool, true, false, cond, List, [], ◌∷◌, ◌++◌, length, map, filter}
+use Rattle.std.proofs.Common.{get_or}
 use Rattle.std.proofs.Common.{Option, None, refl, sym, ap, ◌∙◌, eqb, arith}
 use Rattle.std.specs.Prelude.{◌||◌}
 use Rattle.std.specs.List.{All, list_any}
@@ -28,7 +29,8 @@ use Rattle.ats_bound.proofs.Reasons.{overload-none}
 use Rattle.ats_bound.proofs.Waits.{Fits}
 use Rattle.ats_admission_law.specs.Laws.{StaysSame, ReasonIsAlong, ReasonIsJudged}
 use Rattle.ats_admission_law.specs.Lowest.{at_port_of, first_found, lowest_found}
-use Rattle.ats_admission_law.specs.Near.{found_there, overstay_at, shares, streams_on, reason_along, reason_judged, late_near}
+use Rattle.ats_admission_law.specs.Near.{found_there, overstay_at, shares, streams_on, reason_along, late_near}
+use Rattle.ats_admission_law.specs.Near.{reason_judged}
 use Rattle.ats_admission_law.proofs.LeastRows.{may_stay}
 use Rattle.ats_admission_law.proofs.Lists.{all_one}
 use Rattle.ats_admission_law.proofs.Lowest.{path_finds_first}

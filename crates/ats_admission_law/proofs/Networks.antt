@@ -30,7 +30,12 @@ more p x = declared_network p.topology (p.front ++ x ∷ p.back) p.flows
 
 -- two networks of which one is less by a stream are made of such parts
 abbrev pub parts_of : (old new : DeclaredNetwork) (x : DeclaredStream) → IsLessBy old new x → Parts
-parts_of old new x is = record { topology = old.topology; front = is.streams.front; back = is.streams.back; flows = old.flows }
+parts_of old new x is = record {
+  topology = old.topology;
+  front = is.streams.front;
+  back = is.streams.back;
+  flows = old.flows;
+}
 
 pub by_parts : (P : DeclaredNetwork → DeclaredNetwork → Type 0) (old new : DeclaredNetwork) (x : DeclaredStream)
     (is : IsLessBy old new x) → P (more (parts_of old new x is) x) (less (parts_of old new x is)) → P old new
@@ -41,7 +46,8 @@ by_parts P old new x is so =
     let after : new ≡ less p =
     ap (λ (t : DeclaredTopology). declared_network t new.streams new.flows) is.topology
     ∙ ap (λ (ss : List DeclaredStream). declared_network old.topology ss new.flows) is.streams.new_is
-    ∙ ap (λ (fs : List DeclaredFlow). declared_network old.topology (is.streams.front ++ is.streams.back) fs) is.flows in
+    ∙ ap (λ (fs : List DeclaredFlow). declared_network old.topology (is.streams.front ++ is.streams.back) fs)
+    is.flows in
     subst (λ (n : DeclaredNetwork). P n new) (sym before) (subst (λ (n : DeclaredNetwork). P (more p x) n)
     (sym after) so)
 

@@ -11,7 +11,8 @@ use Rattle.ats_bound.specs.Least.{least_row, least_certificate}
 use Rattle.ats_bound.specs.Reason.{load_at, reason_of}
 use Rattle.ats_admission_law.specs.Less.{IsLessBy}
 use Rattle.ats_admission_law.specs.Lowest.{lowest_found, first_found}
-use Rattle.ats_admission_law.specs.Near.{AreNear, found_there, late_near, lowest_late, shares, reason_along, reason_judged}
+use Rattle.ats_admission_law.specs.Near.{AreNear, found_there, late_near, lowest_late, shares}
+use Rattle.ats_admission_law.specs.Near.{reason_along, reason_judged}
 
 -- a network less one stream is a network
 abbrev pub LessIsNetwork : Type 0

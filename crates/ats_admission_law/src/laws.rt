@@ -1,8 +1,8 @@
 //! Laws of networks that differ by one stream.
 
 ghost use Rattle.ats_admission_law.specs.Laws.{LessHasNoReason, LessHolds, LessIsNetwork, NoSumRises, NothingRises};
-ghost use Rattle.ats_admission_law.specs.Laws.{NearFindsLate, OtherPortsStay, OtherSumsStay, PathFindsFirst, ReasonIsAlong};
-ghost use Rattle.ats_admission_law.specs.Laws.{ReasonIsJudged};
+ghost use Rattle.ats_admission_law.specs.Laws.{NearFindsLate, OtherPortsStay, OtherSumsStay, PathFindsFirst};
+ghost use Rattle.ats_admission_law.specs.Laws.{ReasonIsAlong, ReasonIsJudged};
 
 /// A law: a network less one stream is a network.
 pub fn less_is_network()
@@ -41,14 +41,14 @@ pub fn other_sums_stay()
 {}
 
 /// A law: where there is no reason against a network, the reason against it with one stream more, wherever that stands,
-/// is the first along that stream's path: a load or a need of residence at one of its ports, or the sum of a stream that
-/// uses one of them.
+/// is the first along that stream's path: a load or a need of residence at one of its ports, or the sum of a stream
+/// that uses one of them.
 pub fn reason_is_along()
     ensures { ReasonIsAlong }
 {}
 
-/// A law: a search along a path in its own order, which keeps what it finds at the lowest port, finds what stands first in
-/// the order of a certificate's rows.
+/// A law: a search along a path in its own order, which keeps what it finds at the lowest port, finds what stands first
+/// in the order of a certificate's rows.
 pub fn path_finds_first()
     ensures { PathFindsFirst }
 {}

@@ -1,6 +1,6 @@
 -- The lowest class is the first that is accepted, and where there is none each class has a reason.
-use Rattle.std.proofs.Common.{◌≡◌, ℕ, zero, suc, ◌+◌, ◌<◌, ◌≤◌, Bool, true, false, cond, List, [], ◌∷◌, length, get_or, Option, Some, None, Result}
-use Rattle.std.proofs.Common.{Ok, Err, refl, sym, ap, subst, ◌∙◌, arith}
+use Rattle.std.proofs.Common.{◌≡◌, ℕ, zero, suc, ◌+◌, ◌<◌, ◌≤◌, Bool, true, false, cond, List, [], ◌∷◌, length, get_or}
+use Rattle.std.proofs.Common.{Option, Some, None, Result, Ok, Err, refl, sym, ap, subst, ◌∙◌, arith}
 use Rattle.std.specs.Prelude.{nat_le}
 use Rattle.std.specs.List.{All, AllPairs, Contains}
 use Rattle.std.specs.Option.{option_or, option_map}
@@ -47,8 +47,8 @@ module _ (network : DeclaredNetwork) (stream : DeclaredStream) where
   abbrev pub Before : ℕ → ℕ → Type 0
   Before class m = m < class → (reason : Reason) × (class_reason network stream m ≡ Some reason)
 
-  -- what the search says of the classes of a list: the one that it finds brings no reason, and each that stands before it
-  -- brings one
+  -- what the search says of the classes of a list: the one that it finds brings no reason, and each that stands before
+  -- it brings one
   pub record IsFirstFree (classes : List ℕ) (class : ℕ) : Type 0 where
     pub inside : Contains classes class
     pub free : class_reason network stream class ≡ None

@@ -29,7 +29,8 @@ lowest_keeps network stream is may =
         let first : IsFirstFree network stream stream_classes class =
         first_free network stream stream_classes class ascend f in
         admitted_keeps network (with_class stream class) is
-        (enters_with network.topology stream class may (All-contains IsClass stream_classes class are_classes first.inside)) e first.free
+        (enters_with network.topology stream class may
+        (All-contains IsClass stream_classes class are_classes first.inside)) e first.free
 
 pub request_keeps : RequestKeeps
 request_keeps network (Admit stream) is may = admit_keeps network stream is may

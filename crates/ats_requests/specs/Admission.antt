@@ -1,4 +1,5 @@
-use Rattle.std.specs.Prelude.{ℕ, nat_le, is_some, if◌then◌else◌, List, [], ◌∷◌, length, Option, Some, None, Result, Ok, Err}
+use Rattle.std.specs.Prelude.{ℕ, nat_le, is_some, if◌then◌else◌, List, [], ◌∷◌, length, Option, Some, None, Result, Ok}
+use Rattle.std.specs.Prelude.{Err}
 use Rattle.std.specs.Option.{option_or, option_map}
 use Rattle.ats_num.specs.Failure.{unless}
 use Rattle.ats_streams.specs.Stream.{DeclaredStream, with_class}

@@ -67,8 +67,8 @@ AdmitIsJudged =
     → entry_fault network stream ≡ None
     → reason_with network stream ≡ reason_judged (with_stream network stream) stream
 
--- what stands against the entry of a stream without an identity is why it can't be added to the network, so its identity
--- is never taken
+-- what stands against the entry of a stream without an identity is why it can't be added to the network, so its
+-- identity is never taken
 abbrev pub EntryIsPush : Type 0
 EntryIsPush =
     (network : DeclaredNetwork) (stream : DeclaredStream) → stream.identity ≡ None

@@ -13,8 +13,8 @@ pub fn requests_keep()
     ensures { RequestsKeep }
 {}
 
-/// A law: the class that `Lowest` gives is the first that would be accepted: with it at each port the stream is admitted
-/// with the same sum, and with each lower class it is refused.
+/// A law: the class that `Lowest` gives is the first that would be accepted: with it at each port the stream is
+/// admitted with the same sum, and with each lower class it is refused.
 pub fn lowest_is_first()
     ensures { LowestIsFirst }
 {}
@@ -29,8 +29,8 @@ pub fn admit_is_judged()
     ensures { AdmitIsJudged }
 {}
 
-/// A law: a stream without an identity is refused before any certificate is asked for exactly where it can't be added to
-/// the network, and for the same cause.
+/// A law: a stream without an identity is refused before any certificate is asked for exactly where it can't be added
+/// to the network, and for the same cause.
 pub fn entry_is_push()
     ensures { EntryIsPush }
 {}
