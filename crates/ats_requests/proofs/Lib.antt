@@ -2,3 +2,4 @@ pub mod Keeps
 pub mod Classes
 pub mod Requests
 pub mod Entry
+pub mod Worked

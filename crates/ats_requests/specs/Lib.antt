@@ -2,3 +2,4 @@ pub mod Admission
 pub mod Entry
 pub mod Requests
 pub mod Laws
+pub mod Worked
