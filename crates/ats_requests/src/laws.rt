@@ -36,7 +36,8 @@ pub fn entry_is_push()
     ensures { EntryIsPush }
 {}
 
-/// A law: eight worked requests to a worked network get the answers that are written out beside them, to the picosecond.
+/// A law: eight worked requests to a worked network get the answers that are written out beside them, to the
+/// picosecond.
 pub fn worked_requests()
     ensures { AreAnswered }
 {}
