@@ -1,0 +1,4 @@
+mod Streams
+mod Schedulers
+mod Keeps
+mod MadeParts
