@@ -1,10 +1,10 @@
-use Rattle.std.proofs.Common.{◌≡◌, ℕ, ◌+◌, ◌*◌, ◌≤◌, max, List, [], ◌∷◌, ◌++◌, All, sym, ap, ◌∙◌, subst, arith}
-use Rattle.std.specs.Prelude.{ℤ, pos, ◌-ℤ◌, fold}
+use Rattle.std.proofs.Common.{◌≡◌, ℕ, ◌+◌, ◌*◌, ◌≤◌, List, [], ◌∷◌, ◌++◌, All, sym, arith}
+use Rattle.std.specs.Prelude.{ℤ, fold}
 use Rattle.std.proofs.lemmas.Int.{ints}
 use Rattle.std.proofs.lemmas.List.Elements.{All-push, All-nil}
 use Rattle.ats_num.specs.declared.time.TheConstants.{PS_PER_SECOND}
 use Rattle.ats_bucket.specs.Conforming.{Frame}
-use Rattle.ats_bucket.specs.Scheduler.{first_empty, IsEligibility, eligibility_time, empty_after}
+use Rattle.ats_bucket.specs.Scheduler.{first_empty, eligibility_time, empty_after}
 use Rattle.ats_bucket.proofs.Eligibility.{eligibility_time-is}
 use Rattle.ats_bucket.proofs.EmptyAfter.{empty_after-is}
 use Rattle.ats_group.specs.declared.member.Declared.{Declared}
@@ -57,7 +57,7 @@ kept-later d clock later frames h k = record {
 pub kept-push : (d : Declared) (clock bits : ℕ) (frames : List Frame) → IsRuled d → bits ≤ d.burst_bits
     → IsKept d clock frames → IsKept d clock (frames ++ record {
       at = eligibility_time d.rate (empty_by d frames) 0 clock bits;
-      bits = bits
+      bits = bits;
     } ∷ [])
 kept-push d clock bits frames ruled small kept =
     let at : ℕ = eligibility_time d.rate (empty_by d frames) 0 clock bits in

@@ -1,6 +1,6 @@
-use Rattle.std.proofs.Common.{◌≡◌, ◌≢◌, ℕ, ◌+◌, ◌<◌, ◌≤◌, Bool, true, false, List, [], ◌∷◌, ◌++◌, length, map, filter, get_or}
+use Rattle.std.proofs.Common.{◌≡◌, ◌≢◌, ℕ, ◌+◌, ◌<◌, Bool, List, [], ◌∷◌, ◌++◌, length, map, filter, get_or}
 use Rattle.std.proofs.Common.{set, sym, ap, ◌∙◌, subst, inl, inr, refl, append-nil, arith}
-use Rattle.std.specs.Prelude.{ℤ, ◌==◌, fold}
+use Rattle.std.specs.Prelude.{ℤ, ◌==◌}
 use Rattle.std.proofs.lemmas.Bool.{cases_lt, cases_eq, eq-eqb, ne_eqb}
 use Rattle.std.proofs.lemmas.List.{get_or_append_left, get_or_push}
 use Rattle.std.proofs.lemmas.List.{length-set, get_or-set_same, get_or-set_other, map-append}
@@ -13,7 +13,7 @@ use Rattle.ats_bucket.specs.Scheduler.{Bucket, first_empty, empty_after, eligibi
 use Rattle.ats_group.specs.declared.member.Declared.{Declared}
 use Rattle.ats_network.specs.Sender.{Sender}
 use Rattle.ats_network.specs.Network.{DeclaredNetwork}
-use Rattle.ats_trace.specs.Eligibility.{declared_of, declared_by}
+use Rattle.ats_trace.specs.Eligibility.{declared_by}
 use Rattle.ats_trace.specs.Talker.{frame_of, frames_of}
 use Rattle.ats_trace.specs.declared.journey.Release.{Release}
 use Rattle.ats_gen.specs.Made.{empty_by, release_by}
@@ -79,27 +79,27 @@ pub schedulers-push : (network : DeclaredNetwork) (earlier : List Release) (buck
     (new : Bucket) → AreSchedulers network earlier buckets → r.sender < length buckets
     → new ≡ record (bucket_after network earlier r.sender) {
       empty = empty_after (declared_by network r.sender).rate (declared_by network r.sender).burst_bits
-          (empty_by (declared_by network r.sender) (frames_of r.sender earlier)) r.at.0 (bits_of r.octets)
+          (empty_by (declared_by network r.sender) (frames_of r.sender earlier)) r.at.0 (bits_of r.octets);
     } → AreSchedulers network (earlier ++ r ∷ []) (set buckets r.sender new)
 schedulers-push network earlier buckets r new are h is = record {
   count = length-set buckets r.sender new ∙ are.count;
   each = λ j d below. (
       let with : ℕ → ℤ → Bucket = λ k e. record (bucket_after network earlier k) { empty = e } in
       elim (cases_eq j r.sender)
-          as (λ _. get_or (set buckets r.sender new) j d ≡ bucket_after network (earlier ++ r ∷ []) j) [
-            | inl same ↦ (
-                subst (λ (k : ℕ). get_or (set buckets r.sender new) k d ≡ bucket_after network (earlier ++ r ∷ []) k)
-                (sym same)
-                (get_or-set_same buckets r.sender new d h ∙ is
-                ∙ ap (with r.sender)
-                (sym (ap (empty_by (declared_by network r.sender)) (frames-mine r.sender earlier r refl)
-                ∙ empty-push (declared_by network r.sender) (frames_of r.sender earlier) (frame_of r)))))
-            | inr apart ↦ (
-                get_or-set_other buckets r.sender j new d apart
-                ∙ are.each j d (omega (arith, length-set buckets r.sender new))
-                ∙ ap (λ (l : List Frame). with j (empty_by (declared_by network j) l))
-                (sym (frames-other j earlier r (λ e. apart (sym e)))))
-          ]);
+      as (λ _. get_or (set buckets r.sender new) j d ≡ bucket_after network (earlier ++ r ∷ []) j) [
+        | inl same ↦ (
+            subst (λ (k : ℕ). get_or (set buckets r.sender new) k d ≡ bucket_after network (earlier ++ r ∷ []) k)
+            (sym same)
+            (get_or-set_same buckets r.sender new d h ∙ is
+            ∙ ap (with r.sender)
+            (sym (ap (empty_by (declared_by network r.sender)) (frames-mine r.sender earlier r refl)
+            ∙ empty-push (declared_by network r.sender) (frames_of r.sender earlier) (frame_of r)))))
+        | inr apart ↦ (
+            get_or-set_other buckets r.sender j new d apart
+            ∙ are.each j d (omega (arith, length-set buckets r.sender new))
+            ∙ ap (λ (l : List Frame). with j (empty_by (declared_by network j) l))
+            (sym (frames-other j earlier r (λ e. apart (sym e)))))
+      ]);
 }
 
 -- the scheduler of a stream is as after these releases

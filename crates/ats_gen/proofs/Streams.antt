@@ -1,11 +1,10 @@
-use Rattle.std.proofs.Common.{◌≡◌, ℕ, ◌<◌, length, map, get_or, ap, ◌∙◌, subst, sym, arith}
+use Rattle.std.proofs.Common.{◌≡◌, ℕ, ◌<◌, [], None, length, map, get_or, ◌∙◌, subst, sym, arith}
 use Rattle.std.proofs.lemmas.List.{get_or-map, length-map, get_or_append_left}
-use Rattle.ats_streams.specs.Stream.{DeclaredStream}
+use Rattle.ats_streams.specs.Stream.{DeclaredStream, declared_stream}
 use Rattle.ats_group.specs.Group.{IsRuled}
 use Rattle.ats_network.specs.Sender.{Sender, stream_sender, flow_sender}
 use Rattle.ats_network.specs.Network.{DeclaredNetwork, IsNetwork}
 use Rattle.ats_network.specs.Senders.{sender_at, no_sender}
-use Rattle.ats_group.specs.declared.member.Declared.{Declared}
 use Rattle.ats_trace.specs.Eligibility.{declared_of, declared_by}
 
 -- the first senders are the streams
@@ -16,9 +15,13 @@ stream-at network i d h =
     (omega (arith, length-map network.streams stream_sender))
     ∙ get_or-map stream_sender network.streams i d no_sender h
 
--- what a stream declares keeps the rules of streams
-pub stream-ruled : (network : DeclaredNetwork) (i : ℕ) (d : DeclaredStream) → IsNetwork network
-    → i < length network.streams → IsRuled (declared_by network i)
-stream-ruled network i d keeps h =
+-- for numbers past the last stream
+no_stream : DeclaredStream
+no_stream = declared_stream [] [] [] 0 0 0 0 0 None
+
+-- what the streams declare keeps the rules of streams
+pub streams-ruled : (network : DeclaredNetwork) → IsNetwork network → (i : ℕ) → i < length network.streams
+    → IsRuled (declared_by network i)
+streams-ruled network keeps i h =
     let Ruled : Sender → Type 0 = λ s. IsRuled (declared_of s) in
-    subst Ruled (sym (stream-at network i d h)) (keeps.streams i d h).rules
+    subst Ruled (sym (stream-at network i no_stream h)) (keeps.streams i no_stream h).rules

@@ -1,4 +1,4 @@
-use Rattle.std.specs.Prelude.{◌≡◌, ℕ, zero, suc, ◌+◌, ◌-◌, ◌*◌, ◌%◌, ◌==◌, nat_lt, ℤ, List, [], ◌∷◌, ◌++◌, length, map, fold}
+use Rattle.std.specs.Prelude.{ℕ, zero, suc, ◌+◌, ◌-◌, ◌*◌, ◌%◌, ◌==◌, nat_lt, ℤ, List, [], ◌∷◌, ◌++◌, length, fold}
 use Rattle.std.specs.Prelude.{Option, Some, None, IsPermutation, if◌then◌else◌}
 use Rattle.std.specs.List.{list_any}
 use Rattle.std.specs.List.Sorted.{IsNonDecreasingBy, IsStableByKey}
@@ -61,11 +61,15 @@ made network seed (suc frame) =
     ++ release_by network (made network seed frame) (stream_of network frame) (octets_of network seed frame)
     (clock_of seed frame) ∷ []
 
--- these are the made releases: by time, and at equal times in the order in which they were made
-pub record AreMade (network : DeclaredNetwork) (seed count : ℕ) (releases : List Release) : Type 0 where
-  pub same : IsPermutation (made network seed count) releases
+-- these are the earlier releases by time, and at equal times in the order that they had
+pub record AreByTime (earlier releases : List Release) : Type 0 where
+  pub same : IsPermutation earlier releases
   pub by_time : IsNonDecreasingBy (λ (r : Release). r.at.0) releases
-  pub ties : IsStableByKey (λ (r : Release). r.at.0) nat_cmp (made network seed count) releases
+  pub ties : IsStableByKey (λ (r : Release). r.at.0) nat_cmp earlier releases
+
+-- the made releases of so many frames
+abbrev pub AreMade : DeclaredNetwork → ℕ → ℕ → List Release → Type 0
+AreMade network seed count releases = AreByTime (made network seed count) releases
 
 -- why there are no made releases, where there are none
 abbrev pub gen_fault : DeclaredNetwork → ℕ → ℕ → Option GenFault

@@ -1,4 +1,4 @@
-use Rattle.std.specs.Prelude.{◌≡◌, ℕ, ◌<◌, ◌≤◌, List, length, slice_index_or}
+use Rattle.std.specs.Prelude.{◌≡◌, ℕ, ◌<◌, List, length, slice_index_or}
 use Rattle.ats_bucket.specs.Scheduler.{Bucket}
 use Rattle.ats_network.specs.Network.{DeclaredNetwork}
 use Rattle.ats_num.specs.declared.failure.Failure.{Failure}

@@ -5,7 +5,7 @@ ghost use Rattle.ats_num.specs.Failure.{IsDue};
 ghost use Rattle.ats_trace.specs.Releases.{AreReleases};
 ghost use Rattle.ats_trace.specs.Talker.{KeepsBuckets};
 ghost use Rattle.ats_trace.specs.declared.run.TheConstants.{MAX_FRAMES};
-ghost use Rattle.ats_gen.specs.Made.{AreMade, gen_fault};
+ghost use Rattle.ats_gen.specs.Made.{AreByTime, AreMade, gen_fault};
 
 use crate::draws::Draws;
 use crate::fault::GenFault;
@@ -13,7 +13,7 @@ use crate::making::{make, octets_for, schedulers_for};
 use ats_network::Network;
 use ats_num::{Failure, Ps};
 use ats_trace::Release;
-use std::alloc::Global;
+use std::alloc::{AllocError, Global};
 
 /// The clock is raised by less than this after each frame, in picoseconds.
 pub const MAX_PAUSE_PS: u64 = 2_000_000;
@@ -50,9 +50,23 @@ pub fn schedule(
     for frame in 0..count {
         let stream = frame % streams;
         let octets = octets_for(network, stream, draws.draw());
-        make(network, &mut schedulers, &mut made, stream, octets, Ps(clock))?;
+        make(
+            network,
+            &mut schedulers,
+            &mut made,
+            stream,
+            octets,
+            Ps(clock),
+        )?;
         clock += draws.draw() % MAX_PAUSE_PS;
     }
+    Ok(by_time(made)?)
+}
+
+// Releases by time, and at equal times in the order that they had.
+fn by_time(mut made: Vec<Release>) -> Result<Vec<Release>, AllocError>
+    ensures { IfOk result (λ releases. AreByTime made.items releases.items) }
+{
     made.sort_by_key(|release| release.at.0)?;
     Ok(made)
 }

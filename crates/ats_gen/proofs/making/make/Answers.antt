@@ -1,10 +1,7 @@
-use Rattle.std.proofs.Common.{◌≡◌, ℕ, ◌+◌, ◌*◌, ◌<◌, ◌≤◌, ◌∙◌, [], ◌∷◌, ◌++◌, List, length, set, subst, sym, ap, arith}
-use Rattle.ats_num.specs.Wire.{bits_of}
-use Rattle.ats_bucket.specs.Scheduler.{Bucket, empty_after, eligibility_time}
+use Rattle.std.proofs.Common.{ap, arith}
+use Rattle.ats_bucket.specs.Scheduler.{Bucket}
 use Rattle.ats_trace.specs.declared.journey.Release.{Release}
-use Rattle.ats_gen.specs.Making.{AreSchedulers, bucket_after}
-use Rattle.ats_gen.specs.Made.{release_by}
-use Rattle.ats_gen.proofs.Schedulers.{scheduler-is, schedulers-accept, released-as}
+use Rattle.ats_gen.proofs.Schedulers.{scheduler-is, schedulers-accept}
 use Rattle.ats_gen.proofs.making.make.Goals as goal
 
 pub wire_bits-bits-requires : goal.wire_bits-bits-requires
