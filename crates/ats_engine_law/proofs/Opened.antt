@@ -1,5 +1,5 @@
 -- What holds where a run begins.
-use Rattle.std.proofs.Common.{◌≡◌, ℕ, ◌*◌, ◌<◌, ◌≤◌, true, false, List, [], ◌∷◌, length, map, get_or, All, Option, None}
+use Rattle.std.proofs.Common.{◌≡◌, ℕ, ◌*◌, ◌<◌, ◌≤◌, List, [], ◌∷◌, length, map, get_or, All, Option, None}
 use Rattle.std.proofs.Common.{Some, refl, sym, ap, ◌∙◌, subst, inl, inr, arith, replicate, IsPermutation}
 use Rattle.std.specs.Prelude.{Contains, IfSome, ℤ, pos}
 use Rattle.std.specs.List.{zip, sum_by}
