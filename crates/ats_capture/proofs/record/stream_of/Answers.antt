@@ -1,0 +1,7 @@
+use Rattle.std.proofs.Common.{sym, ◌∙◌}
+use Rattle.ats_capture.proofs.Traffics.{found_within}
+use Rattle.ats_capture.proofs.record.stream_of.Goals as goal
+
+-- a stream that is found is one of the senders
+pub talker_of-requires : goal.talker_of-requires
+talker_of-requires c = ?

@@ -1,0 +1,4 @@
+pub mod Inside
+pub mod Reading
+pub mod Seen
+pub mod Traffic
