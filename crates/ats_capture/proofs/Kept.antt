@@ -6,7 +6,6 @@ use Rattle.std.specs.Global.{Vec}
 use Rattle.std.proofs.lemmas.List.Elements.{All-nil, All-push}
 use Rattle.ats_num.specs.Failure.{◌>>=◌}
 use Rattle.ats_num.specs.declared.failure.Failure.{Failure}
-use Rattle.ats_num.specs.declared.failure.Failure.TheVariants.{Fault, NoMemory}
 use Rattle.ats_pcap.specs.Capture.{Position, Reach, form_of, header_fault, is_whole, past_record, position_at, position_of}
 use Rattle.ats_pcap.specs.Capture.{read_on, record_fault, record_of, records_at, records_of, without}
 use Rattle.ats_pcap.specs.declared.fault.CaptureFault.{CaptureFault}
@@ -15,7 +14,6 @@ use Rattle.ats_pcap.specs.declared.form.Form.{Form}
 use Rattle.ats_pcap.specs.declared.record.Record.{Record}
 use Rattle.ats_capture.specs.Reading.{GivesUnlessFailed, IsLongEnough, of_file}
 use Rattle.ats_capture.specs.declared.fault.RecordsFault.{RecordsFault}
-use Rattle.ats_capture.specs.declared.fault.RecordsFault.TheVariants.{Failed, TooLong, Capture}
 
 -- what holds behind a fault or without one
 behind : {A : Type 0} (P : A → Type 0) (fault : Option CaptureFault) (due : Result A CaptureFault) → IfOk due P

@@ -1,16 +1,16 @@
 -- What a reader stands for that is fed a file from its front on.
-use Rattle.std.proofs.Common.{◌≡◌, ◌≢◌, ℕ, ◌+◌, ◌-◌, ◌<◌, ◌≤◌, Bool, true, false, cond, List, [], ◌++◌, length, inl, inr, ◌⊎◌}
+use Rattle.std.proofs.Common.{◌≡◌, ◌≢◌, ℕ, ◌+◌, ◌-◌, ◌<◌, ◌≤◌, cond, List, [], ◌++◌, length, inl, inr, ◌⊎◌}
 use Rattle.std.proofs.Common.{take, drop, Option, Some, None, Result, Ok, Err, refl, sym, ap, ◌∙◌, subst, arith}
 use Rattle.std.proofs.Common.{take-append-drop, length-append, length-take, length-take-le, length-drop, min}
 use Rattle.std.specs.Global.{Vec}
 use Rattle.std.proofs.lemmas.Bool.{cases_lt, lt-ltb, le-ltb}
 use Rattle.ats_io.specs.Outside.{IfTold, IsPieceAt}
-use Rattle.ats_io.proofs.Fronts.{front_more, front_all, front_length, take_two}
-use Rattle.ats_num.specs.Failure.{◌>>=◌, GivesSeen}
+use Rattle.ats_io.proofs.Fronts.{front_more, front_all, take_two}
+use Rattle.ats_num.specs.Failure.{◌>>=◌}
 use Rattle.ats_num.specs.declared.failure.Failure.{Failure}
 use Rattle.ats_num.specs.declared.failure.Failure.TheVariants.{Fault, NoMemory}
 use Rattle.ats_pcap.specs.Capture.{Position, header_fault, position_of, records_at, records_of}
-use Rattle.ats_pcap.specs.Reading.{Answers, Reading, Shows, StandsFor, UnlessMemory}
+use Rattle.ats_pcap.specs.Reading.{Reading, Shows, StandsFor, UnlessMemory}
 use Rattle.ats_pcap.specs.declared.fault.CaptureFault.{CaptureFault}
 use Rattle.ats_pcap.specs.declared.record.Record.{Record}
 use Rattle.ats_pcap.proofs.Taken.{position_of-fault}

@@ -5,6 +5,7 @@ ghost use Rattle.std.specs.Prelude.{◌≡◌};
 use ats_io::Failed;
 use ats_num::Fault;
 use ats_pcap::CaptureFault;
+use std::fmt;
 
 /// Why a file gives no records.
 #[derive(Clone, Copy, Debug, PartialEq, Eq)]
@@ -39,7 +40,8 @@ impl From<CaptureFault> for RecordsFault {
     }
 }
 
-/// Why the records of a capture are no releases that may be run.
+/// Why the records of a capture are no releases that may be run. It is displayed as the word for the
+/// fault and the number of the record.
 #[derive(Clone, Copy, Debug, PartialEq, Eq)]
 pub enum JoinFault {
     /// The record with this number, counted from 1 among all records, is a release of the station,
@@ -48,3 +50,16 @@ pub enum JoinFault {
 }
 
 impl Fault for JoinFault {}
+
+impl fmt::Display for JoinFault {
+    ghost use Rattle.std.specs.Prelude.{Some};
+    ghost use Rattle.ats_capture.specs.FaultText.{fault_text};
+
+    ghost output = { λ fault. Some (fault_text fault) };
+
+    fn fmt<W: fmt::Write>(&self, f: &mut fmt::Formatter<W>) -> fmt::Result {
+        match self {
+            JoinFault::Limit(n) => write!(f, "limit {n}"),
+        }
+    }
+}

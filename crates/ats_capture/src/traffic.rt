@@ -61,7 +61,6 @@ pub fn captured(
         latest = latest.max(record.nanos);
         traffic.add(network, station, latest - first, record)?;
     }
-    let _nodes = network.topology(); // for what a network keeps
     Ok(traffic)
 }
 
@@ -99,8 +98,12 @@ impl StationTraffic {
         requires few { self.old.records < 1_000_000 }
         requires unidentified { self.old.unidentified ≤ self.old.records }
         requires oversize { self.old.oversize ≤ self.old.records }
-        ensures { MatchResult result (λ _. with_record network.now station nanos (seen self.old) «record».now ≡ Ok (seen self.new))
+        ensures due { MatchResult result
+            (λ _. with_record network.now station nanos (seen self.old) «record».now ≡ Ok (seen self.new))
             (λ e. Fails e (with_record network.now station nanos (seen self.old) «record».now)) }
+        ensures counted { OnOk result (self.new.records ≡ self.old.records + 1) }
+        ensures unidentified { OnOk result (self.new.unidentified ≤ self.old.unidentified + 1) }
+        ensures oversize { OnOk result (self.new.oversize ≤ self.old.oversize + 1) }
     {
         let number = self.records + 1;
         match stream_of(network, station, record) {

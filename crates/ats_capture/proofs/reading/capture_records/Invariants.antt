@@ -1,4 +1,4 @@
-use Rattle.std.proofs.Common.{◌≡◌, ◌-◌, ◌+◌, ◌≤◌, length, vec_len}
+use Rattle.std.proofs.Common.{◌≡◌, ◌-◌, ◌≤◌, vec_len}
 use Rattle.ats_io.specs.Outside.{Continues}
 use Rattle.ats_capture.specs.declared.reading.TheConstants.{MAX_BYTES, PIECE}
 use Rattle.ats_capture.proofs.ReadBytes.{Reads}
