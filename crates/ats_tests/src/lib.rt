@@ -3,6 +3,8 @@
 #![tactic(auto)]
 
 #[cfg(test)]
+mod capture_files;
+#[cfg(test)]
 mod captures;
 #[cfg(test)]
 mod events;
