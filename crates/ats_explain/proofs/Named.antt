@@ -1,7 +1,8 @@
 -- The names of the senders of the longest lower frames.
 use Rattle.std.proofs.Common.{◌≡◌, ◌≢◌, ◌+◌, ◌*◌, ◌<◌, ◌≤◌, ℕ, Bool, true, false, cond, List, [], ◌∷◌, get_or}
 use Rattle.std.proofs.Common.{set, replicate, drop, take, length, Option, Some, None, refl, sym, ap, ◌∙◌, inl, inr}
-use Rattle.std.proofs.Common.{◌⊎◌, ⊎_elim, eqb, arith, length-set, get_or-set_same, get_or-set_other, drop-cons, add-one}
+use Rattle.std.proofs.Common.{◌⊎◌, ⊎_elim, eqb, arith, length-set, get_or-set_same, get_or-set_other, drop-cons}
+use Rattle.std.proofs.Common.{add-one}
 use Rattle.std.specs.Prelude.{◌&&◌, ◌||◌}
 use Rattle.std.specs.List.{find, list_any}
 use Rattle.std.proofs.lemmas.Bool.{cases_eq, eq-eqb, ne_eqb}

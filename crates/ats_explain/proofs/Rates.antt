@@ -4,7 +4,8 @@ use Rattle.std.proofs.Common.{map, filter, sum_by, refl, sym, ap, subst, ◌∙�
 use Rattle.std.specs.Prelude.{nat_lt}
 use Rattle.std.specs.List.{All, list_any}
 use Rattle.std.proofs.lemmas.Bool.{eqb-false, eqb-true, lt-ltb, ltb-false, ltb-true, or_parts}
-use Rattle.std.proofs.lemmas.List.Elements.{All-append, All-filter, All-head, All-map, All-tail, All-weaker, filter-append}
+use Rattle.std.proofs.lemmas.List.Elements.{All-append, All-filter, All-head, All-map, All-tail, All-weaker}
+use Rattle.std.proofs.lemmas.List.Elements.{filter-append}
 use Rattle.std.proofs.lemmas.List.Sums.{sum_by-cons, sum_by-append}
 use Rattle.ats_streams.specs.Flow.{DeclaredFlow}
 use Rattle.ats_network.specs.Sender.{Sender, stream_sender, flow_sender}
@@ -111,7 +112,8 @@ rates_are network port tally is h =
     ∙ ap (sum_by (λ (s : Sender). s.rate))
     (filter-append (uses port) (map stream_sender network.streams) (map flow_sender network.flows)) in
     let parts = sum_by-append (λ (s : Sender). s.rate) streams flows in
-    omega (arith, h.above, h.equal, whole, parts, flow_rates port network.flows, classes_all seen (all_shaped network port is))
+    omega (arith, h.above, h.equal, whole, parts, flow_rates port network.flows, classes_all seen
+    (all_shaped network port is))
 
 filter_none : (test : Sender → Bool) (senders : List Sender) → list_any test senders ≡ false
     → filter test senders ≡ []

@@ -16,7 +16,8 @@ use Rattle.ats_network.specs.Network.{DeclaredNetwork, IsNetwork, senders_of}
 use Rattle.ats_network.specs.Sender.{stream_sender}
 use Rattle.ats_network.specs.Class.{PortSender, class_at}
 use Rattle.ats_network.proofs.SenderLemmas.{each_is_sender}
-use Rattle.ats_certificate.specs.PortSums.{PortSums, is_above, is_of, is_used, least_of, port_sums, senders_at, shortest}
+use Rattle.ats_certificate.specs.PortSums.{PortSums, is_above, is_of, is_used, least_of, port_sums, senders_at}
+use Rattle.ats_certificate.specs.PortSums.{shortest}
 use Rattle.ats_certificate.specs.Certificate.{bound_at, bound_of_hop, is_row_of, row_of}
 use Rattle.ats_certificate.specs.declared.row.Row.{Row}
 use Rattle.ats_tally.proofs.Lists.{All-found, IsFound, found_is, option_cases}
@@ -134,7 +135,8 @@ parts_add network port class is carries used =
     at_least (ps * (sums.lower + sums.bursts - sums.least)) wait sums.higher (remains network port class at fits)
     enough in
     let short = least_bursts network port class is at.least in
-    let whole : sums.lower + sums.bursts - sums.least ≡ sums.lower + (sums.bursts - sums.least) = omega (arith, short) in
+    let whole : sums.lower + sums.bursts - sums.least ≡ sums.lower + (sums.bursts - sums.least) = omega
+    (arith, short) in
     let apart : ps * (sums.lower + (sums.bursts - sums.least)) ≡ ps * sums.lower + ps * (sums.bursts - sums.least) =
     mul-add ps sums.lower (sums.bursts - sums.least) in
     let sent_apart : ps * sums.lower + ps * (sums.bursts - sums.least) ≤ wait =

@@ -19,7 +19,8 @@ name_of sender = option_map (λ (s : Sender). s.name) sender
 
 -- the first sender whose longest frame is the longest of a lower class at a port, if there is one
 abbrev pub lower_sender : DeclaredNetwork → ℕ → ℕ → Option Sender
-lower_sender network port class = find (sends_lower port class (port_sums network port class).lower) (senders_of network)
+lower_sender network port class = find (sends_lower port class (port_sums network port class).lower)
+    (senders_of network)
 
 -- its name
 abbrev pub lower_name : DeclaredNetwork → ℕ → ℕ → Option (List ℕ)

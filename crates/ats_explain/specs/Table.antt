@@ -31,7 +31,8 @@ pub record NamesAt (network : DeclaredNetwork) (port : ℕ) (sender : PortSender
 
 -- what an explanation holds: the names of all senders of longest lower frames, and the margins; no port and class is
 -- overloaded
-pub record IsExplained (network : DeclaredNetwork) (names : List (Option (List ℕ))) (margins : List Margin) : Type 0 where
+pub record IsExplained (network : DeclaredNetwork) (names : List (Option (List ℕ)))
+    (margins : List Margin) : Type 0 where
   pub rules : IsNetwork network
   pub fits : first_some (overload network) (places_of network) ≡ None
   pub named : NamesFrom network 0 names

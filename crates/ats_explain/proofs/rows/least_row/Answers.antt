@@ -20,7 +20,8 @@ tally-requires-clause-class_most c =
 
 pub unreachable-requires : goal.unreachable-requires
 unreachable-requires c =
-    no_load c.args.tallies.now c.args.port c.args.class c.in-Err.field-0 c.network-network.ensures.rules c.requires.carries
+    no_load c.args.tallies.now c.args.port c.args.class c.in-Err.field-0 c.network-network.ensures.rules
+    c.requires.carries
     c.requires.used
     (rw c.network-network.ensures.value at (sym c.row_of.ensures.row ∙ c.in-Err.is))
 
@@ -30,5 +31,6 @@ returns-clause-bursts c =
     row_ok c.args.tallies.now (c.args.port, c.args.class) c.in-Ok.row
     (rw c.network-network.ensures.value at (sym c.row_of.ensures.row ∙ c.in-Ok.is)) in
     subst (λ (r : Row). r.bursts ≤ 5120000000000) (sym row)
-    (bursts_most c.args.tallies.now c.args.port c.args.class c.tally.result c.network-network.ensures.rules c.requires.used
+    (bursts_most c.args.tallies.now c.args.port c.args.class c.tally.result c.network-network.ensures.rules
+    c.requires.used
     c.tally.ensures)

@@ -34,7 +34,8 @@ returns c =
     ∙ c.in_ok-place.was in
     let same : place ≡ 0 + place = omega arith in
     let first : tightest_stream network ≡ Some (slice_index_or network.streams place d) =
-    found_before (margin_of network) (is_tightest (margins_of network)) 0 network.streams place d (found ∙ ap Some same) in
+    found_before (margin_of network) (is_tightest (margins_of network)) 0 network.streams place d (found
+    ∙ ap Some same) in
     let long : length c.margins-margins.result.now ≡ length network.streams =
     ap (λ (m : List Margin). length m) c.margins-margins.ensures ∙ length-map network.streams (margin_of network) in
     let within : place < length network.streams = omega (arith, long, c.in_ok-place.ensures.within) in
