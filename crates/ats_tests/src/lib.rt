@@ -1,6 +1,7 @@
 //! Tests of what no command shows: whole calls in which a read or a write fails or room is short,
 //! the adapters to the system, limits that a network file reaches before, rows that no certificate
-//! file has, and the captures, schedules, queues, ports, events and runs, which no command reaches yet.
+//! file has, and the captures, schedules, queues, ports, events, runs, printed runs and schedulers,
+//! which no command reaches yet.
 //! There is nothing else here, so that the crates below are proved without tests.
 #![tactic(auto)]
 
@@ -22,6 +23,8 @@ mod limits;
 mod ports;
 #[cfg(test)]
 mod queues;
+#[cfg(test)]
+mod replays;
 #[cfg(test)]
 mod runs;
 #[cfg(test)]
