@@ -8,6 +8,7 @@ pub data Command : Type 0 where
   Shape : List ℕ → Command
   Show : List ℕ → Command
   Bound : List ℕ → Command
+  Explain : List ℕ → Command
   Check : List ℕ → List ℕ → Command
   Replay : List ℕ → List ℕ → Order → Command
   Unknown : Command
@@ -18,6 +19,7 @@ command_on verb file =
     if bytes_eq verb (codes "shape") then Shape file
     else if bytes_eq verb (codes "show") then Show file
     else if bytes_eq verb (codes "bound") then Bound file
+    else if bytes_eq verb (codes "explain") then Explain file
     else Unknown
 
 -- the command of a verb and two files
@@ -48,6 +50,7 @@ abbrev pub file_words : Command → List (List ℕ)
 file_words (Shape file) = file ∷ []
 file_words (Show net) = net ∷ []
 file_words (Bound net) = net ∷ []
+file_words (Explain net) = net ∷ []
 file_words (Check net certificate) = net ∷ certificate ∷ []
 file_words (Replay net schedule order) = net ∷ schedule ∷ []
 file_words Unknown = []

@@ -15,6 +15,8 @@ pub enum Command<'a> {
     Show(&'a str),
     /// `bound NET`: the certificate of a network with the least waits.
     Bound(&'a str),
+    /// `explain NET`: why the least bounds of a network are as large as they are.
+    Explain(&'a str),
     /// `check NET CERT`: judges a certificate of a network, and gives the sums.
     Check(&'a str, &'a str),
     /// `replay NET SCHEDULE ORDER`: runs a schedule, and gives every journey.
@@ -51,6 +53,8 @@ fn on_file<'a>(verb: &str, file: &'a str) -> Option<Command<'a>>
         Some(Command::Show(file))
     } else if verb == "bound" {
         Some(Command::Bound(file))
+    } else if verb == "explain" {
+        Some(Command::Explain(file))
     } else {
         None
     }

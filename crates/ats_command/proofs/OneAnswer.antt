@@ -1,8 +1,8 @@
 use Rattle.std.proofs.Common.{◌≡◌, ℕ, List, Option, refl, sym, ap, ◌∙◌}
-use Rattle.ats_answer.specs.Command.{Command, Shape, Show, Bound, Check, Replay, Unknown, command_of}
+use Rattle.ats_answer.specs.Command.{Command, Shape, Show, Bound, Explain, Check, Replay, Unknown, command_of}
 use Rattle.ats_answer.specs.Answer.{Answer, words_answer}
 use Rattle.ats_command.specs.Due.{IsDueAnswer, IsTold, told_bytes}
-use Rattle.ats_command.specs.Due.{shape_answer, show_answer, bound_answer, check_answer}
+use Rattle.ats_command.specs.Due.{shape_answer, show_answer, bound_answer, explain_answer, check_answer}
 use Rattle.ats_command.specs.Laws.{HasOneAnswer, OneAnswerIsDue, OneStatusIsDue}
 use Rattle.ats_command.specs.Replayed.{IsReplayed, scheduled_in}
 use Rattle.ats_command.proofs.Replays.{one_without_texts, one_status}
@@ -16,6 +16,8 @@ only_due told (Show net) is_told one =
     (show_answer net (told_bytes told net), record { is_told = is_told; answers = refl }, λ other due. due.answers)
 only_due told (Bound net) is_told one =
     (bound_answer net (told_bytes told net), record { is_told = is_told; answers = refl }, λ other due. due.answers)
+only_due told (Explain net) is_told one =
+    (explain_answer net (told_bytes told net), record { is_told = is_told; answers = refl }, λ other due. due.answers)
 only_due told (Check net certificate) is_told one = (
   check_answer net certificate (told_bytes told net) (told_bytes told certificate),
   record { is_told = is_told; answers = refl },
@@ -44,6 +46,8 @@ same_due told (Show net) one other h k =
     same_status one other (show_answer net (told_bytes told net)) h.answers k.answers
 same_due told (Bound net) one other h k =
     same_status one other (bound_answer net (told_bytes told net)) h.answers k.answers
+same_due told (Explain net) one other h k =
+    same_status one other (explain_answer net (told_bytes told net)) h.answers k.answers
 same_due told (Check net certificate) one other h k =
     same_status one other (check_answer net certificate (told_bytes told net) (told_bytes told certificate)) h.answers
     k.answers

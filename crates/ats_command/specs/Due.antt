@@ -2,12 +2,12 @@ use Rattle.std.specs.Prelude.{◌≡◌, ℕ, ◌⊎◌, List, [], All, IsSome, 
 use Rattle.ats_io.specs.Outside.{IfTold}
 use Rattle.ats_shape.specs.Text.{text_of}
 use Rattle.ats_network_text.specs.Text.{show_text}
-use Rattle.ats_answer.specs.Command.{Command, Shape, Show, Bound, Check, Replay, Unknown, file_words}
+use Rattle.ats_answer.specs.Command.{Command, Shape, Show, Bound, Explain, Check, Replay, Unknown, file_words}
 use Rattle.ats_num.specs.Failure.{◌>>=◌}
 use Rattle.ats_answer.specs.declared.order.Order.{Order}
 use Rattle.ats_answer.specs.Answer.{Answer, words_answer, settled}
 use Rattle.ats_answer.specs.Input.{shape_in, network_in}
-use Rattle.ats_command.specs.Judged.{bound_judged, certificate_judged}
+use Rattle.ats_command.specs.Judged.{bound_judged, certificate_judged, explain_judged}
 use Rattle.ats_command.specs.Replayed.{IsOneOf, IsReplayed, scheduled_in}
 
 -- to `shape FILE`, by the bytes of the file
@@ -28,6 +28,12 @@ bound_answer net bytes = settled (do
   network ← network_in net bytes
   bound_judged network)
 
+-- to `explain NET`
+unfoldable pub explain_answer : List ℕ → List ℕ → Answer
+explain_answer net bytes = settled (do
+  network ← network_in net bytes
+  explain_judged network)
+
 -- to `check NET CERT`, by the bytes of both files; the network's is judged first
 unfoldable pub check_answer : List ℕ → List ℕ → List ℕ → List ℕ → Answer
 check_answer net certificate net_bytes certificate_bytes = settled (do
@@ -44,6 +50,7 @@ abbrev pub IsAnswer : (List ℕ → List ℕ) → Command → Answer → Type 0
 IsAnswer bytes (Shape file) answer = answer ≡ shape_answer file (bytes file)
 IsAnswer bytes (Show net) answer = answer ≡ show_answer net (bytes net)
 IsAnswer bytes (Bound net) answer = answer ≡ bound_answer net (bytes net)
+IsAnswer bytes (Explain net) answer = answer ≡ explain_answer net (bytes net)
 IsAnswer bytes (Check net certificate) answer = answer ≡ check_answer net certificate (bytes net) (bytes certificate)
 IsAnswer bytes (Replay net schedule order) answer =
     IsReplayAnswer net schedule order (bytes net) (bytes schedule) answer
@@ -71,6 +78,7 @@ abbrev pub Reaches : (List ℕ → Option (List ℕ)) → Command → List ℕ �
 Reaches told (Shape file) name = name ≡ file
 Reaches told (Show net) name = name ≡ net
 Reaches told (Bound net) name = name ≡ net
+Reaches told (Explain net) name = name ≡ net
 Reaches told (Check net certificate) name = (name ≡ net) ⊎ ((name ≡ certificate) × Declares told net)
 Reaches told (Replay net schedule order) name = (name ≡ net) ⊎ ((name ≡ schedule) × Declares told net)
 Reaches told Unknown name = ⊥
