@@ -1,5 +1,7 @@
-use Rattle.std.specs.Prelude.{ℕ, List, [], ◌∷◌, codes, if◌then◌else◌}
+use Rattle.std.specs.Prelude.{ℕ, List, [], ◌∷◌, codes, Option, Some, None, if◌then◌else◌}
 use Rattle.std.specs.Str.{bytes_eq}
+use Rattle.ats_answer.specs.Order.{order_named}
+use Rattle.ats_answer.specs.declared.order.Order.{Order}
 
 -- a line of the command table, with its words; or words that are not in the table
 pub data Command : Type 0 where
@@ -7,6 +9,7 @@ pub data Command : Type 0 where
   Show : List ℕ → Command
   Bound : List ℕ → Command
   Check : List ℕ → List ℕ → Command
+  Replay : List ℕ → List ℕ → Order → Command
   Unknown : Command
 
 -- the command of a verb and a file
@@ -21,13 +24,24 @@ command_on verb file =
 abbrev pub command_on_two : List ℕ → List ℕ → List ℕ → Command
 command_on_two verb file second = if bytes_eq verb (codes "check") then Check file second else Unknown
 
+-- the replay of a schedule in an order, where there is one
+abbrev pub replay_in : List ℕ → List ℕ → Option Order → Command
+replay_in net schedule None = Unknown
+replay_in net schedule (Some order) = Replay net schedule order
+
+-- the command of a verb, two files and a word
+abbrev pub command_on_three : List ℕ → List ℕ → List ℕ → List ℕ → Command
+command_on_three verb file second word =
+    if bytes_eq verb (codes "replay") then replay_in file second (order_named word) else Unknown
+
 -- the command that words name
 abbrev pub command_of : List (List ℕ) → Command
 command_of [] = Unknown
 command_of (verb ∷ []) = Unknown
 command_of (verb ∷ file ∷ []) = command_on verb file
 command_of (verb ∷ file ∷ second ∷ []) = command_on_two verb file second
-command_of (verb ∷ file ∷ second ∷ word ∷ words) = Unknown
+command_of (verb ∷ file ∷ second ∷ word ∷ []) = command_on_three verb file second word
+command_of (verb ∷ file ∷ second ∷ word ∷ next ∷ words) = Unknown
 
 -- the words of a command that name files, from left to right
 abbrev pub file_words : Command → List (List ℕ)
@@ -35,4 +49,5 @@ file_words (Shape file) = file ∷ []
 file_words (Show net) = net ∷ []
 file_words (Bound net) = net ∷ []
 file_words (Check net certificate) = net ∷ certificate ∷ []
+file_words (Replay net schedule order) = net ∷ schedule ∷ []
 file_words Unknown = []

@@ -1,3 +1,4 @@
+pub mod Order
 pub mod Command
 pub mod Answer
 pub mod Input

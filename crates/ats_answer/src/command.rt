@@ -1,8 +1,10 @@
 //! The command table.
 
 ghost use Rattle.std.specs.Prelude.{◌≡◌};
-ghost use Rattle.ats_answer.specs.Command.{command_of, command_on, command_on_two};
+ghost use Rattle.ats_answer.specs.Command.{command_of, command_on, command_on_three, command_on_two};
 ghost use Rattle.ats_answer.specs.Named.{texts_of, view_of};
+
+use crate::order::{Order, order_named};
 
 /// A line of the command table, with its words.
 #[derive(Clone, Copy)]
@@ -15,6 +17,8 @@ pub enum Command<'a> {
     Bound(&'a str),
     /// `check NET CERT`: judges a certificate of a network, and gives the sums.
     Check(&'a str, &'a str),
+    /// `replay NET SCHEDULE ORDER`: runs a schedule, and gives every journey.
+    Replay(&'a str, &'a str, Order),
 }
 
 /// The command that words name; `None` exactly where they are not in the table.
@@ -25,6 +29,13 @@ pub fn named_by(words: &[String]) -> Option<Command<'_>>
         on_file(words[0].as_str(), words[1].as_str())
     } else if words.len() == 3 {
         on_two(words[0].as_str(), words[1].as_str(), words[2].as_str())
+    } else if words.len() == 4 {
+        on_three(
+            words[0].as_str(),
+            words[1].as_str(),
+            words[2].as_str(),
+            words[3].as_str(),
+        )
     } else {
         None
     }
@@ -54,4 +65,15 @@ fn on_two<'a>(verb: &str, file: &'a str, second: &'a str) -> Option<Command<'a>>
     } else {
         None
     }
+}
+
+// The command of a verb, two files and a word.
+fn on_three<'a>(verb: &str, file: &'a str, second: &'a str, word: &str) -> Option<Command<'a>>
+    ensures { view_of result ≡ command_on_three verb.now file.now second.now word.now }
+{
+    if verb != "replay" {
+        return None;
+    }
+    let order = order_named(word)?;
+    Some(Command::Replay(file, second, order))
 }

@@ -1,10 +1,13 @@
 //! What the files of a call declare.
 
-ghost use Rattle.std.specs.Prelude.{◌≡◌, ℕ, ◌<◌, ◌≤◌, List, length, Some, All, IfOk, IsErrOf};
+ghost use Rattle.std.specs.Prelude.{◌≡◌, ℕ, ◌<◌, ◌≤◌, List, length, Some, Ok, Err, All, IfOk, IsErrOf};
+ghost use Rattle.std.specs.Global.{Vec};
+ghost use Rattle.ats_io.specs.declared.files.TheConstants.{MAX_PLACE};
 ghost use Rattle.ats_io.specs.Outside.{Rose, IfTold, Continues};
 ghost use Rattle.ats_answer.specs.Answer.{input_text};
-ghost use Rattle.ats_answer.specs.Input.{bytes_in, shape_in, network_in, rows_in};
+ghost use Rattle.ats_answer.specs.Input.{bytes_in, shape_in, network_in, releases_in, rows_in};
 ghost use Rattle.ats_answer.specs.Outcome.{Gives, PassesOn};
+ghost use Rattle.ats_trace.specs.Releases.{AreReleases};
 
 use crate::outcome::Stop;
 use ats_certificate::Certificate;
@@ -13,13 +16,18 @@ use ats_io::{Files, ReadFault, read_whole};
 use ats_network::Network;
 use ats_network_file::read_network;
 use ats_num::{Failure, Fault};
+use ats_schedule::read_schedule;
 use ats_shape::{Shape, read_shape};
 use ats_topology::Topology;
+use ats_trace::Release;
 use std::alloc::{AllocError, Global};
 use std::fmt::Display;
 
 /// The most bytes of a file that declares a shape, a network or a certificate.
 pub const MAX_BYTES: u64 = 16_777_216;
+
+/// The most bytes of a schedule's file.
+pub const MAX_SCHEDULE_BYTES: u64 = 33_554_432;
 
 /// The shape that a file declares. `Input` exactly where the file is too long or has a fault, and
 /// `ReadFailed` only where a fault came at it.
@@ -29,7 +37,7 @@ pub fn shape_in<F: Files>(alloc: Global, file: &str, files: &mut F) -> Result<Sh
     ensures failed { IsErrOf result Stop.ReadFailed → Rose (F.faults files.old file.now) (F.faults files.new file.now) }
     ensures continues { Continues F.told F.faults files.old files.new }
 {
-    let bytes = bytes_in(alloc, file, files)?;
+    let bytes = bytes_in(alloc, file, MAX_BYTES, files)?;
     declared(alloc, file, read_shape(alloc, &bytes))
 }
 
@@ -41,7 +49,7 @@ pub fn network_in<F: Files>(alloc: Global, file: &str, files: &mut F) -> Result<
     ensures failed { IsErrOf result Stop.ReadFailed → Rose (F.faults files.old file.now) (F.faults files.new file.now) }
     ensures continues { Continues F.told F.faults files.old files.new }
 {
-    let bytes = bytes_in(alloc, file, files)?;
+    let bytes = bytes_in(alloc, file, MAX_BYTES, files)?;
     declared(alloc, file, read_network(alloc, &bytes))
 }
 
@@ -60,19 +68,38 @@ pub fn certificate_in<F: Files>(
     ensures failed { IsErrOf result Stop.ReadFailed → Rose (F.faults files.old file.now) (F.faults files.new file.now) }
     ensures continues { Continues F.told F.faults files.old files.new }
 {
-    let bytes = bytes_in(alloc, file, files)?;
+    let bytes = bytes_in(alloc, file, MAX_BYTES, files)?;
     declared(alloc, file, read_certificate(alloc, &bytes, topology))
 }
 
-// The bytes of a file that is not too long.
-fn bytes_in<F: Files>(alloc: Global, file: &str, files: &mut F) -> Result<Vec<u8>, Stop>
-    ensures few { IfOk result (λ bytes. length bytes.items ≤ MAX_BYTES) }
+/// The releases that a schedule's file declares for the senders of a network, in the order of its records; they may be
+/// run on it. `Input` exactly where the file is too long or has a fault, and `ReadFailed` only where a fault came at it.
+pub fn schedule_in<F: Files>(
+    alloc: Global,
+    file: &str,
+    network: &Network,
+    files: &mut F,
+) -> Result<Vec<Release>, Stop>
     ensures due { IfTold (F.told files.old file.now)
-        (λ bytes. Gives (λ whole. whole.items) result (bytes_in file.now bytes)) }
+        (λ bytes. Gives (λ releases. releases.items) result (releases_in network.now file.now bytes)) }
+    ensures releases { IfOk result (λ releases. AreReleases network.now releases.items) }
     ensures failed { IsErrOf result Stop.ReadFailed → Rose (F.faults files.old file.now) (F.faults files.new file.now) }
     ensures continues { Continues F.told F.faults files.old files.new }
 {
-    match read_whole(alloc, files, file, MAX_BYTES) {
+    let bytes = bytes_in(alloc, file, MAX_SCHEDULE_BYTES, files)?;
+    declared(alloc, file, read_schedule(alloc, &bytes, network))
+}
+
+// The bytes of a file of at most so many.
+fn bytes_in<F: Files>(alloc: Global, file: &str, most: u64, files: &mut F) -> Result<Vec<u8>, Stop>
+    requires { most ≤ MAX_PLACE }
+    ensures few { IfOk result (λ bytes. length bytes.items ≤ most) }
+    ensures due { IfTold (F.told files.old file.now)
+        (λ bytes. Gives (λ whole. whole.items) result (bytes_in most file.now bytes)) }
+    ensures failed { IsErrOf result Stop.ReadFailed → Rose (F.faults files.old file.now) (F.faults files.new file.now) }
+    ensures continues { Continues F.told F.faults files.old files.new }
+{
+    match read_whole(alloc, files, file, most) {
         Ok(bytes) => Ok(bytes),
         Err(Failure::Fault(ReadFault::TooLong)) => {
             Err(Stop::Input(input_line(alloc, file, &"too-long")?))
@@ -89,6 +116,8 @@ fn declared<T, E: Fault + Display>(
     read: Result<T, Failure<E>>,
 ) -> Result<T, Stop>
     ensures due { PassesOn E.output file.now read result }
+    ensures same { IfOk result (λ value. read ≡ Ok value) }
+    ensures spent { read ≡ Err Failure.NoMemory → result ≡ Err Stop.NoMemory }
     ensures was_read { ¬ IsErrOf result Stop.ReadFailed }
 {
     match read {

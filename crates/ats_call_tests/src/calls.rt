@@ -17,6 +17,8 @@ const NETWORK: &[u8] =
 const CERTIFICATE: &[u8] =
     b"port,class,higher,equal,bursts,lower,least,wait,bound\ns1>s2,6,0,100000000000,12336,0,672,11664000,12836000\n";
 
+const SCHEDULE: &[u8] = b"at_ps,sender,octets\n0,a,1522\n";
+
 // The most bytes that a write takes.
 const MOST: usize = 16;
 
@@ -37,6 +39,12 @@ const COMMANDS: &[(&[&str], u32, &[u8])] = &[
         &["check", "n", "c"],
         4,
         b"hop a s1>s2 12836000\nsum a 12836000\naccepted 1\n",
+    ),
+    (
+        &["replay", "n", "r", "early"],
+        4,
+        b"frame 0 a 1522 0\nhop s1>s2 0 eligible 0 start 0 end 12336000\nsink 12836000\n\
+        total frames 1 sunk 1 late 0 size 0\n",
     ),
 ];
 
@@ -61,7 +69,8 @@ fn file(rt: &(impl Abort + AllocGlobal), name: &str, text: &[u8]) -> (String, Ve
 // The files that the commands name.
 fn files(rt: &(impl Abort + AllocGlobal)) -> Vec<(String, Vec<u8>)> {
     let (shape, network) = (file(rt, "s", SHAPE), file(rt, "n", NETWORK));
-    vec![in rt.alloc(); shape, network, file(rt, "c", CERTIFICATE)].expect(rt, "room")
+    let (certificate, schedule) = (file(rt, "c", CERTIFICATE), file(rt, "r", SCHEDULE));
+    vec![in rt.alloc(); shape, network, certificate, schedule].expect(rt, "room")
 }
 
 // The end of a call with these words over these files and a sink with so much room, and the sink after it. The read and

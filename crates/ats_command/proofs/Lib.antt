@@ -1,8 +1,10 @@
 pub mod RowOrder
 pub mod Judging
 pub mod Steps
+pub mod Replays
 pub mod OneAnswer
 pub mod Meanings
+pub mod ReplayMeanings
 pub mod PrintedBounds
 pub mod Ending
 pub mod Surely

@@ -34,7 +34,7 @@ use Rattle.ats_answer.specs.declared.status.Status.TheVariants.{Input}
 use Rattle.ats_command.proofs.RowOrder.{rows_ascend}
 
 -- a fault of a file is answered so
-abbrev IsInput : Answer → Type 0
+abbrev pub IsInput : Answer → Type 0
 IsInput answer = answer.status ≡ Input
 
 read_gives : {A F : Type 0} (file : List ℕ) (words : F → List ℕ) (read : Result A F) (P : A → Type 0)
@@ -43,28 +43,28 @@ read_gives file words (Ok value) P h = h value refl
 read_gives file words (Err fault) P h = refl
 
 -- what holds of each value that some bytes are read as holds of what a file declares, if it has no fault
-file_gives : {A F : Type 0} (file bytes : List ℕ) (words : F → List ℕ) (reading : List ℕ → Result A F) (P : A → Type 0)
+pub file_gives : {A F : Type 0} (most : ℕ) (file bytes : List ℕ) (words : F → List ℕ) (reading : List ℕ → Result A F) (P : A → Type 0)
     → ((text : List ℕ) (value : A) → reading text ≡ Ok value → P value)
-    → MatchResult (bytes_in file bytes >>= λ text. declared_in file words (reading text)) P IsInput
-file_gives {A} {F} file bytes words reading P h = choose (nat_lt 16777216 (length bytes))
+    → MatchResult (bytes_in most file bytes >>= λ text. declared_in file words (reading text)) P IsInput
+file_gives {A} {F} most file bytes words reading P h = choose (nat_lt most (length bytes))
   where
     choose : (long : Bool) → MatchResult (cond long (Err (input_answer file (codes "too-long"))) (Ok bytes)
         >>= λ text. declared_in file words (reading text)) P IsInput
     choose true = refl
     choose false = read_gives file words (reading bytes) P (h bytes)
 
-network_gives : (net bytes : List ℕ) → MatchResult (network_in net bytes) IsNetwork IsInput
+pub network_gives : (net bytes : List ℕ) → MatchResult (network_in net bytes) IsNetwork IsInput
 unfolding network_in
-network_gives net bytes = file_gives net bytes network.fault_text network_of IsNetwork declared_is_network
+network_gives net bytes = file_gives 16777216 net bytes network.fault_text network_of IsNetwork declared_is_network
 
 rows_give : (topology : DeclaredTopology) (file bytes : List ℕ)
     → MatchResult (rows_in topology file bytes) (AllPairs IsBefore) IsInput
 unfolding rows_in
 rows_give topology file bytes =
-    file_gives file bytes certificate.fault_text (rows_of topology) (AllPairs IsBefore) (rows_ascend topology)
+    file_gives 16777216 file bytes certificate.fault_text (rows_of topology) (AllPairs IsBefore) (rows_ascend topology)
 
 -- an answer in place of a value
-none_declared : {A : Type 0} (declared : Result A Answer) (answer : Answer) → declared ≡ Err answer → IsErr declared
+pub none_declared : {A : Type 0} (declared : Result A Answer) (answer : Answer) → declared ≡ Err answer → IsErr declared
 none_declared declared answer is = rw is refl
 
 -- `bound`, where the file declares a network

@@ -1,26 +1,56 @@
-use Rattle.std.proofs.Common.{◌≡◌, ℕ, List, Option, refl}
-use Rattle.ats_answer.specs.Command.{Command, Shape, Show, Bound, Check, Unknown, command_of}
+use Rattle.std.proofs.Common.{◌≡◌, ℕ, List, Option, refl, sym, ap, ◌∙◌}
+use Rattle.ats_answer.specs.Command.{Command, Shape, Show, Bound, Check, Replay, Unknown, command_of}
 use Rattle.ats_answer.specs.Answer.{Answer, words_answer}
 use Rattle.ats_command.specs.Due.{IsDueAnswer, IsTold, told_bytes}
 use Rattle.ats_command.specs.Due.{shape_answer, show_answer, bound_answer, check_answer}
-use Rattle.ats_command.specs.Laws.{OneAnswerIsDue}
+use Rattle.ats_command.specs.Laws.{HasOneAnswer, OneAnswerIsDue, OneStatusIsDue}
+use Rattle.ats_command.specs.Replayed.{IsReplayed, scheduled_in}
+use Rattle.ats_command.proofs.Replays.{one_without_texts, one_status}
 
-only_due : (told : List ℕ → Option (List ℕ)) (command : Command) → IsTold told command
+only_due : (told : List ℕ → Option (List ℕ)) (command : Command) → IsTold told command → HasOneAnswer told command
     → (answer : Answer) × (IsDueAnswer told command answer)
     × ((other : Answer) → IsDueAnswer told command other → other ≡ answer)
-only_due told (Shape file) is_told =
+only_due told (Shape file) is_told one =
     (shape_answer file (told_bytes told file), record { is_told = is_told; answers = refl }, λ other due. due.answers)
-only_due told (Show net) is_told =
+only_due told (Show net) is_told one =
     (show_answer net (told_bytes told net), record { is_told = is_told; answers = refl }, λ other due. due.answers)
-only_due told (Bound net) is_told =
+only_due told (Bound net) is_told one =
     (bound_answer net (told_bytes told net), record { is_told = is_told; answers = refl }, λ other due. due.answers)
-only_due told (Check net certificate) is_told = (
+only_due told (Check net certificate) is_told one = (
   check_answer net certificate (told_bytes told net) (told_bytes told certificate),
   record { is_told = is_told; answers = refl },
   λ other due. due.answers,
 )
-only_due told Unknown is_told = (words_answer, record { is_told = is_told; answers = refl }, λ other due. due.answers)
+only_due told (Replay net schedule order) is_told one =
+    let alone = one_without_texts (IsReplayed order)
+    (scheduled_in net schedule (told_bytes told net) (told_bytes told schedule)) one in
+    (alone.0, record { is_told = is_told; answers = alone.1 }, λ other due. alone.2 other due.answers)
+only_due told Unknown is_told one =
+    (words_answer, record { is_told = is_told; answers = refl }, λ other due. due.answers)
 
 pub one_answer : OneAnswerIsDue
-one_answer told words is_told = let d = only_due told (command_of words) is_told in
+one_answer told words is_told one = let d = only_due told (command_of words) is_told one in
     (d.0, record { due = d.1; only = d.2 })
+
+-- equal answers have one status
+same_status : (one other due : Answer) → one ≡ due → other ≡ due → one.status ≡ other.status
+same_status one other due h k = ap (λ (a : Answer). a.status) (h ∙ sym k)
+
+same_due : (told : List ℕ → Option (List ℕ)) (command : Command) (one other : Answer) → IsDueAnswer told command one
+    → IsDueAnswer told command other → one.status ≡ other.status
+same_due told (Shape file) one other h k =
+    same_status one other (shape_answer file (told_bytes told file)) h.answers k.answers
+same_due told (Show net) one other h k =
+    same_status one other (show_answer net (told_bytes told net)) h.answers k.answers
+same_due told (Bound net) one other h k =
+    same_status one other (bound_answer net (told_bytes told net)) h.answers k.answers
+same_due told (Check net certificate) one other h k =
+    same_status one other (check_answer net certificate (told_bytes told net) (told_bytes told certificate)) h.answers
+    k.answers
+same_due told (Replay net schedule order) one other h k =
+    one_status (IsReplayed order) (scheduled_in net schedule (told_bytes told net) (told_bytes told schedule)) one other
+    h.answers k.answers
+same_due told Unknown one other h k = same_status one other words_answer h.answers k.answers
+
+pub one_status_due : OneStatusIsDue
+one_status_due told words one other = same_due told (command_of words) one other

@@ -2,11 +2,13 @@ use Rattle.std.specs.Prelude.{◌≡◌, ℕ, ◌⊎◌, List, [], All, IsSome, 
 use Rattle.ats_io.specs.Outside.{IfTold}
 use Rattle.ats_shape.specs.Text.{text_of}
 use Rattle.ats_network_text.specs.Text.{show_text}
-use Rattle.ats_answer.specs.Command.{Command, Shape, Show, Bound, Check, Unknown, file_words}
+use Rattle.ats_answer.specs.Command.{Command, Shape, Show, Bound, Check, Replay, Unknown, file_words}
 use Rattle.ats_num.specs.Failure.{◌>>=◌}
+use Rattle.ats_answer.specs.declared.order.Order.{Order}
 use Rattle.ats_answer.specs.Answer.{Answer, words_answer, settled}
 use Rattle.ats_answer.specs.Input.{shape_in, network_in}
 use Rattle.ats_command.specs.Judged.{bound_judged, certificate_judged}
+use Rattle.ats_command.specs.Replayed.{IsOneOf, IsReplayed, scheduled_in}
 
 -- to `shape FILE`, by the bytes of the file
 unfoldable pub shape_answer : List ℕ → List ℕ → Answer
@@ -32,12 +34,19 @@ check_answer net certificate net_bytes certificate_bytes = settled (do
   network ← network_in net net_bytes
   certificate_judged network certificate certificate_bytes)
 
+-- an answer to `replay NET SCHEDULE ORDER`, by the bytes of both files: it prints some run in this order
+abbrev pub IsReplayAnswer : List ℕ → List ℕ → Order → List ℕ → List ℕ → Answer → Type 0
+IsReplayAnswer net schedule order net_bytes schedule_bytes answer =
+    IsOneOf (IsReplayed order) (scheduled_in net schedule net_bytes schedule_bytes) answer
+
 -- an answer to a command, where its files have these bytes
 abbrev pub IsAnswer : (List ℕ → List ℕ) → Command → Answer → Type 0
 IsAnswer bytes (Shape file) answer = answer ≡ shape_answer file (bytes file)
 IsAnswer bytes (Show net) answer = answer ≡ show_answer net (bytes net)
 IsAnswer bytes (Bound net) answer = answer ≡ bound_answer net (bytes net)
 IsAnswer bytes (Check net certificate) answer = answer ≡ check_answer net certificate (bytes net) (bytes certificate)
+IsAnswer bytes (Replay net schedule order) answer =
+    IsReplayAnswer net schedule order (bytes net) (bytes schedule) answer
 IsAnswer bytes Unknown answer = answer ≡ words_answer
 
 -- the bytes of each file word are told
@@ -63,4 +72,5 @@ Reaches told (Shape file) name = name ≡ file
 Reaches told (Show net) name = name ≡ net
 Reaches told (Bound net) name = name ≡ net
 Reaches told (Check net certificate) name = (name ≡ net) ⊎ ((name ≡ certificate) × Declares told net)
+Reaches told (Replay net schedule order) name = (name ≡ net) ⊎ ((name ≡ schedule) × Declares told net)
 Reaches told Unknown name = ⊥

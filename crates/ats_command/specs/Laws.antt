@@ -1,4 +1,4 @@
-use Rattle.std.specs.Prelude.{◌≡◌, ℕ, List, ◌++◌, codes, decimal, Option, Some, slice_get, sum_by}
+use Rattle.std.specs.Prelude.{◌≡◌, ℕ, List, ◌++◌, codes, decimal, Option, Some, IsErr, slice_get, sum_by}
 use Rattle.std.specs.List.{flat_map}
 use Rattle.ats_topology.specs.Topology.{DeclaredTopology}
 use Rattle.ats_verdict_text.specs.PortName.{port_name}
@@ -8,19 +8,36 @@ use Rattle.ats_network.specs.Senders.{sender_at}
 use Rattle.ats_certificate.specs.declared.row.Row.{Row}
 use Rattle.ats_soundness_law.specs.Sound.{bounds_of}
 use Rattle.ats_verdict_text.specs.Text.{stream_lines}
-use Rattle.ats_answer.specs.Command.{command_of}
+use Rattle.ats_answer.specs.Command.{Command, Shape, Show, Bound, Check, Replay, Unknown, command_of}
 use Rattle.ats_answer.specs.Answer.{Answer}
-use Rattle.ats_command.specs.Due.{IsDueAnswer, IsTold}
+use Rattle.ats_command.specs.Due.{IsDueAnswer, IsTold, told_bytes}
+use Rattle.ats_command.specs.Replayed.{scheduled_in}
 
 -- this answer is due, and no other
 pub record IsOnlyDue (told : List ℕ → Option (List ℕ)) (words : List (List ℕ)) (answer : Answer) : Type 0 where
   pub due : IsDueAnswer told (command_of words) answer
   pub only : (other : Answer) → IsDueAnswer told (command_of words) other → other ≡ answer
 
--- for all words, and all bytes told under the names of their files, just one answer is due
+-- the bytes that are told leave one answer alone: to each command but `replay`, which may print any run in its order,
+-- and to `replay` where a file has a fault
+abbrev pub HasOneAnswer : (List ℕ → Option (List ℕ)) → Command → Type 0
+HasOneAnswer told (Shape file) = Unit {0}
+HasOneAnswer told (Show net) = Unit {0}
+HasOneAnswer told (Bound net) = Unit {0}
+HasOneAnswer told (Check net certificate) = Unit {0}
+HasOneAnswer told (Replay net schedule order) =
+    IsErr (scheduled_in net schedule (told_bytes told net) (told_bytes told schedule))
+HasOneAnswer told Unknown = Unit {0}
+
+-- for all words, and all bytes told under the names of their files, just one answer is due, where they leave one alone
 abbrev pub OneAnswerIsDue : Type 0
 OneAnswerIsDue = (told : List ℕ → Option (List ℕ)) (words : List (List ℕ)) → IsTold told (command_of words)
-    → (answer : Answer) × IsOnlyDue told words answer
+    → HasOneAnswer told (command_of words) → (answer : Answer) × IsOnlyDue told words answer
+
+-- for all words and bytes, all answers that are due have one status
+abbrev pub OneStatusIsDue : Type 0
+OneStatusIsDue = (told : List ℕ → Option (List ℕ)) (words : List (List ℕ)) (one other : Answer)
+    → IsDueAnswer told (command_of words) one → IsDueAnswer told (command_of words) other → one.status ≡ other.status
 
 -- a line `hop NAME PORT BOUND` for each port of a path, by these bounds, and a line `sum NAME SUM` with their sum
 abbrev pub lines_by : DeclaredTopology → List ℕ → (ℕ → ℕ) → List ℕ → List ℕ

@@ -4,17 +4,24 @@ ghost use Rattle.std.specs.Prelude.{◌≡◌, ◌⊎◌};
 ghost use Rattle.ats_answer.specs.Command.{command_of};
 ghost use Rattle.ats_answer.specs.Named.{texts_of};
 ghost use Rattle.ats_command.specs.Calls.{StatusIsDue};
-ghost use Rattle.ats_command.specs.Laws.{OneAnswerIsDue, PrintedBoundsAreSound};
+ghost use Rattle.ats_command.specs.Laws.{OneAnswerIsDue, OneStatusIsDue, PrintedBoundsAreSound};
 ghost use Rattle.ats_command.specs.Meaning.{BoundMeans, CheckMeans};
+ghost use Rattle.ats_command.specs.ReplayMeaning.{ReplayKeepsBounds, ReplayMeans};
 
 use crate::call::ats;
 use ats_answer::Status;
 use ats_io::{Files, SureFiles, SureSink};
 use std::alloc::Global;
 
-/// For all words, and all bytes told under the names of their files, just one answer is due.
+/// For all words, and all bytes told under the names of their files, just one answer is due, except to `replay` of files
+/// without a fault, which may print any run in its order.
 pub fn one_answer_is_due()
     ensures { OneAnswerIsDue }
+{}
+
+/// For all words and bytes, all answers that are due have one status.
+pub fn one_status_is_due()
+    ensures { OneStatusIsDue }
 {}
 
 /// What each answer to `bound` means, by its status. `Done`: the file declares a network, and the text writes its least
@@ -30,6 +37,21 @@ pub fn what_bound_answers()
 /// it. `Input`: one of them does not declare what it should. No other status comes.
 pub fn what_check_answers()
     ensures { CheckMeans }
+{}
+
+/// What each answer to `replay` means, by its status. `Done`: the files declare a network and releases, and the text
+/// gives every journey of a legal run of this network, by the tie and the pace of the order, with exactly these
+/// releases. `Input`: one of them does not declare what it should. No other status comes.
+pub fn what_replay_answers()
+    ensures { ReplayMeans }
+{}
+
+/// Where `Done` is due to `check` of a certificate and to `replay` of a schedule for one network: each frame of a stream
+/// whose talker keeps its buckets in this schedule is, in the run that `replay` prints, never discarded, eligible at
+/// each next hop within the bound that `check` prints for the hop before, and arrives within the printed sum of its
+/// stream and within its deadline.
+pub fn replay_keeps_bounds()
+    ensures { ReplayKeepsBounds }
 {}
 
 /// What is printed is what is sound: the lines of the stream with a number give, for each port of its path, the bound

@@ -6,6 +6,7 @@ pub mod bound_command;
 pub mod call;
 pub mod check_command;
 pub mod laws;
+pub mod replay_command;
 pub mod shape_command;
 pub mod show_command;
 
@@ -13,5 +14,6 @@ pub use bound_command::bound;
 pub use call::ats;
 pub use check_command::check;
 pub use laws::ats_surely;
+pub use replay_command::replay;
 pub use shape_command::shape;
 pub use show_command::show;

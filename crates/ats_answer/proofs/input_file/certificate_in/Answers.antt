@@ -16,14 +16,14 @@ returns-in_err-bytes-clause-due g c = λ bytes told.
     subst (λ (r : Result (List Row) Stop).
     Gives (λ (rows : List Row). rows) r (rows_in c.args.topology.now c.args.file.now bytes))
     (sym (err_is c.from_residual.result c.in_err-bytes.field-0.0 c.from_residual.ensures.1))
-    (stops_all c.in_err-bytes.field-0.0 (bytes_in c.args.file.now bytes)
+    (stops_all c.in_err-bytes.field-0.0 (bytes_in 16777216 c.args.file.now bytes)
     (λ text. declared_in c.args.file.now fault_text (rows_of c.args.topology.now text))
     (c.in_err-bytes.ensures.due bytes told))
 
 pub returns-clause-due : goal.returns-clause-due
 unfolding rows_in
 returns-clause-due g c = λ bytes told.
-    declares (λ (rows : List Row). rows) c.declared.result c.args.file.now bytes c.in_ok-bytes.bytes.items
+    declares (λ (rows : List Row). rows) c.declared.result 16777216 c.args.file.now bytes c.in_ok-bytes.bytes.items
     c.deref.result.now fault_text (rows_of c.args.topology.now)
     (c.in_ok-bytes.ensures.due bytes told) c.deref.ensures.value (c.declared.ensures.due fault_text
     (rows_of c.args.topology.now c.deref.result.now) (λ fault. refl) c.read_certificate.ensures)

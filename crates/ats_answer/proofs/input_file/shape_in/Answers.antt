@@ -14,13 +14,13 @@ returns-in_err-bytes-clause-due g c = λ bytes told.
     subst
     (λ (r : Result DeclaredShape Stop). Gives (λ (shape : DeclaredShape). shape) r (shape_in c.args.file.now bytes))
     (sym (err_is c.from_residual.result c.in_err-bytes.field-0.0 c.from_residual.ensures.1))
-    (stops_all c.in_err-bytes.field-0.0 (bytes_in c.args.file.now bytes)
+    (stops_all c.in_err-bytes.field-0.0 (bytes_in 16777216 c.args.file.now bytes)
     (λ text. declared_in c.args.file.now fault_text (shape_of text)) (c.in_err-bytes.ensures.due bytes told))
 
 pub returns-clause-due : goal.returns-clause-due
 unfolding shape_in
 returns-clause-due g c = λ bytes told.
     declares (λ (shape : DeclaredShape). shape)
-    c.declared.result c.args.file.now bytes c.in_ok-bytes.bytes.items c.deref.result.now fault_text shape_of
+    c.declared.result 16777216 c.args.file.now bytes c.in_ok-bytes.bytes.items c.deref.result.now fault_text shape_of
     (c.in_ok-bytes.ensures.due bytes told) c.deref.ensures.value
     (c.declared.ensures.due fault_text (shape_of c.deref.result.now) (λ fault. refl) c.read_shape.ensures)
