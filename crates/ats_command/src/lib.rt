@@ -4,6 +4,7 @@
 
 pub mod bound_command;
 pub mod call;
+pub mod capture_command;
 pub mod check_command;
 pub mod laws;
 pub mod replay_command;
@@ -12,6 +13,7 @@ pub mod show_command;
 
 pub use bound_command::bound;
 pub use call::ats;
+pub use capture_command::capture;
 pub use check_command::check;
 pub use laws::ats_surely;
 pub use replay_command::replay;
