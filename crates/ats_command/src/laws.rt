@@ -13,8 +13,8 @@ use ats_answer::Status;
 use ats_io::{Files, SureFiles, SureSink};
 use std::alloc::Global;
 
-/// For all words, and all bytes told under the names of their files, just one answer is due, except to `replay` of
-/// files without a fault, which may print any run in its order.
+/// For all words, and all bytes told under the names of their files, just one answer is due, except to `replay` and
+/// `capture` of files without a fault, which may print any run in their order.
 pub fn one_answer_is_due()
     ensures { OneAnswerIsDue }
 {}

@@ -4,6 +4,7 @@
 
 pub mod bound_command;
 pub mod call;
+pub mod capture_command;
 pub mod check_command;
 pub mod explain_command;
 pub mod laws;
@@ -13,6 +14,7 @@ pub mod show_command;
 
 pub use bound_command::bound;
 pub use call::ats;
+pub use capture_command::capture;
 pub use check_command::check;
 pub use explain_command::explain;
 pub use laws::ats_surely;
