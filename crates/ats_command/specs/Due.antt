@@ -2,11 +2,12 @@ use Rattle.std.specs.Prelude.{◌≡◌, ℕ, ◌⊎◌, List, [], All, IsSome, 
 use Rattle.ats_io.specs.Outside.{IfTold}
 use Rattle.ats_shape.specs.Text.{text_of}
 use Rattle.ats_network_text.specs.Text.{show_text}
-use Rattle.ats_answer.specs.Command.{Command, Shape, Show, Bound, Check, Replay, Unknown, file_words}
+use Rattle.ats_answer.specs.Command.{Command, Shape, Show, Bound, Check, Conform, Replay, Unknown, file_words}
 use Rattle.ats_num.specs.Failure.{◌>>=◌}
 use Rattle.ats_answer.specs.declared.order.Order.{Order}
 use Rattle.ats_answer.specs.Answer.{Answer, words_answer, settled}
 use Rattle.ats_answer.specs.Input.{shape_in, network_in}
+use Rattle.ats_command.specs.Conformed.{IsAnswerTo, JudgesScheduled}
 use Rattle.ats_command.specs.Judged.{bound_judged, certificate_judged}
 use Rattle.ats_command.specs.Replayed.{IsOneOf, IsReplayed, scheduled_in}
 
@@ -39,12 +40,18 @@ abbrev pub IsReplayAnswer : List ℕ → List ℕ → Order → List ℕ → Lis
 IsReplayAnswer net schedule order net_bytes schedule_bytes answer =
     IsOneOf (IsReplayed order) (scheduled_in net schedule net_bytes schedule_bytes) answer
 
+-- an answer to `conform NET SCHEDULE`, by the bytes of both files
+abbrev pub IsConformAnswer : List ℕ → List ℕ → List ℕ → List ℕ → Answer → Type 0
+IsConformAnswer net schedule net_bytes schedule_bytes answer =
+    IsAnswerTo JudgesScheduled (scheduled_in net schedule net_bytes schedule_bytes) answer
+
 -- an answer to a command, where its files have these bytes
 abbrev pub IsAnswer : (List ℕ → List ℕ) → Command → Answer → Type 0
 IsAnswer bytes (Shape file) answer = answer ≡ shape_answer file (bytes file)
 IsAnswer bytes (Show net) answer = answer ≡ show_answer net (bytes net)
 IsAnswer bytes (Bound net) answer = answer ≡ bound_answer net (bytes net)
 IsAnswer bytes (Check net certificate) answer = answer ≡ check_answer net certificate (bytes net) (bytes certificate)
+IsAnswer bytes (Conform net schedule) answer = IsConformAnswer net schedule (bytes net) (bytes schedule) answer
 IsAnswer bytes (Replay net schedule order) answer =
     IsReplayAnswer net schedule order (bytes net) (bytes schedule) answer
 IsAnswer bytes Unknown answer = answer ≡ words_answer
@@ -72,5 +79,6 @@ Reaches told (Shape file) name = name ≡ file
 Reaches told (Show net) name = name ≡ net
 Reaches told (Bound net) name = name ≡ net
 Reaches told (Check net certificate) name = (name ≡ net) ⊎ ((name ≡ certificate) × Declares told net)
+Reaches told (Conform net schedule) name = (name ≡ net) ⊎ ((name ≡ schedule) × Declares told net)
 Reaches told (Replay net schedule order) name = (name ≡ net) ⊎ ((name ≡ schedule) × Declares told net)
 Reaches told Unknown name = ⊥

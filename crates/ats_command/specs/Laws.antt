@@ -8,7 +8,7 @@ use Rattle.ats_network.specs.Senders.{sender_at}
 use Rattle.ats_certificate.specs.declared.row.Row.{Row}
 use Rattle.ats_soundness_law.specs.Sound.{bounds_of}
 use Rattle.ats_verdict_text.specs.Text.{stream_lines}
-use Rattle.ats_answer.specs.Command.{Command, Shape, Show, Bound, Check, Replay, Unknown, command_of}
+use Rattle.ats_answer.specs.Command.{Command, Shape, Show, Bound, Check, Conform, Replay, Unknown, command_of}
 use Rattle.ats_answer.specs.Answer.{Answer}
 use Rattle.ats_command.specs.Due.{IsDueAnswer, IsTold, told_bytes}
 use Rattle.ats_command.specs.Replayed.{scheduled_in}
@@ -25,6 +25,7 @@ HasOneAnswer told (Shape file) = Unit {0}
 HasOneAnswer told (Show net) = Unit {0}
 HasOneAnswer told (Bound net) = Unit {0}
 HasOneAnswer told (Check net certificate) = Unit {0}
+HasOneAnswer told (Conform net schedule) = Unit {0}
 HasOneAnswer told (Replay net schedule order) =
     IsErr (scheduled_in net schedule (told_bytes told net) (told_bytes told schedule))
 HasOneAnswer told Unknown = Unit {0}

@@ -1,5 +1,6 @@
 pub mod Judged
 pub mod Replayed
+pub mod Conformed
 pub mod Due
 pub mod Calls
 pub mod Soundness

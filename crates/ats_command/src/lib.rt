@@ -5,6 +5,7 @@
 pub mod bound_command;
 pub mod call;
 pub mod check_command;
+pub mod conform_command;
 pub mod laws;
 pub mod replay_command;
 pub mod shape_command;
@@ -13,6 +14,7 @@ pub mod show_command;
 pub use bound_command::bound;
 pub use call::ats;
 pub use check_command::check;
+pub use conform_command::conform;
 pub use laws::ats_surely;
 pub use replay_command::replay;
 pub use shape_command::shape;
