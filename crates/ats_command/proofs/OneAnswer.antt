@@ -23,7 +23,7 @@ only_due told (Check net certificate) is_told one = (
   λ other due. due.answers,
 )
 only_due told (Conform net schedule) is_told one =
-    let alone = one_judgement net schedule (told_bytes told net) (told_bytes told schedule) in
+    let alone = one_judgement (scheduled_in net schedule (told_bytes told net) (told_bytes told schedule)) one in
     (alone.0, record { is_told = is_told; answers = alone.1 }, λ other due. alone.2 other due.answers)
 only_due told (Replay net schedule order) is_told one =
     let alone = one_without_texts (IsReplayed order)
