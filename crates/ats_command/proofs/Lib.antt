@@ -9,3 +9,4 @@ pub mod ReplayMeanings
 pub mod PrintedBounds
 pub mod Ending
 pub mod Surely
+pub mod ConformMeanings

@@ -7,3 +7,4 @@ pub mod Soundness
 pub mod Laws
 pub mod Meaning
 pub mod ReplayMeaning
+pub mod ConformMeaning

@@ -54,11 +54,7 @@ fn conformance_of<F: Files>(
 }
 
 // What is printed of releases by which every station keeps its buckets, or of the first frame that breaks one.
-fn judgement_of(
-    alloc: Global,
-    network: &Network,
-    releases: &[Release],
-) -> Result<Vec<u8>, Stop>
+fn judgement_of(alloc: Global, network: &Network, releases: &[Release]) -> Result<Vec<u8>, Stop>
     requires { AreReleases network.now releases.now }
     ensures due { IfSome (answer_of result) (JudgesReleases network.now releases.now) }
     ensures was_read { ¬ IsErrOf result Stop.ReadFailed }
