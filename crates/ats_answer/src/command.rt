@@ -20,6 +20,8 @@ pub enum Command<'a> {
     Explain(&'a str),
     /// `check NET CERT`: judges a certificate of a network, and gives the sums.
     Check(&'a str, &'a str),
+    /// `conform NET SCHEDULE`: judges the releases of a schedule by the declared buckets and sizes.
+    Conform(&'a str, &'a str),
     /// `replay NET SCHEDULE ORDER`: runs a schedule, and gives every journey.
     Replay(&'a str, &'a str, Order),
     /// `capture NET STATION FILE ORDER`: runs what a station sent by a capture, and gives every journey.
@@ -77,6 +79,8 @@ fn on_two<'a>(verb: &str, file: &'a str, second: &'a str) -> Option<Command<'a>>
 {
     if verb == "check" {
         Some(Command::Check(file, second))
+    } else if verb == "conform" {
+        Some(Command::Conform(file, second))
     } else {
         None
     }
