@@ -86,8 +86,11 @@ returns-clause-failed g c = λ failed.
     let named = subst (λ (t : DeclaredTopology). station_in t station ≡ Ok place) c.topology.ensures.value
     c.in_ok-place.ensures.due in (
       file,
-      inr (refl, λ bytes told. declared_is_ok _ place
-      (ap (λ (d : Result DeclaredNetwork Answer). d >>= λ n. station_in n.topology station)
-      (c.in_ok-network.ensures.due bytes told) ∙ named)),
+      inr (
+        refl,
+        λ bytes told. declared_is_ok _ place
+            (ap (λ (d : Result DeclaredNetwork Answer). d >>= λ n. station_in n.topology station)
+            (c.in_ok-network.ensures.due bytes told) ∙ named),
+      ),
       Rose-since _ _ _ (c.network_in.ensures.continues.counts file) (c.capture_of.ensures.failed failed),
     )
