@@ -2,6 +2,7 @@ pub mod RowOrder
 pub mod Judging
 pub mod Steps
 pub mod Replays
+pub mod Conforms
 pub mod OneAnswer
 pub mod Meanings
 pub mod ReplayMeanings
@@ -9,3 +10,4 @@ pub mod PrintedBounds
 pub mod Ending
 pub mod Surely
 pub mod Explaining
+pub mod ConformMeanings
