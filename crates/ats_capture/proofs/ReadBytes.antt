@@ -97,7 +97,7 @@ over_due told at count reader bytes buffer r is some full piece =
     stands_open : (failure : Option (Failure CaptureFault)) (position : Position) (read : List ℕ) → failure ≡ None
         → Shows failure position (position_of read) → position_of read ≡ Ok position
     stands_open failure position read e h = subst (λ (o : Option (Failure CaptureFault)). Shows o position
-    (position_of read)) e h
+        (position_of read)) e h
 
 -- a fault that a front of the bytes shows is the first one of the file
 shown_fault : (front bytes : List ℕ) (fault : CaptureFault) → position_of front ≡ Err fault
