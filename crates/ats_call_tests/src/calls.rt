@@ -36,6 +36,13 @@ const COMMANDS: &[(&[&str], u32, &[u8])] = &[
     ),
     (&["bound", "n"], 2, CERTIFICATE),
     (
+        &["explain", "n"],
+        2,
+        b"stream a sum 12836000 deadline 1000000000000 slack 999987164000\n\
+        hop s1>s2 6 lower 0 - bursts 11664000 higher 0 frame 672000 latency 500000 bound 12836000\n\
+        port s1>s2 load 100000000000\ntotal streams 1 late 0 over 0 tightest a slack 999987164000\n",
+    ),
+    (
         &["check", "n", "c"],
         4,
         b"hop a s1>s2 12836000\nsum a 12836000\naccepted 1\n",
