@@ -6,7 +6,8 @@ use Rattle.std.specs.Global.{Vec}
 use Rattle.std.proofs.lemmas.List.Elements.{All-nil, All-push}
 use Rattle.ats_num.specs.Failure.{◌>>=◌}
 use Rattle.ats_num.specs.declared.failure.Failure.{Failure}
-use Rattle.ats_pcap.specs.Capture.{Position, Reach, form_of, header_fault, is_whole, past_record, position_at, position_of}
+use Rattle.ats_pcap.specs.Capture.{Position, Reach, form_of, header_fault, is_whole, past_record, position_at}
+use Rattle.ats_pcap.specs.Capture.{position_of}
 use Rattle.ats_pcap.specs.Capture.{read_on, record_fault, record_of, records_at, records_of, without}
 use Rattle.ats_pcap.specs.declared.fault.CaptureFault.{CaptureFault}
 use Rattle.ats_pcap.specs.declared.fault.CaptureFault.TheVariants.{CutShort}

@@ -1,5 +1,6 @@
 -- Streams of a station, and the releases that records come to.
-use Rattle.std.proofs.Common.{◌≡◌, ℕ, ◌+◌, ◌-◌, ◌*◌, ◌<◌, ◌≤◌, max, Bool, true, false, cond, ◌&&◌, ◌==◌, nat_le, nat_lt, List, []}
+use Rattle.std.proofs.Common.{◌≡◌, ℕ, ◌+◌, ◌-◌, ◌*◌, ◌<◌, ◌≤◌, max, Bool, true, false, cond, ◌&&◌, ◌==◌, nat_le}
+use Rattle.std.proofs.Common.{nat_lt, List, []}
 use Rattle.std.proofs.Common.{◌∷◌, length, get_or, map, Option, Some, None, Result, Ok, Err, refl, sym}
 use Rattle.std.proofs.Common.{ap, ◌∙◌, subst, arith, length-append}
 use Rattle.std.specs.Prelude.{All, IfOk}
@@ -48,8 +49,8 @@ one_more network station first latest later traffic more r records rest due h he
     let stepped : with_record network station (max latest r.nanos - first) traffic r ≡ Ok more =
     ap (λ n. with_record network station (n - first) traffic r) (sym time) ∙ step in
     ap (λ n. traffic_from network station first n more rest) time
-    ∙ sym (ap (λ (x : Result Traffic JoinFault). x >>= λ t. traffic_from network station first (max latest r.nanos) t rest)
-    stepped) ∙ whole
+    ∙ sym (ap (λ (x : Result Traffic JoinFault).
+    x >>= λ t. traffic_from network station first (max latest r.nanos) t rest) stepped) ∙ whole
 
 -- what holds after a step
 after : {A B : Type 0} (P : A → Type 0) (Q : B → Type 0) (x : Result A JoinFault) (f : A → Result B JoinFault)

@@ -14,6 +14,8 @@ pub fn counts_line(alloc: Global, traffic: &StationTraffic) -> Result<Vec<u8>, A
     let records = traffic.records;
     let unidentified = traffic.unidentified;
     let oversize = traffic.oversize;
-    let line = format!(in alloc; "records {records} unidentified {unidentified} oversize {oversize}\n")?;
+    let line = format!(in alloc;
+        "records {records} unidentified {unidentified} oversize {oversize}\n"
+    )?;
     Ok(line.into_bytes())
 }

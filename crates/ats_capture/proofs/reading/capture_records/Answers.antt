@@ -68,9 +68,9 @@ loop-reader-preserved g c =
     let told : Option (List ℕ) = g.F.Files.told c.args.files.now c.args.name.now in
     record {
       room = c.loop-reader.invariant.room;
-      within = piece_within c.loop-reader.at c.in_ok-count.count c.room_at-most.result c.deref_mut.result.now c.read.new.buf
-          c.loop-reader.invariant.within c.if-at-eq-MAX_BYTES.false c.room_at-most.ensures.within c.read.auto.buf
-          c.in_ok-count.ensures.within;
+      within = piece_within c.loop-reader.at c.in_ok-count.count c.room_at-most.result c.deref_mut.result.now
+          c.read.new.buf c.loop-reader.invariant.within c.if-at-eq-MAX_BYTES.false c.room_at-most.ensures.within
+          c.read.auto.buf c.in_ok-count.ensures.within;
       reads = fed told c.loop-reader.at c.in_ok-count.count c.loop-reader.reader c.feed.new.reader
           (take c.in_ok-count.count c.read.new.buf) c.read.new.buf c.loop-reader.invariant.reads
           c.in_ok-feed.ensures.answer c.feed.ensures.stands refl c.in_ok-count.ensures.within

@@ -40,8 +40,8 @@ returns-in_err-place-clause-due g c = λ is_told.
     c.topology.ensures.value c.in_err-place.ensures.due in
     one_settles (IsCaptured c.args.order) c.from_residual-in_err-place.result
     (captured_in net station file (told_bytes told net) (told_bytes told file))
-    (one_goes_on (IsCaptured c.args.order) c.from_residual-in_err-place.result (network_in net (told_bytes told net)) network
-    (λ n. station_in n.topology station >>= λ place. traffic_in n place file (told_bytes told file)
+    (one_goes_on (IsCaptured c.args.order) c.from_residual-in_err-place.result (network_in net (told_bytes told net))
+    network (λ n. station_in n.topology station >>= λ place. traffic_in n place file (told_bytes told file)
     >>= λ traffic. Ok (record { network = n; traffic = traffic }))
     (c.in_ok-network.ensures.due (told_bytes told net) (told_is told net (is_told 0 [] (lit< tt))))
     (stop_gives_one (IsCaptured c.args.order) c.from_residual-in_err-place.result c.in_err-place.field-0.0 _
@@ -86,8 +86,11 @@ returns-clause-failed g c = λ failed.
     let named = subst (λ (t : DeclaredTopology). station_in t station ≡ Ok place) c.topology.ensures.value
     c.in_ok-place.ensures.due in (
       file,
-      inr (refl, λ bytes told. declared_is_ok _ place
-      (ap (λ (d : Result DeclaredNetwork Answer). d >>= λ n. station_in n.topology station)
-      (c.in_ok-network.ensures.due bytes told) ∙ named)),
+      inr (
+        refl,
+        λ bytes told. declared_is_ok _ place
+            (ap (λ (d : Result DeclaredNetwork Answer). d >>= λ n. station_in n.topology station)
+            (c.in_ok-network.ensures.due bytes told) ∙ named),
+      ),
       Rose-since _ _ _ (c.network_in.ensures.continues.counts file) (c.capture_of.ensures.failed failed),
     )
