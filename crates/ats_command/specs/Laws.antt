@@ -22,11 +22,6 @@ pub record IsOnlyDue (told : List ℕ → Option (List ℕ)) (words : List (List
   pub due : IsDueAnswer told (command_of words) answer
   pub only : (other : Answer) → IsDueAnswer told (command_of words) other → other ≡ answer
 
--- releases that are declared may be run
-abbrev pub MayBeRun : Result Scheduled Answer → Type 0
-MayBeRun (Ok scheduled) = AreReleases scheduled.network scheduled.releases
-MayBeRun (Err answer) = Unit {0}
-
 -- the bytes that are told leave one answer alone: to each command but `replay` and `capture`, which may print any run
 -- in their order, and to these where a file has a fault or no station has the name
 abbrev pub HasOneAnswer : (List ℕ → Option (List ℕ)) → Command → Type 0
@@ -35,8 +30,7 @@ HasOneAnswer told (Show net) = Unit {0}
 HasOneAnswer told (Bound net) = Unit {0}
 HasOneAnswer told (Explain net) = Unit {0}
 HasOneAnswer told (Check net certificate) = Unit {0}
-HasOneAnswer told (Conform net schedule) =
-    MayBeRun (scheduled_in net schedule (told_bytes told net) (told_bytes told schedule))
+HasOneAnswer told (Conform net schedule) = Unit {0}
 HasOneAnswer told (Replay net schedule order) =
     IsErr (scheduled_in net schedule (told_bytes told net) (told_bytes told schedule))
 HasOneAnswer told (Capture net station file order) =
