@@ -1,20 +1,15 @@
 -- What a step makes of the events that are to happen.
-use Rattle.std.proofs.Common.{◌≡◌, ℕ, zero, suc, ◌<◌, List, [], ◌∷◌, ◌++◌, length, All, Option, Some, None, refl, sym, ap}
-use Rattle.std.proofs.Common.{◌∙◌, subst, inl, inr, arith}
+use Rattle.std.proofs.Common.{◌≡◌, zero, suc, List, [], ◌∷◌, ◌++◌, All, Option, Some, sym, ap, ◌∙◌, subst, inl, inr}
+use Rattle.std.proofs.Common.{arith}
 use Rattle.std.specs.Prelude.{◌≢◌, ◌⊎◌, AllPairs, Contains, IfSome, slice_index_or}
-use Rattle.std.proofs.lemmas.Bool.{cases_eq}
 use Rattle.std.proofs.lemmas.List.Elements.{All-append, All-head, All-tail, Contains-append_left, Contains-append_right}
 use Rattle.std.proofs.lemmas.List.Kept.{AllPairs-cons}
-use Rattle.std.proofs.lemmas.Option.{IfSome_then, none-some}
+use Rattle.std.proofs.lemmas.Option.{IfSome_then}
 use Rattle.ats_facts.proofs.Lists.{pairs_head, pairs_tail}
 use Rattle.ats_events.specs.declared.moment.Moment.{Moment}
-use Rattle.ats_events.specs.declared.phase.TheConstants.{TRANSMISSION_END, ARRIVAL, ELIGIBLE, SELECTION}
-use Rattle.ats_steps.specs.Course.{Course, stage_at, turn_at}
-use Rattle.ats_steps.specs.Entries.{arrival_by, eligibility_by, end_by, selection_by, moment_of, IsReached, AreAwaited}
+use Rattle.ats_steps.specs.Course.{Course}
+use Rattle.ats_steps.specs.Entries.{moment_of, IsReached, AreAwaited}
 use Rattle.ats_steps.specs.declared.event.Event.{Event}
-use Rattle.ats_steps.specs.declared.event.Event.TheVariants.{End, Arrival, Eligibility, Selection}
-use Rattle.ats_steps.specs.declared.stage.Stage.{Stage}
-use Rattle.ats_steps.specs.declared.turn.Turn.{Turn}
 
 -- an element of a list with one more on top is that one or another one
 contains_cases : {X : Type 0} (x : X) (xs : List X) (y : X) → Contains (x ∷ xs) y → (x ≡ y) ⊎ Contains xs y
@@ -59,6 +54,7 @@ kept : {old new : Event → Option Moment} {happened : Event} {more : List (Mome
 kept event moment (stays other same) apart is = same ∙ is
 kept event moment (changes free among) apart is = absurd (apart (free moment is))
 
+-- each event that is to happen has its entry
 there_then : {old new : Event → Option Moment} {happened : Event} {more : List (Moment × Event)} (now : Moment)
     (entries : List (Moment × Event)) (event : Event) → Fate old new happened more event
     → IsAmong ((now, happened) ∷ entries) event (old event) → IsAmong (more ++ entries) event (new event)

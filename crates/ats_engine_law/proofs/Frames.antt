@@ -1,6 +1,6 @@
 -- The lists and the frames after each step.
-use Rattle.std.proofs.Common.{◌≡◌, ◌≢◌, ℕ, ◌-◌, ◌<◌, List, [], ◌∷◌, ◌++◌, length, map, get_or, set, None, Some}
-use Rattle.std.proofs.Common.{refl, sym, ap, ◌∙◌, subst, inl, inr, arith}
+use Rattle.std.proofs.Common.{◌≡◌, ◌≢◌, ℕ, ◌-◌, ◌<◌, List, [], ◌∷◌, length, map, get_or, set, refl, sym, ap, ◌∙◌, subst}
+use Rattle.std.proofs.Common.{inl, inr, arith}
 use Rattle.std.specs.Prelude.{◌==◌, if◌then◌else◌}
 use Rattle.std.proofs.lemmas.Bool.{cases_eq, cond-true, cond-false, eq-eqb, ne_eqb}
 use Rattle.std.proofs.lemmas.List.{get_or-set_same, get_or-set_other, length-set}
@@ -10,20 +10,16 @@ use Rattle.ats_network.specs.Network.{DeclaredNetwork}
 use Rattle.ats_group.specs.declared.verdict.Verdict.{Verdict}
 use Rattle.ats_group.specs.declared.verdict.Verdict.TheVariants.{Eligible, Late, Size}
 use Rattle.ats_events.specs.declared.moment.Moment.{Moment}
-use Rattle.ats_trace.specs.Journey.{IsReleased}
 use Rattle.ats_trace.specs.declared.journey.Ending.TheVariants.{Sink, Discard}
-use Rattle.ats_trace.specs.declared.journey.HopRecord.{HopRecord}
 use Rattle.ats_trace.specs.declared.journey.Release.{Release}
 use Rattle.ats_records.specs.Progress.{Progress, progress_at, no_progress, with_sent, with_ending}
-use Rattle.ats_transmit.specs.State.{PortState}
-use Rattle.ats_transmit.specs.declared.offer.Offer.{Offer}
 use Rattle.ats_steps.specs.Course.{Course, stage_at, path_of}
 use Rattle.ats_steps.specs.Entries.{arrival_moment}
-use Rattle.ats_steps.specs.Frames.{IsDueAt, IsUnsent, IsSentUntil, Goes, Stands, IsFrame, IsAtStage}
+use Rattle.ats_steps.specs.Frames.{IsDueAt, IsUnsent, IsFrame}
 use Rattle.ats_steps.specs.Invariant.{IsShaped}
-use Rattle.ats_steps.specs.Ports.{IsHeld, IsPortOf, port_state_at}
-use Rattle.ats_steps.specs.Steps.{Move, came, comes_by, verdict_now, judged_by, class_behind, leaves_for}
-use Rattle.ats_steps.specs.Steps.{Comes, BecomesEligible, Selects, Ends}
+use Rattle.ats_steps.specs.Ports.{port_state_at}
+use Rattle.ats_steps.specs.Steps.{Move, came, comes_by, verdict_now, judged_by, class_behind, leaves_for, Comes}
+use Rattle.ats_steps.specs.Steps.{BecomesEligible, Selects, Ends}
 use Rattle.ats_steps.specs.declared.event.Event.{Event}
 use Rattle.ats_steps.specs.declared.event.Event.TheVariants.{End, Arrival, Eligibility, Selection}
 use Rattle.ats_steps.specs.declared.stage.Stage.{Stage}
@@ -32,8 +28,8 @@ use Rattle.ats_steps.specs.declared.turn.Turn.TheVariants.{Selecting}
 use Rattle.ats_steps.proofs.Stepping.{started-frame}
 use Rattle.ats_engine_law.specs.Next.{IsNext}
 use Rattle.ats_engine_law.proofs.Stages.{next-coming, next-due, next-sending, next-selecting, stage-within, turn-within}
-use Rattle.ats_engine_law.proofs.Ways.{stands-some, stands-weaker, goes-stands, goes-discarded, released-more}
-use Rattle.ats_engine_law.proofs.Ways.{stands-sent, released-sent, sent-goes, sent-way, released-comes}
+use Rattle.ats_engine_law.proofs.Ways.{stands-weaker, goes-stands, goes-discarded, released-more, stands-sent}
+use Rattle.ats_engine_law.proofs.Ways.{released-sent, sent-goes, sent-way, released-comes}
 
 -- one frame of a run took a move
 record IsMoved {T : Type 0} (old new : Course T) (frame : ℕ) (stage : Stage) (progress : Progress) : Type 0 where
@@ -80,7 +76,7 @@ moved-frames {T} network old new frame stage progress even moved frames own f wi
     let now_progress : progress_at new.records f ≡ get_or (set old.records frame progress) f no_progress =
     ap (λ (ps : List Progress). get_or ps f no_progress) moved.records in
     let at : (p : Progress) (s : Stage) → progress_at new.records f ≡ p → stage_at new f ≡ s → IsFrame network p s
-        → IsFrame network (progress_at new.records f) (stage_at new f) =
+    → IsFrame network (progress_at new.records f) (stage_at new f) =
     λ p s hp hs is. subst (λ (q : Progress). IsFrame network q (stage_at new f)) (sym hp)
     (subst (IsFrame network p) (sym hs) is) in
     elim (cases_eq f frame) as (λ _. IsFrame network (progress_at new.records f) (stage_at new f)) [
@@ -98,13 +94,15 @@ moved-frames {T} network old new frame stage progress even moved frames own f wi
           (frames f (omega arith))
     ]
 
--- stages of different kinds differ
+-- a frame that is to come is not over
 coming-not_over : (at : Ps) → Coming at ≢ Over
 coming-not_over at same = cc
 
+-- nor is one that is due
 due-not_over : (at : Ps) → Due at ≢ Over
 due-not_over at same = cc
 
+-- or one that is sent
 sending-not_over : (at : Ps) → Sending at ≢ Over
 sending-not_over at same = cc
 
@@ -117,7 +115,8 @@ known-frame {T} {network} course frame stage frames is within =
     subst (IsFrame network (progress_at course.records frame)) is (frames frame within)
 
 -- a frame that comes to its first port is eligible at once
-first-verdict : (network : DeclaredNetwork) (progress : Progress) (at : Ps) (judged : Verdict) → length progress.hops ≡ 0
+first-verdict : (network : DeclaredNetwork) (progress : Progress) (at : Ps) (judged : Verdict)
+    → length progress.hops ≡ 0
     → (if length progress.hops == 0 then Eligible (record { 0 = at.0 }) else judged) ≡ Eligible at
 first-verdict network progress at judged none =
     cond-true (length progress.hops == 0) (Eligible at) judged (eq-eqb (length progress.hops) 0 none)
@@ -133,7 +132,7 @@ come-stands network frame progress at (Eligible e) first is = record {
   stands = record {
     here = (
       goes-stands (IsDueAt e) (path_of network progress) progress.hops (came at (Eligible e)) is.stands.here.0
-      (record { verdict = refl; sent = refl }),
+          (record { verdict = refl; sent = refl }),
       released-more progress.release progress.hops at (Eligible e) is.stands.here.1 first,
     );
     unended = is.stands.unended;
@@ -164,12 +163,14 @@ come-stands network frame progress at Size first is = record {
   };
 }
 
+-- it keeps its release
 come-release : (frame : ℕ) (progress : Progress) (at : Ps) (verdict : Verdict)
     → (comes_by frame progress at verdict).progress.release ≡ progress.release
 come-release frame progress at (Eligible e) = refl
 come-release frame progress at (Late e) = refl
 come-release frame progress at Size = refl
 
+-- an arrival moves one frame
 comes-moved : {T : Type 0} {key : T → ℕ → ℕ → ℕ} {wait : ℕ → ℕ → ℕ} {network : DeclaredNetwork}
     {releases : List Release} {old new : Course T} {now : Moment} {frame : ℕ} {entries more : List (Moment × Event)}
     → IsNext key wait network releases old now (Arrival frame) entries → (step : Comes network old new now frame more)
@@ -188,6 +189,7 @@ comes-moved {T} {key} {wait} {network} {releases} {old} {new} {now} {frame} next
       arrives_from = ap (λ (c : Course T). length c.arrives_from) step.becomes;
     }
 
+-- after an arrival the lists fit as before
 pub comes-shape : {T : Type 0} {key : T → ℕ → ℕ → ℕ} {wait : ℕ → ℕ → ℕ} {network : DeclaredNetwork}
     {releases : List Release} {old new : Course T} {now : Moment} {frame : ℕ} {entries more : List (Moment × Event)}
     → IsNext key wait network releases old now (Arrival frame) entries → Comes network old new now frame more
@@ -196,6 +198,7 @@ comes-shape {T} {key} {wait} {network} {releases} {old} {new} {now} {frame} next
     moved-shape network releases old new frame step.move.stage step.move.progress next.holds.shape
     (comes-moved next step)
 
+-- and each frame is as far as its stage says
 pub comes-frames : {T : Type 0} {key : T → ℕ → ℕ → ℕ} {wait : ℕ → ℕ → ℕ} {network : DeclaredNetwork}
     {releases : List Release} {old new : Course T} {now : Moment} {frame : ℕ} {entries more : List (Moment × Event)}
     → IsNext key wait network releases old now (Arrival frame) entries → Comes network old new now frame more
@@ -212,6 +215,7 @@ comes-frames {T} {key} {wait} {network} {releases} {old} {new} {now} {frame} nex
     (come-stands network frame p now.at (verdict_now network old.groups p now.at.0)
     (first-verdict network p now.at (judged_by network old.groups (class_behind network p) p now.at.0)) here))
 
+-- a frame that becomes eligible is the one that moves
 offered-moved : {T : Type 0} {key : T → ℕ → ℕ → ℕ} {wait : ℕ → ℕ → ℕ} {network : DeclaredNetwork}
     {releases : List Release} {old new : Course T} {now : Moment} {frame : ℕ} {entries more : List (Moment × Event)}
     → IsNext key wait network releases old now (Eligibility frame) entries
@@ -227,6 +231,7 @@ offered-moved {T} {key} {wait} {network} {releases} {old} {new} {now} {frame} ne
   arrives_from = ap (λ (c : Course T). length c.arrives_from) step.becomes;
 }
 
+-- once a frame is eligible the lists fit as before
 pub offered-shape : {T : Type 0} {key : T → ℕ → ℕ → ℕ} {wait : ℕ → ℕ → ℕ} {network : DeclaredNetwork}
     {releases : List Release} {old new : Course T} {now : Moment} {frame : ℕ} {entries more : List (Moment × Event)}
     → IsNext key wait network releases old now (Eligibility frame) entries
@@ -245,14 +250,15 @@ due-waits network progress at is = record {
   stands = record {
     here = (
       stands-weaker (IsDueAt at) IsUnsent
-      (λ hop due. record { eligible = at; verdict = due.verdict; sent = due.sent })
-      (path_of network progress) progress.hops is.stands.here.0,
+          (λ hop due. record { eligible = at; verdict = due.verdict; sent = due.sent })
+          (path_of network progress) progress.hops is.stands.here.0,
       is.stands.here.1,
     );
     unended = is.stands.unended;
   };
 }
 
+-- and each frame is as far as its stage says
 pub offered-frames : {T : Type 0} {key : T → ℕ → ℕ → ℕ} {wait : ℕ → ℕ → ℕ} {network : DeclaredNetwork}
     {releases : List Release} {old new : Course T} {now : Moment} {frame : ℕ} {entries more : List (Moment × Event)}
     → IsNext key wait network releases old now (Eligibility frame) entries
@@ -278,6 +284,7 @@ selected-held {T} {key} {wait} {network} {releases} {old} {new} {now} {port} nex
     (λ (f : ℕ). (f < length old.records) × (stage_at old f ≡ Waiting))
     (λ k d h. ((held k d h).within, (held k d h).stage))
 
+-- a selection moves the frame that it starts
 selects-moved : {T : Type 0} {key : T → ℕ → ℕ → ℕ} {wait : ℕ → ℕ → ℕ} {network : DeclaredNetwork}
     {releases : List Release} {old new : Course T} {now : Moment} {port : ℕ} {entries more : List (Moment × Event)}
     → IsNext key wait network releases old now (Selection port) entries → (step : Selects key old new now port more)
@@ -292,6 +299,7 @@ selects-moved {T} {key} {wait} {network} {releases} {old} {new} {now} {port} nex
   arrives_from = ap (λ (c : Course T). length c.arrives_from) step.becomes;
 }
 
+-- after a selection the lists fit as before
 pub selects-shape : {T : Type 0} {key : T → ℕ → ℕ → ℕ} {wait : ℕ → ℕ → ℕ} {network : DeclaredNetwork}
     {releases : List Release} {old new : Course T} {now : Moment} {port : ℕ} {entries more : List (Moment × Event)}
     → IsNext key wait network releases old now (Selection port) entries → Selects key old new now port more
@@ -316,6 +324,7 @@ waiting-sends network progress start end is = record {
   };
 }
 
+-- and each frame is as far as its stage says
 pub selects-frames : {T : Type 0} {key : T → ℕ → ℕ → ℕ} {wait : ℕ → ℕ → ℕ} {network : DeclaredNetwork}
     {releases : List Release} {old new : Course T} {now : Moment} {port : ℕ} {entries more : List (Moment × Event)}
     → IsNext key wait network releases old now (Selection port) entries → Selects key old new now port more
@@ -329,10 +338,11 @@ selects-frames {T} {key} {wait} {network} {releases} {old} {new} {now} {port} ne
     (waiting-sends network p now.at step.end
     (known-frame old step.frame Waiting next.holds.frames held.1 held.0))
 
--- a frame that was sent goes to its listener, or to the next port
+-- a frame that was sent goes to its listener
 abbrev sunk : Progress → Ps → Move
 sunk progress at = record { stage = Over; progress = with_ending progress (Sink at); entries = [] }
 
+-- or goes to the next port
 abbrev goes_on : ℕ → Progress → Ps → Move
 goes_on frame progress at = record {
   stage = Coming at;
@@ -340,6 +350,7 @@ goes_on frame progress at = record {
   entries = (arrival_moment frame at, Arrival frame) ∷ [];
 }
 
+-- what holds of both, each where it is the case, holds of what comes of it
 leaves-by : (P : Move → Type 0) (network : DeclaredNetwork) (frame : ℕ) (progress : Progress) (at : Ps)
     → (length progress.hops ≡ length (path_of network progress) → P (sunk progress at))
     → (length progress.hops ≢ length (path_of network progress) → P (goes_on frame progress at))
@@ -356,7 +367,7 @@ leaves-by P network frame progress at last more =
           (more other)
     ]
 
--- as far as it then is
+-- it is then as far as its stage says
 leave-stands : (network : DeclaredNetwork) (frame : ℕ) (progress : Progress) (until at : Ps)
     → IsFrame network progress (Sending until)
     → IsFrame network (leaves_for network frame progress at).progress (leaves_for network frame progress at).stage
@@ -387,6 +398,7 @@ leave-stands network frame progress until at is =
       };
     })
 
+-- the end of a transmission moves its frame
 ends-moved : {T : Type 0} {key : T → ℕ → ℕ → ℕ} {wait : ℕ → ℕ → ℕ} {network : DeclaredNetwork}
     {releases : List Release} {old new : Course T} {now : Moment} {frame : ℕ} {entries more : List (Moment × Event)}
     → IsNext key wait network releases old now (End frame) entries
@@ -407,6 +419,7 @@ ends-moved {T} {key} {wait} {network} {releases} {old} {new} {now} {frame} next 
       arrives_from = ap (λ (c : Course T). length c.arrives_from) step.becomes ∙ simp length-set;
     }
 
+-- after the end of a transmission the lists fit as before
 pub ends-shape : {T : Type 0} {key : T → ℕ → ℕ → ℕ} {wait : ℕ → ℕ → ℕ} {network : DeclaredNetwork}
     {releases : List Release} {old new : Course T} {now : Moment} {frame : ℕ} {entries more : List (Moment × Event)}
     → IsNext key wait network releases old now (End frame) entries → Ends key wait network old new now frame more
@@ -415,6 +428,7 @@ ends-shape {T} {key} {wait} {network} {releases} {old} {new} {now} {frame} next 
     moved-shape network releases old new frame step.move.stage step.move.progress next.holds.shape
     (ends-moved next step)
 
+-- and each frame is as far as its stage says
 pub ends-frames : {T : Type 0} {key : T → ℕ → ℕ → ℕ} {wait : ℕ → ℕ → ℕ} {network : DeclaredNetwork}
     {releases : List Release} {old new : Course T} {now : Moment} {frame : ℕ} {entries more : List (Moment × Event)}
     → IsNext key wait network releases old now (End frame) entries → Ends key wait network old new now frame more

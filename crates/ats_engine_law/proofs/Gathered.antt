@@ -1,5 +1,6 @@
+-- What a run gives is gathered from its travels, one by one: where one of them changes, only its own part does.
 use Rattle.std.proofs.Common.{◌≡◌, ℕ, zero, suc, ◌+◌, ◌<◌, Bool, List, [], ◌∷◌, ◌++◌, map, filter, length, get_or, set}
-use Rattle.std.proofs.Common.{All, IsPermutation, refl, sym, ap, ◌∙◌, subst, arith}
+use Rattle.std.proofs.Common.{All, IsPermutation, refl, ap, ◌∙◌, subst, arith}
 use Rattle.std.proofs.lemmas.List.{map-append}
 use Rattle.std.proofs.lemmas.List.Elements.{All-nil, All-append, filter-append}
 use Rattle.std.proofs.lemmas.List.Sorted.{IsPermutation-append_left, IsPermutation-append_right, IsPermutation-middle}
@@ -67,6 +68,7 @@ gather-filter {X} test part n (j ∷ run) =
     filter-append test (part n j) (gather part (n + 1) run)
     ∙ ap (λ (xs : List X). filter test (part n j) ++ xs) (gather-filter test part (n + 1) run)
 
+-- and the images of all are those of each
 pub gather-map : {X Y : Type 0} (f : X → Y) (part : ℕ → Travel → List X) (n : ℕ) (run : List Travel)
     → map f (gather part n run) ≡ gather (λ (m : ℕ) (j : Travel). map f (part m j)) n run
 gather-map f part n [] = refl
@@ -81,12 +83,14 @@ hops-gathered network n [] = refl
 hops-gathered network n (j ∷ run) =
     ap (λ (hs : List Hop). journey_hops network n j ++ hs) (hops-gathered network (n + 1) run)
 
+-- the crossings
 crossings-gathered : (network : DeclaredNetwork) (n : ℕ) (run : List Travel)
     → crossings_from network n run ≡ gather (journey_crossings network) n run
 crossings-gathered network n [] = refl
 crossings-gathered network n (j ∷ run) =
     ap (λ (xs : List Crossing). journey_crossings network n j ++ xs) (crossings-gathered network (n + 1) run)
 
+-- and what was handed on
 handed-gathered : (network : DeclaredNetwork) (n : ℕ) (run : List Travel)
     → handed_from network n run ≡ gather (journey_handed network) n run
 handed-gathered network n [] = refl
@@ -97,6 +101,7 @@ handed-gathered network n (j ∷ run) =
 abbrev pub hops_at : ℕ → List Hop → List Transmission
 hops_at port hops = map (λ (h : Hop). h.sent) (filter (λ (h : Hop). h.port == port) hops)
 
+-- of a whole travel
 abbrev pub sent_part : DeclaredNetwork → ℕ → ℕ → Travel → List Transmission
 sent_part network port n j = hops_at port (journey_hops network n j)
 
@@ -104,6 +109,7 @@ sent_part network port n j = hops_at port (journey_hops network n j)
 abbrev pub crossings_at : ℕ → List Crossing → List Crossing
 crossings_at port crossings = filter (λ (c : Crossing). c.port == port) crossings
 
+-- of a whole travel
 abbrev pub crossings_part : DeclaredNetwork → ℕ → ℕ → Travel → List Crossing
 crossings_part network port n j = crossings_at port (journey_crossings network n j)
 
@@ -112,6 +118,7 @@ abbrev pub handed_in : ℕ → ℕ → List Handed → List Handed
 handed_in port class handed =
     filter (λ (h : Handed). h.crossing.port == port && h.crossing.sent.class == class) handed
 
+-- of a whole travel
 abbrev pub handed_part : DeclaredNetwork → ℕ → ℕ → ℕ → Travel → List Handed
 handed_part network port class n j = handed_in port class (journey_handed network n j)
 
@@ -124,12 +131,14 @@ sent-gathered network run port =
     ∙ gather-map (λ (h : Hop). h.sent)
     (λ (n : ℕ) (j : Travel). filter (λ (h : Hop). h.port == port) (journey_hops network n j)) 0 run
 
+-- the crossings of a port
 pub crossed-gathered : (network : DeclaredNetwork) (run : List Travel) (port : ℕ)
     → crossings_by network run port ≡ gather (crossings_part network port) 0 run
 crossed-gathered network run port =
     ap (crossings_at port) (crossings-gathered network 0 run)
     ∙ gather-filter (λ (c : Crossing). c.port == port) (journey_crossings network) 0 run
 
+-- and what it has handed on in a class
 pub handed_on-gathered : (network : DeclaredNetwork) (run : List Travel) (port class : ℕ)
     → handed_by network run port class ≡ gather (handed_part network port class) 0 run
 handed_on-gathered network run port class =

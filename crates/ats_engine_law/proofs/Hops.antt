@@ -1,4 +1,4 @@
-use Rattle.std.proofs.Common.{◌≡◌, ℕ, zero, suc, ◌+◌, ◌<◌, List, [], ◌∷◌, filter, length, get_or}
+use Rattle.std.proofs.Common.{◌≡◌, ℕ, zero, suc, ◌+◌, ◌<◌, ◌≤◌, List, [], ◌∷◌, filter, length, get_or}
 use Rattle.std.proofs.Common.{sym, ap, ◌∙◌, subst, arith, All}
 use Rattle.std.specs.Prelude.{◌≢◌, ◌==◌, AllPairs, Option, Some, None}
 use Rattle.std.specs.List.{zip}
@@ -26,6 +26,7 @@ use Rattle.ats_steps.specs.Course.{Course, stage_at, travels, travel_of, sender_
 use Rattle.ats_steps.specs.Frames.{Stands}
 use Rattle.ats_steps.specs.declared.stage.Stage.{Stage}
 use Rattle.ats_steps.specs.declared.stage.Stage.TheVariants.{Over}
+use Rattle.ats_engine_law.proofs.Placed.{stands-at_most}
 
 -- what holds of each transmission that a frame may make at a port
 abbrev pub AtPort : (Hop → Type 0) → ℕ → Release → Sender → ℕ → Type 0
@@ -73,17 +74,11 @@ none_sent P frame port class release (Eligible e) None is = All-nil P
 none_sent P frame port class release (Late e) None is = All-nil P
 none_sent P frame port class release Size None is = All-nil P
 
+-- nor does a frame's way where there is no record
 no_more_hops : (P : Hop → Type 0) (frame : ℕ) (release : Release) (sender : Sender) (path : List ℕ)
     → All P (hops_along frame release sender path [])
 no_more_hops P frame release sender [] = All-nil P
 no_more_hops P frame release sender (p ∷ path) = All-nil P
-
-stands_within : (Last : HopRecord → Type 0) (path : List ℕ) (next : HopRecord) (hops : List HopRecord)
-    → Stands Last path (next ∷ hops) → length hops < length path
-stands_within Last [] next hops stands = elim stands [ ]
-stands_within Last (p ∷ path) next [] stands = omega arith
-stands_within Last (p ∷ path) next (hop ∷ hops) stands =
-    let rest : length hops < length path = stands_within Last path hop hops stands.1 in omega arith
 
 -- a frame whose last record is without a transmission was not sent by the port of that record
 pub not_sent_last : (Last : HopRecord → Type 0) (frame : ℕ) (release : Release) (sender : Sender) (path : List ℕ)
@@ -103,7 +98,7 @@ not_sent_last Last frame release sender (p ∷ path) (hop ∷ next ∷ hops) zer
     absurd (omega arith)
 not_sent_last Last frame release sender (p ∷ path) (hop ∷ next ∷ hops) (suc last) many none apart stands =
     let P : Hop → Type 0 = λ (h : Hop). h.port ≢ get_or path last 0 in
-    let within : length hops < length path = stands_within Last path next hops stands.1 in
+    let within : length (next ∷ hops) ≤ length path = stands-at_most Last path (next ∷ hops) stands.1 in
     let later : p ≢ get_or path last 0 =
     pairs_head (λ (p q : ℕ). p ≢ q) p path apart last 0 (omega arith) in
     All-append P (hop_at p (transmission_of frame release (class_at sender p) hop))
@@ -145,6 +140,7 @@ travel_at course frame d same within =
     get_or-map travel_of rows frame (Over, no_progress) d (omega (arith, length-zip course.stages course.records))
     ∙ ap travel_of row
 
+-- there is one for each frame
 pub travels_long : {T : Type 0} (course : Course T) → length course.stages ≡ length course.records
     → length (travels course) ≡ length course.records
 travels_long course same =

@@ -1,7 +1,7 @@
 -- What holds where a run begins.
-use Rattle.std.proofs.Common.{◌≡◌, ◌≢◌, ℕ, ◌+◌, ◌-◌, ◌*◌, ◌<◌, ◌≤◌, true, false, List, [], ◌∷◌, length, map, get_or, All}
-use Rattle.std.proofs.Common.{Option, None, Some, refl, sym, ap, ◌∙◌, subst, inl, inr, arith, replicate, IsPermutation}
-use Rattle.std.specs.Prelude.{AllPairs, Contains, IfSome, ℤ, pos}
+use Rattle.std.proofs.Common.{◌≡◌, ℕ, ◌*◌, ◌<◌, ◌≤◌, List, [], ◌∷◌, length, map, get_or, All, Option, None}
+use Rattle.std.proofs.Common.{Some, refl, sym, ap, ◌∙◌, subst, inl, inr, arith, replicate, IsPermutation}
+use Rattle.std.specs.Prelude.{Contains, IfSome, ℤ, pos}
 use Rattle.std.specs.List.{zip, sum_by}
 use Rattle.std.proofs.lemmas.Bool.{cases_lt, true≢false}
 use Rattle.std.proofs.lemmas.List.{get_or-map, get_or-replicate, get_or_past, length-map, length-replicate}
@@ -13,14 +13,12 @@ use Rattle.ats_num.specs.declared.time.TheConstants.{END}
 use Rattle.ats_topology.specs.Port.{port_at}
 use Rattle.ats_topology.specs.declared.port.Port.{Port}
 use Rattle.ats_network.specs.Network.{DeclaredNetwork, IsNetwork}
-use Rattle.ats_network.specs.Sender.{Sender}
 use Rattle.ats_network.specs.Senders.{IsSender, sender_at}
-use Rattle.ats_network.specs.Class.{class_at}
 use Rattle.ats_network.proofs.SenderLemmas.{sender_keeps}
 use Rattle.ats_bucket.specs.Scheduler.{first_empty}
 use Rattle.ats_group.specs.Group.{State, first}
 use Rattle.ats_group.specs.GroupsState as groups
-use Rattle.ats_group.specs.GroupsState.{GroupsState, AreGroups, AreMembers, empty_at, first_empties, no_member}
+use Rattle.ats_group.specs.GroupsState.{GroupsState, AreMembers, empty_at, first_empties, no_member}
 use Rattle.ats_group.specs.declared.member.Member.{Member}
 use Rattle.ats_group.proofs.StepLemmas.{opened_first}
 use Rattle.ats_schedulers.specs.Schedulers.{IsHop, group_behind, residence_of, residences_of, members_of, scheduler_of}
@@ -30,24 +28,23 @@ use Rattle.ats_port_rule.specs.Transmission.{Transmission}
 use Rattle.ats_transmit.specs.State as standing
 use Rattle.ats_transmit.specs.State.{PortState}
 use Rattle.ats_transmit.specs.declared.offer.Offer.{Offer}
-use Rattle.ats_transmit.specs.declared.sent.Sent.{Sent}
 use Rattle.ats_transmit.proofs.Lawful.{lawful-open}
 use Rattle.ats_events.specs.declared.moment.Moment.{Moment}
 use Rattle.ats_trace.specs.Eligibility.{IsPassed, declared_by}
 use Rattle.ats_trace.specs.Journey.{Travel}
-use Rattle.ats_trace.specs.Links.{KeepsLinkRule, KeepsPace, ArrivesWithin, ArrivesByPace, in_order_from}
+use Rattle.ats_trace.specs.Links.{KeepsLinkRule, KeepsPace, in_order_from}
 use Rattle.ats_trace.specs.Projections.{Crossing, Handed, sent_by, crossings_by, handed_by}
 use Rattle.ats_trace.specs.Releases.{AreReleases, IsRelease}
 use Rattle.ats_trace.specs.declared.journey.Release.{Release}
 use Rattle.ats_records.specs.Progress.{Progress, progress_at, no_progress}
-use Rattle.ats_steps.specs.Bounds.{all_left, most_left, horizon, IsInTime}
-use Rattle.ats_steps.specs.Course.{Course, stage_at, turn_at, travels, travels_of, arrives_from_at, path_of}
+use Rattle.ats_steps.specs.Bounds.{all_left, most_left, IsInTime}
+use Rattle.ats_steps.specs.Course.{Course, stage_at, turn_at, travels, travels_of, arrives_from_at}
 use Rattle.ats_steps.specs.Entries.{AreAwaited, IsReached, moment_of, arrival_by, eligibility_by, end_by, selection_by}
-use Rattle.ats_steps.specs.Frames.{IsFrame, IsAtStage, Goes}
+use Rattle.ats_steps.specs.Frames.{IsFrame, Goes}
 use Rattle.ats_steps.specs.Invariant.{Holds, IsShaped}
-use Rattle.ats_steps.specs.Judging.{AreGroupsOf, IsGroupOf, IsStateOf, ArePassed}
+use Rattle.ats_steps.specs.Judging.{AreGroupsOf, IsGroupOf, IsStateOf}
 use Rattle.ats_steps.specs.Paces.{IsPaced}
-use Rattle.ats_steps.specs.Ports.{IsPortOf, IsHeld, IsTurn, frames_at, port_state_at, room_of}
+use Rattle.ats_steps.specs.Ports.{IsPortOf, IsHeld, IsTurn, port_state_at, room_of}
 use Rattle.ats_steps.specs.declared.event.Event.{Event}
 use Rattle.ats_steps.specs.declared.event.Event.TheVariants.{End, Arrival, Eligibility, Selection}
 use Rattle.ats_steps.specs.declared.stage.Stage.{Stage}
@@ -55,20 +52,22 @@ use Rattle.ats_steps.specs.declared.stage.Stage.TheVariants.{Coming, Waiting, Se
 use Rattle.ats_steps.specs.declared.turn.Turn.{Turn}
 use Rattle.ats_steps.specs.declared.turn.Turn.TheVariants.{Resting}
 use Rattle.ats_engine_law.specs.Opened.{IsOpened, IsFresh, released_from}
-use Rattle.ats_engine_law.proofs.Beginning.{coming, start, still, no_release, entry_of}
-use Rattle.ats_engine_law.proofs.Beginning.{records-opened, releases-kept, travels-opened, none-sent, none-crossed}
-use Rattle.ats_engine_law.proofs.Beginning.{none-handed, length-released, entry-at, most-opened}
+use Rattle.ats_engine_law.proofs.Beginning.{coming, start, still, no_release, entry_of, records-opened, releases-kept}
+use Rattle.ats_engine_law.proofs.Beginning.{travels-opened, none-sent, none-crossed, none-handed, length-released}
+use Rattle.ats_engine_law.proofs.Beginning.{entry-at, most-opened}
 
 -- the records of a run that is to begin
 records-are : {T : Type 0} (network : DeclaredNetwork) (releases : List Release) (course : Course T)
     → IsOpened network releases course → course.records ≡ map (start network) releases
 records-are network releases course opened = opened.records ∙ records-opened network releases
 
+-- there are as many as releases
 length-records : {T : Type 0} (network : DeclaredNetwork) (releases : List Release) (course : Course T)
     → IsOpened network releases course → length course.records ≡ length releases
 length-records network releases course opened =
     ap length (records-are network releases course opened) ∙ length-map releases (start network)
 
+-- and as many stages
 length-stages : {T : Type 0} (network : DeclaredNetwork) (releases : List Release) (course : Course T)
     → IsOpened network releases course → length course.stages ≡ length releases
 length-stages network releases course opened = ap length opened.stages ∙ length-map releases coming
@@ -81,6 +80,7 @@ stage-is network releases course frame opened within =
     ap (λ (ss : List Stage). get_or ss frame Over) opened.stages
     ∙ get_or-map coming releases frame no_release Over within
 
+-- the record of each frame
 progress-is : {T : Type 0} (network : DeclaredNetwork) (releases : List Release) (course : Course T) (frame : ℕ)
     → IsOpened network releases course → frame < length releases
     → progress_at course.records frame ≡ start network (get_or releases frame no_release)
@@ -102,6 +102,7 @@ turn-is network releases course port opened =
           read ∙ get_or_past (replicate n Resting) port Resting (omega arith)
     ]
 
+-- the run so far has no hop
 travels-are : {T : Type 0} (network : DeclaredNetwork) (releases : List Release) (course : Course T)
     → IsOpened network releases course → travels course ≡ map still releases
 travels-are network releases course opened =
@@ -109,24 +110,28 @@ travels-are network releases course opened =
     ∙ ap (travels_of (map coming releases)) (records-are network releases course opened)
     ∙ travels-opened network releases
 
+-- so no port has sent
 sent-nothing : {T : Type 0} (network : DeclaredNetwork) (releases : List Release) (course : Course T) (port : ℕ)
     → IsOpened network releases course → sent_by network (travels course) port ≡ []
 sent-nothing network releases course port opened =
     ap (λ (run : List Travel). sent_by network run port) (travels-are network releases course opened)
     ∙ none-sent network releases port
 
+-- no frame has crossed a port
 crossed-nothing : {T : Type 0} (network : DeclaredNetwork) (releases : List Release) (course : Course T) (port : ℕ)
     → IsOpened network releases course → crossings_by network (travels course) port ≡ []
 crossed-nothing network releases course port opened =
     ap (λ (run : List Travel). crossings_by network run port) (travels-are network releases course opened)
     ∙ none-crossed network releases port
 
+-- and none was handed on
 handed-nothing : {T : Type 0} (network : DeclaredNetwork) (releases : List Release) (course : Course T)
     (port class : ℕ) → IsOpened network releases course → handed_by network (travels course) port class ≡ []
 handed-nothing network releases course port class opened =
     ap (λ (run : List Travel). handed_by network run port class) (travels-are network releases course opened)
     ∙ none-handed network releases port class
 
+-- the lists fit the network and the releases
 opened-shape : {T : Type 0} (network : DeclaredNetwork) (releases : List Release) (course : Course T)
     → AreReleases network releases → IsOpened network releases course → IsShaped network releases course
 opened-shape network releases course are opened =
@@ -149,6 +154,7 @@ goes-at-first : (path : List ℕ) → 1 ≤ length path → Goes path []
 goes-at-first [] least = absurd (omega arith)
 goes-at-first (p ∷ path) least = tt
 
+-- each frame is as far as its stage says
 opened-frames : {T : Type 0} (network : DeclaredNetwork) (releases : List Release) (course : Course T)
     → IsNetwork network → AreReleases network releases → IsOpened network releases course
     → (frame : ℕ) → frame < length course.records
@@ -196,6 +202,7 @@ either-stage network releases course frame P opened comes over =
       | inr past ↦ subst P (sym (get_or_past course.stages frame Over (omega arith))) over
     ]
 
+-- the arrivals of all frames are entries
 opened-there : {T : Type 0} (network : DeclaredNetwork) (releases : List Release) (course : Course T)
     → IsOpened network releases course → (event : Event)
     → IfSome (moment_of course event) (λ moment. Contains (released_from 0 releases) (moment, event))
@@ -221,9 +228,11 @@ opened-there network releases course opened (Selection port) =
     (λ moment. Contains (released_from 0 releases) (moment, Selection port))
     (ap (selection_by port) (turn-is network releases course port opened))
 
+-- arrivals of one frame are those of one number
 same-arrival : (i j : ℕ) → Arrival i ≡ Arrival j → i ≡ j
 same-arrival i j same = cc
 
+-- the entries are the events that are to happen
 opened-awaited : {T : Type 0} (network : DeclaredNetwork) (releases : List Release) (course : Course T)
     → IsOpened network releases course → AreAwaited course (released_from 0 releases)
 opened-awaited network releases course opened =
@@ -293,6 +302,7 @@ fresh-port {T} key network releases course port rooms opened each =
     never-sends frame until within sends =
         differ_too (get_or releases frame no_release).at until (sym (comes frame within) ∙ sends)
 
+-- so each port is as it has to be
 opened-ports : {T : Type 0} (key : T → ℕ → ℕ → ℕ) (network : DeclaredNetwork) (releases : List Release)
     (course : Course T) → IsOpened network releases course → (port : ℕ) → port < length network.topology.ports
     → IsPortOf key network course port (port_state_at course port)
@@ -309,6 +319,7 @@ arrives-from-is network releases course port opened within =
     ap (λ (ts : List Ps). (get_or ts port nowhere).0) opened.arrives_from
     ∙ ap (λ (p : Ps). p.0) (get_or-replicate (length network.topology.ports) port nowhere nowhere within)
 
+-- what is kept of the last arrival behind each port is so
 opened-paces : {T : Type 0} (wait : ℕ → ℕ → ℕ) (network : DeclaredNetwork) (releases : List Release)
     (course : Course T) → IsOpened network releases course → (port : ℕ) → port < length network.topology.ports
     → IsPaced wait network course port
@@ -332,6 +343,7 @@ length-residences : (network : DeclaredNetwork)
 length-residences network =
     length-map-range_with_len (residence_of network) 0 (8 * length network.topology.ports)
 
+-- they are those of the network
 groups-opened : (network : DeclaredNetwork) → IsNetwork network
     → AreGroupsOf network (groups.opened (residences_of network) (members_of network))
 groups-opened network rules =
@@ -357,6 +369,7 @@ empty-opened network stream hop is =
     get_or-map empty (members_of network) place no_member (pos 0) (scheduler_within network stream hop is)
     ∙ ap empty (scheduler_there network stream hop is)
 
+-- and keep what their folds begin with
 state-opened : (network : DeclaredNetwork) (port class : ℕ)
     → IsStateOf network (groups.opened (residences_of network) (members_of network)) port class
     (first (declared_by network))
@@ -366,6 +379,7 @@ state-opened network port class = record {
   empties = λ stream hop is behind own. empty-opened network stream hop is;
 }
 
+-- which is what nothing leaves
 opened-groups : {T : Type 0} (network : DeclaredNetwork) (releases : List Release) (course : Course T)
     → IsOpened network releases course → (port class : ℕ) → IsGroupOf network course port class
 opened-groups network releases course opened port class =

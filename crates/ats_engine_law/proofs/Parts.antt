@@ -1,6 +1,7 @@
-use Rattle.std.proofs.Common.{◌≡◌, ◌≢◌, ℕ, ◌-◌, ◌<◌, Bool, true, false, cond, List, [], ◌∷◌, ◌++◌, map, filter, length}
-use Rattle.std.proofs.Common.{get_or, set, All, Some, None, refl, sym, ap, ◌∙◌, subst, arith}
-use Rattle.std.specs.Prelude.{◌==◌, Option}
+-- What one frame gives to the projections of a run, by its path and its records: the last record is told apart.
+use Rattle.std.proofs.Common.{◌≡◌, ℕ, ◌-◌, List, [], ◌∷◌, ◌++◌, length}
+use Rattle.std.proofs.Common.{get_or, set, Some, None, refl, sym, ap, ◌∙◌, arith}
+use Rattle.std.specs.Prelude.{Option}
 use Rattle.std.proofs.lemmas.List.{append-nil, append_assoc, get_or_at, set_at, length-append}
 use Rattle.ats_num.specs.declared.time.Ps.{Ps}
 use Rattle.ats_num.specs.Wire.{bits_of}
@@ -53,10 +54,12 @@ module _ (frame : ℕ) (release : Release) (sender : Sender) where
   no-hops [] = refl
   no-hops (p ∷ path) = refl
 
+  -- no crossing
   pub no-crossings : (path : List ℕ) (ending : Ending) → crossings_along frame release sender path [] ending ≡ []
   no-crossings [] ending = refl
   no-crossings (p ∷ path) ending = refl
 
+  -- and nothing that was handed on
   pub no-handed : (path : List ℕ) → handed_along frame release sender path [] ≡ []
   no-handed [] = refl
   no-handed (p ∷ path) = refl
@@ -70,6 +73,7 @@ module _ (frame : ℕ) (release : Release) (sender : Sender) where
       (never-sent frame release (class_at sender p) hop none)
       ∙ no-hops path
 
+  -- neither has it crossed the port
   pub unsent-crossings : (path : List ℕ) (hop : HopRecord) (ending : Ending) → hop.sent ≡ None
       → crossings_along frame release sender path (hop ∷ []) ending ≡ []
   unsent-crossings [] hop ending none = refl
@@ -79,6 +83,7 @@ module _ (frame : ℕ) (release : Release) (sender : Sender) where
       (never-sent frame release (class_at sender p) hop none)
       ∙ no-crossings path ending
 
+  -- a frame that came to no port behind was handed on to none
   handed-none : (octets came p : ℕ) (t : Option Transmission) → handed_at octets came p t [] ≡ []
   handed-none octets came p None = refl
   handed-none octets came p (Some t) = refl
@@ -104,12 +109,14 @@ module _ (frame : ℕ) (release : Release) (sender : Sender) where
       ∙ sym (append_assoc here (hops_along frame release sender passed before)
       (hops_along frame release sender ahead more))
 
+  -- of what follows a record the next record alone tells when a frame crossed
   crossing-next : (octets came p : ℕ) (t : Option Transmission) (next : HopRecord) (hops more : List HopRecord)
       (ending other : Ending)
       → crossing_at octets came p t (next ∷ hops) ending ≡ crossing_at octets came p t (next ∷ more) other
   crossing-next octets came p None next hops more ending other = refl
   crossing-next octets came p (Some t) next hops more ending other = refl
 
+  -- and it tells the same as an ending with that arrival
   crossing-last : (octets came p : ℕ) (t : Option Transmission) (next : HopRecord) (hops : List HopRecord)
       (ending : Ending)
       → crossing_at octets came p t (next ∷ hops) ending ≡ crossing_at octets came p t [] (Sink next.arrival)
@@ -143,6 +150,7 @@ module _ (frame : ℕ) (release : Release) (sender : Sender) where
       (crossings-split passed ahead (next ∷ before) last more ending (omega arith))
       ∙ sym (append_assoc here (crossings_along frame release sender passed (next ∷ before) (Sink last.arrival)) rest)
 
+  -- the same of what was handed on
   handed-next : (octets came p : ℕ) (t : Option Transmission) (next : HopRecord) (hops more : List HopRecord)
       → handed_at octets came p t (next ∷ hops) ≡ handed_at octets came p t (next ∷ more)
   handed-next octets came p None next hops more = refl
@@ -174,6 +182,7 @@ module _ (frame : ℕ) (release : Release) (sender : Sender) where
       ∙ ap (λ (xs : List Handed). here ++ xs) (handed-split passed ahead (next ∷ before) last more (omega arith))
       ∙ sym (append_assoc here (handed_along frame release sender passed (next ∷ before ++ last ∷ [])) rest)
 
+  -- whatever times the next record has
   handed-by : (octets came p : ℕ) (t : Option Transmission) (last : HopRecord) (sent : Option (Ps × Ps))
       → handed_at octets came p t (record last { sent = sent } ∷ []) ≡ handed_at octets came p t (last ∷ [])
   handed-by octets came p None last sent = refl
@@ -200,7 +209,7 @@ module _ (frame : ℕ) (release : Release) (sender : Sender) where
       ∙ ap (λ (xs : List Handed). handed_at release.octets hop.arrival.0 p t (next ∷ before ++ last ∷ []) ++ xs)
       (handed-timeless passed (next ∷ before) last sent (omega arith))
 
--- a frame came to this port of its path last, and this is its record of it: the records before it are those of the ports
+-- a frame came to this port of its path last, and this is its record there; the records before are those of the ports
 -- before
 pub record IsLast (Here : HopRecord → Type 0) (path : List ℕ) (hops : List HopRecord) : Type 0 where
   pub passed : List ℕ
@@ -216,14 +225,19 @@ pub record IsLast (Here : HopRecord → Type 0) (path : List ℕ) (hops : List H
 module _ (Here : HopRecord → Type 0) (path : List ℕ) (hops : List HopRecord) (at : IsLast Here path hops) where
   -- its last record stands where the records before it end, and so does the port
   pub place-of-last : length hops - 1 ≡ length at.before
-  place-of-last = omega (arith, ap (λ (hs : List HopRecord). length hs) at.recorded,
-    length-append at.before (at.last ∷ []))
+  place-of-last = omega (
+    arith,
+    ap (λ (hs : List HopRecord). length hs) at.recorded,
+    length-append at.before (at.last ∷ []),
+  )
 
+  -- at the port's place in the path
   pub port-of-last : (d : ℕ) → get_or path (length hops - 1) d ≡ at.port
   port-of-last d =
       ap (λ (ps : List ℕ). get_or ps (length hops - 1) d) at.along
       ∙ get_or_at at.passed at.port at.ahead d (length hops - 1) (omega (arith, place-of-last, at.same))
 
+  -- and at its own among the records
   pub record-of-last : (d : HopRecord) → get_or hops (length hops - 1) d ≡ at.last
   record-of-last d =
       ap (λ (hs : List HopRecord). get_or hs (length hops - 1) d) at.recorded
@@ -252,6 +266,7 @@ module _ (frame : ℕ) (release : Release) (sender : Sender) (Here : HopRecord �
       ap (λ (ps : List ℕ). hops_along frame release sender ps (at.before ++ last ∷ more)) at.along
       ∙ hops-split frame release sender at.passed (at.port ∷ at.ahead) at.before (last ∷ more) at.same
 
+  -- its crossings
   crossings-to : (last : HopRecord) (more : List HopRecord) (ending : Ending)
       → crossings_along frame release sender path (at.before ++ last ∷ more) ending
       ≡ crossings_along frame release sender at.passed at.before (Sink last.arrival)
@@ -262,6 +277,7 @@ module _ (frame : ℕ) (release : Release) (sender : Sender) (Here : HopRecord �
       ap (λ (ps : List ℕ). crossings_along frame release sender ps (at.before ++ last ∷ more) ending) at.along
       ∙ crossings-split frame release sender at.passed (at.port ∷ at.ahead) at.before last more ending at.same
 
+  -- and what was handed on of it
   handed-to : (last : HopRecord) (more : List HopRecord)
       → handed_along frame release sender path (at.before ++ last ∷ more)
       ≡ handed_along frame release sender at.passed (at.before ++ last ∷ [])
@@ -293,7 +309,8 @@ module _ (frame : ℕ) (release : Release) (sender : Sender) (Here : HopRecord �
   hops-sent last t more is none =
       let first : List Hop = hops_along frame release sender at.passed at.before in
       hops-to last more
-      ∙ ap (λ (o : Option Transmission). first ++ (hop_at at.port o ++ hops_along frame release sender at.ahead more)) is
+      ∙ ap (λ (o : Option Transmission). first
+      ++ (hop_at at.port o ++ hops_along frame release sender at.ahead more)) is
       ∙ ap (λ (hs : List Hop). first ++ record { port = at.port; sent = t } ∷ hs) none
 
   -- a frame that has not arrived behind the last port has crossed those before alone
@@ -309,6 +326,7 @@ module _ (frame : ℕ) (release : Release) (sender : Sender) (Here : HopRecord �
       ∙ ap (λ (xs : List Crossing). first ++ xs) (no-crossings frame release sender at.ahead Discard)
       ∙ append-nil first
 
+  -- also while it is sent, and until it is known when it arrives
   pub crossings-sent : (last : HopRecord) (t : Transmission)
       → transmission_of frame release (class_at sender at.port) last ≡ Some t
       → crossings_along frame release sender path (at.before ++ last ∷ []) Discard
@@ -344,7 +362,8 @@ module _ (frame : ℕ) (release : Release) (sender : Sender) (Here : HopRecord �
   crossings-came last next t is none =
       let first : List Crossing = crossings_along frame release sender at.passed at.before (Sink last.arrival) in
       crossings-to last (next ∷ []) Discard
-      ∙ ap (λ (o : Option Transmission). first ++ (crossing_at release.octets last.arrival.0 at.port o (next ∷ []) Discard
+      ∙ ap (λ (o : Option Transmission). first
+      ++ (crossing_at release.octets last.arrival.0 at.port o (next ∷ []) Discard
       ++ crossings_along frame release sender at.ahead (next ∷ []) Discard)) is
       ∙ ap (λ (xs : List Crossing). first ++ crossing_of release.octets last.arrival.0 at.port t next.arrival.0 ∷ xs)
       (unsent-crossings frame release sender at.ahead next Discard none)

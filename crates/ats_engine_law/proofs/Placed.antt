@@ -1,13 +1,12 @@
-use Rattle.std.proofs.Common.{◌≡◌, ℕ, zero, suc, ◌+◌, ◌-◌, ◌<◌, ◌≤◌, true, List, [], ◌∷◌, length, get_or, max, map, filter}
-use Rattle.std.proofs.Common.{refl, sym, ap, ◌∙◌, subst, arith, All}
-use Rattle.std.specs.Prelude.{◌≢◌, ◌==◌, ◌&&◌, fold, nat_lt}
+use Rattle.std.proofs.Common.{◌≡◌, ℕ, zero, suc, ◌+◌, ◌-◌, ◌<◌, ◌≤◌, true, List, [], ◌∷◌, length, get_or}
+use Rattle.std.proofs.Common.{map, filter, max, sym, ap, ◌∙◌, arith, All}
+use Rattle.std.specs.Prelude.{◌==◌, fold, nat_lt}
 use Rattle.std.specs.List.{list_any}
 use Rattle.std.proofs.lemmas.Bool.{eq-eqb, and_from}
 use Rattle.std.proofs.lemmas.List.Elements.{All-head, All-tail, All-filter, All-map}
 use Rattle.std.proofs.lemmas.List.Folds.{list_any_at}
 use Rattle.ats_network.specs.Class.{class_at}
 use Rattle.ats_network.specs.Network.{DeclaredNetwork, IsNetwork, senders_of}
-use Rattle.ats_network.specs.Senders.{IsSender}
 use Rattle.ats_network.proofs.SenderLemmas.{sender_keeps}
 use Rattle.ats_trace.specs.Links.{in_order_from}
 use Rattle.ats_trace.specs.Projections.{Crossing}
@@ -35,7 +34,7 @@ goes-fewer (p ∷ path) [] goes = omega arith
 goes-fewer (p ∷ path) (hop ∷ hops) goes =
     let rest : length hops < length path = goes-fewer path hops goes.1 in omega arith
 
--- its last record says what it has to
+-- the last record is as it has to be
 pub stands-last : (Last : HopRecord → Type 0) (path : List ℕ) (hops : List HopRecord) (last : ℕ) (d : HopRecord)
     → length hops ≡ last + 1 → Stands Last path hops → Last (get_or hops last d)
 stands-last Last [] hops last d many stands = absurd stands
@@ -52,14 +51,14 @@ pub record IsStanding (network : DeclaredNetwork) (Last : HopRecord → Type 0) 
   pub sender : progress.release.sender < length (senders_of network)
   pub stands : Stands Last (path_of network progress) progress.hops
 
--- the place of its last record
+-- its last record is as it has to be
 pub standing-last : {network : DeclaredNetwork} {Last : HopRecord → Type 0} {progress : Progress}
     → IsStanding network Last progress → Last (last_hop progress)
 standing-last {network} {Last} {progress} at =
     let some : 0 < length progress.hops = stands-some Last (path_of network progress) progress.hops at.stands in
     stands-last Last (path_of network progress) progress.hops (length progress.hops - 1) no_hop (omega arith) at.stands
 
--- is one of its path
+-- at a port of its path
 pub standing-on_path : {network : DeclaredNetwork} {Last : HopRecord → Type 0} {progress : Progress}
     → IsStanding network Last progress → length progress.hops - 1 < length (path_of network progress)
 standing-on_path {network} {Last} {progress} at =
@@ -67,14 +66,14 @@ standing-on_path {network} {Last} {progress} at =
     let most = stands-at_most Last (path_of network progress) progress.hops at.stands in
     omega arith
 
--- a port of the network
+-- which is one of the network
 pub standing-place : {network : DeclaredNetwork} {Last : HopRecord → Type 0} {progress : Progress}
     → IsStanding network Last progress → place_of network progress < length network.topology.ports
 standing-place {network} {Last} {progress} at =
     (sender_keeps network progress.release.sender at.rules at.sender).ports (length progress.hops - 1) 0
     (standing-on_path at)
 
--- so the frame passes that port in its class there
+-- the frame passes that port, in its class there
 pub standing-passes : {network : DeclaredNetwork} {Last : HopRecord → Type 0} {progress : Progress}
     → IsStanding network Last progress → (port class : ℕ) → place_of network progress ≡ port
     → class_at (sender_of network progress) (place_of network progress) ≡ class
@@ -102,13 +101,14 @@ standing-placed {network} {Last} records frame within at =
       most = omega (arith, on_path, keeps.path.most);
     }
 
+-- the greatest of numbers that are at most a bound is at most that
 fold-max-le : (bound a : ℕ) (xs : List ℕ) → a ≤ bound → All (λ (x : ℕ). x ≤ bound) xs → fold max a xs ≤ bound
 fold-max-le bound a [] le all = le
 fold-max-le bound a (x ∷ xs) le all =
     let first : x ≤ bound = All-head (λ (x : ℕ). x ≤ bound) x xs all in
     fold-max-le bound (max a x) xs (omega arith) (All-tail (λ (x : ℕ). x ≤ bound) x xs all)
 
--- where each crossing arrives before a time, the next may arrive by then
+-- where each crossing arrived before a time, the next frame may arrive by then
 pub in_order_from-le : (end bound : ℕ) (crossings : List Crossing)
     → All (λ (x : Crossing). x.arrival + 1 ≤ bound) crossings → in_order_from end crossings ≤ bound
 in_order_from-le end bound crossings all =

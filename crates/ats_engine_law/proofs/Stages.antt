@@ -1,10 +1,9 @@
 -- What the next event says of its frame's stage, or of its port's turn.
-use Rattle.std.proofs.Common.{◌≡◌, ◌≢◌, ℕ, ◌<◌, ◌≤◌, List, ◌∷◌, length, get_or, Option, Some, None, refl, sym, ap, ◌∙◌}
-use Rattle.std.proofs.Common.{inl, inr, arith}
+use Rattle.std.proofs.Common.{◌≡◌, ◌≢◌, ℕ, ◌<◌, List, length, get_or, Option, Some, None, sym, ap, ◌∙◌, inl, inr, arith}
 use Rattle.std.proofs.lemmas.Bool.{cases_lt}
 use Rattle.std.proofs.lemmas.List.{get_or_past}
 use Rattle.std.proofs.lemmas.List.Elements.{All-head}
-use Rattle.std.proofs.lemmas.Option.{none-some, same_Some}
+use Rattle.std.proofs.lemmas.Option.{none-some}
 use Rattle.ats_num.specs.declared.time.Ps.{Ps}
 use Rattle.ats_network.specs.Network.{DeclaredNetwork}
 use Rattle.ats_events.specs.declared.moment.Moment.{Moment}
@@ -19,11 +18,12 @@ use Rattle.ats_steps.specs.declared.turn.Turn.{Turn}
 use Rattle.ats_steps.specs.declared.turn.Turn.TheVariants.{Resting, Selecting, Occupied}
 use Rattle.ats_engine_law.specs.Next.{IsNext}
 
--- a stage that has a moment of each kind
+-- the time of a moment, where there is one
 abbrev time_of : Option Moment → Ps → Ps
 time_of (Some moment) other = moment.at
 time_of None other = other
 
+-- a frame that arrives then comes then
 coming-by : (frame : ℕ) (stage : Stage) (now : Moment) → arrival_by frame stage ≡ Some now → stage ≡ Coming now.at
 coming-by frame (Coming at) now is = ap (λ (m : Option Moment). Coming (time_of m at)) is
 coming-by frame (Due at) now is = absurd (none-some now is)
@@ -31,6 +31,7 @@ coming-by frame Waiting now is = absurd (none-some now is)
 coming-by frame (Sending until) now is = absurd (none-some now is)
 coming-by frame Over now is = absurd (none-some now is)
 
+-- one that becomes eligible then is due then
 due-by : (frame : ℕ) (stage : Stage) (now : Moment) → eligibility_by frame stage ≡ Some now → stage ≡ Due now.at
 due-by frame (Due at) now is = ap (λ (m : Option Moment). Due (time_of m at)) is
 due-by frame (Coming at) now is = absurd (none-some now is)
@@ -38,6 +39,7 @@ due-by frame Waiting now is = absurd (none-some now is)
 due-by frame (Sending until) now is = absurd (none-some now is)
 due-by frame Over now is = absurd (none-some now is)
 
+-- one whose transmission ends then is sent until then
 sending-by : (frame : ℕ) (stage : Stage) (now : Moment) → end_by frame stage ≡ Some now → stage ≡ Sending now.at
 sending-by frame (Sending until) now is = ap (λ (m : Option Moment). Sending (time_of m until)) is
 sending-by frame (Coming at) now is = absurd (none-some now is)
@@ -45,6 +47,7 @@ sending-by frame (Due at) now is = absurd (none-some now is)
 sending-by frame Waiting now is = absurd (none-some now is)
 sending-by frame Over now is = absurd (none-some now is)
 
+-- a port that selects then is to select then
 selecting-by : (port : ℕ) (turn : Turn) (now : Moment) → selection_by port turn ≡ Some now → turn ≡ Selecting now.at
 selecting-by port (Selecting at) now is = ap (λ (m : Option Moment). Selecting (time_of m at)) is
 selecting-by port Resting now is = absurd (none-some now is)

@@ -1,23 +1,22 @@
 -- When the verdict on a frame that comes lets it be eligible.
-use Rattle.std.proofs.Common.{◌≡◌, ℕ, ◌+◌, ◌*◌, ◌<◌, ◌≤◌, Bool, true, false, List, length, get_or, All, refl, sym, ap}
-use Rattle.std.proofs.Common.{◌∙◌, subst, inl, inr, arith}
-use Rattle.std.specs.Prelude.{◌==◌, ◌/◌, nat_le, ℤ, if◌then◌else◌}
+use Rattle.std.proofs.Common.{◌≡◌, ℕ, ◌+◌, ◌*◌, ◌≤◌, Bool, true, false, List, length, get_or, All, refl, sym, subst}
+use Rattle.std.proofs.Common.{inl, inr, arith}
+use Rattle.std.specs.Prelude.{◌==◌, ◌/◌, nat_le, ℤ, if◌then◌else◌, unwrap_or}
 use Rattle.std.specs.List.{range_with_len}
 use Rattle.std.proofs.lemmas.Bool.{cases_lt, leb-true}
 use Rattle.std.proofs.lemmas.List.{get_or_past}
 use Rattle.std.proofs.lemmas.List.Elements.{All-map}
-use Rattle.ats_num.specs.declared.time.Ps.{Ps}
 use Rattle.ats_num.specs.declared.time.TheConstants.{PS_PER_SECOND, PS_PER_NS}
 use Rattle.ats_num.specs.Wire.{bits_of}
 use Rattle.ats_topology.specs.Port.{port_at}
-use Rattle.ats_topology.specs.Topology.{IsTopology, IsNode, node_at, no_node}
+use Rattle.ats_topology.specs.Topology.{IsNode, node_at, no_node}
 use Rattle.ats_topology.specs.declared.node.Kind.{Kind}
 use Rattle.ats_topology.specs.declared.node.Kind.TheVariants.{Station, Bridge}
 use Rattle.ats_topology.specs.declared.node.Node.{Node}
 use Rattle.ats_topology.specs.declared.node.TheConstants.{MAX_RESIDENCE_NS}
 use Rattle.ats_topology.specs.Node as node
 use Rattle.ats_network.specs.Network.{DeclaredNetwork, IsNetwork}
-use Rattle.ats_network.specs.Residence.{residence_at, residence_after}
+use Rattle.ats_network.specs.Residence.{residence_at}
 use Rattle.ats_group.specs.Group.{is_declared_size, verdict_by, verdict_on}
 use Rattle.ats_group.specs.GroupsState.{GroupsState, verdict_of}
 use Rattle.ats_group.specs.GroupsState as groups
@@ -31,7 +30,6 @@ use Rattle.ats_trace.specs.Eligibility.{declared_by}
 use Rattle.ats_records.specs.Progress.{Progress}
 use Rattle.ats_steps.specs.Judging.{AreGroupsOf}
 use Rattle.ats_steps.specs.Steps.{judged_by, verdict_now, class_behind}
-use Rattle.std.specs.Prelude.{unwrap_or}
 
 -- a time from an arrival to a second after it
 abbrev pub IsSoon : ℕ → ℕ → Type 0
@@ -46,7 +44,8 @@ on_if false v w P first second = second
 soon_by : (latest eligible arrival : ℕ) → arrival ≤ eligible → latest ≤ arrival + PS_PER_SECOND
     → OnEligible (verdict_by latest eligible) (IsSoon arrival)
 soon_by latest eligible arrival low high =
-    on_if (nat_le eligible latest) (Eligible (record { 0 = eligible })) (Late (record { 0 = eligible })) (IsSoon arrival)
+    on_if (nat_le eligible latest) (Eligible (record { 0 = eligible })) (Late (record { 0 = eligible }))
+    (IsSoon arrival)
     (λ passes. (let h : eligible ≤ latest = leb-true eligible latest passes in (low, omega arith))) tt
 
 -- a verdict of a group lets a frame be eligible within the maximum residence time of its arrival
@@ -70,10 +69,10 @@ node_most : (nodes : List Node) (n : ℕ) → All IsNode nodes
     → node.residence_of (node_at nodes n).kind ≤ MAX_RESIDENCE_NS
 node_most nodes n each = elim (cases_lt n (length nodes)) as (λ _. node.residence_of (node_at nodes n).kind
     ≤ MAX_RESIDENCE_NS) [
-  | inl within ↦ (each n no_node within).residence
-  | inr past ↦ subst (λ (x : Node). node.residence_of x.kind ≤ MAX_RESIDENCE_NS)
-      (sym (get_or_past nodes n no_node past)) (omega arith)
-]
+      | inl within ↦ (each n no_node within).residence
+      | inr past ↦ subst (λ (x : Node). node.residence_of x.kind ≤ MAX_RESIDENCE_NS)
+          (sym (get_or_past nodes n no_node past)) (omega arith)
+    ]
 
 group_most : (network : DeclaredNetwork) → IsNetwork network → (group : ℕ)
     → residence_of network group ≤ MAX_RESIDENCE_NS

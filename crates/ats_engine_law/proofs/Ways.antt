@@ -1,6 +1,6 @@
 -- What a step does to the hop records of a frame along its path.
-use Rattle.std.proofs.Common.{◌≡◌, ◌≢◌, ℕ, zero, suc, ◌-◌, ◌<◌, List, [], ◌∷◌, ◌++◌, length, get_or, set, Some, refl}
-use Rattle.std.proofs.Common.{ap, ◌∙◌, arith}
+use Rattle.std.proofs.Common.{◌≡◌, ◌≢◌, ℕ, zero, suc, ◌-◌, ◌<◌, ◌≤◌, List, [], ◌∷◌, ◌++◌, length, get_or, set, Some}
+use Rattle.std.proofs.Common.{refl, ap, ◌∙◌, arith}
 use Rattle.ats_num.specs.declared.time.Ps.{Ps}
 use Rattle.ats_group.specs.declared.verdict.Verdict.{Verdict}
 use Rattle.ats_group.specs.declared.verdict.Verdict.TheVariants.{Eligible}
@@ -41,6 +41,15 @@ stands-some Last [] hops stands = absurd stands
 stands-some Last (p ∷ path) [] stands = absurd stands
 stands-some Last (p ∷ path) (hop ∷ hops) stands = omega arith
 
+-- and no more of them than its path has ports
+pub stands-within : (Last : HopRecord → Type 0) (path : List ℕ) (hops : List HopRecord) → Stands Last path hops
+    → length hops ≤ length path
+stands-within Last [] hops stands = absurd stands
+stands-within Last (p ∷ path) [] stands = absurd stands
+stands-within Last (p ∷ path) (hop ∷ []) stands = omega arith
+stands-within Last (p ∷ path) (hop ∷ next ∷ hops) stands =
+    omega (arith, stands-within Last path (next ∷ hops) stands.1)
+
 -- what the last record says may be weakened
 pub stands-weaker : (Last Other : HopRecord → Type 0) → ((hop : HopRecord) → Last hop → Other hop) → (path : List ℕ)
     (hops : List HopRecord) → Stands Last path hops → Stands Other path hops
@@ -79,6 +88,7 @@ released-more release (hop ∷ hops) at verdict comes first = comes
 abbrev pub sent_hops : List HopRecord → ℕ → Ps → Ps → List HopRecord
 sent_hops hops k start end = set hops k (record (get_or hops k no_hop) { sent = Some (start, end) })
 
+-- where its last record has this place, it is sent until then
 stands-sent-at : (path : List ℕ) (hops : List HopRecord) (k : ℕ) (start end : Ps) → length hops ≡ suc k
     → Stands IsUnsent path hops → Stands (IsSentUntil end) path (sent_hops hops k start end)
 stands-sent-at [] hops k start end long stands = absurd stands
@@ -95,6 +105,7 @@ stands-sent-at (p ∷ path) (hop ∷ next ∷ hops) (suc k) start end long stand
     stands-more (IsSentUntil end) p path hop (sent_hops (next ∷ hops) k start end) stands.0
     (stands-sent-at path (next ∷ hops) k start end (omega arith) stands.1)
 
+-- so it is
 pub stands-sent : (path : List ℕ) (hops : List HopRecord) (start end : Ps) → Stands IsUnsent path hops
     → Stands (IsSentUntil end) path (sent_hops hops (length hops - 1) start end)
 stands-sent path hops start end stands =

@@ -1,5 +1,4 @@
 use Rattle.std.specs.Prelude.{◌≡◌, ℕ, ◌+◌, ◌<◌, ◌≤◌, List, [], ◌∷◌, length, map, replicate, slice_index}
-use Rattle.ats_num.specs.declared.time.Ps.{Ps}
 use Rattle.ats_topology.specs.Port.{port_at}
 use Rattle.ats_network.specs.Network.{DeclaredNetwork}
 use Rattle.ats_network.specs.Senders.{sender_at}
@@ -14,9 +13,7 @@ use Rattle.ats_steps.specs.Entries.{arrival_moment}
 use Rattle.ats_steps.specs.Ports.{port_state_at, room_of}
 use Rattle.ats_steps.specs.declared.event.Event.{Event}
 use Rattle.ats_steps.specs.declared.event.Event.TheVariants.{Arrival}
-use Rattle.ats_steps.specs.declared.stage.Stage.{Stage}
 use Rattle.ats_steps.specs.declared.stage.Stage.TheVariants.{Coming}
-use Rattle.ats_steps.specs.declared.turn.Turn.{Turn}
 use Rattle.ats_steps.specs.declared.turn.Turn.TheVariants.{Resting}
 
 -- the arrivals of frames at their own stations, numbered from this number on: each at its release
@@ -31,7 +28,8 @@ rooms_of network releases = map (λ (r : Release). length (sender_at network r.s
 -- a port that was just opened, with room for all frames that pass it
 pub record IsFresh {T : Type 0} (network : DeclaredNetwork) (course : Course T) (port : ℕ) : Type 0 where
   pub rooms : List ℕ
-  pub fresh : port_state_at course port ≡ states.opened (port_at network.topology.ports port).ps_per_bit rooms course.tie
+  pub fresh : port_state_at course port
+      ≡ states.opened (port_at network.topology.ports port).ps_per_bit rooms course.tie
   pub each : (class : ℕ) → class ≤ 7 → slice_index rooms class ≡ room_of network course.records port class
 
 -- a run in which nothing has happened yet

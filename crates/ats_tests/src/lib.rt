@@ -1,5 +1,5 @@
-//! Tests of captures, schedules, queues, ports, events and runs, which no command reaches yet. There is nothing else here,
-//! so that the crates below are proved without tests.
+//! Tests of captures, schedules, meters, queues, ports, events and runs, which no command reaches
+//! yet. There is nothing else here, so that the crates below are proved without tests.
 #![tactic(auto)]
 
 #[cfg(test)]

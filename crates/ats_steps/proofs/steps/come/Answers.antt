@@ -20,8 +20,8 @@ returns-in-Late g c =
       groups = gs;
       last = c.args.now;
     }) c.args.now c.args.frame []) (sym c.in-Late.ensures.groups)
-    (discarded c.args.net.now old c.args.now c.args.frame v c.push.new.self c.close.new.self c.requires.may_come.may_come.within
-    c.in-Late.ensures.verdict refl
+    (discarded c.args.net.now old c.args.now c.args.frame v c.push.new.self c.close.new.self
+    c.requires.may_come.may_come.within c.in-Late.ensures.verdict refl
     (c.push.ensures ∙ ap (λ (w : Verdict). set c.args.state.now.records c.args.frame
     (with_hop p (came c.args.now.at w))) c.in-Late.is)
     c.close.ensures)
