@@ -13,8 +13,8 @@ use ats_answer::Status;
 use ats_io::{Files, SureFiles, SureSink};
 use std::alloc::Global;
 
-/// For all words, and all bytes told under the names of their files, just one answer is due, except to `replay` of files
-/// without a fault, which may print any run in its order.
+/// For all words, and all bytes told under the names of their files, just one answer is due, except to `replay` of
+/// files without a fault, which may print any run in its order.
 pub fn one_answer_is_due()
     ensures { OneAnswerIsDue }
 {}
@@ -46,10 +46,10 @@ pub fn what_replay_answers()
     ensures { ReplayMeans }
 {}
 
-/// Where `Done` is due to `check` of a certificate and to `replay` of a schedule for one network: each frame of a stream
-/// whose talker keeps its buckets in this schedule is, in the run that `replay` prints, never discarded, eligible at
-/// each next hop within the bound that `check` prints for the hop before, and arrives within the printed sum of its
-/// stream and within its deadline.
+/// Where `Done` is due to `check` of a certificate and to `replay` of a schedule for one network: each frame of a
+/// stream whose talker keeps its buckets in this schedule is, in the run that `replay` prints, never discarded,
+/// eligible at each next hop within the bound that `check` prints for the hop before, and arrives within the printed
+/// sum of its stream and within its deadline.
 pub fn replay_keeps_bounds()
     ensures { ReplayKeepsBounds }
 {}

@@ -8,3 +8,5 @@ pub mod Judged
 pub mod SenderParts
 pub mod MetersMade
 pub mod Counts
+pub mod Prefix
+pub mod OneBroken

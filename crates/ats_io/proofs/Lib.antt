@@ -1,5 +1,5 @@
 pub mod Outside
-mod Fronts
+pub mod Fronts
 mod Held
 mod Lines
 mod Pairs

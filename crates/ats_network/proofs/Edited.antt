@@ -1,4 +1,5 @@
-use Rattle.std.proofs.Common.{◌≡◌, ◌≢◌, ℕ, zero, suc, ◌+◌, ◌<◌, List, [], ◌∷◌, ◌++◌, map, length, get_or, set, Option, Some}
+use Rattle.std.proofs.Common.{◌≡◌, ◌≢◌, ℕ, zero, suc, ◌+◌, ◌<◌, List, [], ◌∷◌, ◌++◌, map, length, get_or, set}
+use Rattle.std.proofs.Common.{Option, Some}
 use Rattle.std.proofs.Common.{None, refl, sym, ap, subst, ◌∙◌, arith, length-append}
 use Rattle.std.specs.List.{All, remove}
 use Rattle.std.proofs.Math.Seq.{map-set_same}
@@ -62,7 +63,8 @@ pub classed_network : (network : DeclaredNetwork) (n class : ℕ) → IsNetwork 
     → IsClass class → IsNetwork (with_class_at network n class)
 classed_network network n class is within valid = record {
   topology = is.topology;
-  streams = All-set IsStream network.streams n it (is_classed before class (is.streams n no_stream within) valid) is.streams;
+  streams = All-set IsStream network.streams n it (is_classed before class
+  (is.streams n no_stream within) valid) is.streams;
   flows = is.flows;
   paths =
       rw (map-set stream_sender network.streams n it)
@@ -120,7 +122,8 @@ apart_less xs ys n within apart =
     (pairs_from_apart (xs ++ ys) apart)))
 
 apart_first : (xs ys : List (List ℕ)) → AreApart (xs ++ ys) → AreApart xs
-apart_first xs ys apart = apart_from_pairs xs (λ i j d before within same. pairs_from_apart (xs ++ ys) apart i j d before
+apart_first xs ys apart = apart_from_pairs xs (λ i j d before within same. pairs_from_apart
+    (xs ++ ys) apart i j d before
     (omega (arith, length-append xs ys, within))
     (get_or_append_left xs ys d i (omega (arith, before, within)) ∙ same ∙ sym (get_or_append_left xs ys d j within)))
 

@@ -1,5 +1,7 @@
-use Rattle.std.proofs.Common.{◌≡◌, ◌≢◌, ℕ, suc, ◌<◌, Bool, true, false, List, [], ◌∷◌, ◌++◌, map, length, get_or, take, drop}
-use Rattle.std.proofs.Common.{Option, Some, None, refl, sym, ap, subst, ◌∙◌, arith, length-append, ◌⊎◌, inl, inr, eqb, ◌+◌}
+use Rattle.std.proofs.Common.{◌≡◌, ◌≢◌, ℕ, suc, ◌<◌, Bool, true, false, List, [], ◌∷◌, ◌++◌, map, length, get_or}
+use Rattle.std.proofs.Common.{take, drop}
+use Rattle.std.proofs.Common.{Option, Some, None, refl, sym, ap, subst, ◌∙◌, arith, length-append, ◌⊎◌, inl, inr}
+use Rattle.std.proofs.Common.{eqb, ◌+◌}
 use Rattle.std.specs.Prelude.{IfSome}
 use Rattle.std.specs.BTreeMap.{BTreeMap}
 use Rattle.std.specs.List.{All, AllPairs, remove}
@@ -78,7 +80,8 @@ pub table_push : (streams : List DeclaredStream) (stream : DeclaredStream) (seri
     → AreStreams (streams ++ stream ∷ []) (serials ++ serial ∷ []) names' new
 table_push streams stream serials serial names names' old new table absent free room above named identified = record {
   named = λ q. rw (map-append name streams (stream ∷ []))
-      (found_push (bytes_eq q) (stream_names streams) serials stream.name serial (serial_at names q) (serial_at names' q)
+      (found_push (bytes_eq q) (stream_names streams) serials stream.name serial (serial_at names q)
+      (serial_at names' q)
       (table.numbered ∙ sym (length-map streams name)) (table.named q)
       (unnamed streams serials q stream.name table.numbered absent) (named q));
   identified = λ address vlan. rw (map-append identity streams (stream ∷ []))
@@ -110,7 +113,8 @@ shown_table streams streams' serials names identities table same alike =
 -- what is shown without an element is what the others show
 pub map-remove : {X Y : Type 0} (f : X → Y) (xs : List X) (n : ℕ) → map f (remove xs n) ≡ remove (map f xs) n
 map-remove {X} {Y} f xs n =
-    map-append f (take n xs) (drop (suc n) xs) ∙ ap (λ (ys : List Y). map f (take n xs) ++ ys) (sym (drop-map f (suc n) xs))
+    map-append f (take n xs) (drop (suc n) xs) ∙ ap (λ (ys : List Y). map f (take n xs) ++ ys) (sym (drop-map f
+    (suc n) xs))
     ∙ ap (λ (ys : List Y). ys ++ drop (suc n) (map f xs)) (sym (take-map f n xs))
 
 -- names that are apart: no other passes the test of one
@@ -144,7 +148,8 @@ is_it (Some given) address vlan pass =
 
 -- identities that are apart: no other passes the test of one
 other_identities : (streams : List DeclaredStream) (n address vlan : ℕ) → AreIdentified streams
-    → n < length (stream_identities streams) → is_identity (address, vlan) (get_or (stream_identities streams) n None) ≡ true
+    → n < length (stream_identities streams) → is_identity (address, vlan) (get_or
+    (stream_identities streams) n None) ≡ true
     → (k : ℕ) → k < length (stream_identities streams) → k ≢ n
     → is_identity (address, vlan) (get_or (stream_identities streams) k None) ≡ false
 other_identities streams n address vlan apart within passes k below other =
@@ -181,7 +186,8 @@ other_identities streams n address vlan apart within passes k below other =
 -- a table without the stream at a place
 pub table_less : (streams : List DeclaredStream) (n : ℕ) (serials : List ℕ) (names names' : BTreeMap (List ℕ) ℕ)
     (old new : BTreeMap (ℕ × ℕ) ℕ) → AreStreams streams serials names old → n < length streams
-    → AreApart (stream_names streams) → AreIdentified streams → Names names names' (get_or streams n no_stream).name None
+    → AreApart (stream_names streams) → AreIdentified streams
+    → Names names names' (get_or streams n no_stream).name None
     → Identifies old new (get_or streams n no_stream).identity None
     → AreStreams (remove streams n) (remove serials n) names' new
 table_less streams n serials names names' old new table within apart identities named identified = record {

@@ -11,6 +11,7 @@ const LINE: &[u8] = b"format = 1\n[[station]]\nname = \"s1\"\n[[station]]\nname 
     [[link]]\na = \"b1\"\nb = \"s2\"\nmbps = 1000\npropagation_ns = 500\n\
     [[stream]]\nname = \"a\"\npath = [\"s1\", \"b1\", \"s2\"]\nclass = 6\nrate_bps = 100000000\n\
     burst_bits = 12336\nmin_octets = 64\nmax_octets = 1522\ndeadline_ns = 1000000\n\
+    address = \"02:00:00:00:00:01\"\nvlan = 1\n\
     [[flow]]\nname = \"f\"\npath = [\"s1\", \"b1\", \"s2\"]\nmax_octets = 1522\n";
 
 /// s1 - b1 - s2 with a stream `a` of class 6 and a flow `f` from s1 to s2.

@@ -3,6 +3,8 @@
 #![tactic(auto)]
 
 #[cfg(test)]
+mod capture_files;
+#[cfg(test)]
 mod captures;
 #[cfg(test)]
 mod events;
@@ -18,6 +20,8 @@ mod ports;
 mod queues;
 #[cfg(test)]
 mod records;
+#[cfg(test)]
+mod replays;
 #[cfg(test)]
 mod runs;
 #[cfg(test)]

@@ -7,4 +7,5 @@ use Rattle.ats_replay.proofs.summary.no_frames.Goals as goal
 pub loop-preserved : goal.loop-preserved
 loop-preserved c = c.in_ok-push.ensures.items
     ∙ ap (λ (summaries : List Summary). summaries ++ summary_of [] ∷ []) c.loop.invariant
-    ∙ sym (map-range_with_len_more (λ sender. summary_of (frames_of [] sender)) 0 c.loop.counter c.loop.counter (omega arith))
+    ∙ sym (map-range_with_len_more (λ sender. summary_of (frames_of [] sender)) 0 c.loop.counter c.loop.counter
+    (omega arith))

@@ -14,7 +14,8 @@ invariant_of-self c =
     let long : length streams ≡ length c.args.self.now = ap length c.self.view_is in
     let within : c.in_ok-place.field-0 < length streams = omega (arith, long, c.in_ok-place.ensures.within) in
     let it : c.remove-stream.result ≡ get_or streams c.in_ok-place.field-0 no_stream =
-    c.remove-stream.ensures.value ∙ get_or_default streams c.in_ok-place.field-0 c.remove-stream.result no_stream within in
+    c.remove-stream.ensures.value ∙ get_or_default streams c.in_ok-place.field-0 c.remove-stream.result no_stream
+    within in
     rw (c.remove-stream.ensures.items, c.remove.ensures.items)
     (table_less streams c.in_ok-place.field-0 c.self.inside.serials.items c.self.inside.names c.forget.new.names
     c.self.inside.identities c.forget.new.identities c.self.invariant within

@@ -1,0 +1,3 @@
+pub mod Kept
+pub mod ReadBytes
+pub mod Traffics

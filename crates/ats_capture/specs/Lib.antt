@@ -1,0 +1,5 @@
+pub mod FaultText
+pub mod Inside
+pub mod Reading
+pub mod Seen
+pub mod Traffic
