@@ -1,3 +1,4 @@
 pub mod RowSteps
 pub mod RowPorts
 pub mod Steps
+pub mod Outside

@@ -12,6 +12,11 @@ use Rattle.ats_certificate_file.specs.FaultText as certificate
 use Rattle.ats_trace.specs.declared.journey.Release.{Release}
 use Rattle.ats_schedule.specs.Reading.{releases_of}
 use Rattle.ats_schedule.specs.FaultText as schedule
+use Rattle.ats_pcap.specs.declared.record.Record.{Record}
+use Rattle.ats_capture.specs.Reading as capture
+use Rattle.ats_capture.specs.Traffic.{Traffic, traffic_of}
+use Rattle.ats_capture.specs.FaultText.{records_fault_text}
+use Rattle.ats_capture.specs.FaultText as traffic
 use Rattle.ats_num.specs.Failure.{◌>>=◌}
 use Rattle.ats_answer.specs.Answer.{Answer, input_answer}
 
@@ -47,3 +52,13 @@ unfoldable pub releases_in : DeclaredNetwork → List ℕ → List ℕ → Resul
 releases_in network file bytes = do
   text ← bytes_in 33554432 file bytes
   declared_in file schedule.fault_text (releases_of network text)
+
+-- the records that a capture's file of these bytes has
+unfoldable pub records_in : List ℕ → List ℕ → Result (List Record) Answer
+records_in file bytes = declared_in file records_fault_text (capture.records_in bytes)
+
+-- what they come to at a station
+unfoldable pub traffic_in : DeclaredNetwork → ℕ → List ℕ → List ℕ → Result Traffic Answer
+traffic_in network station file bytes = do
+  records ← records_in file bytes
+  declared_in file traffic.fault_text (traffic_of network station records)

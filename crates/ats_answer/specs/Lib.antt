@@ -5,3 +5,4 @@ pub mod Input
 pub mod Named
 pub mod Outcome
 pub mod Status
+pub mod Station

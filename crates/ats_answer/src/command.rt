@@ -1,7 +1,8 @@
 //! The command table.
 
 ghost use Rattle.std.specs.Prelude.{◌≡◌};
-ghost use Rattle.ats_answer.specs.Command.{command_of, command_on, command_on_three, command_on_two};
+ghost use Rattle.ats_answer.specs.Command.{command_of, command_on, command_on_four, command_on_three};
+ghost use Rattle.ats_answer.specs.Command.{command_on_two};
 ghost use Rattle.ats_answer.specs.Named.{texts_of, view_of};
 
 use crate::order::{Order, order_named};
@@ -15,10 +16,16 @@ pub enum Command<'a> {
     Show(&'a str),
     /// `bound NET`: the certificate of a network with the least waits.
     Bound(&'a str),
+    /// `explain NET`: why the least bounds of a network are as large as they are.
+    Explain(&'a str),
     /// `check NET CERT`: judges a certificate of a network, and gives the sums.
     Check(&'a str, &'a str),
+    /// `conform NET SCHEDULE`: judges the releases of a schedule by the declared buckets and sizes.
+    Conform(&'a str, &'a str),
     /// `replay NET SCHEDULE ORDER`: runs a schedule, and gives every journey.
     Replay(&'a str, &'a str, Order),
+    /// `capture NET STATION FILE ORDER`: runs what a station sent by a capture, and gives every journey.
+    Capture(&'a str, &'a str, &'a str, Order),
 }
 
 /// The command that words name; `None` exactly where they are not in the table.
@@ -36,6 +43,14 @@ pub fn named_by(words: &[String]) -> Option<Command<'_>>
             words[2].as_str(),
             words[3].as_str(),
         )
+    } else if words.len() == 5 {
+        on_four(
+            words[0].as_str(),
+            words[1].as_str(),
+            words[2].as_str(),
+            words[3].as_str(),
+            words[4].as_str(),
+        )
     } else {
         None
     }
@@ -51,6 +66,8 @@ fn on_file<'a>(verb: &str, file: &'a str) -> Option<Command<'a>>
         Some(Command::Show(file))
     } else if verb == "bound" {
         Some(Command::Bound(file))
+    } else if verb == "explain" {
+        Some(Command::Explain(file))
     } else {
         None
     }
@@ -62,6 +79,8 @@ fn on_two<'a>(verb: &str, file: &'a str, second: &'a str) -> Option<Command<'a>>
 {
     if verb == "check" {
         Some(Command::Check(file, second))
+    } else if verb == "conform" {
+        Some(Command::Conform(file, second))
     } else {
         None
     }
@@ -76,4 +95,21 @@ fn on_three<'a>(verb: &str, file: &'a str, second: &'a str, word: &str) -> Optio
     }
     let order = order_named(word)?;
     Some(Command::Replay(file, second, order))
+}
+
+// The command of a verb, a file, a word, a file and a word.
+fn on_four<'a>(
+    verb: &str,
+    file: &'a str,
+    second: &'a str,
+    third: &'a str,
+    word: &str,
+) -> Option<Command<'a>>
+    ensures { view_of result ≡ command_on_four verb.now file.now second.now third.now word.now }
+{
+    if verb != "capture" {
+        return None;
+    }
+    let order = order_named(word)?;
+    Some(Command::Capture(file, second, third, order))
 }

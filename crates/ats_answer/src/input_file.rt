@@ -1,21 +1,27 @@
 //! What the files of a call declare.
 
 ghost use Rattle.std.specs.Prelude.{◌≡◌, ℕ, ◌<◌, ◌≤◌, List, length, Some, Ok, Err, All, IfOk, IsErrOf};
+ghost use Rattle.std.specs.Prelude.{vec_len};
 ghost use Rattle.std.specs.Global.{Vec};
 ghost use Rattle.ats_io.specs.declared.files.TheConstants.{MAX_PLACE};
 ghost use Rattle.ats_io.specs.Outside.{Rose, IfTold, Continues};
 ghost use Rattle.ats_answer.specs.Answer.{input_text};
-ghost use Rattle.ats_answer.specs.Input.{bytes_in, shape_in, network_in, releases_in, rows_in};
+ghost use Rattle.ats_answer.specs.Input.{bytes_in, shape_in, network_in, records_in, releases_in, rows_in};
+ghost use Rattle.ats_answer.specs.Input.{traffic_in};
+ghost use Rattle.ats_capture.specs.Reading.{IsLongEnough};
+ghost use Rattle.ats_capture.specs.Seen.{seen};
 ghost use Rattle.ats_answer.specs.Outcome.{Gives, PassesOn};
 ghost use Rattle.ats_trace.specs.Releases.{AreReleases};
 
 use crate::outcome::Stop;
+use ats_capture::{RecordsFault, StationTraffic, capture_records, captured};
 use ats_certificate::Certificate;
 use ats_certificate_file::read_certificate;
 use ats_io::{Files, ReadFault, read_whole};
 use ats_network::Network;
 use ats_network_file::read_network;
 use ats_num::{Failure, Fault};
+use ats_pcap::Record;
 use ats_schedule::read_schedule;
 use ats_shape::{Shape, read_shape};
 use ats_topology::Topology;
@@ -88,6 +94,49 @@ pub fn schedule_in<F: Files>(
 {
     let bytes = bytes_in(alloc, file, MAX_SCHEDULE_BYTES, files)?;
     declared(alloc, file, read_schedule(alloc, &bytes, network))
+}
+
+/// What a station sent, as the capture in a file tells of it; its releases may be run on the network.
+/// `Input` exactly where the file is too long or has a fault, or its records are over a limit, and
+/// `ReadFailed` only where a fault came at it.
+pub fn traffic_in<F: Files>(
+    alloc: Global,
+    file: &str,
+    network: &Network,
+    station: u32,
+    files: &mut F,
+) -> Result<StationTraffic, Stop>
+    ensures due { IfTold (F.told files.old file.now)
+        (λ bytes. Gives seen result (traffic_in network.now station file.now bytes)) }
+    ensures releases { IfOk result (λ traffic. AreReleases network.now traffic.releases.items) }
+    ensures failed { IsErrOf result Stop.ReadFailed → Rose (F.faults files.old file.now) (F.faults files.new file.now) }
+    ensures continues { Continues F.told F.faults files.old files.new }
+{
+    let records = records_in(alloc, file, files)?;
+    declared(alloc, file, captured(alloc, network, station, &records))
+}
+
+// The records of the capture in a file.
+#[tactic(auto, unfolding(crate::specs::Input::records_in))]
+fn records_in<F: Files>(alloc: Global, file: &str, files: &mut F) -> Result<Vec<Record>, Stop>
+    ensures due { IfTold (F.told files.old file.now)
+        (λ bytes. Gives (λ records. records.items) result (records_in file.now bytes)) }
+    ensures few { IfOk result (λ records. vec_len records ≤ 1_000_000) }
+    ensures octets { IfOk result (λ records. All IsLongEnough records.items) }
+    ensures failed { IsErrOf result Stop.ReadFailed → Rose (F.faults files.old file.now) (F.faults files.new file.now) }
+    ensures continues { Continues F.told F.faults files.old files.new }
+{
+    match capture_records(alloc, files, file) {
+        Ok(records) => Ok(records),
+        Err(Failure::Fault(RecordsFault::Failed)) => Err(Stop::ReadFailed),
+        Err(Failure::Fault(RecordsFault::TooLong)) => {
+            Err(Stop::Input(input_line(alloc, file, &"too-long")?))
+        }
+        Err(Failure::Fault(RecordsFault::Capture(fault))) => {
+            Err(Stop::Input(input_line(alloc, file, &fault)?))
+        }
+        Err(Failure::NoMemory) => Err(Stop::NoMemory),
+    }
 }
 
 // The bytes of a file of at most so many.

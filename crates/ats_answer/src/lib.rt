@@ -6,10 +6,12 @@ pub mod command;
 pub mod input_file;
 pub mod order;
 pub mod outcome;
+pub mod station;
 pub mod status;
 
 pub use command::{Command, named_by};
-pub use input_file::{certificate_in, network_in, schedule_in, shape_in};
+pub use input_file::{certificate_in, network_in, schedule_in, shape_in, traffic_in};
 pub use order::{Order, order_named};
 pub use outcome::{Stop, finish, print};
+pub use station::station_in;
 pub use status::Status;

@@ -7,7 +7,8 @@ use ats_num::Fault;
 use ats_pcap::CaptureFault;
 use std::fmt;
 
-/// Why a file gives no records.
+/// Why a file gives no records. It is displayed as the word for the fault; `Failed`, which is no fault
+/// of the bytes, as `read-failed`.
 #[derive(Clone, Copy, Debug, PartialEq, Eq)]
 pub enum RecordsFault {
     /// A read failed; the count of faults of the file's name rose.
@@ -37,6 +38,21 @@ impl From<CaptureFault> for RecordsFault {
 
     fn from(fault: CaptureFault) -> RecordsFault {
         RecordsFault::Capture(fault)
+    }
+}
+
+impl fmt::Display for RecordsFault {
+    ghost use Rattle.std.specs.Prelude.{Some};
+    ghost use Rattle.ats_capture.specs.FaultText.{records_fault_text};
+
+    ghost output = { λ fault. Some (records_fault_text fault) };
+
+    fn fmt<W: fmt::Write>(&self, f: &mut fmt::Formatter<W>) -> fmt::Result {
+        match self {
+            RecordsFault::Failed => f.write_str("read-failed"),
+            RecordsFault::TooLong => f.write_str("too-long"),
+            RecordsFault::Capture(fault) => write!(f, "{fault}"),
+        }
     }
 }
 

@@ -130,7 +130,7 @@ replay_keeps_bounds told net certificate schedule order checked replayed check_d
         accepted = check.2;
         run_out = run_out;
         within = delays_within net certificate net_bytes certificate_bytes checked order network check.1 replay.1
-        replayed
+            replayed
             replay.2 check.2 run_out.replay;
       },
     )

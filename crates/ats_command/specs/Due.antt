@@ -2,12 +2,16 @@ use Rattle.std.specs.Prelude.{◌≡◌, ℕ, ◌⊎◌, List, [], All, IsSome, 
 use Rattle.ats_io.specs.Outside.{IfTold}
 use Rattle.ats_shape.specs.Text.{text_of}
 use Rattle.ats_network_text.specs.Text.{show_text}
-use Rattle.ats_answer.specs.Command.{Command, Shape, Show, Bound, Check, Replay, Unknown, file_words}
+use Rattle.ats_answer.specs.Command.{Command, Shape, Show, Bound, Explain, Check, Replay, Unknown, file_words}
+use Rattle.ats_answer.specs.Command.{Capture, Conform}
 use Rattle.ats_num.specs.Failure.{◌>>=◌}
 use Rattle.ats_answer.specs.declared.order.Order.{Order}
 use Rattle.ats_answer.specs.Answer.{Answer, words_answer, settled}
 use Rattle.ats_answer.specs.Input.{shape_in, network_in}
-use Rattle.ats_command.specs.Judged.{bound_judged, certificate_judged}
+use Rattle.ats_command.specs.Judged.{bound_judged, certificate_judged, explain_judged}
+use Rattle.ats_answer.specs.Station.{station_in}
+use Rattle.ats_command.specs.Captured.{IsCaptured, captured_in}
+use Rattle.ats_command.specs.Conformed.{IsAnswerTo, JudgesScheduled}
 use Rattle.ats_command.specs.Replayed.{IsOneOf, IsReplayed, scheduled_in}
 
 -- to `shape FILE`, by the bytes of the file
@@ -28,6 +32,12 @@ bound_answer net bytes = settled (do
   network ← network_in net bytes
   bound_judged network)
 
+-- to `explain NET`
+unfoldable pub explain_answer : List ℕ → List ℕ → Answer
+explain_answer net bytes = settled (do
+  network ← network_in net bytes
+  explain_judged network)
+
 -- to `check NET CERT`, by the bytes of both files; the network's is judged first
 unfoldable pub check_answer : List ℕ → List ℕ → List ℕ → List ℕ → Answer
 check_answer net certificate net_bytes certificate_bytes = settled (do
@@ -39,14 +49,28 @@ abbrev pub IsReplayAnswer : List ℕ → List ℕ → Order → List ℕ → Lis
 IsReplayAnswer net schedule order net_bytes schedule_bytes answer =
     IsOneOf (IsReplayed order) (scheduled_in net schedule net_bytes schedule_bytes) answer
 
+-- an answer to `capture NET STATION FILE ORDER`, by the bytes of both files: it prints some run in this order
+abbrev pub IsCaptureAnswer : List ℕ → List ℕ → List ℕ → Order → List ℕ → List ℕ → Answer → Type 0
+IsCaptureAnswer net station file order net_bytes file_bytes answer =
+    IsOneOf (IsCaptured order) (captured_in net station file net_bytes file_bytes) answer
+
+-- an answer to `conform NET SCHEDULE`, by the bytes of both files
+abbrev pub IsConformAnswer : List ℕ → List ℕ → List ℕ → List ℕ → Answer → Type 0
+IsConformAnswer net schedule net_bytes schedule_bytes answer =
+    IsAnswerTo JudgesScheduled (scheduled_in net schedule net_bytes schedule_bytes) answer
+
 -- an answer to a command, where its files have these bytes
 abbrev pub IsAnswer : (List ℕ → List ℕ) → Command → Answer → Type 0
 IsAnswer bytes (Shape file) answer = answer ≡ shape_answer file (bytes file)
 IsAnswer bytes (Show net) answer = answer ≡ show_answer net (bytes net)
 IsAnswer bytes (Bound net) answer = answer ≡ bound_answer net (bytes net)
+IsAnswer bytes (Explain net) answer = answer ≡ explain_answer net (bytes net)
 IsAnswer bytes (Check net certificate) answer = answer ≡ check_answer net certificate (bytes net) (bytes certificate)
+IsAnswer bytes (Conform net schedule) answer = IsConformAnswer net schedule (bytes net) (bytes schedule) answer
 IsAnswer bytes (Replay net schedule order) answer =
     IsReplayAnswer net schedule order (bytes net) (bytes schedule) answer
+IsAnswer bytes (Capture net station file order) answer =
+    IsCaptureAnswer net station file order (bytes net) (bytes file) answer
 IsAnswer bytes Unknown answer = answer ≡ words_answer
 
 -- the bytes of each file word are told
@@ -66,11 +90,20 @@ pub record IsDueAnswer (told : List ℕ → Option (List ℕ)) (command : Comman
 abbrev pub Declares : (List ℕ → Option (List ℕ)) → List ℕ → Type 0
 Declares told net = IfTold (told net) (λ bytes. IsOk (network_in net bytes))
 
--- a command comes to read this file: where bytes are told, no file before it has a fault
+-- they declare one in which a station has this name
+abbrev pub DeclaresStation : (List ℕ → Option (List ℕ)) → List ℕ → List ℕ → Type 0
+DeclaresStation told net station =
+    IfTold (told net) (λ bytes. IsOk (network_in net bytes >>= λ network. station_in network.topology station))
+
+-- a command comes to read this file: where bytes are told, nothing before it has a fault
 abbrev pub Reaches : (List ℕ → Option (List ℕ)) → Command → List ℕ → Type 0
 Reaches told (Shape file) name = name ≡ file
 Reaches told (Show net) name = name ≡ net
 Reaches told (Bound net) name = name ≡ net
+Reaches told (Explain net) name = name ≡ net
 Reaches told (Check net certificate) name = (name ≡ net) ⊎ ((name ≡ certificate) × Declares told net)
+Reaches told (Conform net schedule) name = (name ≡ net) ⊎ ((name ≡ schedule) × Declares told net)
 Reaches told (Replay net schedule order) name = (name ≡ net) ⊎ ((name ≡ schedule) × Declares told net)
+Reaches told (Capture net station file order) name =
+    (name ≡ net) ⊎ ((name ≡ file) × DeclaresStation told net station)
 Reaches told Unknown name = ⊥

@@ -4,7 +4,10 @@
 
 pub mod bound_command;
 pub mod call;
+pub mod capture_command;
 pub mod check_command;
+pub mod conform_command;
+pub mod explain_command;
 pub mod laws;
 pub mod replay_command;
 pub mod shape_command;
@@ -12,7 +15,10 @@ pub mod show_command;
 
 pub use bound_command::bound;
 pub use call::ats;
+pub use capture_command::capture;
 pub use check_command::check;
+pub use conform_command::conform;
+pub use explain_command::explain;
 pub use laws::ats_surely;
 pub use replay_command::replay;
 pub use shape_command::shape;

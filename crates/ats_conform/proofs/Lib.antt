@@ -10,3 +10,4 @@ pub mod MetersMade
 pub mod Counts
 pub mod Prefix
 pub mod OneBroken
+pub mod Either

@@ -1,5 +1,6 @@
-use Rattle.std.specs.Prelude.{◌≡◌, List}
+use Rattle.std.specs.Prelude.{◌≡◌, ◌⊎◌, List}
 use Rattle.ats_network.specs.Network.{DeclaredNetwork}
+use Rattle.ats_trace.specs.Releases.{AreReleases}
 use Rattle.ats_trace.specs.declared.journey.Release.{Release}
 use Rattle.ats_conform.specs.declared.broken.Broken.{Broken}
 use Rattle.ats_conform.specs.Broken.{Breaks}
@@ -14,3 +15,8 @@ OneBreaksAll = (network : DeclaredNetwork) (releases : List Release) (broken : B
 abbrev pub BrokenIsOne : Type 0
 BrokenIsOne = (network : DeclaredNetwork) (releases : List Release) (a b : Broken) → Breaks network releases a
     → Breaks network releases b → a ≡ b
+
+-- every station keeps its buckets by releases that may be run, or one of them breaks what its sender declares
+abbrev pub KeepOrBreak : Type 0
+KeepOrBreak = (network : DeclaredNetwork) (releases : List Release) → AreReleases network releases
+    → AllKeepBuckets network releases ⊎ ((broken : Broken) × Breaks network releases broken)

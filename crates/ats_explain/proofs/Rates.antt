@@ -112,8 +112,16 @@ rates_are network port tally is h =
     ∙ ap (sum_by (λ (s : Sender). s.rate))
     (filter-append (uses port) (map stream_sender network.streams) (map flow_sender network.flows)) in
     let parts = sum_by-append (λ (s : Sender). s.rate) streams flows in
-    omega (arith, h.above, h.equal, whole, parts, flow_rates port network.flows, classes_all seen
-    (all_shaped network port is))
+    omega (
+      arith,
+      h.above,
+      h.equal,
+      whole,
+      parts,
+      flow_rates port network.flows,
+      classes_all seen
+          (all_shaped network port is),
+    )
 
 filter_none : (test : Sender → Bool) (senders : List Sender) → list_any test senders ≡ false
     → filter test senders ≡ []

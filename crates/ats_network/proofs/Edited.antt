@@ -64,7 +64,7 @@ pub classed_network : (network : DeclaredNetwork) (n class : ℕ) → IsNetwork 
 classed_network network n class is within valid = record {
   topology = is.topology;
   streams = All-set IsStream network.streams n it (is_classed before class
-  (is.streams n no_stream within) valid) is.streams;
+      (is.streams n no_stream within) valid) is.streams;
   flows = is.flows;
   paths =
       rw (map-set stream_sender network.streams n it)
