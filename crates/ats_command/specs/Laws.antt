@@ -14,8 +14,7 @@ use Rattle.ats_answer.specs.Command.{Capture, Conform}
 use Rattle.ats_answer.specs.Answer.{Answer}
 use Rattle.ats_command.specs.Due.{IsDueAnswer, IsTold, told_bytes}
 use Rattle.ats_command.specs.Captured.{captured_in}
-use Rattle.ats_command.specs.Replayed.{scheduled_in, Scheduled}
-use Rattle.ats_trace.specs.Releases.{AreReleases}
+use Rattle.ats_command.specs.Replayed.{scheduled_in}
 
 -- this answer is due, and no other
 pub record IsOnlyDue (told : List ℕ → Option (List ℕ)) (words : List (List ℕ)) (answer : Answer) : Type 0 where
