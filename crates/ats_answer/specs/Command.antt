@@ -8,7 +8,9 @@ pub data Command : Type 0 where
   Shape : List ℕ → Command
   Show : List ℕ → Command
   Bound : List ℕ → Command
+  Explain : List ℕ → Command
   Check : List ℕ → List ℕ → Command
+  Conform : List ℕ → List ℕ → Command
   Replay : List ℕ → List ℕ → Order → Command
   Capture : List ℕ → List ℕ → List ℕ → Order → Command
   Unknown : Command
@@ -19,11 +21,15 @@ command_on verb file =
     if bytes_eq verb (codes "shape") then Shape file
     else if bytes_eq verb (codes "show") then Show file
     else if bytes_eq verb (codes "bound") then Bound file
+    else if bytes_eq verb (codes "explain") then Explain file
     else Unknown
 
 -- the command of a verb and two files
 abbrev pub command_on_two : List ℕ → List ℕ → List ℕ → Command
-command_on_two verb file second = if bytes_eq verb (codes "check") then Check file second else Unknown
+command_on_two verb file second =
+    if bytes_eq verb (codes "check") then Check file second
+    else if bytes_eq verb (codes "conform") then Conform file second
+    else Unknown
 
 -- the replay of a schedule in an order, where there is one
 abbrev pub replay_in : List ℕ → List ℕ → Option Order → Command
@@ -60,7 +66,9 @@ abbrev pub file_words : Command → List (List ℕ)
 file_words (Shape file) = file ∷ []
 file_words (Show net) = net ∷ []
 file_words (Bound net) = net ∷ []
+file_words (Explain net) = net ∷ []
 file_words (Check net certificate) = net ∷ certificate ∷ []
+file_words (Conform net schedule) = net ∷ schedule ∷ []
 file_words (Replay net schedule order) = net ∷ schedule ∷ []
 file_words (Capture net station file order) = net ∷ file ∷ []
 file_words Unknown = []

@@ -2,7 +2,8 @@ use Rattle.std.specs.Prelude.{ℕ, List, map, String, string_bytes, Option, Some
 use Rattle.std.specs.declared.alloc.Global.{Global}
 use Rattle.ats_answer.specs.Command as table
 use Rattle.ats_answer.specs.declared.command.Command.{Command}
-use Rattle.ats_answer.specs.declared.command.Command.TheVariants.{Shape, Show, Bound, Check, Replay, Capture}
+use Rattle.ats_answer.specs.declared.command.Command.TheVariants.{Shape, Show, Bound, Explain, Check, Replay, Capture}
+use Rattle.ats_answer.specs.declared.command.Command.TheVariants.{Conform}
 
 -- the bytes of words
 abbrev pub texts_of : List (String Global) → List (List ℕ)
@@ -13,7 +14,9 @@ abbrev pub view : Command → table.Command
 view (Shape file) = table.Shape file.now
 view (Show net) = table.Show net.now
 view (Bound net) = table.Bound net.now
+view (Explain net) = table.Explain net.now
 view (Check net certificate) = table.Check net.now certificate.now
+view (Conform net schedule) = table.Conform net.now schedule.now
 view (Replay net schedule order) = table.Replay net.now schedule.now order
 view (Capture net station file order) = table.Capture net.now station.now file.now order
 

@@ -16,8 +16,12 @@ pub enum Command<'a> {
     Show(&'a str),
     /// `bound NET`: the certificate of a network with the least waits.
     Bound(&'a str),
+    /// `explain NET`: why the least bounds of a network are as large as they are.
+    Explain(&'a str),
     /// `check NET CERT`: judges a certificate of a network, and gives the sums.
     Check(&'a str, &'a str),
+    /// `conform NET SCHEDULE`: judges the releases of a schedule by the declared buckets and sizes.
+    Conform(&'a str, &'a str),
     /// `replay NET SCHEDULE ORDER`: runs a schedule, and gives every journey.
     Replay(&'a str, &'a str, Order),
     /// `capture NET STATION FILE ORDER`: runs what a station sent by a capture, and gives every journey.
@@ -62,6 +66,8 @@ fn on_file<'a>(verb: &str, file: &'a str) -> Option<Command<'a>>
         Some(Command::Show(file))
     } else if verb == "bound" {
         Some(Command::Bound(file))
+    } else if verb == "explain" {
+        Some(Command::Explain(file))
     } else {
         None
     }
@@ -73,6 +79,8 @@ fn on_two<'a>(verb: &str, file: &'a str, second: &'a str) -> Option<Command<'a>>
 {
     if verb == "check" {
         Some(Command::Check(file, second))
+    } else if verb == "conform" {
+        Some(Command::Conform(file, second))
     } else {
         None
     }

@@ -79,7 +79,7 @@ pub fn certificate_in<F: Files>(
 }
 
 /// The releases that a schedule's file declares for the senders of a network, in the order of its records; they may be
-/// run on it. `Input` exactly where the file is too long or has a fault, and `ReadFailed` only where a fault came at it.
+/// run on it. `Input` exactly where the file is too long or has a fault, `ReadFailed` only where a fault came at it.
 pub fn schedule_in<F: Files>(
     alloc: Global,
     file: &str,

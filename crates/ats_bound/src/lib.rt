@@ -3,8 +3,9 @@
 
 pub mod laws;
 pub mod least;
-mod listing;
+pub mod listing;
 pub mod rows;
 
 pub use least::make;
-pub use rows::{is_used, row};
+pub use listing::least_rows;
+pub use rows::{is_used, row, row_of};

@@ -20,7 +20,7 @@ use std::alloc::Global;
 const CLASSES: [u8; 7] = [1, 2, 3, 4, 5, 6, 7];
 
 /// The rows of all ports and classes that some stream uses, with the least waits, or the first that is overloaded.
-pub(crate) fn least_rows(alloc: Global, network: &Network) -> Result<Certificate, Failure<Reason>>
+pub fn least_rows(alloc: Global, network: &Network) -> Result<Certificate, Failure<Reason>>
     ensures rules { OnOk result (IsNetwork network.now) }
     ensures ok { IfOk result (λ certificate. certificate ≡ least_certificate network.now) }
     ensures fits { OnOk result (first_some (overload network.now) (places_of network.now) ≡ None) }

@@ -68,7 +68,7 @@ fn hop_of(path: &[u32], port: u32) -> Option<usize>
 }
 
 /// The row of a port and a class, from what the senders at the port make of the class.
-pub(crate) fn row_of(network: &Network, port: u32, class: u8, tally: Tally) -> Result<Row, u128>
+pub fn row_of(network: &Network, port: u32, class: u8, tally: Tally) -> Result<Row, u128>
     requires used { IsTrue (is_used network.now port class) }
     requires tally { IsTally class (senders_at port (senders_of network.now)) tally }
     ensures row { result ≡ row_or_load network.now (port, class) }

@@ -4,7 +4,7 @@ use Rattle.std.specs.Prelude.{IfSome, IfOk, ◌⊎◌, codes}
 use Rattle.std.specs.Global.{Vec}
 use Rattle.std.proofs.lemmas.Option.{same_Some, none-some}
 use Rattle.ats_io.specs.Outside.{Rose, TakesPrefix}
-use Rattle.ats_answer.specs.Command.{Command, Shape, Show, Bound, Check, Replay, Capture, Unknown}
+use Rattle.ats_answer.specs.Command.{Command, Shape, Show, Bound, Explain, Check, Replay, Unknown, Capture, Conform}
 use Rattle.ats_answer.specs.Answer.{Answer, HasText, words_answer}
 use Rattle.ats_command.specs.Due.{IsAnswer, IsDueAnswer, IsTold, told_bytes}
 use Rattle.ats_command.specs.Calls.{Answers, Printed, PrintedPrefix, ReadRose, IsCalm, StatusIsDue}
@@ -77,7 +77,15 @@ calm_unread told (Show net) before after calm = λ rose. let At : List ℕ → T
     λ name. Rose (before name) (after name) in calm 0 [] (lit< tt) (subst At rose.1 rose.2)
 calm_unread told (Bound net) before after calm = λ rose. let At : List ℕ → Type 0 =
     λ name. Rose (before name) (after name) in calm 0 [] (lit< tt) (subst At rose.1 rose.2)
+calm_unread told (Explain net) before after calm = λ rose. let At : List ℕ → Type 0 =
+    λ name. Rose (before name) (after name) in calm 0 [] (lit< tt) (subst At rose.1 rose.2)
 calm_unread told (Check net certificate) before after calm = λ rose. let At : List ℕ → Type 0 =
+    λ name. Rose (before name) (after name) in
+    elim rose.1 [
+      | inl first ↦ calm 0 [] (lit< tt) (subst At first rose.2)
+      | inr second ↦ calm 1 [] (lit< tt) (subst At second.0 rose.2)
+    ]
+calm_unread told (Conform net schedule) before after calm = λ rose. let At : List ℕ → Type 0 =
     λ name. Rose (before name) (after name) in
     elim rose.1 [
       | inl first ↦ calm 0 [] (lit< tt) (subst At first rose.2)

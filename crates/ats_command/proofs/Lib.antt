@@ -2,9 +2,12 @@ pub mod RowOrder
 pub mod Judging
 pub mod Steps
 pub mod Replays
+pub mod Conforms
 pub mod OneAnswer
 pub mod Meanings
 pub mod ReplayMeanings
 pub mod PrintedBounds
 pub mod Ending
 pub mod Surely
+pub mod Explaining
+pub mod ConformMeanings

@@ -43,7 +43,8 @@ read_gives file words (Ok value) P h = h value refl
 read_gives file words (Err fault) P h = refl
 
 -- what holds of each value that some bytes are read as holds of what a file declares, if it has no fault
-pub file_gives : {A F : Type 0} (most : ℕ) (file bytes : List ℕ) (words : F → List ℕ) (reading : List ℕ → Result A F) (P : A → Type 0)
+pub file_gives : {A F : Type 0} (most : ℕ) (file bytes : List ℕ) (words : F → List ℕ)
+    (reading : List ℕ → Result A F) (P : A → Type 0)
     → ((text : List ℕ) (value : A) → reading text ≡ Ok value → P value)
     → MatchResult (bytes_in most file bytes >>= λ text. declared_in file words (reading text)) P IsInput
 file_gives {A} {F} most file bytes words reading P h = choose (nat_lt most (length bytes))

@@ -1,12 +1,13 @@
 use Rattle.std.proofs.Common.{◌≡◌, ℕ, List, Option, refl, sym, ap, ◌∙◌}
-use Rattle.ats_answer.specs.Command.{Command, Shape, Show, Bound, Check, Replay, Capture, Unknown}
-use Rattle.ats_answer.specs.Command.{command_of}
+use Rattle.ats_answer.specs.Command.{Command, Shape, Show, Bound, Explain, Check, Replay, Unknown, command_of}
+use Rattle.ats_answer.specs.Command.{Capture, Conform}
 use Rattle.ats_answer.specs.Answer.{Answer, words_answer}
 use Rattle.ats_command.specs.Due.{IsDueAnswer, IsTold, told_bytes}
-use Rattle.ats_command.specs.Due.{shape_answer, show_answer, bound_answer, check_answer}
+use Rattle.ats_command.specs.Due.{shape_answer, show_answer, bound_answer, explain_answer, check_answer}
 use Rattle.ats_command.specs.Laws.{HasOneAnswer, OneAnswerIsDue, OneStatusIsDue}
 use Rattle.ats_command.specs.Captured.{IsCaptured, captured_in}
 use Rattle.ats_command.specs.Replayed.{IsReplayed, scheduled_in}
+use Rattle.ats_command.proofs.Conforms.{one_judgement, same_judgement}
 use Rattle.ats_command.proofs.Replays.{one_without_texts, one_status}
 
 only_due : (told : List ℕ → Option (List ℕ)) (command : Command) → IsTold told command → HasOneAnswer told command
@@ -18,11 +19,16 @@ only_due told (Show net) is_told one =
     (show_answer net (told_bytes told net), record { is_told = is_told; answers = refl }, λ other due. due.answers)
 only_due told (Bound net) is_told one =
     (bound_answer net (told_bytes told net), record { is_told = is_told; answers = refl }, λ other due. due.answers)
+only_due told (Explain net) is_told one =
+    (explain_answer net (told_bytes told net), record { is_told = is_told; answers = refl }, λ other due. due.answers)
 only_due told (Check net certificate) is_told one = (
   check_answer net certificate (told_bytes told net) (told_bytes told certificate),
   record { is_told = is_told; answers = refl },
   λ other due. due.answers,
 )
+only_due told (Conform net schedule) is_told one =
+    let alone = one_judgement (scheduled_in net schedule (told_bytes told net) (told_bytes told schedule)) one in
+    (alone.0, record { is_told = is_told; answers = alone.1 }, λ other due. alone.2 other due.answers)
 only_due told (Replay net schedule order) is_told one =
     let alone = one_without_texts (IsReplayed order)
     (scheduled_in net schedule (told_bytes told net) (told_bytes told schedule)) one in
@@ -50,9 +56,15 @@ same_due told (Show net) one other h k =
     same_status one other (show_answer net (told_bytes told net)) h.answers k.answers
 same_due told (Bound net) one other h k =
     same_status one other (bound_answer net (told_bytes told net)) h.answers k.answers
+same_due told (Explain net) one other h k =
+    same_status one other (explain_answer net (told_bytes told net)) h.answers k.answers
 same_due told (Check net certificate) one other h k =
     same_status one other (check_answer net certificate (told_bytes told net) (told_bytes told certificate)) h.answers
     k.answers
+same_due told (Conform net schedule) one other h k =
+    ap (λ (a : Answer). a.status)
+    (same_judgement (scheduled_in net schedule (told_bytes told net) (told_bytes told schedule)) one other h.answers
+    k.answers)
 same_due told (Replay net schedule order) one other h k =
     one_status (IsReplayed order) (scheduled_in net schedule (told_bytes told net) (told_bytes told schedule)) one other
     h.answers k.answers

@@ -48,7 +48,8 @@ releases_say : (net schedule net_bytes schedule_bytes : List ℕ) (order : Order
     (declared : Result (List Release) Answer) (answer : Answer) → network_in net net_bytes ≡ Ok network
     → IsNetwork network → releases_in network schedule schedule_bytes ≡ declared
     → MatchResult declared (λ (releases : List Release). Unit {0}) IsInput
-    → IsOneOf (IsReplayed order) (declared >>= λ releases. Ok (record { network = network; releases = releases })) answer
+    → IsOneOf (IsReplayed order)
+    (declared >>= λ releases. Ok (record { network = network; releases = releases })) answer
     → ReplaySays net schedule net_bytes schedule_bytes order answer.text answer.status
 releases_say net schedule net_bytes schedule_bytes order network (Ok releases) answer declared rules is input one =
     run_out_says net schedule net_bytes schedule_bytes order network releases answer declared is rules one
@@ -70,7 +71,8 @@ replay_says : (net schedule net_bytes schedule_bytes : List ℕ) (order : Order)
     >>= λ releases. Ok (record { network = network; releases = releases })) answer
     → ReplaySays net schedule net_bytes schedule_bytes order answer.text answer.status
 replay_says net schedule net_bytes schedule_bytes order (Ok network) answer is rules one =
-    releases_say net schedule net_bytes schedule_bytes order network (releases_in network schedule schedule_bytes) answer
+    releases_say net schedule net_bytes schedule_bytes order network
+    (releases_in network schedule schedule_bytes) answer
     is rules refl (releases_give network schedule schedule_bytes) one
 replay_says net schedule net_bytes schedule_bytes order (Err due) answer is input one =
     subst (ReplaySays net schedule net_bytes schedule_bytes order answer.text)
@@ -127,7 +129,8 @@ replay_keeps_bounds told net certificate schedule order checked replayed check_d
       record {
         accepted = check.2;
         run_out = run_out;
-        within = delays_within net certificate net_bytes certificate_bytes checked order network check.1 replay.1 replayed
+        within = delays_within net certificate net_bytes certificate_bytes checked order network check.1 replay.1
+            replayed
             replay.2 check.2 run_out.replay;
       },
     )

@@ -2,15 +2,16 @@ use Rattle.std.specs.Prelude.{◌≡◌, ℕ, ◌⊎◌, List, [], All, IsSome, 
 use Rattle.ats_io.specs.Outside.{IfTold}
 use Rattle.ats_shape.specs.Text.{text_of}
 use Rattle.ats_network_text.specs.Text.{show_text}
-use Rattle.ats_answer.specs.Command.{Command, Shape, Show, Bound, Check, Replay, Capture, Unknown}
-use Rattle.ats_answer.specs.Command.{file_words}
+use Rattle.ats_answer.specs.Command.{Command, Shape, Show, Bound, Explain, Check, Replay, Unknown, file_words}
+use Rattle.ats_answer.specs.Command.{Capture, Conform}
 use Rattle.ats_num.specs.Failure.{◌>>=◌}
 use Rattle.ats_answer.specs.declared.order.Order.{Order}
 use Rattle.ats_answer.specs.Answer.{Answer, words_answer, settled}
 use Rattle.ats_answer.specs.Input.{shape_in, network_in}
-use Rattle.ats_command.specs.Judged.{bound_judged, certificate_judged}
+use Rattle.ats_command.specs.Judged.{bound_judged, certificate_judged, explain_judged}
 use Rattle.ats_answer.specs.Station.{station_in}
 use Rattle.ats_command.specs.Captured.{IsCaptured, captured_in}
+use Rattle.ats_command.specs.Conformed.{IsAnswerTo, JudgesScheduled}
 use Rattle.ats_command.specs.Replayed.{IsOneOf, IsReplayed, scheduled_in}
 
 -- to `shape FILE`, by the bytes of the file
@@ -31,6 +32,12 @@ bound_answer net bytes = settled (do
   network ← network_in net bytes
   bound_judged network)
 
+-- to `explain NET`
+unfoldable pub explain_answer : List ℕ → List ℕ → Answer
+explain_answer net bytes = settled (do
+  network ← network_in net bytes
+  explain_judged network)
+
 -- to `check NET CERT`, by the bytes of both files; the network's is judged first
 unfoldable pub check_answer : List ℕ → List ℕ → List ℕ → List ℕ → Answer
 check_answer net certificate net_bytes certificate_bytes = settled (do
@@ -47,12 +54,19 @@ abbrev pub IsCaptureAnswer : List ℕ → List ℕ → List ℕ → Order → Li
 IsCaptureAnswer net station file order net_bytes file_bytes answer =
     IsOneOf (IsCaptured order) (captured_in net station file net_bytes file_bytes) answer
 
+-- an answer to `conform NET SCHEDULE`, by the bytes of both files
+abbrev pub IsConformAnswer : List ℕ → List ℕ → List ℕ → List ℕ → Answer → Type 0
+IsConformAnswer net schedule net_bytes schedule_bytes answer =
+    IsAnswerTo JudgesScheduled (scheduled_in net schedule net_bytes schedule_bytes) answer
+
 -- an answer to a command, where its files have these bytes
 abbrev pub IsAnswer : (List ℕ → List ℕ) → Command → Answer → Type 0
 IsAnswer bytes (Shape file) answer = answer ≡ shape_answer file (bytes file)
 IsAnswer bytes (Show net) answer = answer ≡ show_answer net (bytes net)
 IsAnswer bytes (Bound net) answer = answer ≡ bound_answer net (bytes net)
+IsAnswer bytes (Explain net) answer = answer ≡ explain_answer net (bytes net)
 IsAnswer bytes (Check net certificate) answer = answer ≡ check_answer net certificate (bytes net) (bytes certificate)
+IsAnswer bytes (Conform net schedule) answer = IsConformAnswer net schedule (bytes net) (bytes schedule) answer
 IsAnswer bytes (Replay net schedule order) answer =
     IsReplayAnswer net schedule order (bytes net) (bytes schedule) answer
 IsAnswer bytes (Capture net station file order) answer =
@@ -86,7 +100,9 @@ abbrev pub Reaches : (List ℕ → Option (List ℕ)) → Command → List ℕ �
 Reaches told (Shape file) name = name ≡ file
 Reaches told (Show net) name = name ≡ net
 Reaches told (Bound net) name = name ≡ net
+Reaches told (Explain net) name = name ≡ net
 Reaches told (Check net certificate) name = (name ≡ net) ⊎ ((name ≡ certificate) × Declares told net)
+Reaches told (Conform net schedule) name = (name ≡ net) ⊎ ((name ≡ schedule) × Declares told net)
 Reaches told (Replay net schedule order) name = (name ≡ net) ⊎ ((name ≡ schedule) × Declares told net)
 Reaches told (Capture net station file order) name =
     (name ≡ net) ⊎ ((name ≡ file) × DeclaresStation told net station)

@@ -4,7 +4,10 @@ use Rattle.ats_network.specs.Network.{DeclaredNetwork}
 use Rattle.ats_certificate.specs.declared.row.Row.{Row}
 use Rattle.ats_certificate_file.specs.Text.{certificate_text}
 use Rattle.ats_bound.specs.Least.{least_certificate}
-use Rattle.ats_bound.specs.Reason.{reason_of}
+use Rattle.ats_bound.specs.Reason.{overload, reason_of}
+use Rattle.ats_certificate.specs.Used.{places_of}
+use Rattle.ats_tally.specs.Reason.{first_some}
+use Rattle.ats_explain_text.specs.Text.{explain_text}
 use Rattle.ats_checker.specs.Refusal.{refusal_of}
 use Rattle.ats_verdict_text.specs.Text.{accepted_text, reason_text, refusal_text, refused_text}
 use Rattle.ats_num.specs.Failure.{◌>>=◌}
@@ -21,6 +24,11 @@ judged text (Some why) = Err (record { status = Refused; text = refused_text why
 unfoldable pub bound_judged : DeclaredNetwork → Result (List ℕ) Answer
 bound_judged network = judged (certificate_text network.topology (least_certificate network))
     (option_map (reason_text network.topology) (reason_of network))
+
+-- why the least bounds are as large as they are, unless a port and class is overloaded
+unfoldable pub explain_judged : DeclaredNetwork → Result (List ℕ) Answer
+explain_judged network = judged (explain_text network)
+    (option_map (reason_text network.topology) (first_some (overload network) (places_of network)))
 
 -- the bounds and sums of the streams, unless the certificate does not hold
 unfoldable pub check_judged : DeclaredNetwork → List Row → Result (List ℕ) Answer

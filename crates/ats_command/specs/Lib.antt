@@ -1,9 +1,11 @@
 pub mod Judged
 pub mod Replayed
 pub mod Captured
+pub mod Conformed
 pub mod Due
 pub mod Calls
 pub mod Soundness
 pub mod Laws
 pub mod Meaning
 pub mod ReplayMeaning
+pub mod ConformMeaning

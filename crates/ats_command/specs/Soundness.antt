@@ -5,7 +5,7 @@ use Rattle.ats_soundness_law.specs.Sound.{IsSound}
 use Rattle.ats_checker.specs.InTime.{FramesAreInTime}
 use Rattle.ats_verdict_text.specs.Text.{accepted_text}
 use Rattle.ats_io.specs.Outside.{appended}
-use Rattle.ats_answer.specs.Command.{Command, Shape, Show, Bound, Check, Replay, Capture, Unknown}
+use Rattle.ats_answer.specs.Command.{Command, Shape, Show, Bound, Explain, Check, Replay, Unknown, Capture, Conform}
 use Rattle.ats_command.specs.Due.{IsTold, told_bytes}
 use Rattle.ats_answer.specs.Input.{network_in, rows_in}
 
@@ -37,6 +37,8 @@ IsSoundCheck told (Check net certificate) text =
 IsSoundCheck told (Shape file) text = Unit {0}
 IsSoundCheck told (Show net) text = Unit {0}
 IsSoundCheck told (Bound net) text = Unit {0}
+IsSoundCheck told (Explain net) text = Unit {0}
+IsSoundCheck told (Conform net schedule) text = Unit {0}
 IsSoundCheck told (Replay net schedule order) text = Unit {0}
 IsSoundCheck told (Capture net station file order) text = Unit {0}
 IsSoundCheck told Unknown text = Unit {0}

@@ -13,6 +13,8 @@ ghost use Rattle.ats_command.specs.Calls.{Answers, Printed, PrintedPrefix, ReadR
 use crate::bound_command::bound;
 use crate::capture_command::capture;
 use crate::check_command::check;
+use crate::conform_command::conform;
+use crate::explain_command::explain;
 use crate::replay_command::replay;
 use crate::shape_command::shape;
 use crate::show_command::show;
@@ -100,7 +102,9 @@ fn outcome_of<F: Files>(alloc: Global, command: Command, files: &mut F) -> Resul
         Command::Shape(file) => shape(alloc, file, files),
         Command::Show(net) => show(alloc, net, files),
         Command::Bound(net) => bound(alloc, net, files),
+        Command::Explain(net) => explain(alloc, net, files),
         Command::Check(net, certificate) => check(alloc, net, certificate, files),
+        Command::Conform(net, schedule) => conform(alloc, net, schedule, files),
         Command::Replay(net, schedule, order) => replay(alloc, net, schedule, order, files),
         Command::Capture(net, station, file, order) => {
             capture(alloc, net, station, file, order, files)

@@ -4,6 +4,7 @@ ghost use Rattle.std.specs.Prelude.{◌≡◌, ◌⊎◌};
 ghost use Rattle.ats_answer.specs.Command.{command_of};
 ghost use Rattle.ats_answer.specs.Named.{texts_of};
 ghost use Rattle.ats_command.specs.Calls.{StatusIsDue};
+ghost use Rattle.ats_command.specs.ConformMeaning.{ConformKeepsBounds};
 ghost use Rattle.ats_command.specs.Laws.{OneAnswerIsDue, OneStatusIsDue, PrintedBoundsAreSound};
 ghost use Rattle.ats_command.specs.Meaning.{BoundMeans, CheckMeans};
 ghost use Rattle.ats_command.specs.ReplayMeaning.{ReplayKeepsBounds, ReplayMeans};
@@ -46,12 +47,20 @@ pub fn what_replay_answers()
     ensures { ReplayMeans }
 {}
 
-/// Where `Done` is due to `check` of a certificate and to `replay` of a schedule for one network: each frame of a stream
-/// whose talker keeps its buckets in this schedule is, in the run that `replay` prints, never discarded, eligible at
-/// each next hop within the bound that `check` prints for the hop before, and arrives within the printed sum of its
-/// stream and within its deadline.
+/// Where `Done` is due to `check` of a certificate and to `replay` of a schedule for one network: each frame of a
+/// stream whose talker keeps its buckets in this schedule is, in the run that `replay` prints, never discarded,
+/// eligible at each next hop within the bound that `check` prints for the hop before, and arrives within the printed
+/// sum of its stream and within its deadline.
 pub fn replay_keeps_bounds()
     ensures { ReplayKeepsBounds }
+{}
+
+/// Where `Done` is due to `conform` of a schedule, to `check` of a certificate and to `replay` of the schedule for one
+/// network: by the schedule every station keeps its buckets, and each frame of each stream is, in the run that `replay`
+/// prints, never discarded, eligible at each next hop within the bound that `check` prints for the hop before, and
+/// arrives within the printed sum of its stream and within its deadline.
+pub fn conform_keeps_bounds()
+    ensures { ConformKeepsBounds }
 {}
 
 /// What is printed is what is sound: the lines of the stream with a number give, for each port of its path, the bound

@@ -8,3 +8,6 @@ pub mod Judged
 pub mod SenderParts
 pub mod MetersMade
 pub mod Counts
+pub mod Prefix
+pub mod OneBroken
+pub mod Either

@@ -38,3 +38,8 @@ Breaks network releases (Bucket since frame) = BreaksBucket network releases sin
 abbrev pub BreaksOrFails : DeclaredNetwork → List Release → Failure Broken → Type 0
 BreaksOrFails network releases NoMemory = Unit {0}
 BreaksOrFails network releases (Fault broken) = Breaks network releases broken
+
+-- a call failed: some station does not keep its buckets by these releases, unless memory ran out
+abbrev pub AreBrokenOrFails : DeclaredNetwork → List Release → Failure Broken → Type 0
+AreBrokenOrFails network releases NoMemory = Unit {0}
+AreBrokenOrFails network releases (Fault broken) = ¬ AllKeepBuckets network releases

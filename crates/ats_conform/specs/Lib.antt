@@ -4,3 +4,4 @@ pub mod MeterInside
 pub mod Releases
 pub mod Broken
 pub mod Steps
+pub mod Laws

@@ -4,7 +4,7 @@ ghost use Rattle.std.specs.Prelude.{◌≡◌, ◌+◌, ◌<◌, length, IfErr, 
 ghost use Rattle.ats_network.specs.Network.{senders_of};
 ghost use Rattle.ats_group.specs.Group.{is_declared_size};
 ghost use Rattle.ats_trace.specs.Eligibility.{declared_by};
-ghost use Rattle.ats_conform.specs.Broken.{Breaks, BreaksOrFails};
+ghost use Rattle.ats_conform.specs.Broken.{AreBrokenOrFails, Breaks, BreaksOrFails};
 ghost use Rattle.ats_trace.specs.Talker.{IsDeclaredSize};
 ghost use Rattle.ats_conform.specs.Releases.{AllKeepBuckets, release_at};
 ghost use Rattle.ats_trace.specs.Releases.{AreReleases};
@@ -36,6 +36,7 @@ pub fn conform(
 ) -> Result<(), Failure<Broken>>
     requires { AreReleases network.now releases.now }
     ensures ok { OnOk result (AllKeepBuckets network.now releases.now) }
+    ensures broken { IfErr result (AreBrokenOrFails network.now releases.now) }
     ensures err { IfErr result (BreaksOrFails network.now releases.now) }
 {
     let mut meters = meters_for(alloc, network, releases)?;

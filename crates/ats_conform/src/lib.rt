@@ -4,6 +4,7 @@
 
 pub mod broken;
 pub mod conformance;
+pub mod laws;
 pub mod meter;
 mod meters;
 mod start;

@@ -1,6 +1,6 @@
 -- What a step makes of the events that are to happen.
-use Rattle.std.proofs.Common.{◌≡◌, zero, suc, List, [], ◌∷◌, ◌++◌, All, Option, Some, sym, ap}
-use Rattle.std.proofs.Common.{◌∙◌, subst, inl, inr, arith}
+use Rattle.std.proofs.Common.{◌≡◌, zero, suc, List, [], ◌∷◌, ◌++◌, All, Option, Some, sym, ap, ◌∙◌, subst, inl, inr}
+use Rattle.std.proofs.Common.{arith}
 use Rattle.std.specs.Prelude.{◌≢◌, ◌⊎◌, AllPairs, Contains, IfSome, slice_index_or}
 use Rattle.std.proofs.lemmas.List.Elements.{All-append, All-head, All-tail, Contains-append_left, Contains-append_right}
 use Rattle.std.proofs.lemmas.List.Kept.{AllPairs-cons}
@@ -54,6 +54,7 @@ kept : {old new : Event → Option Moment} {happened : Event} {more : List (Mome
 kept event moment (stays other same) apart is = same ∙ is
 kept event moment (changes free among) apart is = absurd (apart (free moment is))
 
+-- each event that is to happen has its entry
 there_then : {old new : Event → Option Moment} {happened : Event} {more : List (Moment × Event)} (now : Moment)
     (entries : List (Moment × Event)) (event : Event) → Fate old new happened more event
     → IsAmong ((now, happened) ∷ entries) event (old event) → IsAmong (more ++ entries) event (new event)

@@ -1,12 +1,13 @@
-use Rattle.std.proofs.Common.{◌≡◌, ℕ, ◌+◌, ◌-◌, ◌*◌, ◌<◌, ◌≤◌, Bool, true, false, List, [], ◌∷◌, ◌++◌, length, get_or, set, All}
-use Rattle.std.proofs.Common.{Option, Some, None, map, IsPermutation, refl, sym, ap, ◌∙◌, subst, inl, inr, arith}
-use Rattle.std.specs.Prelude.{◌≢◌, ◌==◌, nat_lt, AllPairs, slice_index_or, if◌then◌else◌}
-use Rattle.std.proofs.lemmas.Bool.{cases_lt, true≢false, lt-ltb, le-ltb, cond-true, cond-false}
-use Rattle.std.proofs.lemmas.List.{get_or-set_same, get_or-set_other, get_or_past, get_or-map, length-map}
+-- The entries of the agenda: after each step, in any order, how many they are, and their moments.
+use Rattle.std.proofs.Common.{◌≡◌, ℕ, ◌+◌, ◌-◌, ◌*◌, ◌<◌, ◌≤◌, Bool, true, false, List, [], ◌∷◌, ◌++◌, length, get_or}
+use Rattle.std.proofs.Common.{set, All, Some, map, IsPermutation, refl, sym, ap, ◌∙◌, subst, inl, inr, arith}
+use Rattle.std.specs.Prelude.{◌≢◌, ◌==◌, AllPairs, slice_index_or, if◌then◌else◌}
+use Rattle.std.proofs.lemmas.Bool.{cases_lt, true≢false}
+use Rattle.std.proofs.lemmas.List.{get_or-map, length-map}
 use Rattle.std.proofs.lemmas.List.Elements.{All-append, All-cons, All-head, All-map, All-nil}
 use Rattle.std.proofs.lemmas.List.Sorted.{All-permutation, Contains-permutation}
 use Rattle.std.proofs.Math.Nat.{mul-le-mul_right}
-use Rattle.std.proofs.lemmas.Option.{none-some, same_Some, IfSome_then}
+use Rattle.std.proofs.lemmas.Option.{none-some, IfSome_then}
 use Rattle.ats_facts.proofs.Pairs.{AllPairs-permutation}
 use Rattle.ats_num.specs.declared.time.Ps.{Ps}
 use Rattle.ats_num.specs.Wire.{bits_of}
@@ -25,18 +26,18 @@ use Rattle.ats_records.specs.Progress.{Progress, progress_at, with_ending}
 use Rattle.ats_trace.specs.declared.journey.Ending.TheVariants.{Sink}
 use Rattle.ats_trace.specs.declared.journey.HopRecord.{HopRecord}
 use Rattle.ats_events.specs.declared.moment.Moment.{Moment}
-use Rattle.ats_events.specs.declared.phase.TheConstants.{TRANSMISSION_END, ARRIVAL, ELIGIBLE, SELECTION}
+use Rattle.ats_events.specs.declared.phase.TheConstants.{TRANSMISSION_END, ARRIVAL, ELIGIBLE}
 use Rattle.ats_events.specs.Order.{IsInRange, IsIrreflexive, IsTransitive, IsTimed}
 use Rattle.ats_trace.specs.declared.journey.Release.{Release}
 use Rattle.ats_steps.specs.Bounds.{all_left, horizon}
 use Rattle.ats_steps.specs.Course.{Course, stage_at, turn_at, place_at, path_of}
-use Rattle.ats_steps.specs.Entries.{AreAwaited, IsReached, moment_of, arrival_by, eligibility_by, end_by, selection_by}
-use Rattle.ats_steps.specs.Entries.{arrival_moment, eligible_moment, end_moment, selection_moment}
+use Rattle.ats_steps.specs.Entries.{AreAwaited, IsReached, moment_of, arrival_moment, eligible_moment, end_moment}
+use Rattle.ats_steps.specs.Entries.{selection_moment}
 use Rattle.ats_steps.specs.Invariant.{Holds}
 use Rattle.ats_steps.specs.Frames.{IsFrame, IsDueAt, IsSentUntil, Stands}
 use Rattle.ats_steps.specs.Ports.{IsHeld, IsTurn, Sends, port_state_at}
-use Rattle.ats_steps.specs.Steps.{Comes, BecomesEligible, Selects, Ends, Move, comes_by, verdict_now}
-use Rattle.ats_steps.specs.Steps.{selections, selections_once_offered, turn_once_offered}
+use Rattle.ats_steps.specs.Steps.{Comes, BecomesEligible, Selects, Ends, Move, comes_by, verdict_now, selections}
+use Rattle.ats_steps.specs.Steps.{selections_once_offered, turn_once_offered}
 use Rattle.ats_steps.specs.declared.event.Event.{Event}
 use Rattle.ats_steps.specs.declared.event.Event.TheVariants.{End, Arrival, Eligibility, Selection}
 use Rattle.ats_steps.specs.declared.stage.Stage.{Stage}
@@ -44,182 +45,17 @@ use Rattle.ats_steps.specs.declared.stage.Stage.TheVariants.{Coming, Due, Waitin
 use Rattle.ats_steps.specs.declared.turn.Turn.{Turn}
 use Rattle.ats_steps.specs.declared.turn.Turn.TheVariants.{Resting, Selecting, Occupied}
 use Rattle.ats_engine_law.specs.Next.{IsNext, IsAfter}
-use Rattle.ats_engine_law.proofs.Awaited.{Brings, awaited-after}
+use Rattle.ats_engine_law.proofs.Awaited.{Brings}
 use Rattle.ats_engine_law.proofs.Counting.{numbers_below}
-use Rattle.ats_engine_law.proofs.Fates.{entries_by, IsHere, Steps, Turns, brings_one, brings_both}
-use Rattle.ats_engine_law.proofs.Stages.{next-moment, next-coming, next-due, next-sending, next-selecting}
-use Rattle.ats_engine_law.proofs.Stages.{stage-within, turn-within}
+use Rattle.ats_engine_law.proofs.Fates.{entries_by, Steps, Turns, brings_one, brings_both}
+use Rattle.ats_engine_law.proofs.Placed.{stands-at_most}
+use Rattle.ats_engine_law.proofs.Ways.{stands-some}
+use Rattle.ats_engine_law.proofs.Stages.{next-coming, next-due, next-sending, next-selecting, stage-within, turn-within}
 use Rattle.ats_engine_law.proofs.Verdicts.{IsSoon, soon_now}
-
--- a moment that is before another one by time and phase is not after it
-reached-after : (now next : Moment) → IsAfter now next → IsReached now next
-reached-after now next after = record { time = after.time; phase = λ same. (let h = after.phase same in omega arith) }
-
--- the events that are to happen after a step, by the entries that it brings
-awaited-by : {T : Type 0} {key : T → ℕ → ℕ → ℕ} {wait : ℕ → ℕ → ℕ} {network : DeclaredNetwork}
-    {releases : List Release} {old : Course T} {now : Moment} {event : Event} {entries : List (Moment × Event)}
-    (new : Course T) (more : List (Moment × Event)) → IsNext key wait network releases old now event entries
-    → new.last ≡ now → Brings (moment_of old) (moment_of new) event more
-    → All (λ (entry : Moment × Event). IsAfter now entry.0) more → AreAwaited new (more ++ entries)
-awaited-by {T} {key} {wait} {network} {releases} {old} {now} {event} {entries} new more next last brings after =
-    let Reached : Moment → Moment × Event → Type 0 = λ (m : Moment) (x : Moment × Event). IsReached m x.0 in
-    awaited-after old new now event entries more next.holds.awaited brings
-    (subst (λ (m : Moment). All (Reached m) (more ++ entries)) (sym last)
-    (All-append (Reached now) more entries
-    (λ k d h. reached-after now (slice_index_or more k d).0 (after k d h)) next.first))
-
--- the phase of an event's moment, and its number
-abbrev phase_of : Event → ℕ
-phase_of (End frame) = TRANSMISSION_END
-phase_of (Arrival frame) = ARRIVAL
-phase_of (Eligibility frame) = ELIGIBLE
-phase_of (Selection port) = SELECTION
-
-abbrev number_of : Event → ℕ
-number_of (End frame) = frame
-number_of (Arrival frame) = frame
-number_of (Eligibility frame) = frame
-number_of (Selection port) = port
-
--- a moment has the phase and the number of its event
-record IsOf (event : Event) (moment : Moment) : Type 0 where
-  phase : moment.phase ≡ phase_of event
-  number : moment.id ≡ number_of event
-
-same-of : (event : Event) (own moment : Moment) → IsOf event own → own ≡ moment → IsOf event moment
-same-of event own moment is same = subst (IsOf event) same is
-
-of-end : (frame : ℕ) (stage : Stage) (moment : Moment) → end_by frame stage ≡ Some moment → IsOf (End frame) moment
-of-end frame (Sending until) moment is =
-    same-of (End frame) (end_moment frame until) moment (record { phase = refl; number = refl }) (same_Some _ moment is)
-of-end frame (Coming at) moment is = absurd (none-some moment is)
-of-end frame (Due at) moment is = absurd (none-some moment is)
-of-end frame Waiting moment is = absurd (none-some moment is)
-of-end frame Over moment is = absurd (none-some moment is)
-
-of-arrival : (frame : ℕ) (stage : Stage) (moment : Moment) → arrival_by frame stage ≡ Some moment
-    → IsOf (Arrival frame) moment
-of-arrival frame (Coming at) moment is =
-    same-of (Arrival frame) (arrival_moment frame at) moment (record { phase = refl; number = refl })
-    (same_Some _ moment is)
-of-arrival frame (Due at) moment is = absurd (none-some moment is)
-of-arrival frame Waiting moment is = absurd (none-some moment is)
-of-arrival frame (Sending until) moment is = absurd (none-some moment is)
-of-arrival frame Over moment is = absurd (none-some moment is)
-
-of-eligibility : (frame : ℕ) (stage : Stage) (moment : Moment) → eligibility_by frame stage ≡ Some moment
-    → IsOf (Eligibility frame) moment
-of-eligibility frame (Due at) moment is =
-    same-of (Eligibility frame) (eligible_moment frame at) moment (record { phase = refl; number = refl })
-    (same_Some _ moment is)
-of-eligibility frame (Coming at) moment is = absurd (none-some moment is)
-of-eligibility frame Waiting moment is = absurd (none-some moment is)
-of-eligibility frame (Sending until) moment is = absurd (none-some moment is)
-of-eligibility frame Over moment is = absurd (none-some moment is)
-
-of-selection : (port : ℕ) (turn : Turn) (moment : Moment) → selection_by port turn ≡ Some moment
-    → IsOf (Selection port) moment
-of-selection port (Selecting at) moment is =
-    same-of (Selection port) (selection_moment port at) moment (record { phase = refl; number = refl })
-    (same_Some _ moment is)
-of-selection port Resting moment is = absurd (none-some moment is)
-of-selection port Occupied moment is = absurd (none-some moment is)
-
-is-of : {T : Type 0} (course : Course T) (event : Event) (moment : Moment) → moment_of course event ≡ Some moment
-    → IsOf event moment
-is-of course (End frame) moment is = of-end frame (stage_at course frame) moment is
-is-of course (Arrival frame) moment is = of-arrival frame (stage_at course frame) moment is
-is-of course (Eligibility frame) moment is = of-eligibility frame (stage_at course frame) moment is
-is-of course (Selection port) moment is = of-selection port (turn_at course port) moment is
-
--- so a phase and a number tell the event
-same-event : (a b : Event) → phase_of a ≡ phase_of b → number_of a ≡ number_of b → a ≡ b
-same-event (End f) (End g) p n = ap End n
-same-event (End f) (Arrival g) p n = absurd (omega arith)
-same-event (End f) (Eligibility g) p n = absurd (omega arith)
-same-event (End f) (Selection g) p n = absurd (omega arith)
-same-event (Arrival f) (End g) p n = absurd (omega arith)
-same-event (Arrival f) (Arrival g) p n = ap Arrival n
-same-event (Arrival f) (Eligibility g) p n = absurd (omega arith)
-same-event (Arrival f) (Selection g) p n = absurd (omega arith)
-same-event (Eligibility f) (End g) p n = absurd (omega arith)
-same-event (Eligibility f) (Arrival g) p n = absurd (omega arith)
-same-event (Eligibility f) (Eligibility g) p n = ap Eligibility n
-same-event (Eligibility f) (Selection g) p n = absurd (omega arith)
-same-event (Selection f) (End g) p n = absurd (omega arith)
-same-event (Selection f) (Arrival g) p n = absurd (omega arith)
-same-event (Selection f) (Eligibility g) p n = absurd (omega arith)
-same-event (Selection f) (Selection g) p n = ap Selection n
-
--- the phase of the next event
-next-of : {T : Type 0} {key : T → ℕ → ℕ → ℕ} {wait : ℕ → ℕ → ℕ} {network : DeclaredNetwork}
-    {releases : List Release} {course : Course T} {now : Moment} {event : Event} {entries : List (Moment × Event)}
-    → IsNext key wait network releases course now event entries → IsOf event now
-next-of {T} {key} {wait} {network} {releases} {course} {now} {event} next =
-    is-of course event now (next-moment next)
-
--- no event of a frame or a port is one of another
-arrival-here : (frame port : ℕ) → IsHere frame port (Arrival frame)
-arrival-here frame port = record {
-  ends = λ f n same. cc;
-  arrivals = λ f n same. n cc;
-  eligibilities = λ f n same. cc;
-  selections = λ p n same. cc;
-}
-
-eligibility-here : (frame port : ℕ) → IsHere frame port (Eligibility frame)
-eligibility-here frame port = record {
-  ends = λ f n same. cc;
-  arrivals = λ f n same. cc;
-  eligibilities = λ f n same. n cc;
-  selections = λ p n same. cc;
-}
-
-selection-here : (frame port : ℕ) → IsHere frame port (Selection port)
-selection-here frame port = record {
-  ends = λ f n same. cc;
-  arrivals = λ f n same. cc;
-  eligibilities = λ f n same. cc;
-  selections = λ p n same. n cc;
-}
-
-end-here : (frame port : ℕ) → IsHere frame port (End frame)
-end-here frame port = record {
-  ends = λ f n same. n cc;
-  arrivals = λ f n same. cc;
-  eligibilities = λ f n same. cc;
-  selections = λ p n same. cc;
-}
-
--- the stages once that of one frame is set, and likewise the turns
-set-here : {T : Type 0} (new : Course T) (stages : List Stage) (frame : ℕ) (s : Stage) → frame < length stages
-    → new.stages ≡ set stages frame s → stage_at new frame ≡ s
-set-here new stages frame s within is =
-    ap (λ (ss : List Stage). get_or ss frame Over) is ∙ get_or-set_same stages frame s Over within
-
-set-elsewhere : {T : Type 0} (old new : Course T) (frame : ℕ) (s : Stage) → new.stages ≡ set old.stages frame s
-    → (f : ℕ) → f ≢ frame → stage_at new f ≡ stage_at old f
-set-elsewhere old new frame s is f other =
-    ap (λ (ss : List Stage). get_or ss f Over) is ∙ get_or-set_other old.stages frame f s Over other
-
-turned-here : {T : Type 0} (new : Course T) (turns : List Turn) (port : ℕ) (t : Turn) → port < length turns
-    → new.turns ≡ set turns port t → turn_at new port ≡ t
-turned-here new turns port t within is =
-    ap (λ (ts : List Turn). get_or ts port Resting) is ∙ get_or-set_same turns port t Resting within
-
-turned-elsewhere : {T : Type 0} (old new : Course T) (port : ℕ) (t : Turn) → new.turns ≡ set old.turns port t
-    → (p : ℕ) → p ≢ port → turn_at new p ≡ turn_at old p
-turned-elsewhere old new port t is p other =
-    ap (λ (ts : List Turn). get_or ts p Resting) is ∙ get_or-set_other old.turns port p t Resting other
-
--- a frame that is not over is one of the run
-frame-within : {T : Type 0} (course : Course T) (frame : ℕ) (s : Stage) → stage_at course frame ≡ s → s ≢ Over
-    → frame < length course.stages
-frame-within course frame s is other = elim (cases_lt frame (length course.stages)) as (λ _. frame
-    < length course.stages) [
-      | inl within ↦ within
-      | inr past ↦ absurd (other (sym is ∙ get_or_past course.stages frame Over past))
-    ]
+use Rattle.ats_engine_law.proofs.Events.{phase_of, number_of, IsOf, is-of, same-event, is-within, place_by, place-below}
+use Rattle.ats_engine_law.proofs.Events.{event_at, at-place, number-below, phase-below}
+use Rattle.ats_engine_law.proofs.Follow.{awaited-by, next-of, arrival-here, eligibility-here, selection-here, end-here}
+use Rattle.ats_engine_law.proofs.Follow.{set-here, set-elsewhere, turned-here, turned-elsewhere, frame-within}
 
 -- a move brings the entry of the stage that it leads to
 comes-entries : (frame : ℕ) (p : Progress) (at : Ps) (v : Verdict)
@@ -228,6 +64,7 @@ comes-entries frame p at (Eligible e) = refl
 comes-entries frame p at (Late e) = refl
 comes-entries frame p at Size = refl
 
+-- so does one that is the same
 moved-entries : (frame : ℕ) (m n : Move) → m ≡ n → n.entries ≡ entries_by frame n.stage
     → m.entries ≡ entries_by frame m.stage
 moved-entries frame m n same is = subst (λ (x : Move). x.entries ≡ entries_by frame x.stage) (sym same) is
@@ -238,6 +75,7 @@ left_by frame over p at last =
     if last then record { stage = Over; progress = over; entries = [] }
     else record { stage = Coming at; progress = p; entries = (arrival_moment frame at, Arrival frame) ∷ [] }
 
+-- it brings the entry of its stage
 leaves-entries : (frame : ℕ) (p q : Progress) (at : Ps) (last : Bool)
     → (left_by frame p q at last).entries ≡ entries_by frame (left_by frame p q at last).stage
 leaves-entries frame p q at true = refl
@@ -252,6 +90,7 @@ comes-later now frame p (Eligible e) is soon =
 comes-later now frame p (Late e) is soon = All-nil (λ (x : Moment × Event). IsAfter now x.0)
 comes-later now frame p Size is soon = All-nil (λ (x : Moment × Event). IsAfter now x.0)
 
+-- what a frame that comes brings is later
 pub comes-after : {T : Type 0} {key : T → ℕ → ℕ → ℕ} {wait : ℕ → ℕ → ℕ} {network : DeclaredNetwork}
     {releases : List Release} {old new : Course T} {now : Moment} {frame : ℕ} {entries more : List (Moment × Event)}
     → IsNext key wait network releases old now (Arrival frame) entries → Comes network old new now frame more
@@ -264,6 +103,7 @@ comes-after {T} {key} {wait} {network} {releases} {old} {new} {now} {frame} {ent
     (comes-later now frame p (verdict_now network old.groups p now.at.0) (next-of next).phase
     (soon_now network old.groups p now.at.0 next.holds.rules next.holds.members))
 
+-- the events that are to happen after a frame came
 pub comes-awaited : {T : Type 0} {key : T → ℕ → ℕ → ℕ} {wait : ℕ → ℕ → ℕ} {network : DeclaredNetwork}
     {releases : List Release} {old new : Course T} {now : Moment} {frame : ℕ} {entries more : List (Moment × Event)}
     → IsNext key wait network releases old now (Arrival frame) entries → Comes network old new now frame more
@@ -273,7 +113,8 @@ comes-awaited {T} {key} {wait} {network} {releases} {old} {new} {now} {frame} {e
     let staged : new.stages ≡ set old.stages frame step.move.stage = ap (λ (c : Course T). c.stages) step.becomes in
     let p : Progress = progress_at old.records frame in
     let own : more ≡ entries_by frame step.move.stage = step.brings
-    ∙ moved-entries frame step.move _ step.is (comes-entries frame p now.at (verdict_now network old.groups p now.at.0)) in
+    ∙ moved-entries frame step.move _ step.is
+    (comes-entries frame p now.at (verdict_now network old.groups p now.at.0)) in
     let steps : Steps old new (Arrival frame) frame 0 (Coming now.at) step.move.stage = record {
       here = arrival-here frame 0;
       stages = set-elsewhere old new frame step.move.stage staged;
@@ -292,23 +133,15 @@ comes-awaited {T} {key} {wait} {network} {releases} {old} {new} {now} {frame} {e
     (comes-after next step)
 
 -- the port of a frame's last hop record is one of the network
-stands-few : (Last : HopRecord → Type 0) (path : List ℕ) (hops : List HopRecord) → Stands Last path hops
-    → (0 < length hops) × (length hops ≤ length path)
-stands-few Last [] hops stands = absurd stands
-stands-few Last (p ∷ path) [] stands = absurd stands
-stands-few Last (p ∷ path) (hop ∷ []) stands = (omega arith, omega arith)
-stands-few Last (p ∷ path) (hop ∷ next ∷ hops) stands =
-    let rest = stands-few Last path (next ∷ hops) stands.1 in
-    (omega arith, omega (arith, rest.1))
-
 place-within : {T : Type 0} (network : DeclaredNetwork) (course : Course T) (frame : ℕ) (s : Stage)
     (Last : HopRecord → Type 0) → IsNetwork network → IsFrame network (progress_at course.records frame) s
     → Stands Last (path_of network (progress_at course.records frame)) (progress_at course.records frame).hops
     → place_at network course frame < length network.topology.ports
 place-within network course frame s Last rules is stands =
     let p : Progress = progress_at course.records frame in
-    let few = stands-few Last (path_of network p) p.hops stands in
-    (sender_keeps network p.release.sender rules is.sender).ports (length p.hops - 1) 0 (omega (arith, few.0, few.1))
+    let some : 0 < length p.hops = stands-some Last (path_of network p) p.hops stands in
+    let most : length p.hops ≤ length (path_of network p) = stands-at_most Last (path_of network p) p.hops stands in
+    (sender_keeps network p.release.sender rules is.sender).ports (length p.hops - 1) 0 (omega arith)
 
 -- what is kept of a frame at this stage
 pub frame-at : {T : Type 0} {key : T → ℕ → ℕ → ℕ} {wait : ℕ → ℕ → ℕ} {network : DeclaredNetwork}
@@ -319,6 +152,7 @@ frame-at {T} {key} {wait} {network} {releases} {course} frame s holds was other 
     subst (IsFrame network (progress_at course.records frame)) was
     (holds.frames frame (stage-within course frame s holds.shape.stages was other))
 
+-- a selection that a frame brings which becomes eligible is later
 offered-later : (now : Moment) (port : ℕ) (t : Turn) → now.phase ≡ ELIGIBLE
     → All (λ (x : Moment × Event). IsAfter now x.0) (selections_once_offered port t now.at)
 offered-later now port Resting is =
@@ -327,6 +161,7 @@ offered-later now port Resting is =
 offered-later now port (Selecting at) is = All-nil (λ (x : Moment × Event). IsAfter now x.0)
 offered-later now port Occupied is = All-nil (λ (x : Moment × Event). IsAfter now x.0)
 
+-- what a frame that becomes eligible brings is later
 pub offered-after : {T : Type 0} {key : T → ℕ → ℕ → ℕ} {wait : ℕ → ℕ → ℕ} {network : DeclaredNetwork}
     {releases : List Release} {old new : Course T} {now : Moment} {frame : ℕ} {entries more : List (Moment × Event)}
     → IsNext key wait network releases old now (Eligibility frame) entries
@@ -348,6 +183,7 @@ offered-brings old new now frame port (Selecting at) steps was becomes =
 offered-brings old new now frame port Occupied steps was becomes =
     brings_one old new (Eligibility frame) frame port (Due now.at) Waiting steps (λ e. cc) (becomes ∙ sym was)
 
+-- the events that are to happen after a frame became eligible
 pub offered-awaited : {T : Type 0} {key : T → ℕ → ℕ → ℕ} {wait : ℕ → ℕ → ℕ} {network : DeclaredNetwork}
     {releases : List Release} {old new : Course T} {now : Moment} {frame : ℕ} {entries more : List (Moment × Event)}
     → IsNext key wait network releases old now (Eligibility frame) entries
@@ -391,7 +227,8 @@ pub selecting-within : {T : Type 0} {key : T → ℕ → ℕ → ℕ} {wait : �
     → IsNext key wait network releases course now (Selection port) entries
     → port < length network.topology.ports
 selecting-within {T} {key} {wait} {network} {releases} {course} {now} {port} next =
-    let within : port < length course.turns = turn-within course port (Selecting now.at) (next-selecting next) (λ e. cc) in
+    let within : port < length course.turns =
+    turn-within course port (Selecting now.at) (next-selecting next) (λ e. cc) in
     omega (arith, next.holds.shape.turns)
 
 -- when a transmission that starts now ends
@@ -403,6 +240,7 @@ selects-end {T} {key} {wait} {network} {releases} {old} {new} {now} {port} next 
     step.starts.ends ∙ ap (λ (ps : ℕ). now.at.0 + ps * bits_of step.starts.started.octets)
     (next.holds.ports port (selecting-within next)).ps_per_bit
 
+-- the end of a transmission that starts is later
 pub selects-after : {T : Type 0} {key : T → ℕ → ℕ → ℕ} {wait : ℕ → ℕ → ℕ} {network : DeclaredNetwork}
     {releases : List Release} {old new : Course T} {now : Moment} {port : ℕ} {entries more : List (Moment × Event)}
     → IsNext key wait network releases old now (Selection port) entries → Selects key old new now port more
@@ -427,6 +265,7 @@ selects-held {T} {key} {wait} {network} {releases} {old} {new} {now} {port} next
     (All-permutation (IsHeld network old port) (port_state_at old port).held
     (step.starts.started ∷ step.standing.held) step.starts.held (next.holds.ports port (selecting-within next)).held)
 
+-- the events that are to happen after a selection
 pub selects-awaited : {T : Type 0} {key : T → ℕ → ℕ → ℕ} {wait : ℕ → ℕ → ℕ} {network : DeclaredNetwork}
     {releases : List Release} {old new : Course T} {now : Moment} {port : ℕ} {entries more : List (Moment × Event)}
     → IsNext key wait network releases old now (Selection port) entries → Selects key old new now port more
@@ -467,6 +306,7 @@ ending-port {T} {key} {wait} {network} {releases} {course} {now} {frame} next =
     let is = frame-at frame (Sending now.at) next.holds (next-sending next) (λ e. cc) in
     place-within network course frame (Sending now.at) (IsSentUntil now.at) next.holds.rules is is.stands.here.0
 
+-- which sends it until now
 pub ending-sends : {T : Type 0} {key : T → ℕ → ℕ → ℕ} {wait : ℕ → ℕ → ℕ} {network : DeclaredNetwork}
     {releases : List Release} {course : Course T} {now : Moment} {frame : ℕ} {entries : List (Moment × Event)}
     → IsNext key wait network releases course now (End frame) entries
@@ -491,6 +331,7 @@ leaves-later now frame p q at false is later =
     All-cons (λ (x : Moment × Event). IsAfter now x.0) (arrival_moment frame at, Arrival frame) []
     (record { time = later; phase = λ same. omega arith }) (All-nil (λ (x : Moment × Event). IsAfter now x.0))
 
+-- and so does the next selection of the port
 selections-later : {T : Type 0} (now : Moment) (port : ℕ) (standing : PortState T) (turn : Turn)
     → now.phase ≡ TRANSMISSION_END → last_end standing.sent ≡ now.at.0 → IsTurn standing turn
     → All (λ (x : Moment × Event). IsAfter now x.0) (selections port turn)
@@ -501,6 +342,7 @@ selections-later now port standing (Selecting at) is ended next =
     (record { time = omega arith; phase = λ same. omega arith }) (All-nil (λ (x : Moment × Event). IsAfter now x.0))
 selections-later now port standing Occupied is ended next = All-nil (λ (x : Moment × Event). IsAfter now x.0)
 
+-- what the end of a transmission brings is later
 pub ends-after : {T : Type 0} {key : T → ℕ → ℕ → ℕ} {wait : ℕ → ℕ → ℕ} {network : DeclaredNetwork}
     {releases : List Release} {old new : Course T} {now : Moment} {frame : ℕ} {entries more : List (Moment × Event)}
     → IsNext key wait network releases old now (End frame) entries → Ends key wait network old new now frame more
@@ -521,6 +363,7 @@ ends-after {T} {key} {wait} {network} {releases} {old} {new} {now} {frame} {entr
     (length p.hops == length (path_of network p)) phase later))
     (selections-later now step.port step.standing step.turn phase same step.next))
 
+-- the events that are to happen after the end of a transmission
 pub ends-awaited : {T : Type 0} {key : T → ℕ → ℕ → ℕ} {wait : ℕ → ℕ → ℕ} {network : DeclaredNetwork}
     {releases : List Release} {old new : Course T} {now : Moment} {frame : ℕ} {entries more : List (Moment × Event)}
     → IsNext key wait network releases old now (End frame) entries → Ends key wait network old new now frame more
@@ -550,7 +393,8 @@ ends-awaited {T} {key} {wait} {network} {releases} {old} {new} {now} {frame} {en
     } in
     let turns : Turns old new (End frame) step.port Occupied step.turn = record {
       was = occupied;
-      becomes = turned-here new old.turns step.port step.turn (omega (arith, next.holds.shape.turns, step.place)) turned;
+      becomes = turned-here new old.turns step.port step.turn
+          (omega (arith, next.holds.shape.turns, step.place)) turned;
       selection = λ m is. absurd (none-some m is);
     } in
     awaited-by new more next (ap (λ (c : Course T). c.last) step.becomes)
@@ -569,8 +413,8 @@ holds-permuted {T} {key} {wait} {network} {releases} {course} {entries} {other} 
       each = All-permutation (λ (x : Moment × Event). moment_of course x.1 ≡ Some x.0) entries other moved awaited.each;
       there = λ event. IfSome_then (moment_of course event) (awaited.there event)
           (λ (m : Moment) c. Contains-permutation entries other (m, event) moved c);
-      apart = AllPairs-permutation (λ (x y : Moment × Event). x.1 ≢ y.1) (λ x y n same. n (sym same)) entries other moved
-          awaited.apart;
+      apart = AllPairs-permutation (λ (x y : Moment × Event). x.1 ≢ y.1) (λ x y n same. n (sym same)) entries
+          other moved awaited.apart;
       reached = All-permutation (λ (x : Moment × Event). IsReached course.last x.0) entries other moved awaited.reached;
     } in
     record {
@@ -589,98 +433,6 @@ holds-permuted {T} {key} {wait} {network} {releases} {course} {entries} {other} 
             holds.bounds.each;
       };
     }
-
--- the number of an event that is to happen is that of a frame or a port
-abbrev IsEventOf : {T : Type 0} → Course T → Event → Type 0
-IsEventOf course (End frame) = frame < length course.stages
-IsEventOf course (Arrival frame) = frame < length course.stages
-IsEventOf course (Eligibility frame) = frame < length course.stages
-IsEventOf course (Selection port) = port < length course.turns
-
-below-length : {X : Type 0} (xs : List X) (k : ℕ) (default : X) (next : X → Option Moment) (moment : Moment)
-    → next default ≡ None → next (get_or xs k default) ≡ Some moment → k < length xs
-below-length xs k default next moment none some = elim (cases_lt k (length xs)) as (λ _. k < length xs) [
-  | inl within ↦ within
-  | inr past ↦ absurd (none-some moment (sym none ∙ sym (ap next (get_or_past xs k default past)) ∙ some))
-]
-
-is-within : {T : Type 0} (course : Course T) (event : Event) (moment : Moment) → moment_of course event ≡ Some moment
-    → IsEventOf course event
-is-within course (End frame) moment is = below-length course.stages frame Over (end_by frame) moment refl is
-is-within course (Arrival frame) moment is = below-length course.stages frame Over (arrival_by frame) moment refl is
-is-within course (Eligibility frame) moment is =
-    below-length course.stages frame Over (eligibility_by frame) moment refl is
-is-within course (Selection port) moment is =
-    below-length course.turns port Resting (selection_by port) moment refl is
-
--- frames and ports numbered together: the frames first
-abbrev place_by : ℕ → Event → ℕ
-place_by frames (End frame) = frame
-place_by frames (Arrival frame) = frame
-place_by frames (Eligibility frame) = frame
-place_by frames (Selection port) = frames + port
-
-place-below : {T : Type 0} (course : Course T) (event : Event) → IsEventOf course event
-    → place_by (length course.stages) event < length course.stages + length course.turns
-place-below course (End frame) within = omega arith
-place-below course (Arrival frame) within = omega arith
-place-below course (Eligibility frame) within = omega arith
-place-below course (Selection port) within = omega arith
-
--- the event that a frame at a stage can have, and the one that is to happen at a place
-abbrev event_by : ℕ → Stage → Event
-event_by frame (Coming at) = Arrival frame
-event_by frame (Due at) = Eligibility frame
-event_by frame stage = End frame
-
-abbrev event_at : {T : Type 0} → Course T → ℕ → Event
-event_at course place =
-    if nat_lt place (length course.stages) then event_by place (stage_at course place)
-    else Selection (place - length course.stages)
-
-end-only : (frame : ℕ) (stage : Stage) (moment : Moment) → end_by frame stage ≡ Some moment
-    → event_by frame stage ≡ End frame
-end-only frame (Sending until) moment is = refl
-end-only frame (Coming at) moment is = absurd (none-some moment is)
-end-only frame (Due at) moment is = absurd (none-some moment is)
-end-only frame Waiting moment is = refl
-end-only frame Over moment is = refl
-
-arrival-only : (frame : ℕ) (stage : Stage) (moment : Moment) → arrival_by frame stage ≡ Some moment
-    → event_by frame stage ≡ Arrival frame
-arrival-only frame (Coming at) moment is = refl
-arrival-only frame (Due at) moment is = absurd (none-some moment is)
-arrival-only frame Waiting moment is = absurd (none-some moment is)
-arrival-only frame (Sending until) moment is = absurd (none-some moment is)
-arrival-only frame Over moment is = absurd (none-some moment is)
-
-eligibility-only : (frame : ℕ) (stage : Stage) (moment : Moment) → eligibility_by frame stage ≡ Some moment
-    → event_by frame stage ≡ Eligibility frame
-eligibility-only frame (Due at) moment is = refl
-eligibility-only frame (Coming at) moment is = absurd (none-some moment is)
-eligibility-only frame Waiting moment is = absurd (none-some moment is)
-eligibility-only frame (Sending until) moment is = absurd (none-some moment is)
-eligibility-only frame Over moment is = absurd (none-some moment is)
-
-at-frame : {T : Type 0} (course : Course T) (frame : ℕ) → frame < length course.stages
-    → event_at course frame ≡ event_by frame (stage_at course frame)
-at-frame course frame within =
-    cond-true (nat_lt frame (length course.stages)) (event_by frame (stage_at course frame))
-    (Selection (frame - length course.stages)) (lt-ltb frame (length course.stages) within)
-
-at-place : {T : Type 0} (course : Course T) (event : Event) (moment : Moment) → moment_of course event ≡ Some moment
-    → IsEventOf course event → event_at course (place_by (length course.stages) event) ≡ event
-at-place course (End frame) moment is within =
-    at-frame course frame within ∙ end-only frame (stage_at course frame) moment is
-at-place course (Arrival frame) moment is within =
-    at-frame course frame within ∙ arrival-only frame (stage_at course frame) moment is
-at-place course (Eligibility frame) moment is within =
-    at-frame course frame within ∙ eligibility-only frame (stage_at course frame) moment is
-at-place course (Selection port) moment is within =
-    let place : ℕ = length course.stages + port in
-    cond-false (nat_lt place (length course.stages)) (event_by place (stage_at course place))
-    (Selection (place - length course.stages)) (le-ltb place (length course.stages) (omega arith))
-    ∙ ap Selection (omega arith)
 
 -- what holds of the images of each two elements holds of each two images
 pairs-map : {X : Type 0} (R : ℕ → ℕ → Type 0) (f : X → ℕ) (xs : List X) → AllPairs (λ (a b : X). R (f a) (f b)) xs
@@ -741,20 +493,6 @@ moments-apart {T} {key} {wait} {network} {releases} {course} {entries} holds i j
     (same-event x.1 y.1 (sym one.phase ∙ ap (λ (m : Moment). m.phase) same ∙ two.phase)
     (sym one.number ∙ ap (λ (m : Moment). m.id) same ∙ two.number))
 
--- the number and the phase of an event are small
-number-below : {T : Type 0} (course : Course T) (event : Event) → IsEventOf course event
-    → number_of event < length course.stages + length course.turns
-number-below course (End frame) within = omega arith
-number-below course (Arrival frame) within = omega arith
-number-below course (Eligibility frame) within = omega arith
-number-below course (Selection port) within = omega arith
-
-phase-below : (event : Event) → phase_of event < 4
-phase-below (End frame) = omega arith
-phase-below (Arrival frame) = omega arith
-phase-below (Eligibility frame) = omega arith
-phase-below (Selection port) = omega arith
-
 -- the numbers of each moment fit their types
 pub moments-in-range : {T : Type 0} {key : T → ℕ → ℕ → ℕ} {wait : ℕ → ℕ → ℕ} {network : DeclaredNetwork}
     {releases : List Release} {course : Course T} {entries : List (Moment × Event)}
@@ -780,8 +518,8 @@ moments-in-range {T} {key} {wait} {network} {releases} {course} {entries} holds 
     }
 
 -- a moment that is before another one by a lawful order is not after it by time and phase
-pub before-is-reached : (before : Moment → Moment → Type 0) → IsIrreflexive before → IsTransitive before → IsTimed before
-    → (now next : Moment) → IsInRange now → IsInRange next → before now next → IsReached now next
+pub before-is-reached : (before : Moment → Moment → Type 0) → IsIrreflexive before → IsTransitive before
+    → IsTimed before → (now next : Moment) → IsInRange now → IsInRange next → before now next → IsReached now next
 before-is-reached before irreflexive transitive timed now next hn hx first =
     let never : before next now → ⊥ = λ back. irreflexive now hn (transitive now next now hn hx hn first back) in
     record {

@@ -1,14 +1,14 @@
 -- What a step makes of the events of one frame and of one port.
-use Rattle.std.proofs.Common.{◌≡◌, ℕ, ◌≤◌, List, [], ◌∷◌, ◌++◌, length, All, Option, Some, refl, sym, ap, ◌∙◌}
-use Rattle.std.proofs.Common.{subst, inl, inr, arith}
+use Rattle.std.proofs.Common.{◌≡◌, ℕ, ◌≤◌, List, [], ◌∷◌, ◌++◌, length, All, Option, Some, refl, sym, ap, ◌∙◌, subst}
+use Rattle.std.proofs.Common.{inl, inr, arith}
 use Rattle.std.specs.Prelude.{◌≢◌, AllPairs}
 use Rattle.std.proofs.lemmas.Bool.{cases_eq}
 use Rattle.std.proofs.lemmas.List.Elements.{All-append, All-nil, All-cons, Contains-append_left, Contains-append_right}
 use Rattle.std.proofs.lemmas.Option.{IfSome_then}
 use Rattle.ats_events.specs.declared.moment.Moment.{Moment}
 use Rattle.ats_steps.specs.Course.{Course, stage_at, turn_at}
-use Rattle.ats_steps.specs.Entries.{arrival_moment, eligible_moment, end_moment, selection_moment}
-use Rattle.ats_steps.specs.Entries.{arrival_by, eligibility_by, end_by, selection_by, moment_of}
+use Rattle.ats_steps.specs.Entries.{arrival_moment, eligible_moment, end_moment, selection_moment, arrival_by}
+use Rattle.ats_steps.specs.Entries.{eligibility_by, end_by, selection_by, moment_of}
 use Rattle.ats_steps.specs.Steps.{selections}
 use Rattle.ats_steps.specs.declared.event.Event.{Event}
 use Rattle.ats_steps.specs.declared.event.Event.TheVariants.{End, Arrival, Eligibility, Selection}
@@ -41,6 +41,7 @@ of_frame Q frame (Sending until) e a l =
     (All-nil (λ (x : Moment × Event). Q x.1))
 of_frame Q frame Over e a l = All-nil (λ (x : Moment × Event). Q x.1)
 
+-- and likewise of a port's
 of_port : (Q : Event → Type 0) (port : ℕ) (t : Turn) → Q (Selection port)
     → All (λ (x : Moment × Event). Q x.1) (selections port t)
 of_port Q port Resting s = All-nil (λ (x : Moment × Event). Q x.1)
@@ -65,6 +66,7 @@ each_of_frame moments frame (Sending until) e a l =
     (All-nil (λ (x : Moment × Event). moments x.1 ≡ Some x.0))
 each_of_frame moments frame Over e a l = All-nil (λ (x : Moment × Event). moments x.1 ≡ Some x.0)
 
+-- and so is that of a port
 each_of_port : (moments : Event → Option Moment) (port : ℕ) (t : Turn)
     → moments (Selection port) ≡ selection_by port t
     → All (λ (x : Moment × Event). moments x.1 ≡ Some x.0) (selections port t)
@@ -196,6 +198,7 @@ brings_one {T} old new happened frame port s t step other same =
           (eligibility_among frame t) (stays other (ap (selection_by port) same));
     }
 
+-- more entries keep it
 left_among : (more others : List (Moment × Event)) (event : Event) (next : Option Moment) → IsAmong more event next
     → IsAmong (more ++ others) event next
 left_among more others event next among =

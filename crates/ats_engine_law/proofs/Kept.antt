@@ -41,7 +41,8 @@ comes-holds next step =
 -- a frame that becomes eligible
 pub offered-holds : {T : Type 0} {key : T → ℕ → ℕ → ℕ} {wait : ℕ → ℕ → ℕ} {network : DeclaredNetwork}
     {releases : List Release} {old new : Course T} {now : Moment} {frame : ℕ} {entries more : List (Moment × Event)}
-    → IsNext key wait network releases old now (Eligibility frame) entries → BecomesEligible key network old new now frame more
+    → IsNext key wait network releases old now (Eligibility frame) entries
+    → BecomesEligible key network old new now frame more
     → Holds key wait network releases new (more ++ entries)
 offered-holds next step =
     record {

@@ -11,7 +11,8 @@ use Rattle.ats_steps.specs.declared.stage.Stage.TheVariants.{Over}
 -- a sum over all frames, once the stage and the record of one are set
 left-set : (f : Stage × Progress → ℕ) (stages : List Stage) (records : List Progress) (frame : ℕ) (s : Stage)
     (p : Progress) → length stages ≡ length records → frame < length records
-    → sum_by f (zip (set stages frame s) (set records frame p)) + f (get_or stages frame Over, progress_at records frame)
+    → sum_by f (zip (set stages frame s) (set records frame p))
+    + f (get_or stages frame Over, progress_at records frame)
     ≡ sum_by f (zip stages records) + f (s, p)
 left-set f [] [] frame s p even within = absurd (omega arith)
 left-set f [] (q ∷ records) frame s p even within = absurd (omega arith)
@@ -35,7 +36,8 @@ pub left-after : {T : Type 0} (f : Stage × Progress → ℕ) (old new : Course 
 left-after f old new frame was s p even within is staged recorded =
     let stands : f (stage_at old frame, progress_at old.records frame) ≡ f (was, progress_at old.records frame) =
     ap (λ (t : Stage). f (t, progress_at old.records frame)) is in
-    let moved : sum_by f (zip new.stages new.records) ≡ sum_by f (zip (set old.stages frame s) (set old.records frame p)) =
+    let moved : sum_by f (zip new.stages new.records)
+    ≡ sum_by f (zip (set old.stages frame s) (set old.records frame p)) =
     ap (λ (ss : List Stage). sum_by f (zip ss new.records)) staged
     ∙ ap (λ (ps : List Progress). sum_by f (zip (set old.stages frame s) ps)) recorded in
     omega (arith, left-set f old.stages old.records frame s p even within)

@@ -7,7 +7,9 @@ pub mod Classes
 pub mod Conclusion
 pub mod Counting
 pub mod Entries
+pub mod Events
 pub mod Fates
+pub mod Follow
 pub mod Frames
 pub mod Gathered
 pub mod Groups

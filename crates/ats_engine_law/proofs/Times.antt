@@ -1,5 +1,5 @@
-use Rattle.std.proofs.Common.{◌≡◌, ℕ, ◌+◌, ◌-◌, ◌*◌, ◌<◌, ◌≤◌, Bool, true, false, List, [], ◌∷◌, ◌++◌, length, All}
-use Rattle.std.proofs.Common.{sym, ap, subst, arith}
+use Rattle.std.proofs.Common.{◌≡◌, ℕ, ◌+◌, ◌-◌, ◌*◌, ◌<◌, ◌≤◌, Bool, true, false, List, [], ◌∷◌, ◌++◌, length, All, sym}
+use Rattle.std.proofs.Common.{ap, subst, arith}
 use Rattle.std.specs.Prelude.{◌==◌, sum_by, Some}
 use Rattle.std.specs.List.{zip}
 use Rattle.std.proofs.lemmas.List.{length-append, length-set}
@@ -26,13 +26,13 @@ use Rattle.ats_trace.specs.Projections.{Crossing, crossings_by}
 use Rattle.ats_trace.specs.declared.journey.Ending.TheVariants.{Sink}
 use Rattle.ats_trace.specs.declared.journey.Release.{Release}
 use Rattle.ats_records.specs.Progress.{Progress, progress_at, last_hop, with_ending, with_hop, with_sent}
-use Rattle.ats_steps.specs.Bounds.{IsInTime, all_left, events_left, horizon, most_latency, most_left}
-use Rattle.ats_steps.specs.Bounds.{most_sending, ports_left, steps_left}
+use Rattle.ats_steps.specs.Bounds.{IsInTime, all_left, events_left, horizon, most_latency, most_left, most_sending}
+use Rattle.ats_steps.specs.Bounds.{ports_left, steps_left}
 use Rattle.ats_steps.specs.Course.{Course, path_of, place_at, stage_at, travels, turn_at}
 use Rattle.ats_steps.specs.Entries.{arrival_moment, eligible_moment, end_moment, selection_moment}
 use Rattle.ats_steps.specs.Ports.{IsTurn, port_state_at}
-use Rattle.ats_steps.specs.Steps.{Comes, BecomesEligible, Selects, Ends, Move, came, comes_by, verdict_now}
-use Rattle.ats_steps.specs.Steps.{selections, selections_once_offered}
+use Rattle.ats_steps.specs.Steps.{Comes, BecomesEligible, Selects, Ends, Move, came, comes_by, verdict_now, selections}
+use Rattle.ats_steps.specs.Steps.{selections_once_offered}
 use Rattle.ats_steps.specs.declared.event.Event.{Event}
 use Rattle.ats_steps.specs.declared.event.Event.TheVariants.{End, Arrival, Eligibility, Selection}
 use Rattle.ats_steps.specs.declared.stage.Stage.{Stage}
@@ -40,8 +40,8 @@ use Rattle.ats_steps.specs.declared.stage.Stage.TheVariants.{Coming, Due, Waitin
 use Rattle.ats_steps.specs.declared.turn.Turn.{Turn}
 use Rattle.ats_steps.specs.declared.turn.Turn.TheVariants.{Resting, Selecting, Occupied}
 use Rattle.ats_engine_law.specs.Next.{IsNext}
-use Rattle.ats_engine_law.proofs.Entries.{ending-port, ending-sends, frame-at, left_by}
-use Rattle.ats_engine_law.proofs.Entries.{selecting-within, selects-end, selects-held}
+use Rattle.ats_engine_law.proofs.Entries.{ending-port, ending-sends, frame-at, left_by, selecting-within, selects-end}
+use Rattle.ats_engine_law.proofs.Entries.{selects-held}
 use Rattle.ats_engine_law.proofs.Left.{left-after}
 use Rattle.ats_engine_law.proofs.Now.{next-port, next-reached}
 use Rattle.ats_engine_law.proofs.Paces.{ends-paces}
@@ -104,6 +104,7 @@ comes-less-left frame p now Size soon fewer =
       events = omega arith;
     }
 
+-- so the move of the next frame that comes does
 comes-takes : {T : Type 0} {key : T → ℕ → ℕ → ℕ} {wait : ℕ → ℕ → ℕ} {network : DeclaredNetwork}
     {releases : List Release} {old new : Course T} {now : Moment} {frame : ℕ} {entries more : List (Moment × Event)}
     → IsNext key wait network releases old now (Arrival frame) entries → (step : Comes network old new now frame more)
@@ -134,6 +135,7 @@ comes-left {T} {key} {wait} {network} {releases} {old} {new} {now} {frame} f nex
     (stage-within old frame (Coming now.at) even was (λ e. cc)) was (ap (λ (c : Course T). c.stages) step.becomes)
     (ap (λ (c : Course T). c.records) step.becomes)
 
+-- the bounds hold after a frame came
 pub comes-bounds : {T : Type 0} {key : T → ℕ → ℕ → ℕ} {wait : ℕ → ℕ → ℕ} {network : DeclaredNetwork}
     {releases : List Release} {old new : Course T} {now : Moment} {frame : ℕ} {entries more : List (Moment × Event)}
     → IsNext key wait network releases old now (Arrival frame) entries → Comes network old new now frame more
@@ -147,6 +149,7 @@ comes-bounds {T} {key} {wait} {network} {releases} {old} {new} {now} {frame} {en
     + most_left (step.move.stage, step.move.progress) ≤ now.at.0 + most_left (Coming now.at, p)) es)
     (sym step.brings) takes.each)
 
+-- and fewer steps are left
 pub comes-less : {T : Type 0} {key : T → ℕ → ℕ → ℕ} {wait : ℕ → ℕ → ℕ} {network : DeclaredNetwork}
     {releases : List Release} {old new : Course T} {now : Moment} {frame : ℕ} {entries more : List (Moment × Event)}
     → IsNext key wait network releases old now (Arrival frame) entries → Comes network old new now frame more
@@ -180,6 +183,7 @@ offered-now now was is port Resting less =
 offered-now now was is port (Selecting at) less = All-nil (λ (x : Moment × Event). x.0.at.0 + is ≤ now.at.0 + was)
 offered-now now was is port Occupied less = All-nil (λ (x : Moment × Event). x.0.at.0 + is ≤ now.at.0 + was)
 
+-- the bounds hold after a frame became eligible
 pub offered-bounds : {T : Type 0} {key : T → ℕ → ℕ → ℕ} {wait : ℕ → ℕ → ℕ} {network : DeclaredNetwork}
     {releases : List Release} {old new : Course T} {now : Moment} {frame : ℕ} {entries more : List (Moment × Event)}
     → IsNext key wait network releases old now (Eligibility frame) entries
@@ -193,6 +197,7 @@ offered-bounds {T} {key} {wait} {network} {releases} {old} {new} {now} {frame} {
     (subst (λ (es : List (Moment × Event)). All (λ (x : Moment × Event). x.0.at.0 + is ≤ now.at.0 + was) es)
     (sym step.brings) (offered-now now was is step.port (turn_at old step.port) (omega arith)))
 
+-- and fewer steps are left
 pub offered-less : {T : Type 0} {key : T → ℕ → ℕ → ℕ} {wait : ℕ → ℕ → ℕ} {network : DeclaredNetwork}
     {releases : List Release} {old new : Course T} {now : Moment} {frame : ℕ} {entries more : List (Moment × Event)}
     → IsNext key wait network releases old now (Eligibility frame) entries
@@ -229,6 +234,7 @@ sending-most ps octets rate size =
     let bits : bits_of octets ≤ 16160 = omega arith in
     omega (arith, mul-le-mul_right (bits_of octets) rate)
 
+-- so the transmission that starts ends within it
 selects-soon : {T : Type 0} {key : T → ℕ → ℕ → ℕ} {wait : ℕ → ℕ → ℕ} {network : DeclaredNetwork}
     {releases : List Release} {old new : Course T} {now : Moment} {port : ℕ} {entries more : List (Moment × Event)}
     → IsNext key wait network releases old now (Selection port) entries → (step : Selects key old new now port more)
@@ -248,6 +254,7 @@ selects-soon {T} {key} {wait} {network} {releases} {old} {new} {now} {port} next
       sending-most (port_at network.topology.ports port).ps_per_bit offer.octets rate.most size,
     )
 
+-- the bounds hold after a selection
 pub selects-bounds : {T : Type 0} {key : T → ℕ → ℕ → ℕ} {wait : ℕ → ℕ → ℕ} {network : DeclaredNetwork}
     {releases : List Release} {old new : Course T} {now : Moment} {port : ℕ} {entries more : List (Moment × Event)}
     → IsNext key wait network releases old now (Selection port) entries → Selects key old new now port more
@@ -265,6 +272,7 @@ selects-bounds {T} {key} {wait} {network} {releases} {old} {new} {now} {port} {e
     (subst (λ (es : List (Moment × Event)). All Near es) (sym step.brings)
     (All-cons Near (end_moment step.frame step.end, End step.frame) [] (omega arith) (All-nil Near)))
 
+-- and fewer steps are left
 pub selects-less : {T : Type 0} {key : T → ℕ → ℕ → ℕ} {wait : ℕ → ℕ → ℕ} {network : DeclaredNetwork}
     {releases : List Release} {old new : Course T} {now : Moment} {port : ℕ} {entries more : List (Moment × Event)}
     → IsNext key wait network releases old now (Selection port) entries → Selects key old new now port more
@@ -311,6 +319,7 @@ leaves-less frame p now at false soon =
       events = omega arith;
     }
 
+-- and fewer steps are left of it
 leaves-fewer : (frame : ℕ) (p : Progress) (now at : Ps) (last : Bool)
     → events_left (
       (left_by frame (with_ending p (Sink at)) p at last).stage,
@@ -319,6 +328,7 @@ leaves-fewer : (frame : ℕ) (p : Progress) (now at : Ps) (last : Bool)
 leaves-fewer frame p now at true = omega arith
 leaves-fewer frame p now at false = omega arith
 
+-- so the move of the frame whose transmission ends takes less
 ends-takes : {T : Type 0} {key : T → ℕ → ℕ → ℕ} {wait : ℕ → ℕ → ℕ} {network : DeclaredNetwork}
     {old new : Course T} {now : Moment} {frame : ℕ} {more : List (Moment × Event)}
     (step : Ends key wait network old new now frame more) → step.arrival.0 ≤ now.at.0 + most_latency
@@ -366,6 +376,7 @@ selects-now standing (Selecting at) now port was is next free eligible less =
 selects-now standing Occupied now port was is next free eligible less =
     All-nil (λ (x : Moment × Event). x.0.at.0 + is ≤ now + was)
 
+-- the bounds hold after the end of a transmission
 pub ends-bounds : {T : Type 0} {key : T → ℕ → ℕ → ℕ} {wait : ℕ → ℕ → ℕ} {network : DeclaredNetwork}
     {releases : List Release} {old new : Course T} {now : Moment} {frame : ℕ} {entries more : List (Moment × Event)}
     → WaitsWithin wait → IsNext key wait network releases old now (End frame) entries
@@ -391,6 +402,7 @@ ends-bounds {T} {key} {wait} {network} {releases} {old} {new} {now} {frame} {ent
     (All-append Near step.move.entries (selections step.port step.turn) takes.each
     (selects-now step.standing step.turn now.at.0 step.port was is step.next held.0 held.1 takes.time)))
 
+-- and fewer steps are left
 pub ends-less : {T : Type 0} {key : T → ℕ → ℕ → ℕ} {wait : ℕ → ℕ → ℕ} {network : DeclaredNetwork}
     {releases : List Release} {old new : Course T} {now : Moment} {frame : ℕ} {entries more : List (Moment × Event)}
     → IsNext key wait network releases old now (End frame) entries → Ends key wait network old new now frame more

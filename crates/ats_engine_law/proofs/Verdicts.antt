@@ -1,7 +1,7 @@
 -- When the verdict on a frame that comes lets it be eligible.
-use Rattle.std.proofs.Common.{◌≡◌, ℕ, ◌+◌, ◌*◌, ◌≤◌, Bool, true, false, List, length, get_or, All, refl, sym}
-use Rattle.std.proofs.Common.{subst, inl, inr, arith}
-use Rattle.std.specs.Prelude.{◌==◌, ◌/◌, nat_le, ℤ, if◌then◌else◌}
+use Rattle.std.proofs.Common.{◌≡◌, ℕ, ◌+◌, ◌*◌, ◌≤◌, Bool, true, false, List, length, get_or, All, refl, sym, subst}
+use Rattle.std.proofs.Common.{inl, inr, arith}
+use Rattle.std.specs.Prelude.{◌==◌, ◌/◌, nat_le, ℤ, if◌then◌else◌, unwrap_or}
 use Rattle.std.specs.List.{range_with_len}
 use Rattle.std.proofs.lemmas.Bool.{cases_lt, leb-true}
 use Rattle.std.proofs.lemmas.List.{get_or_past}
@@ -30,7 +30,6 @@ use Rattle.ats_trace.specs.Eligibility.{declared_by}
 use Rattle.ats_records.specs.Progress.{Progress}
 use Rattle.ats_steps.specs.Judging.{AreGroupsOf}
 use Rattle.ats_steps.specs.Steps.{judged_by, verdict_now, class_behind}
-use Rattle.std.specs.Prelude.{unwrap_or}
 
 -- a time from an arrival to a second after it
 abbrev pub IsSoon : ℕ → ℕ → Type 0
@@ -45,7 +44,8 @@ on_if false v w P first second = second
 soon_by : (latest eligible arrival : ℕ) → arrival ≤ eligible → latest ≤ arrival + PS_PER_SECOND
     → OnEligible (verdict_by latest eligible) (IsSoon arrival)
 soon_by latest eligible arrival low high =
-    on_if (nat_le eligible latest) (Eligible (record { 0 = eligible })) (Late (record { 0 = eligible })) (IsSoon arrival)
+    on_if (nat_le eligible latest) (Eligible (record { 0 = eligible })) (Late (record { 0 = eligible }))
+    (IsSoon arrival)
     (λ passes. (let h : eligible ≤ latest = leb-true eligible latest passes in (low, omega arith))) tt
 
 -- a verdict of a group lets a frame be eligible within the maximum residence time of its arrival

@@ -28,7 +28,8 @@ rooms_of network releases = map (λ (r : Release). length (sender_at network r.s
 -- a port that was just opened, with room for all frames that pass it
 pub record IsFresh {T : Type 0} (network : DeclaredNetwork) (course : Course T) (port : ℕ) : Type 0 where
   pub rooms : List ℕ
-  pub fresh : port_state_at course port ≡ states.opened (port_at network.topology.ports port).ps_per_bit rooms course.tie
+  pub fresh : port_state_at course port
+      ≡ states.opened (port_at network.topology.ports port).ps_per_bit rooms course.tie
   pub each : (class : ℕ) → class ≤ 7 → slice_index rooms class ≡ room_of network course.records port class
 
 -- a run in which nothing has happened yet

@@ -1,19 +1,19 @@
-use Rattle.std.proofs.Common.{◌≡◌, ℕ, ◌+◌, Bool, true, false, cond, ◌&&◌, List, [], ◌∷◌, ◌++◌, length, Option, Some}
-use Rattle.std.proofs.Common.{None, refl, sym, ap, ◌∙◌, ◌<◌, arith, eqb, length-append}
-use Rattle.std.specs.Prelude.{is_some}
+use Rattle.std.proofs.Common.{◌≡◌, ℕ, Bool, true, false, cond, ◌&&◌, List, [], ◌∷◌, ◌++◌, Option, Some}
+use Rattle.std.proofs.Common.{None, refl, sym, ap, ◌∙◌, arith, eqb}
 use Rattle.std.specs.BTreeMap.{BTreeMap, Updates}
+use Rattle.std.specs.Cmp.Lexicographic.{slice_cmp, nat_list_eq_equiv}
+use Rattle.std.specs.Ordering.{nat_cmp}
+use Rattle.std.specs.Str.{bytes_eq}
+use Rattle.std.proofs.lemmas.Map.Text.{is_eq-slice_cmp}
 use Rattle.std.proofs.lemmas.Bool.{eqb-true, and_parts, false≢true}
-use Rattle.std.proofs.lemmas.List.{map-append}
 use Rattle.std.proofs.lemmas.List.Quantifiers.{all_pairs_push}
-use Rattle.ats_facts.proofs.Lists.{position_from-push}
-use Rattle.ats_facts.proofs.Options.{is_some-false, cond-is_some}
+use Rattle.ats_facts.proofs.Options.{is_some-false}
 use Rattle.ats_topology.proofs.Pairs.{pair_cmp, is_eq-pair_cmp}
 use Rattle.ats_topology.proofs.PositionLemmas.{all_fail}
 use Rattle.ats_streams.specs.Stream.{DeclaredStream}
 use Rattle.ats_network.specs.Network.{Share, AreIdentified}
 use Rattle.ats_network.specs.Pushes.{is_identity, has_identity, place_identified, is_identity_taken}
-use Rattle.ats_network.specs.Tables.{number_at, IsUnidentified, Identifies, FindsSame, AreStreams}
-use Rattle.ats_network.specs.declared.network.TheConstants.{MAX_STREAMS}
+use Rattle.ats_network.specs.Tables.{number_at, serial_at, IsUnidentified, Identifies, FindsSame, Names}
 
 -- a number put into the map for an identity
 put : (old new : BTreeMap (ℕ × ℕ) ℕ) (identity : ℕ × ℕ) (given : Option ℕ) → Updates pair_cmp old new identity given
@@ -23,11 +23,18 @@ put old new identity given updates address vlan =
     updates.0 (address, vlan)
     ∙ ap (λ (b : Bool). cond b given (number_at old address vlan)) (is_eq-pair_cmp identity (address, vlan))
 
-pub identifies : (old new : BTreeMap (ℕ × ℕ) ℕ) (identity : ℕ × ℕ) (declared : Option (ℕ × ℕ)) (place : ℕ)
-    → Some identity ≡ declared → Updates pair_cmp old new identity (Some place) → Identifies old new declared place
-identifies old new identity declared place same updates address vlan =
-    put old new identity (Some place) updates address vlan
-    ∙ ap (λ (d : Option (ℕ × ℕ)). cond (is_identity (address, vlan) d) (Some place) (number_at old address vlan)) same
+pub identifies : (old new : BTreeMap (ℕ × ℕ) ℕ) (identity : ℕ × ℕ) (declared : Option (ℕ × ℕ)) (given : Option ℕ)
+    → Some identity ≡ declared → Updates pair_cmp old new identity given → Identifies old new declared given
+identifies old new identity declared given same updates address vlan =
+    put old new identity given updates address vlan
+    ∙ ap (λ (d : Option (ℕ × ℕ)). cond (is_identity (address, vlan) d) given (number_at old address vlan)) same
+
+-- and for a name
+pub names_it : (old new : BTreeMap (List ℕ) ℕ) (asked name : List ℕ) (given : Option ℕ) → asked ≡ name
+    → Updates (slice_cmp nat_cmp) old new asked given → Names old new name given
+names_it old new asked name given same updates q =
+    updates.0 q ∙ ap (λ (b : Bool). cond b given (serial_at old q))
+    (is_eq-slice_cmp asked q ∙ nat_list_eq_equiv.symm asked q ∙ ap (bytes_eq q) same)
 
 -- and taken out again: the map has what it had, where it had none for that identity
 pub taken_back : (old mid new : BTreeMap (ℕ × ℕ) ℕ) (identity : ℕ × ℕ) (declared : Option (ℕ × ℕ)) (place : ℕ)
@@ -62,37 +69,10 @@ absent_identity streams (Some identity) free address vlan same =
     ∙ ap (λ (n : ℕ). place_identified (identity.0, n) streams) (sym (eqb-true identity.1 vlan parts.1))
     ∙ is_some-false (place_identified identity streams) free
 
--- a stream more: the map that has its number too finds each
-pub identified_push : (streams : List DeclaredStream) (stream : DeclaredStream) (old new : BTreeMap (ℕ × ℕ) ℕ)
-    → ((address vlan : ℕ) → number_at old address vlan ≡ place_identified (address, vlan) streams)
-    → is_identity_taken streams stream.identity ≡ false → Identifies old new stream.identity (length streams)
-    → (address vlan : ℕ) → number_at new address vlan ≡ place_identified (address, vlan) (streams ++ stream ∷ [])
-identified_push streams stream old new found free more address vlan = by (has_identity (address, vlan) stream) refl
-  where
-    pushed : (b : Bool) → has_identity (address, vlan) stream ≡ b
-        → place_identified (address, vlan) (streams ++ stream ∷ [])
-        ≡ cond (is_some (place_identified (address, vlan) streams)) (place_identified (address, vlan) streams)
-        (cond b (Some (0 + length streams)) None)
-    pushed b e =
-        position_from-push (has_identity (address, vlan)) 0 streams stream
-        ∙ ap (λ (b : Bool). cond (is_some (place_identified (address, vlan) streams))
-        (place_identified (address, vlan) streams) (cond b (Some (0 + length streams)) None)) e
-
-    by : (b : Bool) → has_identity (address, vlan) stream ≡ b
-        → number_at new address vlan ≡ place_identified (address, vlan) (streams ++ stream ∷ [])
-    by true e =
-        more address vlan ∙ ap (λ (b : Bool). cond b (Some (length streams)) (number_at old address vlan)) e
-        ∙ sym (pushed true e ∙ ap (λ (o : Option ℕ). cond (is_some o) o (Some (0 + length streams)))
-        (absent_identity streams stream.identity free address vlan e) ∙ ap Some (omega arith))
-    by false e =
-        more address vlan ∙ ap (λ (b : Bool). cond b (Some (length streams)) (number_at old address vlan)) e
-        ∙ found address vlan
-        ∙ sym (pushed false e ∙ cond-is_some (place_identified (address, vlan) streams))
-
 refl_eqb : (n : ℕ) → eqb n n ≡ true
 refl_eqb n = grind arith
 
-same_identity : (identity : ℕ × ℕ) → is_identity identity (Some identity) ≡ true
+pub same_identity : (identity : ℕ × ℕ) → is_identity identity (Some identity) ≡ true
 same_identity identity = ap (λ (b : Bool). b && eqb identity.1 identity.1) (refl_eqb identity.0) ∙ refl_eqb identity.1
 
 -- and no two have one identity
@@ -106,24 +86,3 @@ share_push streams stream apart free =
     (ap (is_identity identity) shared.other ∙ same_identity identity) in
     false≢true (sym (all_fail (has_identity identity) 0 streams none k d below)
     ∙ (ap (is_identity identity) shared.one ∙ same_identity identity)))
-
--- a table of streams with the same numbers
-pub same_table : (streams : List DeclaredStream) (names names' : List (List ℕ)) (old new : BTreeMap (ℕ × ℕ) ℕ)
-    → AreStreams streams names old → names' ≡ names → FindsSame old new → AreStreams streams names' new
-same_table streams names names' old new table same finds = record {
-  named = same ∙ table.named;
-  identified = λ address vlan. finds address vlan ∙ table.identified address vlan;
-  few = table.few;
-}
-
--- a table with one stream more
-pub table_push : (streams : List DeclaredStream) (stream : DeclaredStream) (names names' : List (List ℕ))
-    (old new : BTreeMap (ℕ × ℕ) ℕ) → AreStreams streams names old → is_identity_taken streams stream.identity ≡ false
-    → length streams < MAX_STREAMS → names' ≡ names ++ stream.name ∷ []
-    → Identifies old new stream.identity (length streams) → AreStreams (streams ++ stream ∷ []) names' new
-table_push streams stream names names' old new table free room more identifies = record {
-  named = more ∙ ap (λ t. t ++ stream.name ∷ []) table.named
-      ∙ sym (map-append (λ (s : DeclaredStream). s.name) streams (stream ∷ []));
-  identified = identified_push streams stream old new table.identified free identifies;
-  few = omega (arith, length-append streams (stream ∷ []));
-}

@@ -1,7 +1,10 @@
 pub mod Appended
 pub mod NameLemmas
 pub mod IdentityLemmas
+pub mod SerialLemmas
+pub mod TableLemmas
 pub mod Pushed
+pub mod Edited
 pub mod PathLemmas
 pub mod CountLemmas
 pub mod BridgeLemmas

@@ -39,7 +39,8 @@ place_of-append name xs ys =
     ∙ ap (option_or (place_of name xs)) (ap (λ (n : ℕ). position_from (bytes_eq name) n ys) (omega arith)
     ∙ position_from-later (bytes_eq name) (length xs) 0 ys)
 
-bytes_ne : (xs ys : List ℕ) → xs ≢ ys → bytes_eq xs ys ≡ false
+-- names that differ fail the test
+pub bytes_ne : (xs ys : List ℕ) → xs ≢ ys → bytes_eq xs ys ≡ false
 bytes_ne xs ys ne = by (bytes_eq xs ys) refl
   where
     by : (b : Bool) → bytes_eq xs ys ≡ b → bytes_eq xs ys ≡ false

@@ -9,6 +9,7 @@ pub mod StreamOrFlow
 pub mod Residence
 pub mod Pushes
 pub mod Tables
+pub mod Edits
 pub mod PathSteps
 pub mod Shortest
 pub mod Laws

@@ -4,6 +4,7 @@ ghost use Rattle.std.specs.Prelude.{◌≡◌, ◌↔◌, ◌<◌, ◌≤◌, []
 ghost use Rattle.std.specs.Prelude.{OnErr, slice_index_or};
 ghost use Rattle.ats_num.specs.Failure.{IsDue};
 ghost use Rattle.ats_num.specs.Places.{place_of};
+ghost use Rattle.ats_streams.specs.Stream.{IsClass};
 ghost use Rattle.ats_network.specs.Network.{IsNetwork, declared_network, senders_of, names_of};
 ghost use Rattle.ats_network.specs.Path.{IsValidPath};
 ghost use Rattle.ats_network.specs.Class.{class_at};
@@ -12,6 +13,7 @@ ghost use Rattle.ats_network.specs.StreamOrFlow.{sender_of};
 ghost use Rattle.ats_network.specs.Residence.{residence_after, leads_to_station};
 ghost use Rattle.ats_network.specs.Pushes.{with_stream, with_flow, place_identified, is_identity_taken};
 ghost use Rattle.ats_network.specs.Pushes.{stream_push_fault, flow_push_fault};
+ghost use Rattle.ats_network.specs.Edits.{IsLess, with_class_at, stream_named, without_named};
 
 use crate::fault::PushFault;
 use crate::flow_table::FlowTable;
@@ -225,6 +227,26 @@ impl Network {
         }
         self.stream_table.push(stream)?;
         Ok(())
+    }
+
+    /// Sets a stream's class at each port of its path. All else stays, and it takes no memory.
+    pub fn set_class(&mut self, stream: u32, class: u8)
+        requires stream { stream < length self.old.streams }
+        requires class { IsClass class }
+        ensures { self.new ≡ with_class_at self.old stream class }
+    {
+        self.stream_table.set_class(stream, class);
+    }
+
+    /// Takes out the stream with this name and gives it back; `None` exactly where no stream has the
+    /// name, also where a flow has it. The others keep their order, so each sender behind it has
+    /// from now on a number less by one. All else stays. It takes no memory.
+    pub fn take_stream(&mut self, name: &Name) -> Option<Stream>
+        ensures result { result ≡ stream_named self.old.streams name.now }
+        ensures network { self.new ≡ without_named self.old name.now }
+        ensures less { IfSome result (IsLess self.old.streams self.new.streams) }
+    {
+        self.stream_table.take(name)
     }
 
     /// Adds a flow with a valid path as the last of the flows, of which there may be 1024. All else stays.

@@ -1,24 +1,34 @@
 //! Streams, found by their names and by the addresses of their frames.
 
-ghost use Rattle.std.specs.Prelude.{◌≡◌, ◌<◌, ◌^◌, [], ◌∷◌, ◌++◌, length, None, false, IfSome, OnOk, OnErr};
+ghost use Rattle.std.specs.Prelude.{◌≡◌, ℕ, ◌<◌, ◌≤◌, [], ◌∷◌, ◌++◌, length, slice_index_or, All, Some, None, false};
+ghost use Rattle.std.specs.Prelude.{IfOk};
+ghost use Rattle.std.specs.Prelude.{IfSome, OnOk, OnErr};
 ghost use Rattle.ats_num.specs.Places.{place_of};
+ghost use Rattle.ats_streams.specs.Stream.{IsClass};
+ghost use Rattle.ats_topology.specs.Node.{AreApart};
+ghost use Rattle.ats_network.specs.Edits.{IsLess, classed, stream_named, less_named};
+ghost use Rattle.ats_network.specs.Network.{AreIdentified};
 ghost use Rattle.ats_network.specs.Pushes.{place_identified, is_identity_taken};
-ghost use Rattle.ats_network.specs.Tables.{stream_names, IsUnidentified, Identifies, FindsSame};
+ghost use Rattle.ats_network.specs.Tables.{AreRising, stream_names, serial_at, IsUnidentified, Identifies, FindsSame};
+ghost use Rattle.ats_network.specs.Tables.{Names, NamesSame};
 
 use crate::network::MAX_STREAMS;
-use ats_num::{Name, NameTable};
+use ats_num::Name;
 use ats_streams::Stream;
 use std::alloc::{AllocError, Global};
 use std::collections::BTreeMap;
 use std::marker::Model;
 
 /// Streams of different names and different identities, numbered from 0 in the order in which they
-/// came. Contracts see the list of them.
+/// came. Contracts see the list of them. Beside it each stream has a serial number, and these rise
+/// along the list. The maps tell serial numbers, so that when a stream is taken out no other entry
+/// changes.
 #[derive(Drop)]
 pub(crate) struct StreamTable {
     streams: Vec<Stream>,
-    names: NameTable,
-    identities: BTreeMap<(u64, u16), u32>,
+    serials: Vec<u64>,
+    names: BTreeMap<Name, u64>,
+    identities: BTreeMap<(u64, u16), u64>,
 }
 
 impl Model for StreamTable {
@@ -30,7 +40,7 @@ impl Model for StreamTable {
 
     ghost view = { λ t. t.streams.items };
 
-    ghost invariant = { λ t. AreStreams t.streams.items t.names t.identities };
+    ghost invariant = { λ t. AreStreams t.streams.items t.serials.items t.names t.identities };
 }
 
 impl StreamTable {
@@ -40,7 +50,8 @@ impl StreamTable {
     {
         StreamTable {
             streams: Vec::new(alloc),
-            names: NameTable::new(alloc),
+            serials: Vec::new(alloc),
+            names: BTreeMap::new(alloc),
             identities: BTreeMap::new(alloc),
         }
     }
@@ -57,14 +68,16 @@ impl StreamTable {
         ensures place { result ≡ place_of name.now (stream_names self.now) }
         ensures within { IfSome result (λ place. place < length self.now) }
     {
-        self.names.place(name)
+        let serial = self.names.get(name).copied()?;
+        place_in(&self.serials, serial)
     }
 
     /// The number of the stream with this destination address and VLAN identifier; `None` exactly where none has them.
     pub(crate) fn identified(&self, address: u64, vlan: u16) -> Option<u32>
         ensures { result ≡ place_identified (address, vlan) self.now }
     {
-        self.identities.get(&(address, vlan)).copied()
+        let serial = self.identities.get(&(address, vlan)).copied()?;
+        place_in(&self.serials, serial)
     }
 
     /// Adds a stream at the end. `AllocError` leaves the table as it was.
@@ -75,37 +88,103 @@ impl StreamTable {
         ensures ok { OnOk result (self.new ≡ self.old ++ stream ∷ []) }
         ensures err { OnErr result (self.new ≡ self.old) }
     {
-        let place = self.streams.len() as u32;
+        let serial = serial_after(&self.serials)?;
         self.streams.reserve(1)?;
-        number(&mut self.names, &mut self.identities, &stream, place)?;
+        self.serials.reserve(1)?;
+        number(&mut self.names, &mut self.identities, &stream, serial)?;
+        self.serials.push_reserved(serial);
         self.streams.push_reserved(stream);
         Ok(())
     }
+
+    /// Sets a stream's class at each port of its path. All else stays.
+    pub(crate) fn set_class(&mut self, stream: u32, class: u8)
+        requires stream { stream < length self.old }
+        requires class { IsClass class }
+        ensures { self.new ≡ classed self.old stream class }
+    {
+        self.streams[stream as usize].set_class(class);
+    }
+
+    /// Takes out the stream with this name; `None` exactly where none has it. The others keep their order.
+    pub(crate) fn take(&mut self, name: &Name) -> Option<Stream>
+        requires names { AreApart (stream_names self.old) }
+        requires identities { AreIdentified self.old }
+        ensures result { result ≡ stream_named self.old name.now }
+        ensures streams { self.new ≡ less_named self.old name.now }
+        ensures less { IfSome result (IsLess self.old self.new) }
+    {
+        let place = self.place(name)? as usize;
+        let stream = self.streams.remove(place);
+        self.serials.remove(place);
+        forget(&mut self.names, &mut self.identities, &stream);
+        Some(stream)
+    }
 }
 
-// Gives this number to a stream's identity, where it has one, and adds its name to the names. `AllocError` leaves both
-// tables as they were.
+// The place of a serial number among numbers that rise, where it stands there.
+fn place_in(serials: &[u64], serial: u64) -> Option<u32>
+    requires rising { AreRising serials.now }
+    requires few { length serials.now ≤ MAX_STREAMS }
+    ensures { (n : ℕ) → n < length serials.now → slice_index_or serials.now n 0 ≡ serial → result ≡ Some n }
+{
+    match serials.binary_search(&serial) {
+        Ok(place) => Some(place as u32),
+        Err(_) => None,
+    }
+}
+
+// The least serial number above these, which rise. There is none above the greatest number of all, which no list of
+// pushes reaches; the answer is then `AllocError`.
+fn serial_after(serials: &[u64]) -> Result<u64, AllocError>
+    requires { AreRising serials.now }
+    ensures { IfOk result (λ next. All (λ serial. serial < next) serials.now) }
+{
+    match serials.last() {
+        Some(last) => last.checked_add(1).ok_or(AllocError),
+        None => Ok(0),
+    }
+}
+
+// Gives this serial number to a stream's name, and to its identity where it has one. `AllocError` leaves both maps as
+// they were.
 fn number(
-    names: &mut NameTable,
-    identities: &mut BTreeMap<(u64, u16), u32>,
+    names: &mut BTreeMap<Name, u64>,
+    identities: &mut BTreeMap<(u64, u16), u64>,
     stream: &Stream,
-    place: u32,
+    serial: u64,
 ) -> Result<(), AllocError>
-    requires absent { place_of stream.now.name names.old ≡ None }
-    requires other { IsUnidentified identities.old stream.now.identity }
-    requires room { length names.old < 2 ^ 32 }
-    ensures names { OnOk result (names.new ≡ names.old ++ stream.now.name ∷ []) }
-    ensures identities { OnOk result (Identifies identities.old identities.new stream.now.identity place) }
-    ensures same_names { OnErr result (names.new ≡ names.old) }
+    requires { IsUnidentified identities.old stream.now.identity }
+    ensures names { OnOk result (Names names.old names.new stream.now.name (Some serial)) }
+    ensures identities { OnOk result (Identifies identities.old identities.new stream.now.identity (Some serial)) }
+    ensures same_names { OnErr result (NamesSame names.old names.new) }
     ensures same_identities { OnErr result (FindsSame identities.old identities.new) }
 {
     let Some(identity) = stream.identity() else {
-        return names.push(stream.name());
+        names.insert(stream.name(), serial)?;
+        return Ok(());
     };
-    identities.insert(identity, place)?;
-    if names.push(stream.name()).is_err() {
-        identities.remove(&identity);
-        return Err(AllocError);
+    identities.insert(identity, serial)?;
+    match names.insert(stream.name(), serial) {
+        Ok(_) => Ok(()),
+        Err(_) => {
+            identities.remove(&identity);
+            Err(AllocError)
+        }
     }
-    Ok(())
+}
+
+// Takes a stream's name out of the names, and its identity, where it has one, out of the identities.
+fn forget(
+    names: &mut BTreeMap<Name, u64>,
+    identities: &mut BTreeMap<(u64, u16), u64>,
+    stream: &Stream,
+)
+    ensures names { Names names.old names.new stream.now.name None }
+    ensures identities { Identifies identities.old identities.new stream.now.identity None }
+{
+    names.remove(&stream.name());
+    if let Some(declared) = stream.identity() {
+        identities.remove(&declared);
+    }
 }

@@ -11,37 +11,42 @@ use Rattle.ats_replay.specs.Totals.{AreWithin, is_late, is_oversize, is_sunk, to
 use Rattle.ats_replay.specs.declared.totals.Totals.{Totals}
 
 -- how many pass with one frame more
-counted : (test : Travel → Bool) (run : List Travel) (i : ℕ) → i < length run
-    → count_by test (take (i + 1) run) ≡ count_by test (take i run) + cond (test (travel_at run i)) 1 0
-counted test run i within =
-    ap (count_by test) (take_more run i no_travel within)
-    ∙ sum_by_push (λ (j : Travel). cond (test j) 1 0) (take i run) (travel_at run i)
+counted : (test : Travel → Bool) (front : List Travel) (j : Travel)
+    → count_by test (front ++ j ∷ []) ≡ count_by test front + cond (test j) 1 0
+counted test front j = sum_by_push (λ (j : Travel). cond (test j) 1 0) front j
 
 -- the totals with one frame more
+pub totals_push : (front : List Travel) (j : Travel) → totals_of (front ++ j ∷ []) ≡ with_frame (totals_of front) j
+totals_push front j =
+    rw (
+      length-append front (j ∷ []),
+      counted (λ (j : Travel). is_sunk j.ending) front j,
+      counted (λ (j : Travel). is_late j.hops) front j,
+      counted (λ (j : Travel). is_oversize j.hops) front j,
+    ) refl
+
+-- the same of the first frames of a run
 pub totals_more : (run : List Travel) (i : ℕ) → i < length run
     → totals_of (take (i + 1) run) ≡ with_frame (totals_of (take i run)) (travel_at run i)
 totals_more run i within =
-    let frames : length (take (i + 1) run) ≡ length (take i run) + 1 =
-    ap length (take_more run i no_travel within) ∙ length-append (take i run) (travel_at run i ∷ []) in
-    rw (
-      frames,
-      counted (λ (j : Travel). is_sunk j.ending) run i within,
-      counted (λ (j : Travel). is_late j.hops) run i within,
-      counted (λ (j : Travel). is_oversize j.hops) run i within,
-    ) refl
+    ap totals_of (take_more run i no_travel within) ∙ totals_push (take i run) (travel_at run i)
 
--- the totals of the first frames are below the most that there may be
+-- the totals of fewer frames than a run may have are below that number
+pub totals_below : (totals : Totals) (front : List Travel) → totals ≡ totals_of front → length front < MAX_FRAMES
+    → AreWithin totals
+totals_below totals front e few =
+    subst AreWithin (sym e) (record {
+      all_frames = few;
+      all_sunk = omega (arith, few, count_by-le-length (λ (j : Travel). is_sunk j.ending) front);
+      all_late = omega (arith, few, count_by-le-length (λ (j : Travel). is_late j.hops) front);
+      all_size = omega (arith, few, count_by-le-length (λ (j : Travel). is_oversize j.hops) front);
+    })
+
+-- so are those of the first frames of a run
 pub totals_within : (totals : Totals) (run : List Travel) (i : ℕ) → totals ≡ totals_of (take i run) → i < length run
     → length run ≤ MAX_FRAMES → AreWithin totals
 totals_within totals run i e within few =
-    let front : List Travel = take i run in
-    let long : length front ≡ i = length-take-le i run (omega arith) in
-    subst AreWithin (sym e) (record {
-      all_frames = omega (arith, long);
-      all_sunk = omega (arith, long, count_by-le-length (λ (j : Travel). is_sunk j.ending) front);
-      all_late = omega (arith, long, count_by-le-length (λ (j : Travel). is_late j.hops) front);
-      all_size = omega (arith, long, count_by-le-length (λ (j : Travel). is_oversize j.hops) front);
-    })
+    totals_below totals (take i run) e (omega (arith, length-take-le i run (omega arith)))
 
 joined : (x a b c d e f g h : List ℕ)
     → (((x ++ (a ++ b)) ++ (c ++ d)) ++ (e ++ f)) ++ (g ++ h) ≡ x ++ (a ++ b ++ c ++ d ++ e ++ f ++ g ++ h)

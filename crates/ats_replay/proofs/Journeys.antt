@@ -1,10 +1,9 @@
--- The lines of one hop more, and of one frame more.
+-- The lines of one hop more, and that a frame has no more hops than its path has ports.
 use Rattle.std.proofs.Common.{◌≡◌, ◌∙◌, ℕ, zero, suc, ◌+◌, ◌<◌, ◌≤◌, List, [], ◌∷◌, ◌++◌, length, get_or, map}
 use Rattle.std.proofs.Common.{take, sym, ap}
 use Rattle.std.proofs.Common.{refl, add-one, arith, Option, Some, None}
-use Rattle.std.specs.List.{enumerate_from, flat_map, zip}
-use Rattle.std.proofs.lemmas.List.{flat_map_more, get_or-map, length-map, take_all, take_more}
-use Rattle.std.proofs.lemmas.List.FromFn.{length-enumerate_from, get_or-enumerate_from}
+use Rattle.std.specs.List.{flat_map, zip}
+use Rattle.std.proofs.lemmas.List.{flat_map_more, get_or-map, length-map}
 use Rattle.ats_num.specs.declared.time.Ps.{Ps}
 use Rattle.ats_topology.specs.Topology.{DeclaredTopology}
 use Rattle.ats_group.specs.declared.verdict.Verdict.{Verdict}
@@ -17,7 +16,7 @@ use Rattle.ats_trace.specs.declared.journey.Journey.{Journey}
 use Rattle.ats_trace.specs.declared.journey.HopRecord.{HopRecord}
 use Rattle.ats_trace.specs.declared.journey.Ending.{Ending}
 use Rattle.ats_trace.specs.declared.journey.Ending.TheVariants.{Sink, Discard}
-use Rattle.ats_replay.specs.Departures.{hop_line, journey_text}
+use Rattle.ats_replay.specs.Departures.{hop_line}
 
 -- the rows of a run
 pub rows_long : (run : List Travel) (rows : List Journey) → rows ≡ map journey_of run → length rows ≡ length run
@@ -80,28 +79,3 @@ way_fits (p ∷ path) (hop ∷ hops) ending way =
 pub journey_fits : (network : DeclaredNetwork) (j : Travel) → IsJourney network j
     → length j.hops ≤ length (sender_at network j.release.sender).path
 journey_fits network j is = way_fits (sender_at network j.release.sender).path j.hops j.ending is.way
-
--- the lines of the next frame
-pub next_frame : (network : DeclaredNetwork) (run : List Travel) (n : ℕ) (x before after : List ℕ) → n < length run
-    → before ≡ x ++ flat_map (journey_text network) (take n (enumerate_from 0 run))
-    → after ≡ before ++ journey_text network (n, travel_at run n)
-    → after ≡ x ++ flat_map (journey_text network) (take (n + 1) (enumerate_from 0 run))
-next_frame network run n x before after within so_far lines =
-    let numbered : List (ℕ × Travel) = enumerate_from 0 run in
-    let inside : n < length numbered = omega (arith, length-enumerate_from 0 run) in
-    let at_n : get_or numbered n (0, no_travel) ≡ (n, travel_at run n) =
-    get_or-enumerate_from 0 run n (0, no_travel) within
-    ∙ ap (λ (k : ℕ). (k, travel_at run n)) (omega arith) in
-    let more : take (n + 1) numbered ≡ take n numbered ++ (n, travel_at run n) ∷ [] =
-    take_more numbered n (0, no_travel) inside ∙ ap (λ (p : ℕ × Travel). take n numbered ++ p ∷ []) at_n in
-    lines ∙ ap (λ (t : List ℕ). t ++ journey_text network (n, travel_at run n)) so_far
-    ∙ flat_map_more (journey_text network) x (take n numbered) (n, travel_at run n)
-    ∙ sym (ap (λ (frames : List (ℕ × Travel)). x ++ flat_map (journey_text network) frames) more)
-
--- all frames are the first so many
-pub all_frames : (network : DeclaredNetwork) (run : List Travel) (n : ℕ) (x text : List ℕ) → length run < n + 1
-    → text ≡ x ++ flat_map (journey_text network) (take n (enumerate_from 0 run))
-    → text ≡ x ++ flat_map (journey_text network) (enumerate_from 0 run)
-all_frames network run n x text end written =
-    written ∙ ap (λ (frames : List (ℕ × Travel)). x ++ flat_map (journey_text network) frames)
-    (take_all n (enumerate_from 0 run) (omega (arith, length-enumerate_from 0 run)))

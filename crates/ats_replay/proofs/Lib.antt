@@ -1,2 +1,4 @@
 pub mod Journeys
 pub mod Counts
+pub mod Numbered
+pub mod Summaries

@@ -1,2 +1,4 @@
 pub mod Departures
+pub mod Report
+pub mod Summary
 pub mod Totals

@@ -42,7 +42,7 @@ pub fn totals_of(run: &Run) -> Totals
 }
 
 // The totals with one frame of a run more.
-fn with_frame(totals: &Totals, run: &Run, frame: u32) -> Totals
+pub(crate) fn with_frame(totals: &Totals, run: &Run, frame: u32) -> Totals
     requires frame { frame < length run.now }
     requires few { AreWithin totals.now }
     ensures { result ≡ with_frame totals.now (travel_at run.now frame) }

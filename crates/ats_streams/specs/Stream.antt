@@ -68,6 +68,10 @@ classes_for ports given = given
 abbrev pub HasZerosBehind : ℕ → List ℕ → Type 0
 HasZerosBehind ports classes = drop ports classes ≡ replicate (16 - ports) 0
 
+-- the stream with this class at each port of its path
+abbrev pub with_class : DeclaredStream → ℕ → DeclaredStream
+with_class stream class = record stream { classes = replicate (length stream.path) class }
+
 -- what each stream keeps
 pub record IsStream (stream : DeclaredStream) : Type 0 where
   pub classes : All IsClass stream.classes

@@ -6,7 +6,7 @@ ghost use Rattle.ats_num.specs.Rate.{IsRate};
 ghost use Rattle.ats_streams.specs.Rules.{KeepsRules};
 ghost use Rattle.ats_streams.specs.Path.{IsPath};
 ghost use Rattle.ats_streams.specs.Stream.{IsDeadline, IsIdentity, MayIdentify, IsStream, declared_stream};
-ghost use Rattle.ats_streams.specs.Stream.{classes_for, limit_fault, stream_fault};
+ghost use Rattle.ats_streams.specs.Stream.{IsClass, classes_for, with_class, limit_fault, stream_fault};
 
 use crate::classes::{are_bad_classes, classes_for};
 use crate::fault::{StreamFault, declared_fault};
@@ -189,6 +189,14 @@ impl Stream {
         ensures valid { MayIdentify self.now.identity }
     {
         self.identity
+    }
+
+    /// Sets the class at each port of its path, from 1 to 7. All else stays, and it takes no memory.
+    pub fn set_class(&mut self, class: u8)
+        requires { IsClass class }
+        ensures { self.new ≡ with_class self.old class }
+    {
+        self.classes = classes_for(self.path.len(), &[u64::from(class)]);
     }
 }
 

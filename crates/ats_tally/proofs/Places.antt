@@ -153,7 +153,7 @@ ports_used network port senders all =
     (λ k d h. port_used network port (get_or (filter (uses port) senders) k d)
     (All-filter (uses port) (IsSender network.topology) senders all k d h) (filter_passes (uses port) senders k d h))
 
-any_sum : {X : Type 0} (test : X → Bool) (amount : X → ℕ) (xs : List X)
+pub any_sum : {X : Type 0} (test : X → Bool) (amount : X → ℕ) (xs : List X)
     → All (λ (x : X). test x ≡ true → 1 ≤ amount x) xs → list_any test xs ≡ true → 1 ≤ sum_by amount (filter test xs)
 any_sum test amount [] all any = absurd (let no : false ≡ true = any in cc)
 any_sum {X} test amount (x ∷ xs) all any =

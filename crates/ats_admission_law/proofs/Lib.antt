@@ -1,0 +1,12 @@
+pub mod Lists
+pub mod Networks
+pub mod Sums
+pub mod Falls
+pub mod PortFalls
+pub mod LeastRows
+pub mod NoneRises
+pub mod Others
+pub mod Along
+pub mod Edits
+pub mod Lowest
+pub mod Near

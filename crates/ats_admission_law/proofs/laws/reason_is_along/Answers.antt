@@ -1,0 +1,5 @@
+use Rattle.ats_admission_law.proofs.Along.{reason_is_along}
+use Rattle.ats_admission_law.proofs.laws.reason_is_along.Goals as goal
+
+pub returns : goal.returns
+returns c = reason_is_along

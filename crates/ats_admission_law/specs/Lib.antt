@@ -1,0 +1,4 @@
+pub mod Less
+pub mod Lowest
+pub mod Near
+pub mod Laws

@@ -1,0 +1,6 @@
+pub mod Concluding
+pub mod Counting
+pub mod Going
+pub mod Joining
+pub mod Releasing
+pub mod Starting

@@ -1,0 +1,15 @@
+use Rattle.ats_engine.proofs.Concluding.{all-ended, run-by}
+use Rattle.ats_engine.proofs.engine.Engine.run.Goals as goal
+
+pub finish-requires : goal.finish-requires
+finish-requires g c = all-ended c.drive.ensures.holds c.drive.ensures.empty
+
+pub returns-clause-by : goal.returns-clause-by
+returns-clause-by g c =
+    (run-by c.args.self c.self.inside.agenda c.self.view_is c.drive.ensures.follows c.drive.ensures.holds
+    c.drive.ensures.empty c.finish.ensures).0
+
+pub returns-clause-releases : goal.returns-clause-releases
+returns-clause-releases g c =
+    (run-by c.args.self c.self.inside.agenda c.self.view_is c.drive.ensures.follows c.drive.ensures.holds
+    c.drive.ensures.empty c.finish.ensures).1

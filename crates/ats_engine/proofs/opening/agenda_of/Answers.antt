@@ -1,0 +1,30 @@
+use Rattle.std.proofs.Common.{refl}
+use Rattle.ats_events.specs.declared.moment.Moment.{Moment}
+use Rattle.ats_trace.specs.declared.journey.Release.{Release}
+use Rattle.ats_engine.proofs.Releasing.{released-room, released-apart, released-after, released-inserted}
+use Rattle.ats_engine.proofs.opening.agenda_of.Goals as goal
+
+-- for numbers past the last release
+no_release : Release
+no_release = record { at = record { 0 = 0 }; sender = 0; octets = 0 }
+
+pub insert-requires-clause-room : goal.insert-requires-clause-room
+insert-requires-clause-room g c =
+    released-room c.args.net.now c.args.releases.now c.args.order c.loop-frame.frame c.loop-frame.agenda
+    c.loop-frame-test.true c.loop-frame.invariant
+
+pub insert-requires-clause-apart : goal.insert-requires-clause-apart
+insert-requires-clause-apart g c =
+    released-apart c.args.net.now c.args.releases.now c.args.order c.loop-frame.frame c.loop-frame.agenda _
+    c.loop-frame-test.true refl c.loop-frame.invariant
+
+pub insert-requires-clause-after : goal.insert-requires-clause-after
+insert-requires-clause-after g c =
+    released-after c.args.net.now c.args.releases.now c.args.order c.loop-frame.frame c.loop-frame.agenda
+    (λ (last : Moment). g.O.TimeOrder.before c.loop-frame.agenda.order last _) c.loop-frame.invariant
+
+pub loop-frame-preserved : goal.loop-frame-preserved
+loop-frame-preserved g c =
+    released-inserted (g.O.TimeOrder.before c.loop-frame.agenda.order) c.args.net.now c.args.releases.now c.args.order
+    c.loop-frame.frame c.loop-frame.agenda c.insert.new.self _ _ c.loop-frame-test.true refl c.loop-frame.invariant
+    c.insert.ensures.inserted

@@ -1,0 +1,31 @@
+//! Entries that are put into an agenda.
+
+ghost use Rattle.std.specs.Prelude.{◌++◌};
+ghost use Rattle.std.specs.Option.{option_to_list};
+ghost use Rattle.ats_engine.specs.Entering.{MayEnter, Enters};
+
+use ats_events::{Agenda, Moment, TimeOrder};
+use ats_steps::Event;
+
+/// Puts an entry into the agenda, where there is one.
+pub(crate) fn enter<O: TimeOrder>(agenda: &mut Agenda<O, Event>, entry: Option<(Moment, Event)>)
+    requires { MayEnter O.before agenda.old (option_to_list entry) }
+    ensures { Enters agenda.old agenda.new (option_to_list entry) }
+{
+    if let Some(pair) = entry {
+        agenda.insert(pair.0, pair.1);
+    }
+}
+
+/// Puts two entries into the agenda, each where it is there.
+pub(crate) fn enter_both<O: TimeOrder>(
+    agenda: &mut Agenda<O, Event>,
+    one: Option<(Moment, Event)>,
+    other: Option<(Moment, Event)>,
+)
+    requires { MayEnter O.before agenda.old (option_to_list one ++ option_to_list other) }
+    ensures { Enters agenda.old agenda.new (option_to_list one ++ option_to_list other) }
+{
+    enter(agenda, other);
+    enter(agenda, one);
+}

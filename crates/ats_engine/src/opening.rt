@@ -1,0 +1,106 @@
+//! Where a run begins.
+
+ghost use Rattle.std.specs.Prelude.{◌≡◌, IfOk, map, length};
+ghost use Rattle.ats_trace.specs.declared.journey.Release.{Release};
+ghost use Rattle.ats_trace.specs.Releases.{AreReleases};
+ghost use Rattle.ats_steps.specs.Seen.{course_of};
+ghost use Rattle.ats_steps.specs.declared.stage.Stage.TheVariants.{Coming};
+ghost use Rattle.ats_engine.specs.Starts.{IsStart, AreReleased};
+ghost use Rattle.ats_engine.specs.Rooms.{AreOpened};
+
+use crate::rooms::{counts_of, rooms_at, rooms_of};
+use ats_events::phase::ARRIVAL;
+use ats_events::{Agenda, Moment, TimeOrder};
+use ats_group::Groups;
+use ats_network::Network;
+use ats_num::{Ps, Tie};
+use ats_records::Records;
+use ats_schedulers::Schedulers;
+use ats_steps::{Event, Stage, State, Turn};
+use ats_trace::Release;
+use ats_transmit::Port;
+use std::alloc::{AllocError, Global};
+
+/// Each frame comes to its first port when it is released.
+fn stages_of(alloc: Global, releases: &[Release]) -> Result<Vec<Stage>, AllocError>
+    ensures { IfOk result (λ stages. stages.items ≡ map (λ (r : Release). Coming r.at) releases.now) }
+{
+    releases
+        .iter()
+        .map(|release| Stage::Coming(release.at))
+        .collect(alloc)
+}
+
+/// The ports of a network, each with room for all frames of these releases that pass it.
+fn ports_of<T: Tie>(
+    alloc: Global,
+    net: &Network,
+    releases: &[Release],
+    tie: T,
+) -> Result<Vec<Port<T>>, AllocError>
+    requires { AreReleases net.now releases.now }
+    ensures { IfOk result (λ ports. AreOpened net.now releases.now tie ports.items) }
+{
+    let counts = counts_of(alloc, net, releases)?;
+    let links = net.topology().ports();
+    let mut ports = Vec::with_capacity(alloc, links.len())?;
+    for (port, link) in links.iter().enumerate() {
+        let rooms = rooms_at(&counts, port);
+        ports.push(Port::open(alloc, link.ps_per_bit, rooms, tie)?)?;
+    }
+    Ok(ports)
+}
+
+/// A run of these releases in which nothing has happened yet.
+pub(crate) fn state_of<'a, T: Tie>(
+    alloc: Global,
+    net: &'a Network,
+    schedulers: &Schedulers<'a>,
+    releases: &[Release],
+    tie: T,
+) -> Result<State<T>, AllocError>
+    requires schedulers { schedulers.now ≡ net.now }
+    requires releases { AreReleases net.now releases.now }
+    ensures { IfOk result (λ state. IsStart net.now releases.now tie (course_of state)) }
+{
+    let rooms = rooms_of(alloc, net, releases)?;
+    let count = net.topology().ports().len();
+    Ok(State {
+        stages: stages_of(alloc, releases)?,
+        records: Records::open(alloc, releases, &rooms)?,
+        ports: ports_of(alloc, net, releases, tie)?,
+        turns: vec![in alloc; Turn::Resting; count]?,
+        arrives_from: vec![in alloc; Ps(0); count]?,
+        groups: Groups::open(alloc, schedulers.residences(), schedulers.members())?,
+        last: Moment {
+            at: Ps(0),
+            phase: 0,
+            id: 0,
+        },
+        tie,
+    })
+}
+
+/// An agenda in which each frame comes to its first port when it is released, and which has room
+/// for an entry of each frame and each port.
+pub(crate) fn agenda_of<O: TimeOrder>(
+    alloc: Global,
+    net: &Network,
+    releases: &[Release],
+    order: O,
+) -> Result<Agenda<O, Event>, AllocError>
+    requires { AreReleases net.now releases.now }
+    ensures { IfOk result (AreReleased net.now releases.now order) }
+{
+    let capacity = releases.len() + net.topology().ports().len();
+    let mut agenda = Agenda::open(alloc, capacity as u32, order)?;
+    for (frame, release) in releases.iter().enumerate() {
+        let moment = Moment {
+            at: release.at,
+            phase: ARRIVAL,
+            id: frame as u32,
+        };
+        agenda.insert(moment, Event::Arrival(frame as u32));
+    }
+    Ok(agenda)
+}

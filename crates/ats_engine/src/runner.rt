@@ -1,0 +1,93 @@
+//! What handles the events of a run.
+
+ghost use Rattle.std.specs.Prelude.{◌≡◌, ◌<◌, ◌∷◌, Some, All};
+ghost use Rattle.ats_events.specs.declared.moment.Moment.{Moment};
+ghost use Rattle.ats_steps.specs.Bounds.{steps_left};
+ghost use Rattle.ats_steps.specs.Seen.{course_of};
+ghost use Rattle.ats_steps.specs.declared.event.Event.TheVariants.{Arrival, Eligibility, Selection, End};
+ghost use Rattle.ats_engine.specs.Ready.{IsReady, IsAtEvent, Goes, Follows};
+ghost use Rattle.ats_engine.specs.Following.{follows-itself, follows-both, ready-permuted};
+
+use crate::entering::{enter, enter_both};
+use ats_events::{Actor, Agenda, Moment, TimeOrder};
+use ats_network::Network;
+use ats_num::{Pace, Tie};
+use ats_schedulers::Schedulers;
+use ats_steps::{Event, State, become_eligible, come, end, select};
+
+/// A run that goes on: its network and schedulers, its pace, and where it stands.
+#[derive(Drop)]
+pub(crate) struct Runner<'a, T: Tie, P: Pace> {
+    pub(crate) network: &'a Network,
+    pub(crate) schedulers: Schedulers<'a>,
+    pub(crate) pace: P,
+    pub(crate) state: State<T>,
+}
+
+impl<'a, T: Tie, P: Pace> Runner<'a, T, P> {
+    /// A frame comes to the next port of its path.
+    fn come<O: TimeOrder>(&mut self, now: Moment, frame: u32, agenda: &mut Agenda<O, Event>)
+        requires { IsAtEvent T.key P.wait O.before self.old agenda.old now (Arrival frame) }
+        ensures { Goes T.key P.wait self.old self.new agenda.old agenda.new }
+    {
+        let entry = come(self.network, &self.schedulers, &mut self.state, now, frame);
+        enter(agenda, entry);
+    }
+
+    /// A frame becomes eligible.
+    fn become_eligible<O: TimeOrder>(
+        &mut self,
+        now: Moment,
+        frame: u32,
+        agenda: &mut Agenda<O, Event>,
+    )
+        requires { IsAtEvent T.key P.wait O.before self.old agenda.old now (Eligibility frame) }
+        ensures { Goes T.key P.wait self.old self.new agenda.old agenda.new }
+    {
+        let entry = become_eligible(self.network, &mut self.state, now, frame);
+        enter(agenda, entry);
+    }
+
+    /// A port selects a frame.
+    fn select<O: TimeOrder>(&mut self, now: Moment, port: u32, agenda: &mut Agenda<O, Event>)
+        requires { IsAtEvent T.key P.wait O.before self.old agenda.old now (Selection port) }
+        ensures { Goes T.key P.wait self.old self.new agenda.old agenda.new }
+    {
+        let entry = select(&mut self.state, now, port);
+        enter(agenda, Some(entry));
+    }
+
+    /// A transmission ends.
+    fn end<O: TimeOrder>(&mut self, now: Moment, frame: u32, agenda: &mut Agenda<O, Event>)
+        requires { IsAtEvent T.key P.wait O.before self.old agenda.old now (End frame) }
+        ensures { Goes T.key P.wait self.old self.new agenda.old agenda.new }
+    {
+        let (arrival, selection) = end(self.network, &mut self.state, &self.pace, now, frame);
+        enter_both(agenda, arrival, selection);
+    }
+}
+
+impl<'a, T: Tie, O: TimeOrder, P: Pace> Actor<O> for Runner<'a, T, P> {
+    type Event = Event;
+
+    ghost left = { λ runner. steps_left (course_of runner.state) };
+
+    ghost holds = { λ runner entries capacity _. IsReady T.key P.wait runner entries capacity };
+
+    ghost follows = { Follows };
+
+    fn handle(&mut self, moment: Moment, event: Event, agenda: &mut Agenda<O, Event>) {
+        match event {
+            Event::End(frame) => self.end(moment, frame, agenda),
+            Event::Arrival(frame) => self.come(moment, frame, agenda),
+            Event::Eligibility(frame) => self.become_eligible(moment, frame, agenda),
+            Event::Selection(port) => self.select(moment, port, agenda),
+        }
+    }
+
+    ghost reflexive = { follows-itself };
+
+    ghost transitive = { follows-both };
+
+    ghost permuted = { λ runner entries other capacity _. ready-permuted T.key P.wait runner entries other capacity };
+}

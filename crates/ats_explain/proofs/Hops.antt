@@ -1,0 +1,83 @@
+-- The ports and classes of the hops of streams.
+use Rattle.std.proofs.Common.{◌≡◌, ◌≤◌, ℕ, Bool, true, get_or, map, filter, refl, sym, ◌∙◌}
+use Rattle.std.proofs.Common.{Err, eqb, arith}
+use Rattle.std.specs.Prelude.{◌&&◌}
+use Rattle.std.specs.List.{All, list_any}
+use Rattle.std.proofs.lemmas.Bool.{and_from, and_parts, eq-eqb, eqb-true}
+use Rattle.std.proofs.lemmas.List.Folds.{list_any_at}
+use Rattle.std.proofs.lemmas.Option.{none-some}
+use Rattle.ats_streams.specs.Stream.{DeclaredStream}
+use Rattle.ats_network.specs.Sender.{Sender, stream_sender}
+use Rattle.ats_network.specs.Class.{class_at, seen_at}
+use Rattle.ats_network.specs.Network.{DeclaredNetwork, IsNetwork, senders_of}
+use Rattle.ats_certificate.specs.PortSums.{is_of, is_used, senders_at, uses}
+use Rattle.ats_certificate.specs.Used.{places_of}
+use Rattle.ats_tally.specs.Tally.{IsTally}
+use Rattle.ats_tally.specs.declared.tally.Tally.{Tally}
+use Rattle.ats_tally.specs.declared.reason.Reason.TheVariants.{Overloaded}
+use Rattle.ats_tally.proofs.Lists.{any_gives, list_any-map, list_any-filter, none_first}
+use Rattle.ats_tally.proofs.Network.{all_within}
+use Rattle.ats_tally.proofs.Places.{is_at, places_have, used_class}
+use Rattle.ats_bound.specs.Least.{least_row}
+use Rattle.ats_bound.specs.Reason.{overload}
+use Rattle.ats_bound.specs.Row.{row_or_load}
+use Rattle.ats_bound.proofs.Beginnings.{overload-of_load}
+use Rattle.ats_bound.proofs.Reasons.{fits_from, overload-none}
+use Rattle.ats_bound.proofs.Waits.{Fits}
+use Rattle.ats_explain.specs.Laws.{Carries}
+use Rattle.ats_explain.specs.Parts.{HopIsUsed}
+
+-- some stream has the port and is of the class there
+abbrev pub is_user : ℕ → ℕ → DeclaredStream → Bool
+is_user port class s = uses port (stream_sender s) && is_of class (seen_at port (stream_sender s))
+
+-- a port and a class are used where this is so of some stream
+pub used_by : (network : DeclaredNetwork) (port class : ℕ)
+    → is_used network port class ≡ list_any (is_user port class) network.streams
+used_by network port class =
+    list_any-map (is_of class) (seen_at port) (filter (uses port) (map stream_sender network.streams))
+    ∙ list_any-filter (λ (s : Sender). is_of class (seen_at port s)) (uses port) (map stream_sender network.streams)
+    ∙ list_any-map (λ (s : Sender). uses port s && is_of class (seen_at port s)) stream_sender network.streams
+
+-- some stream, itself, is of the class at each hop of a stream
+pub hops_used : (network : DeclaredNetwork)
+    → All (λ (s : DeclaredStream). All (HopIsUsed network s) s.path) network.streams
+hops_used network k d within hop e inside =
+    let stream : DeclaredStream = get_or network.streams k d in
+    let port : ℕ = get_or stream.path hop e in
+    let class : ℕ = class_at (stream_sender stream) port in
+    let has : list_any (λ p. eqb p port) stream.path ≡ true =
+    list_any_at (λ p. eqb p port) stream.path hop e inside (eq-eqb port port refl) in
+    used_by network port class
+    ∙ list_any_at (is_user port class) network.streams k d within
+    (and_from (uses port (stream_sender stream)) (is_of class (seen_at port (stream_sender stream))) has
+    (eq-eqb class class refl))
+
+-- where nothing is overloaded, each port and class that is used fits its link
+pub fits_used : (network : DeclaredNetwork) (port class : ℕ) → IsNetwork network → Carries network
+    → is_used network port class ≡ true → Fits network port class
+fits_used network port class is carries used =
+    any_gives (is_at port class) (Fits network port class) (places_of network)
+    (λ k d h e. (
+    let at : ℕ × ℕ = get_or (places_of network) k d in
+    let fits : Fits network at.0 at.1 =
+    fits_from network at.0 at.1 (none_first (overload network) (places_of network) carries k d h) in
+    let parts = and_parts (eqb at.0 port) (eqb at.1 class) e in
+    rw (eqb-true at.0 port parts.0, eqb-true at.1 class parts.1) at fits))
+    (places_have network port class is used)
+
+-- so it has a row, and no load
+pub no_load : (network : DeclaredNetwork) (port class load : ℕ) → IsNetwork network → Carries network
+    → is_used network port class ≡ true → row_or_load network (port, class) ≡ Err load → ⊥
+no_load network port class load is carries used h =
+    none-some (Overloaded port class load)
+    (sym (overload-none network port class (fits_used network port class is carries used))
+    ∙ overload-of_load network (port, class) load h)
+
+-- the bursts of a row are those of 5120 senders at most
+pub bursts_most : (network : DeclaredNetwork) (port class : ℕ) (tally : Tally) → IsNetwork network
+    → is_used network port class ≡ true → IsTally class (senders_at port (senders_of network)) tally
+    → (least_row network (port, class)).bursts ≤ 5120000000000
+bursts_most network port class tally is used h =
+    let within = all_within network port class tally is (used_class network port class is used) h in
+    omega (arith, within.bursts, h.bursts)

@@ -1,0 +1,6 @@
+pub mod Hops
+mod Rates
+mod Named
+mod Tightness
+mod Sums
+mod Clearance

@@ -1,0 +1,7 @@
+pub mod Parts
+pub mod Senders
+pub mod Margins
+pub mod Loads
+pub mod Totals
+pub mod Table
+pub mod Laws

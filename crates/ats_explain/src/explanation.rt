@@ -1,0 +1,176 @@
+//! An explanation of the least bounds of a network.
+
+ghost use Rattle.std.specs.Prelude.{◌≡◌, ◌<◌, ◌≤◌, length, IfOk, IfErr, OnOk, IsTrue, None};
+ghost use Rattle.std.specs.Prelude.{◌≢◌, All, AllPairs};
+ghost use Rattle.std.specs.Option.{option_map};
+ghost use Rattle.ats_num.specs.Failure.{IsDue};
+ghost use Rattle.ats_network.specs.Network.{IsNetwork};
+ghost use Rattle.ats_certificate.specs.PortSums.{is_used};
+ghost use Rattle.ats_certificate.specs.Used.{places_of};
+ghost use Rattle.ats_tally.specs.Reason.{first_some};
+ghost use Rattle.ats_bound.specs.Reason.{overload};
+ghost use Rattle.ats_explain.specs.Parts.{parts_at, HopIsUsed};
+ghost use Rattle.ats_explain.specs.Senders.{lower_name};
+ghost use Rattle.ats_explain.specs.Margins.{margins_of, tightest_stream};
+ghost use Rattle.ats_explain.specs.Loads.{has_stream, port_load};
+ghost use Rattle.ats_explain.specs.Totals.{late_count, over_among, over_count, tightest_with, totals_of};
+
+use crate::loads::{load, uses};
+use crate::margin::{Margin, margins_of, tightest};
+use crate::names::{names_of, place};
+use crate::parts::Parts;
+use crate::rows::parts_with;
+use crate::totals::{Tightest, Totals};
+use ats_bound::least_rows;
+use ats_network::Network;
+use ats_num::{Failure, Name};
+use ats_streams::Stream;
+use ats_tally::{Reason, Tallies};
+use std::alloc::Global;
+use std::marker::Model;
+
+/// Why the least bounds of a network are as large as they are. Contracts see the network.
+#[derive(Drop)]
+pub struct Explanation<'a> {
+    tallies: Tallies<'a>,
+    names: Vec<Option<Name>>,
+    margin_list: Vec<Margin>,
+}
+
+impl<'a> Model for Explanation<'a> {
+    ghost use Rattle.ats_network.specs.Network.{DeclaredNetwork};
+    ghost use Rattle.ats_explain.specs.Table.{IsExplained};
+
+    ghost Value = { DeclaredNetwork };
+
+    ghost view = { λ e. e.tallies };
+
+    ghost invariant = { λ e. IsExplained e.tallies e.names.items e.margin_list.items };
+}
+
+impl<'a> Explanation<'a> {
+    /// An explanation of the least bounds of a network. It takes time and memory linear in the number of ports and the
+    /// sum of the paths' lengths.
+    ///
+    /// # Errors
+    ///
+    /// The first port and class, in the order of a certificate's rows, whose rates are more than the link can carry,
+    /// exactly where there is one: no bounds are to be explained there. `Failure::NoMemory` where memory runs out.
+    pub fn new(alloc: Global, network: &'a Network) -> Result<Self, Failure<Reason>>
+        ensures value { IfOk result (λ explanation. explanation ≡ network.now) }
+        ensures carries { OnOk result (first_some (overload network.now) (places_of network.now) ≡ None) }
+        ensures reason { IfErr result
+            (λ answer. IsDue answer (first_some (overload network.now) (places_of network.now))) }
+    {
+        let certificate = least_rows(alloc, network)?;
+        let margin_list = margins_of(alloc, network, &certificate)?;
+        let tallies = Tallies::new(alloc, network)?;
+        let names = names_of(alloc, &tallies)?;
+        Ok(Explanation {
+            tallies,
+            names,
+            margin_list,
+        })
+    }
+
+    /// The network.
+    pub fn network(&self) -> &Network
+        ensures value { result.now ≡ self.now }
+        ensures rules { IsNetwork self.now }
+    {
+        self.tallies.network()
+    }
+
+    /// For each stream of the network, in order, the sum of its least bounds and its deadline.
+    pub fn margins(&self) -> &[Margin]
+        ensures { result.now ≡ margins_of self.now }
+    {
+        self.margin_list.as_slice()
+    }
+
+    /// The parts of the least bound of a port and a class that some stream uses there. They are found at once.
+    pub fn parts(&self, port: u32, class: u8) -> Parts
+        requires { IsTrue (is_used self.now port class) }
+        ensures { result ≡ parts_at self.now port class }
+    {
+        parts_with(&self.tallies, port, class, self.sender(port, class))
+    }
+
+    // The name of the first sender whose longest frame is the longest of a lower class.
+    fn sender(&self, port: u32, class: u8) -> Option<Name>
+        requires { IsTrue (is_used self.now port class) }
+        ensures { result ≡ lower_name self.now port class }
+    {
+        self.names[place(port, class)]
+    }
+
+    /// Whether some stream's path has the port.
+    pub fn uses(&self, port: u32) -> bool
+        requires { port < length self.now.topology.ports }
+        ensures { result ≡ has_stream self.now port }
+    {
+        uses(&self.tallies, port)
+    }
+
+    /// The picoseconds of each second that the rates of the streams whose path has the port take.
+    pub fn load(&self, port: u32) -> u128
+        requires { port < length self.now.topology.ports }
+        ensures { result ≡ port_load self.now port }
+    {
+        load(&self.tallies, port)
+    }
+
+    /// The number of streams, how many are late, at how many hops a frame may have to stay longer than it may, and the
+    /// first stream of the least slack.
+    pub fn totals(&self) -> Totals
+        ensures { result ≡ totals_of self.now }
+    {
+        let margins = self.margins();
+        Totals {
+            streams: margins.len(),
+            late: margins.iter().filter(|margin| margin.is_late()).count(),
+            over: self.over(),
+            tightest: self.tightest(),
+        }
+    }
+
+    // At how many hops of all streams a frame may have to stay longer than it may.
+    fn over(&self) -> usize
+        ensures { result ≡ over_count self.now }
+    {
+        let mut over = 0;
+        for stream in self.network().streams() {
+            over += self.over_along(stream);
+        }
+        over
+    }
+
+    // At how many hops of a stream.
+    fn over_along(&self, stream: &Stream) -> usize
+        requires used { All (HopIsUsed self.now stream.now) stream.now.path }
+        requires apart { AllPairs (λ p q. p ≢ q) stream.now.path }
+        ensures value { result ≡ over_among self.now stream.now stream.now.path }
+        ensures most { result ≤ 16 }
+    {
+        let classes = stream.classes();
+        let mut over = 0;
+        for (hop, port) in stream.path().iter().enumerate() {
+            if self.parts(*port, classes[hop]).is_over() {
+                over += 1;
+            }
+        }
+        over
+    }
+
+    // The first stream of the least slack.
+    fn tightest(&self) -> Option<Tightest>
+        ensures { result ≡ option_map (tightest_with self.now) (tightest_stream self.now) }
+    {
+        let margins = self.margins();
+        let place = tightest(margins)?;
+        Some(Tightest {
+            name: self.network().streams()[place].name(),
+            margin: margins[place],
+        })
+    }
+}

@@ -1,0 +1,14 @@
+//! Laws of the definitions.
+
+ghost use Rattle.ats_explain.specs.Laws.{ClearWhereOneHolds, EachStreamAddsUp};
+
+/// A law: at each hop of a stream the five parts add up to the bound, and along its path the bounds to its sum.
+pub fn each_stream_adds_up()
+    ensures { EachStreamAddsUp }
+{}
+
+/// A law: no stream is late and no frame may have to stay longer than it may exactly where some certificate of the
+/// network holds.
+pub fn clear_where_one_holds()
+    ensures { ClearWhereOneHolds }
+{}

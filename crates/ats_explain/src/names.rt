@@ -1,0 +1,67 @@
+//! The senders of the longest frames of lower classes.
+
+ghost use Rattle.std.specs.Prelude.{◌≡◌, ◌+◌, ◌*◌, ◌<◌, length, IfOk};
+ghost use Rattle.ats_network.specs.Network.{senders_of};
+ghost use Rattle.ats_network.specs.Senders.{sender_at};
+ghost use Rattle.ats_tally.specs.SenderAtPort.{port_sender, KeepsLimits};
+ghost use Rattle.ats_explain.specs.Table.{NamesAt, NamesFrom};
+
+use ats_num::{Name, wire_bits};
+use ats_tally::{SeenSender, Tallies};
+use std::alloc::{AllocError, Global};
+
+// The place of a port and a class in a list with eight places to a port.
+pub(crate) fn place(port: u32, class: u8) -> usize
+    ensures { result ≡ 8 * port + class }
+{
+    8 * port as usize + class as usize
+}
+
+// For each port and class, at its place, the name of the first sender whose longest frame is the longest of a lower
+// class there. It looks at each path once, the last sender first, so that of senders with as long a frame the first
+// one stays.
+pub(crate) fn names_of(alloc: Global, tallies: &Tallies) -> Result<Vec<Option<Name>>, AllocError>
+    ensures { IfOk result (λ names. NamesFrom tallies.now 0 names.items) }
+{
+    let network = tallies.network();
+    let mut names = vec![in alloc; None; 8 * network.topology().ports().len()]?;
+    for sender in (0..network.senders()).rev() {
+        name_sender(&mut names, tallies, sender);
+    }
+    Ok(names)
+}
+
+// Names a sender at each port of its path.
+fn name_sender(names: &mut Vec<Option<Name>>, tallies: &Tallies, sender: u32)
+    requires sender { sender < length (senders_of tallies.now) }
+    requires before { NamesFrom tallies.now (sender + 1) names.old.items }
+    ensures { NamesFrom tallies.now sender names.new.items }
+{
+    let network = tallies.network();
+    let name = network.sender_name(sender);
+    for (hop, port) in network.sender_path(sender).iter().enumerate() {
+        let seen = SeenSender::at(network, sender, hop as u32);
+        name_at(names, tallies, *port, &seen, name);
+    }
+}
+
+// Names a sender that a port sees, in each class in which its longest frame is the longest lower one.
+fn name_at(
+    names: &mut Vec<Option<Name>>,
+    tallies: &Tallies,
+    port: u32,
+    sender: &SeenSender,
+    name: Name,
+)
+    requires limits { KeepsLimits sender.now }
+    requires port { port < length tallies.now.topology.ports }
+    requires count { length names.old.items ≡ 8 * length tallies.now.topology.ports }
+    ensures { NamesAt tallies.now port (port_sender sender.now) name 8 names.old.items names.new.items }
+{
+    let bits = wire_bits(sender.max_octets);
+    for class in 1..8 {
+        if sender.class < class && tallies.tally(port, class).lower == bits {
+            names[place(port, class)] = Some(name);
+        }
+    }
+}

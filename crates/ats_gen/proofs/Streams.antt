@@ -1,0 +1,27 @@
+use Rattle.std.proofs.Common.{◌≡◌, ℕ, ◌<◌, [], None, length, map, get_or, ◌∙◌, subst, sym, arith}
+use Rattle.std.proofs.lemmas.List.{get_or-map, length-map, get_or_append_left}
+use Rattle.ats_streams.specs.Stream.{DeclaredStream, declared_stream}
+use Rattle.ats_group.specs.Group.{IsRuled}
+use Rattle.ats_network.specs.Sender.{Sender, stream_sender, flow_sender}
+use Rattle.ats_network.specs.Network.{DeclaredNetwork, IsNetwork}
+use Rattle.ats_network.specs.Senders.{sender_at, no_sender}
+use Rattle.ats_trace.specs.Eligibility.{declared_of, declared_by}
+
+-- the first senders are the streams
+pub stream-at : (network : DeclaredNetwork) (i : ℕ) (d : DeclaredStream) → i < length network.streams
+    → sender_at network i ≡ stream_sender (get_or network.streams i d)
+stream-at network i d h =
+    get_or_append_left (map stream_sender network.streams) (map flow_sender network.flows) no_sender i
+    (omega (arith, length-map network.streams stream_sender))
+    ∙ get_or-map stream_sender network.streams i d no_sender h
+
+-- for numbers past the last stream
+no_stream : DeclaredStream
+no_stream = declared_stream [] [] [] 0 0 0 0 0 None
+
+-- what the streams declare keeps the rules of streams
+pub streams-ruled : (network : DeclaredNetwork) → IsNetwork network → (i : ℕ) → i < length network.streams
+    → IsRuled (declared_by network i)
+streams-ruled network keeps i h =
+    let Ruled : Sender → Type 0 = λ s. IsRuled (declared_of s) in
+    subst Ruled (sym (stream-at network i no_stream h)) (keeps.streams i no_stream h).rules

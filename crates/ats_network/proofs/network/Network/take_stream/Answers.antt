@@ -1,0 +1,14 @@
+use Rattle.ats_network.specs.Network.{declared_network}
+use Rattle.ats_network.proofs.Edited.{streams_apart, without_network}
+use Rattle.ats_network.proofs.network.Network.take_stream.Goals as goal
+
+pub take-requires-clause-names : goal.take-requires-clause-names
+take-requires-clause-names c =
+    streams_apart (declared_network c.self.inside.shape c.self.inside.stream_table c.self.inside.flow_table)
+    c.self.invariant
+
+pub invariant_of-self : goal.invariant_of-self
+invariant_of-self c =
+    rw c.take.ensures.streams
+    (without_network (declared_network c.self.inside.shape c.self.inside.stream_table c.self.inside.flow_table)
+    c.args.name.now c.self.invariant)

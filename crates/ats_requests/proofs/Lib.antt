@@ -1,0 +1,5 @@
+pub mod Keeps
+pub mod Classes
+pub mod Requests
+pub mod Entry
+pub mod Worked

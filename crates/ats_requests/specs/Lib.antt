@@ -1,0 +1,5 @@
+pub mod Admission
+pub mod Entry
+pub mod Requests
+pub mod Laws
+pub mod Worked

@@ -1,0 +1,95 @@
+-- The journeys of frames over a path of two ports.
+use Rattle.std.proofs.Common.{◌≡◌, ℕ, ◌<◌, List, [], ◌∷◌, ◌++◌, ◌∙◌, length, All, Some, None}
+use Rattle.std.proofs.Common.{ap, refl, sym, subst, arith}
+use Rattle.std.proofs.lemmas.List.Elements.{All-cons}
+use Rattle.ats_group.specs.declared.verdict.Verdict.TheVariants.{Eligible, Late, Size}
+use Rattle.ats_network.specs.Network.{DeclaredNetwork, senders_of}
+use Rattle.ats_network.specs.Senders.{sender_at}
+use Rattle.ats_trace.specs.Journey.{IsJourney, IsWay, Travel}
+use Rattle.ats_trace.specs.Stored.{travels_of}
+use Rattle.ats_trace.specs.declared.journey.Journey.{Journey}
+use Rattle.ats_trace.specs.declared.journey.Span.{Span}
+use Rattle.ats_trace.specs.declared.journey.HopRecord.{HopRecord}
+use Rattle.ats_trace.specs.declared.journey.Ending.{Ending}
+use Rattle.ats_trace.specs.declared.journey.Ending.TheVariants.{Sink, Discard}
+
+-- a way over any two ports is one over a path of two
+over_two : (path : List ℕ) (hops : List HopRecord) (ending : Ending) → length path ≡ 2
+    → ((p q : ℕ) → IsWay (p ∷ q ∷ []) hops ending) → IsWay path hops ending
+over_two [] hops ending long way = absurd (omega (arith, long))
+over_two (p ∷ []) hops ending long way = absurd (omega (arith, long))
+over_two (p ∷ q ∷ []) hops ending long way = way p q
+over_two (p ∷ q ∷ r ∷ path) hops ending long way = absurd (omega (arith, long))
+
+none : (network : DeclaredNetwork) → All (IsJourney network) []
+none network i d within = absurd (omega (arith, within))
+
+-- a row of sender 0 with this size and ending, and a record with these parts
+abbrev pub row : ℕ → Ending → Journey
+row octets ending =
+    record { release = record { at = record { 0 = 0 }; sender = 0; octets = octets }; ending = ending }
+
+abbrev pub two : ℕ → Span
+two first = record { first = first; count = 2 }
+
+-- the record of a frame that comes at this time and is sent, of one that is too long, and of one that is too late
+abbrev pub passing : ℕ → ℕ → ℕ → HopRecord
+passing arrival start end = record {
+  arrival = record { 0 = arrival };
+  verdict = Eligible (record { 0 = arrival });
+  sent = Some (record { 0 = start }, record { 0 = end });
+}
+
+abbrev pub too_long : ℕ → HopRecord
+too_long arrival = record { arrival = record { 0 = arrival }; verdict = Size; sent = None }
+
+abbrev pub too_late : ℕ → ℕ → HopRecord
+too_late arrival eligible =
+    record { arrival = record { 0 = arrival }; verdict = Late (record { 0 = eligible }); sent = None }
+
+-- a frame of 1522 octets that is sent at both ports and arrives
+pub sent_goes : (network : DeclaredNetwork) (run : List Travel) (rows : List Journey) (spans : List Span)
+    (hops : List HopRecord) → run ≡ travels_of rows spans hops
+    → rows ≡ row 1522 (Sink (record { 0 = 26672000 })) ∷ [] → spans ≡ two 0 ∷ []
+    → hops ≡ passing 0 0 12336000 ∷ passing 13836000 13836000 26172000 ∷ []
+    → 0 < length (senders_of network) → length (sender_at network 0).path ≡ 2 → All (IsJourney network) run
+sent_goes network run rows spans hops is e f g sender path =
+    let row_there : Journey = row 1522 (Sink (record { 0 = 26672000 })) in
+    let records : List HopRecord = passing 0 0 12336000 ∷ passing 13836000 13836000 26172000 ∷ [] in
+    let all : run ≡ travels_of (row_there ∷ []) (two 0 ∷ []) records =
+    is ∙ ap (λ r. travels_of r spans hops) e ∙ ap (λ s. travels_of (row_there ∷ []) s hops) f
+    ∙ ap (λ h. travels_of (row_there ∷ []) (two 0 ∷ []) h) g in
+    subst (All (IsJourney network)) (sym all) (All-cons (IsJourney network)
+    (record { release = row_there.release; hops = records; ending = row_there.ending }) [] (record {
+      sender = sender;
+      octets = record { least = omega arith; most = omega arith };
+      way = over_two (sender_at network 0).path records row_there.ending path (λ p q. tt);
+      released = (refl, refl);
+    }) (none network))
+
+-- a frame of 1523 octets that is too long for its stream, and one of 64 that would be eligible too late
+pub discarded_go : (network : DeclaredNetwork) (run : List Travel) (rows : List Journey) (spans : List Span)
+    (hops : List HopRecord) → run ≡ travels_of rows spans hops
+    → rows ≡ row 1523 Discard ∷ row 64 Discard ∷ [] → spans ≡ two 0 ∷ two 2 ∷ []
+    → hops ≡ passing 0 0 12344000 ∷ too_long 13844000 ∷ passing 0 12344000 13016000 ∷ too_late 14516000 33372000 ∷ []
+    → 0 < length (senders_of network) → length (sender_at network 0).path ≡ 2 → All (IsJourney network) run
+discarded_go network run rows spans hops is e f g sender path =
+    let both : List Journey = row 1523 Discard ∷ row 64 Discard ∷ [] in
+    let one : List HopRecord = passing 0 0 12344000 ∷ too_long 13844000 ∷ [] in
+    let other : List HopRecord = passing 0 12344000 13016000 ∷ too_late 14516000 33372000 ∷ [] in
+    let all : run ≡ travels_of both (two 0 ∷ two 2 ∷ []) (one ++ other) =
+    is ∙ ap (λ r. travels_of r spans hops) e ∙ ap (λ s. travels_of both s hops) f
+    ∙ ap (λ h. travels_of both (two 0 ∷ two 2 ∷ []) h) g in
+    let first : Travel = record { release = (row 1523 Discard).release; hops = one; ending = Discard } in
+    let second : Travel = record { release = (row 64 Discard).release; hops = other; ending = Discard } in
+    subst (All (IsJourney network)) (sym all) (All-cons (IsJourney network) first (second ∷ []) (record {
+      sender = sender;
+      octets = record { least = omega arith; most = omega arith };
+      way = over_two (sender_at network 0).path one Discard path (λ p q. (refl, refl));
+      released = (refl, refl);
+    }) (All-cons (IsJourney network) second [] (record {
+      sender = sender;
+      octets = record { least = omega arith; most = omega arith };
+      way = over_two (sender_at network 0).path other Discard path (λ p q. (refl, refl));
+      released = (refl, refl);
+    }) (none network)))
