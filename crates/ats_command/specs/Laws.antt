@@ -1,4 +1,5 @@
-use Rattle.std.specs.Prelude.{◌≡◌, ℕ, List, ◌++◌, codes, decimal, Option, Some, IsErr, Result, Ok, Err, slice_get, sum_by}
+use Rattle.std.specs.Prelude.{◌≡◌, ℕ, List, ◌++◌, codes, decimal, Option, Some, IsErr, Result, Ok, Err, slice_get}
+use Rattle.std.specs.Prelude.{sum_by}
 use Rattle.std.specs.List.{flat_map}
 use Rattle.ats_topology.specs.Topology.{DeclaredTopology}
 use Rattle.ats_verdict_text.specs.PortName.{port_name}
