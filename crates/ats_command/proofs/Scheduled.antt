@@ -1,5 +1,6 @@
 -- What a schedule's file declares may be run.
-use Rattle.std.proofs.Common.{◌≡◌, ℕ, ◌+◌, ◌<◌, ◌≤◌, Bool, true, false, List, [], ◌∷◌, ◌++◌, length, map, Option, Some, None}
+use Rattle.std.proofs.Common.{◌≡◌, ℕ, ◌+◌, ◌<◌, ◌≤◌, Bool, true, false, List, [], ◌∷◌, ◌++◌, length, map, Option}
+use Rattle.std.proofs.Common.{Some, None}
 use Rattle.std.proofs.Common.{Result, Ok, Err, refl, arith}
 use Rattle.std.specs.Prelude.{IfOk, IfSome, ◌&&◌, nat_le, nat_lt, ◌==◌, if◌then◌else◌}
 use Rattle.std.specs.Option.{option_and_then}
@@ -72,7 +73,8 @@ sender_within : (network : DeclaredNetwork) (n : ℕ) (text : List ℕ)
     → IfOk (sender_in network n text) (λ (s : ℕ). s < length (names_of (senders_of network)))
 sender_within network n text =
     let Within : ℕ → Type 0 = λ s. s < length (names_of (senders_of network)) in
-    some_keeps Within (UnknownName n) (option_and_then (λ name. place_of name (names_of (senders_of network))) (name_of text))
+    some_keeps Within (UnknownName n) (option_and_then (λ name. place_of name (names_of (senders_of network)))
+    (name_of text))
     (then_keeps Within (λ name. place_of name (names_of (senders_of network))) (name_of text)
     (λ name. place_within name (names_of (senders_of network))
     (place_of name (names_of (senders_of network))) refl))
