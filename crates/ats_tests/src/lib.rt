@@ -1,5 +1,6 @@
-//! Tests of captures, schedules, meters, queues, ports, events and runs, which no command reaches
-//! yet. There is nothing else here, so that the crates below are proved without tests.
+//! Tests of crates below the commands, such as queues, ports, captures and meters, and of crates
+//! that no command reaches. There is nothing else here, so that the crates below are proved without
+//! tests.
 #![tactic(auto)]
 
 #[cfg(test)]
