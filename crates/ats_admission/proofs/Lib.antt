@@ -1,0 +1,4 @@
+pub mod Classed
+pub mod Entered
+pub mod Judgements
+pub mod Lowest
