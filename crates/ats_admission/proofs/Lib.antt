@@ -1,3 +1,4 @@
+pub mod After
 pub mod Classed
 pub mod Entered
 pub mod Judgements

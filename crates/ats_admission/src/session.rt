@@ -11,14 +11,15 @@ ghost use Rattle.ats_bound.specs.Least.{least_certificate};
 ghost use Rattle.ats_bound.specs.Reason.{reason_of};
 ghost use Rattle.ats_requests.specs.Admission.{admit, admit_lowest, withdraw_fault};
 ghost use Rattle.ats_requests.specs.Laws.{IsCertified};
-ghost use Rattle.ats_requests.specs.Requests.{MayEnter};
+ghost use Rattle.ats_requests.specs.Requests.{MayAsk, MayEnter, after, answer};
+ghost use Rattle.ats_requests.specs.declared.request.Request.TheVariants.{Admit, Lowest, Withdraw};
 
 use crate::admitting::{admit_stream, admit_with_lowest};
 use ats_bound::make;
 use ats_certificate::Certificate;
 use ats_network::Network;
 use ats_num::{Failure, Name};
-use ats_requests::Denied;
+use ats_requests::{Answer, Denied, Request};
 use ats_streams::Stream;
 use ats_tally::Reason;
 use std::alloc::{AllocError, Global};
@@ -48,8 +49,8 @@ impl Session {
     ///
     /// # Errors
     ///
-    /// The network as it was, with the reason against it exactly where there is one, or `Failure::NoMemory` where memory
-    /// runs out.
+    /// The network as it was, with the reason against it exactly where there is one, or `Failure::NoMemory` where
+    /// memory runs out.
     pub fn open(alloc: Global, network: Network) -> Result<Self, (Network, Failure<Reason>)>
         ensures value { IfOk result (λ session. session ≡ network) }
         ensures free { OnOk result (reason_of network ≡ None) }
@@ -120,8 +121,65 @@ impl Session {
         }
     }
 
-    /// The certificate of the network with the least waits, which holds. It takes time and memory linear in the number of
-    /// ports and the sum of the paths' lengths. `AllocError` where there is no memory for it.
+    /// Answers a request, whose stream, where it has one, has a valid path and declares no identity. `AllocError` where
+    /// memory runs out; the session then stays as it was.
+    pub fn ask(&mut self, request: Request) -> Result<Answer, AllocError>
+        requires { MayAsk self.old.topology request }
+        ensures answer { IfOk result (λ given. given ≡ answer self.old request) }
+        ensures after { OnOk result (self.new ≡ after self.old request) }
+        ensures err { OnErr result (self.new ≡ self.old) }
+    {
+        match request {
+            Request::Admit(stream) => self.ask_admission(stream),
+            Request::Lowest(stream) => self.ask_lowest(stream),
+            Request::Withdraw(name) => Ok(self.ask_withdrawal(&name)),
+        }
+    }
+
+    // Answers a stream that asks to enter.
+    #[tactic(auto, using(crate::proofs::After::after_ok, crate::proofs::After::after_err))]
+    fn ask_admission(&mut self, stream: Stream) -> Result<Answer, AllocError>
+        requires { MayEnter self.old.topology stream }
+        ensures answer { IfOk result (λ given. given ≡ answer self.old (Admit stream)) }
+        ensures after { OnOk result (self.new ≡ after self.old (Admit stream)) }
+        ensures err { OnErr result (self.new ≡ self.old) }
+    {
+        let class = stream.classes()[0];
+        match self.admit(stream) {
+            Ok(sum) => Ok(Answer::Admitted { class, sum }),
+            Err(Failure::NoMemory) => Err(AllocError),
+            Err(Failure::Fault(denied)) => Ok(Answer::Refused(denied)),
+        }
+    }
+
+    // Answers a stream that asks to enter with the lowest class.
+    #[tactic(auto, using(crate::proofs::After::lowest_ok, crate::proofs::After::lowest_err))]
+    fn ask_lowest(&mut self, stream: Stream) -> Result<Answer, AllocError>
+        requires { MayEnter self.old.topology stream }
+        ensures answer { IfOk result (λ given. given ≡ answer self.old (Lowest stream)) }
+        ensures after { OnOk result (self.new ≡ after self.old (Lowest stream)) }
+        ensures err { OnErr result (self.new ≡ self.old) }
+    {
+        match self.admit_lowest(stream) {
+            Ok((class, sum)) => Ok(Answer::Admitted { class, sum }),
+            Err(Failure::NoMemory) => Err(AllocError),
+            Err(Failure::Fault(denied)) => Ok(Answer::Refused(denied)),
+        }
+    }
+
+    // Answers that a stream is to be taken out.
+    fn ask_withdrawal(&mut self, name: &Name) -> Answer
+        ensures answer { result ≡ answer self.old (Withdraw name.now) }
+        ensures after { self.new ≡ after self.old (Withdraw name.now) }
+    {
+        match self.withdraw(name) {
+            Ok(()) => Answer::Withdrawn,
+            Err(denied) => Answer::Refused(denied),
+        }
+    }
+
+    /// The certificate of the network with the least waits, which holds. It takes time and memory linear in the number
+    /// of ports and the sum of the paths' lengths. `AllocError` where there is no memory for it.
     pub fn certificate(&self, alloc: Global) -> Result<Certificate, AllocError>
         ensures value { IfOk result (λ certificate. certificate ≡ least_certificate self.now) }
         ensures holds { OnOk result (Holds self.now (least_certificate self.now)) }
