@@ -1,7 +1,9 @@
-//! Tests of captures, schedules, meters, queues, ports, events and runs, which no command reaches
-//! yet. There is nothing else here, so that the crates below are proved without tests.
+//! Tests of captures, schedules, meters, queues, ports, events, runs and admission, which no command
+//! reaches yet. There is nothing else here, so that the crates below are proved without tests.
 #![tactic(auto)]
 
+#[cfg(test)]
+mod admission;
 #[cfg(test)]
 mod capture_files;
 #[cfg(test)]
