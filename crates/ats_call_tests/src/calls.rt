@@ -12,12 +12,19 @@ const SHAPE: &[u8] = b"residence 1000000\nstream x 100000000 12336 64 1522\nfram
 const NETWORK: &[u8] =
     b"format = 1\n[[station]]\nname = \"s1\"\n[[station]]\nname = \"s2\"\n[[link]]\na = \"s1\"\nb = \"s2\"\n\
     mbps = 1000\npropagation_ns = 500\n[[stream]]\nname = \"a\"\npath = [\"s1\", \"s2\"]\nclass = 6\n\
-    rate_bps = 100000000\nburst_bits = 12336\nmin_octets = 64\nmax_octets = 1522\n";
+    rate_bps = 100000000\nburst_bits = 12336\nmin_octets = 64\nmax_octets = 1522\n\
+    address = \"02:00:00:00:00:01\"\nvlan = 1\n";
 
 const CERTIFICATE: &[u8] =
     b"port,class,higher,equal,bursts,lower,least,wait,bound\ns1>s2,6,0,100000000000,12336,0,672,11664000,12836000\n";
 
 const SCHEDULE: &[u8] = b"at_ps,sender,octets\n0,a,1522\n";
+
+// A record of a frame of stream `a`, with its time in microseconds and the lowest byte of each number first.
+const CAPTURE: &[u8] = b"\xd4\xc3\xb2\xa1\x02\x00\x04\x00\x00\x00\x00\x00\x00\x00\x00\x00\
+    \xff\xff\x00\x00\x01\x00\x00\x00\
+    \x00\xf1\x53\x65\x00\x00\x00\x00\x10\x00\x00\x00\x2a\x00\x00\x00\
+    \x02\x00\x00\x00\x00\x01\x02\x00\x00\x00\x00\x11\x81\x00\xc0\x01";
 
 // The most bytes that a write takes.
 const MOST: usize = 16;
@@ -36,6 +43,13 @@ const COMMANDS: &[(&[&str], u32, &[u8])] = &[
     ),
     (&["bound", "n"], 2, CERTIFICATE),
     (
+        &["explain", "n"],
+        2,
+        b"stream a sum 12836000 deadline 1000000000000 slack 999987164000\n\
+        hop s1>s2 6 lower 0 - bursts 11664000 higher 0 frame 672000 latency 500000 bound 12836000\n\
+        port s1>s2 load 100000000000\ntotal streams 1 late 0 over 0 tightest a slack 999987164000\n",
+    ),
+    (
         &["check", "n", "c"],
         4,
         b"hop a s1>s2 12836000\nsum a 12836000\naccepted 1\n",
@@ -45,6 +59,12 @@ const COMMANDS: &[(&[&str], u32, &[u8])] = &[
         4,
         b"frame 0 a 1522 0\nhop s1>s2 0 eligible 0 start 0 end 12336000\nsink 12836000\n\
         total frames 1 sunk 1 late 0 size 0\n",
+    ),
+    (
+        &["capture", "n", "s1", "p", "early"],
+        4,
+        b"frame 0 a 64 0\nhop s1>s2 0 eligible 0 start 0 end 672000\nsink 1172000\n\
+        total frames 1 sunk 1 late 0 size 0\nrecords 1 unidentified 0 oversize 0\n",
     ),
 ];
 
@@ -70,7 +90,8 @@ fn file(rt: &(impl Abort + AllocGlobal), name: &str, text: &[u8]) -> (String, Ve
 fn files(rt: &(impl Abort + AllocGlobal)) -> Vec<(String, Vec<u8>)> {
     let (shape, network) = (file(rt, "s", SHAPE), file(rt, "n", NETWORK));
     let (certificate, schedule) = (file(rt, "c", CERTIFICATE), file(rt, "r", SCHEDULE));
-    vec![in rt.alloc(); shape, network, certificate, schedule].expect(rt, "room")
+    let capture = file(rt, "p", CAPTURE);
+    vec![in rt.alloc(); shape, network, certificate, schedule, capture].expect(rt, "room")
 }
 
 // The end of a call with these words over these files and a sink with so much room, and the sink after it. The read and

@@ -88,16 +88,16 @@ over_due told at count reader bytes buffer r is some full piece =
     let left : length (drop at bytes) ≡ length bytes - at = length-drop at bytes in
     let size : length r.read ≡ MAX_BYTES = sym r.size ∙ full in
     let first : r.read ≡ take MAX_BYTES bytes = r.front bytes is ∙ ap (λ n. take n bytes) size in
-    let fine : position_of r.read ≡ Ok reader.position = stands_open reader.failure reader.position r.read r.going
-    r.stands in
+    let fine : position_of r.read ≡ Ok reader.position =
+    stands_open reader.failure reader.position r.read r.going r.stands in
     records_in-long bytes (omega (arith, piece.within))
     ∙ ap (λ (x : Result Position CaptureFault). of_file x >>= (λ _. Err TooLong))
     (ap position_of (sym first) ∙ fine)
   where
     stands_open : (failure : Option (Failure CaptureFault)) (position : Position) (read : List ℕ) → failure ≡ None
         → Shows failure position (position_of read) → position_of read ≡ Ok position
-    stands_open failure position read e h = subst (λ (o : Option (Failure CaptureFault)). Shows o position
-    (position_of read)) e h
+    stands_open failure position read e h =
+        subst (λ (o : Option (Failure CaptureFault)). Shows o position (position_of read)) e h
 
 -- a fault that a front of the bytes shows is the first one of the file
 shown_fault : (front bytes : List ℕ) (fault : CaptureFault) → position_of front ≡ Err fault

@@ -49,9 +49,8 @@ one_more network station first latest later traffic more r records rest due h he
     let stepped : with_record network station (max latest r.nanos - first) traffic r ≡ Ok more =
     ap (λ n. with_record network station (n - first) traffic r) (sym time) ∙ step in
     ap (λ n. traffic_from network station first n more rest) time
-    ∙ sym (ap (λ (x : Result Traffic JoinFault). x >>= λ t. traffic_from network station first
-    (max latest r.nanos) t rest)
-    stepped) ∙ whole
+    ∙ sym (ap (λ (x : Result Traffic JoinFault).
+    x >>= λ t. traffic_from network station first (max latest r.nanos) t rest) stepped) ∙ whole
 
 -- what holds after a step
 after : {A B : Type 0} (P : A → Type 0) (Q : B → Type 0) (x : Result A JoinFault) (f : A → Result B JoinFault)

@@ -1,9 +1,10 @@
 -- What an answer to `conform` comes to, and that there is one.
 use Rattle.std.proofs.Common.{◌≡◌, ℕ, List, length, Result, Ok, Err, refl, sym, ap, subst, inl, inr, ◌∙◌}
-use Rattle.std.specs.Prelude.{IfSome, IsErrAnd, ◌⊎◌}
+use Rattle.std.specs.Prelude.{IfOk, IfSome, IsErrAnd, ◌⊎◌}
 use Rattle.std.specs.Global.{Vec}
 use Rattle.ats_num.specs.Failure.{◌>>=◌}
 use Rattle.ats_network.specs.Network.{DeclaredNetwork}
+use Rattle.ats_trace.specs.Releases.{AreReleases}
 use Rattle.ats_trace.specs.declared.journey.Release.{Release}
 use Rattle.ats_conform.specs.declared.broken.Broken.{Broken}
 use Rattle.ats_conform.specs.Broken.{Breaks}
@@ -20,7 +21,6 @@ use Rattle.ats_answer.specs.declared.status.Status.TheVariants as status
 use Rattle.ats_answer.proofs.Steps.{stops_all, err_is}
 use Rattle.ats_command.specs.Conformed.{ComesTo, IsAnswerTo, IsConforming, IsBroken, JudgesReleases, JudgesScheduled}
 use Rattle.ats_command.specs.Conformed.{broken_text, conforms_text}
-use Rattle.ats_command.specs.Laws.{MayBeRun}
 use Rattle.ats_command.specs.Replayed.{Scheduled}
 
 -- a stop comes in place of what is declared
@@ -100,7 +100,8 @@ judged_so network releases (inr (broken, breaks)) = (
   inr (broken, record { breaks = breaks; refused = refl }),
 )
 
-pub one_judgement : (due : Result Scheduled Answer) → MayBeRun due
+pub one_judgement : (due : Result Scheduled Answer)
+    → IfOk due (λ (s : Scheduled). AreReleases s.network s.releases)
     → (answer : Answer) × (IsAnswerTo JudgesScheduled due answer)
     × ((other : Answer) → IsAnswerTo JudgesScheduled due other → other ≡ answer)
 one_judgement (Ok scheduled) are =

@@ -3,6 +3,7 @@ pub mod Judging
 pub mod Steps
 pub mod Replays
 pub mod Conforms
+pub mod Scheduled
 pub mod OneAnswer
 pub mod Meanings
 pub mod ReplayMeanings

@@ -8,6 +8,7 @@ use Rattle.ats_command.specs.Laws.{HasOneAnswer, OneAnswerIsDue, OneStatusIsDue}
 use Rattle.ats_command.specs.Captured.{IsCaptured, captured_in}
 use Rattle.ats_command.specs.Replayed.{IsReplayed, scheduled_in}
 use Rattle.ats_command.proofs.Conforms.{one_judgement, same_judgement}
+use Rattle.ats_command.proofs.Scheduled.{scheduled_may}
 use Rattle.ats_command.proofs.Replays.{one_without_texts, one_status}
 
 only_due : (told : List ℕ → Option (List ℕ)) (command : Command) → IsTold told command → HasOneAnswer told command
@@ -27,7 +28,8 @@ only_due told (Check net certificate) is_told one = (
   λ other due. due.answers,
 )
 only_due told (Conform net schedule) is_told one =
-    let alone = one_judgement (scheduled_in net schedule (told_bytes told net) (told_bytes told schedule)) one in
+    let alone = one_judgement (scheduled_in net schedule (told_bytes told net) (told_bytes told schedule))
+    (scheduled_may net schedule (told_bytes told net) (told_bytes told schedule)) in
     (alone.0, record { is_told = is_told; answers = alone.1 }, λ other due. alone.2 other due.answers)
 only_due told (Replay net schedule order) is_told one =
     let alone = one_without_texts (IsReplayed order)

@@ -31,8 +31,8 @@ pub record Captured : Type 0 where
 abbrev pub IsCaptured : Order → Captured → List ℕ → Type 0
 IsCaptured order captured text = IsCaptureText order captured.network captured.traffic text
 
--- what two files of these bytes declare of a capture at the station that a word names, or the answer to the first fault:
--- the network's is judged first, and then the word
+-- what two files of these bytes declare of a capture at the station that a word names, or the answer to the first
+-- fault: the network's is judged first, and then the word
 unfoldable pub captured_in : List ℕ → List ℕ → List ℕ → List ℕ → List ℕ → Result Captured Answer
 captured_in net station file net_bytes file_bytes = do
   network ← network_in net net_bytes

@@ -1,4 +1,5 @@
-use Rattle.std.specs.Prelude.{◌≡◌, ℕ, List, ◌++◌, codes, decimal, Option, Some, IsErr, Result, Ok, Err, slice_get, sum_by}
+use Rattle.std.specs.Prelude.{◌≡◌, ℕ, List, ◌++◌, codes, decimal, Option, Some, IsErr, Result, Ok, Err, slice_get}
+use Rattle.std.specs.Prelude.{sum_by}
 use Rattle.std.specs.List.{flat_map}
 use Rattle.ats_topology.specs.Topology.{DeclaredTopology}
 use Rattle.ats_verdict_text.specs.PortName.{port_name}
@@ -13,18 +14,12 @@ use Rattle.ats_answer.specs.Command.{Capture, Conform}
 use Rattle.ats_answer.specs.Answer.{Answer}
 use Rattle.ats_command.specs.Due.{IsDueAnswer, IsTold, told_bytes}
 use Rattle.ats_command.specs.Captured.{captured_in}
-use Rattle.ats_command.specs.Replayed.{scheduled_in, Scheduled}
-use Rattle.ats_trace.specs.Releases.{AreReleases}
+use Rattle.ats_command.specs.Replayed.{scheduled_in}
 
 -- this answer is due, and no other
 pub record IsOnlyDue (told : List ℕ → Option (List ℕ)) (words : List (List ℕ)) (answer : Answer) : Type 0 where
   pub due : IsDueAnswer told (command_of words) answer
   pub only : (other : Answer) → IsDueAnswer told (command_of words) other → other ≡ answer
-
--- releases that are declared may be run
-abbrev pub MayBeRun : Result Scheduled Answer → Type 0
-MayBeRun (Ok scheduled) = AreReleases scheduled.network scheduled.releases
-MayBeRun (Err answer) = Unit {0}
 
 -- the bytes that are told leave one answer alone: to each command but `replay` and `capture`, which may print any run
 -- in their order, and to these where a file has a fault or no station has the name
@@ -34,8 +29,7 @@ HasOneAnswer told (Show net) = Unit {0}
 HasOneAnswer told (Bound net) = Unit {0}
 HasOneAnswer told (Explain net) = Unit {0}
 HasOneAnswer told (Check net certificate) = Unit {0}
-HasOneAnswer told (Conform net schedule) =
-    MayBeRun (scheduled_in net schedule (told_bytes told net) (told_bytes told schedule))
+HasOneAnswer told (Conform net schedule) = Unit {0}
 HasOneAnswer told (Replay net schedule order) =
     IsErr (scheduled_in net schedule (told_bytes told net) (told_bytes told schedule))
 HasOneAnswer told (Capture net station file order) =

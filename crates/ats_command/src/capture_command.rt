@@ -19,9 +19,9 @@ use ats_replay::departures;
 use std::alloc::{AllocError, Global};
 
 /// The text of `capture NET STATION FILE ORDER`: every journey of a run of the network with exactly the releases of the
-/// station that the capture tells of, by the tie and the pace of the order, and the counts of its records. It stops where
-/// the network's file has a fault or can't be read, then where no station has the name, and then where the capture's
-/// file has a fault or can't be read or its releases are over a limit.
+/// station that the capture tells of, by the tie and the pace of the order, and the counts of its records. It stops
+/// where the network's file has a fault or can't be read, then where no station has the name, and then where the
+/// capture's file has a fault or can't be read or its releases are over a limit.
 pub fn capture<F: Files>(
     alloc: Global,
     net: &str,

@@ -2,6 +2,7 @@
 
 ghost use Rattle.std.specs.Prelude.{◌≤◌, length};
 
+use crate::captures::LOW;
 use crate::fixtures::line;
 use ats_capture::{JoinFault, RecordsFault, StationTraffic, capture_records, captured};
 use ats_io::MemFiles;
@@ -91,6 +92,31 @@ fn an_end_inside_a_record(rt: HostRuntime) {
     let _last = bytes.pop();
     let fault = RecordsFault::Capture(CaptureFault::CutShort(1300));
     assert!(rt; read(&rt, bytes, 0).err() == Some(Failure::Fault(fault)));
+}
+
+// How many records a front of so many bytes has, where it ends behind the header or a record.
+fn due(length: usize) -> Result<usize, CaptureFault> {
+    match length {
+        0..=23 => Err(CaptureFault::CutShort(0)),
+        24 => Ok(0),
+        25..=81 => Err(CaptureFault::CutShort(1)),
+        82 => Ok(1),
+        83..=109 => Err(CaptureFault::CutShort(2)),
+        _ => Ok(2),
+    }
+}
+
+#[test]
+fn each_front_of_a_capture(rt: HostRuntime) {
+    for length in 0..=LOW.len() {
+        let front = Vec::from_slice(rt.alloc(), &LOW[..length]).expect(&rt, "room");
+        let found = match read(&rt, front, 0) {
+            Ok(records) => Ok(records.len()),
+            Err(Failure::Fault(RecordsFault::Capture(fault))) => Err(fault),
+            Err(_) => panic!(rt; "no capture"),
+        };
+        assert!(rt; found == due(length));
+    }
 }
 
 // What these records come to at a station of the line.

@@ -7,7 +7,7 @@ use ats_pcap::{CaptureFault, Reader, Record};
 use std::alloc::{AllocGlobal, Global};
 
 // Two records with times in microseconds, the lowest byte of each number first. The second is cut.
-const LOW: [u8; 110] = [
+pub(crate) const LOW: [u8; 110] = [
     0xd4, 0xc3, 0xb2, 0xa1, 0x02, 0, 0x04, 0, 0, 0, 0, 0, 0, 0, 0, 0, 0xff, 0xff, 0, 0, 0x01, 0, 0,
     0, 0, 0xf1, 0x53, 0x65, 0, 0, 0, 0, 0x2a, 0, 0, 0, 0x2a, 0, 0, 0, 0x02, 0, 0, 0, 0, 0x01, 0x02,
     0, 0, 0, 0, 0x11, 0x81, 0, 0xc0, 0x01, 0x08, 0, 0, 0, 0, 0, 0, 0, 0, 0, 0, 0, 0, 0, 0, 0, 0, 0,

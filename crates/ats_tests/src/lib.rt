@@ -15,6 +15,8 @@ mod fixtures;
 #[cfg(test)]
 mod heaps;
 #[cfg(test)]
+mod made;
+#[cfg(test)]
 mod meters;
 #[cfg(test)]
 mod ports;

@@ -69,9 +69,8 @@ loop-reader-preserved g c =
     record {
       room = c.loop-reader.invariant.room;
       within = piece_within c.loop-reader.at c.in_ok-count.count c.room_at-most.result c.deref_mut.result.now
-          c.read.new.buf
-          c.loop-reader.invariant.within c.if-at-eq-MAX_BYTES.false c.room_at-most.ensures.within c.read.auto.buf
-          c.in_ok-count.ensures.within;
+          c.read.new.buf c.loop-reader.invariant.within c.if-at-eq-MAX_BYTES.false c.room_at-most.ensures.within
+          c.read.auto.buf c.in_ok-count.ensures.within;
       reads = fed told c.loop-reader.at c.in_ok-count.count c.loop-reader.reader c.feed.new.reader
           (take c.in_ok-count.count c.read.new.buf) c.read.new.buf c.loop-reader.invariant.reads
           c.in_ok-feed.ensures.answer c.feed.ensures.stands refl c.in_ok-count.ensures.within

@@ -40,8 +40,8 @@ returns-in_err-place-clause-due g c = λ is_told.
     c.topology.ensures.value c.in_err-place.ensures.due in
     one_settles (IsCaptured c.args.order) c.from_residual-in_err-place.result
     (captured_in net station file (told_bytes told net) (told_bytes told file))
-    (one_goes_on (IsCaptured c.args.order) c.from_residual-in_err-place.result (network_in net (told_bytes told net)) network
-    (λ n. station_in n.topology station >>= λ place. traffic_in n place file (told_bytes told file)
+    (one_goes_on (IsCaptured c.args.order) c.from_residual-in_err-place.result (network_in net (told_bytes told net))
+    network (λ n. station_in n.topology station >>= λ place. traffic_in n place file (told_bytes told file)
     >>= λ traffic. Ok (record { network = n; traffic = traffic }))
     (c.in_ok-network.ensures.due (told_bytes told net) (told_is told net (is_told 0 [] (lit< tt))))
     (stop_gives_one (IsCaptured c.args.order) c.from_residual-in_err-place.result c.in_err-place.field-0.0 _
