@@ -1,6 +1,5 @@
 //! Runs of the engine: of two frames in three orders, and of a thousand over eight bridges.
 
-ghost use Rattle.std.specs.Prelude.{◌≡◌, length};
 ghost use Rattle.ats_trace.specs.Releases.{AreReleases};
 
 use crate::fixtures::{long_line, pair};
@@ -22,6 +21,16 @@ fn released(rt: &(impl Abort + AllocGlobal), network: &Network) -> Vec<Release>
     ensures { AreReleases network.now result.items }
 {
     match read_schedule(rt.alloc(), BOTH, network) {
+        Ok(releases) => releases,
+        Err(_) => panic!(rt; "no schedule"),
+    }
+}
+
+// The first thousand releases from a seed.
+fn made(rt: &(impl Abort + AllocGlobal), network: &Network) -> Vec<Release>
+    ensures { AreReleases network.now result.items }
+{
+    match schedule(rt.alloc(), network, 1, 1000) {
         Ok(releases) => releases,
         Err(_) => panic!(rt; "no schedule"),
     }
@@ -81,9 +90,7 @@ fn are_all_there(run: &Run, frames: usize) -> bool {
 #[test]
 fn runs_a_thousand_frames_over_eight_bridges(rt: HostRuntime) {
     let network = long_line(&rt);
-    let Ok(releases) = schedule(rt.alloc(), &network, 1, 1000) else {
-        panic!(rt; "no schedule")
-    };
+    let releases = made(&rt, &network);
     let run = run_by(&rt, &network, &releases, Mixed(7), Scrambled(7), Drawn(7));
     assert!(rt; are_all_there(&run, 1000));
 }
