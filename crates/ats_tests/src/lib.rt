@@ -10,6 +10,8 @@ mod capture_files;
 #[cfg(test)]
 mod captures;
 #[cfg(test)]
+mod engines;
+#[cfg(test)]
 mod events;
 #[cfg(test)]
 mod fixtures;
