@@ -13,7 +13,9 @@ use Rattle.ats_steps.specs.declared.event.Event.{Event}
 use Rattle.ats_engine.specs.Opened.{setting_of}
 use Rattle.ats_engine.specs.Ready.{IsReady, Follows, releases_in}
 use Rattle.ats_engine.specs.Setting.{Setting}
+use Rattle.ats_engine_law.specs.InTime.{IsRunInTime}
 use Rattle.ats_engine_law.proofs.Conclusion.{ended-run}
+use Rattle.ats_engine_law.proofs.InTime.{ended-in-time}
 use Rattle.ats_engine.specs.declared.runner.Runner.{Runner}
 
 -- where the agenda is empty, what holds does so with no entries
@@ -51,3 +53,9 @@ run-by {T} {O} {P} {key} {wait} setting {first} {last} agenda seen follows ready
       subst (HasReleases setting.releases) (sym is)
           (subst (λ (rs : List Release). HasReleases rs whole) releases ended.2),
     )
+
+-- and all that it tells was before the end of time
+pub run-in-time : {T P : Type 0} {key : T → ℕ → ℕ → ℕ} {wait : P → ℕ → ℕ → ℕ} {last : Runner T P}
+    {entries : List (Moment × Event)} {capacity : ℕ} {run : List Travel} → IsReady key wait last entries capacity
+    → entries ≡ [] → run ≡ map finished last.state.records → IsRunInTime run
+run-in-time ready empty is = subst IsRunInTime (sym is) (ended-in-time (holds-empty ready empty))

@@ -1,6 +1,7 @@
 //! The engine.
 
 ghost use Rattle.std.specs.Prelude.{◌≡◌, IfOk};
+ghost use Rattle.ats_engine_law.specs.InTime.{IsRunInTime};
 ghost use Rattle.ats_trace.specs.Releases.{AreReleases};
 ghost use Rattle.ats_trace.specs.Run.{IsRunBy, HasReleases};
 
@@ -69,10 +70,12 @@ impl<'a, T: Tie, O: TimeOrder, P: Pace> Engine<'a, T, O, P> {
         Ok(Engine { runner, agenda })
     }
 
-    /// The whole run: what happened to each frame. It takes no memory.
+    /// The whole run: what happened to each frame. Each of its times is below `END`, but for that
+    /// of a verdict on a late frame, at which nothing happens. It takes no memory.
     pub fn run(self) -> Run
         ensures by { IsRunBy (T.key self.entry.tie) (P.wait self.entry.pace) self.entry.network result }
         ensures releases { HasReleases self.entry.releases result }
+        ensures in_time { IsRunInTime result }
     {
         let Engine {
             mut runner,

@@ -234,7 +234,22 @@ run-holds {T} {key} {wait} {network} {releases} {course} holds has journeys = re
 has-ending : (p : Progress) → HasEnding p → IsTrue (is_some p.ending)
 has-ending p ending = subst (λ (o : Option Ending). IsTrue (is_some o)) (sym ending.1) refl
 
--- where nothing is to happen any more, the run is over
+-- where nothing is to happen any more, each journey has ended
+each-ended : {T : Type 0} {key : T → ℕ → ℕ → ℕ} {wait : ℕ → ℕ → ℕ} {network : DeclaredNetwork}
+    {releases : List Release} {course : Course T} → Holds key wait network releases course []
+    → All HasEnding course.records
+each-ended {T} {key} {wait} {network} {releases} {course} holds =
+    let whole : All (λ (p : Progress). IsFrame network p Over) course.records = each-whole holds in
+    λ k d h. ending-of (path_of network (get_or course.records k d)) (get_or course.records k d) (whole k d h).stands
+
+-- so the run so far is the one that is finished
+pub run-finished : {T : Type 0} {key : T → ℕ → ℕ → ℕ} {wait : ℕ → ℕ → ℕ} {network : DeclaredNetwork}
+    {releases : List Release} {course : Course T} → Holds key wait network releases course []
+    → travels course ≡ map finished course.records
+run-finished {T} {key} {wait} {network} {releases} {course} holds =
+    travels-finished course.stages course.records holds.shape.stages (each-ended holds)
+
+-- and the run is over
 pub ended-run : {T : Type 0} {key : T → ℕ → ℕ → ℕ} {wait : ℕ → ℕ → ℕ} {network : DeclaredNetwork}
     {releases : List Release} {course : Course T} → Holds key wait network releases course []
     → All (λ (p : Progress). IsTrue (is_some p.ending)) course.records
@@ -243,9 +258,8 @@ pub ended-run : {T : Type 0} {key : T → ℕ → ℕ → ℕ} {wait : ℕ → �
 ended-run {T} {key} {wait} {network} {releases} {course} holds =
     let run : List Travel = map finished course.records in
     let whole : All (λ (p : Progress). IsFrame network p Over) course.records = each-whole holds in
-    let ended : All HasEnding course.records =
-    λ k d h. ending-of (path_of network (get_or course.records k d)) (get_or course.records k d) (whole k d h).stands in
-    let same : travels course ≡ run = travels-finished course.stages course.records holds.shape.stages ended in
+    let ended : All HasEnding course.records = each-ended holds in
+    let same : travels course ≡ run = run-finished holds in
     let has : HasReleases releases run = releases-finished course.records ∙ holds.shape.released in
     let journeys : All (IsJourney network) run =
     All-map (IsJourney network) finished course.records

@@ -14,6 +14,7 @@ pub mod Frames
 pub mod Gathered
 pub mod Groups
 pub mod Hops
+pub mod InTime
 pub mod Judged
 pub mod Kept
 pub mod Left

@@ -1,4 +1,4 @@
-use Rattle.ats_engine.proofs.Concluding.{all-ended, run-by}
+use Rattle.ats_engine.proofs.Concluding.{all-ended, run-by, run-in-time}
 use Rattle.ats_engine.proofs.engine.Engine.run.Goals as goal
 
 pub finish-requires : goal.finish-requires
@@ -13,3 +13,6 @@ pub returns-clause-releases : goal.returns-clause-releases
 returns-clause-releases g c =
     (run-by c.args.self c.self.inside.agenda c.self.view_is c.drive.ensures.follows c.drive.ensures.holds
     c.drive.ensures.empty c.finish.ensures).1
+
+pub returns-clause-in_time : goal.returns-clause-in_time
+returns-clause-in_time g c = run-in-time c.drive.ensures.holds c.drive.ensures.empty c.finish.ensures
