@@ -1,10 +1,13 @@
 //! What one line of a request file asks.
 
-ghost use Rattle.std.specs.Prelude.{◌≡◌, ◌<◌, ℕ, IfOk, IfSome, OnOk, length};
+ghost use Rattle.std.specs.Prelude.{◌≡◌, ℕ, IfOk, IfSome, None};
 ghost use Rattle.std.specs.Global.{Vec};
 ghost use Rattle.std.specs.Option.{option_map};
 ghost use Rattle.ats_num.specs.Failure.{Gives, GivesSeen};
 ghost use Rattle.ats_io.specs.Text.{words_of};
+ghost use Rattle.ats_streams.specs.Stream.{IsStream};
+ghost use Rattle.ats_network.specs.Path.{IsValidPath, IsStationAt};
+ghost use Rattle.ats_requests.specs.Requests.{MayAsk};
 ghost use Rattle.ats_request_file.specs.Words.{class_in, admit_in};
 ghost use Rattle.ats_request_file.specs.Reading.{station_of, path_between, path_in, made_class, stream_over};
 ghost use Rattle.ats_request_file.specs.Reading.{stream_made, admit_line, withdraw_line, request_in};
@@ -38,7 +41,8 @@ pub(crate) fn request_in(
     n: u32,
     line: &[u8],
 ) -> Result<Request, Failure<RequestFault>>
-    ensures { Gives result (request_in topology.now n (words_of line.now)) }
+    ensures value { Gives result (request_in topology.now n (words_of line.now)) }
+    ensures allowed { IfOk result (MayAsk topology.now) }
 {
     if word(line, 0) == b"admit".as_slice() {
         return admit_line(alloc, topology, n, line);
@@ -66,7 +70,8 @@ fn admit_line(
     n: u32,
     line: &[u8],
 ) -> Result<Request, Failure<RequestFault>>
-    ensures { Gives result (admit_line topology.now n (words_of line.now)) }
+    ensures value { Gives result (admit_line topology.now n (words_of line.now)) }
+    ensures allowed { IfOk result (MayAsk topology.now) }
 {
     let said = admit_in(n, line)?;
     let path = path_in(alloc, topology, n, line)?;
@@ -118,7 +123,8 @@ fn path_in(
     n: u32,
     line: &[u8],
 ) -> Result<Vec<u32>, Failure<RequestFault>>
-    ensures { GivesSeen (λ path. path.items) result (path_in topology.now n (words_of line.now)) }
+    ensures value { GivesSeen (λ path. path.items) result (path_in topology.now n (words_of line.now)) }
+    ensures valid { IfOk result (λ path. IsValidPath topology.now path.items) }
 {
     let from = station_of(topology, word(line, 2)).ok_or(RequestFault::UnknownNode(n))?;
     let to = station_of(topology, word(line, 3)).ok_or(RequestFault::UnknownNode(n))?;
@@ -131,7 +137,7 @@ fn path_in(
 // The number of the station that a word names.
 fn station_of(topology: &Topology, word: &[u8]) -> Option<u32>
     ensures number { result ≡ station_of topology.now word.now }
-    ensures within { IfSome result (λ node. node < length topology.now.nodes) }
+    ensures station { IfSome result (IsStationAt topology.now) }
 {
     let name = Name::new(word)?;
     let node = topology.node_named(&name)?;
@@ -149,11 +155,13 @@ fn path_between(
     from: u32,
     to: u32,
 ) -> Result<Option<Vec<u32>>, AllocError>
-    requires from { from < length topology.now.nodes }
-    requires to { to < length topology.now.nodes }
-    ensures { IfOk result
+    requires from { IsStationAt topology.now from }
+    requires to { IsStationAt topology.now to }
+    ensures value { IfOk result
         (λ found. option_map (λ (path : Vec ℕ). path.items) found ≡ path_between topology.now from to) }
+    ensures valid { IfOk result (λ found. IfSome found (λ path. IsValidPath topology.now path.items)) }
 {
+    let _nodes = topology.nodes(); // for what a topology keeps
     if from == to {
         return Ok(None);
     }
@@ -162,7 +170,8 @@ fn path_between(
 
 // The stream that an `admit` line declares over a path.
 fn stream_over(path: Vec<u32>, n: u32, said: &AdmitWords) -> Result<Stream, RequestFault>
-    ensures { result ≡ stream_made n said.now (stream_over path.items said.now) }
+    ensures value { result ≡ stream_made n said.now (stream_over path.items said.now) }
+    ensures rules { IfOk result (λ stream. IsStream stream × (stream.path ≡ path.items) × (stream.identity ≡ None)) }
 {
     let made = Stream::new(
         said.name,

@@ -1,7 +1,8 @@
 //! Request files as bytes.
 
-ghost use Rattle.std.specs.Prelude.{◌≤◌, length};
+ghost use Rattle.std.specs.Prelude.{◌≤◌, length, IfOk, All};
 ghost use Rattle.ats_num.specs.Failure.{GivesSeen};
+ghost use Rattle.ats_requests.specs.Requests.{MayAsk};
 ghost use Rattle.ats_request_file.specs.Reading.{requests_of};
 
 use crate::fault::RequestFault;
@@ -23,7 +24,9 @@ pub fn read_requests(
     network: &Network,
 ) -> Result<Vec<Request>, Failure<RequestFault>>
     requires { length bytes.now ≤ 16777216 }
-    ensures { GivesSeen (λ requests. requests.items) result (requests_of network.now.topology bytes.now) }
+    ensures value { GivesSeen (λ requests. requests.items) result (requests_of network.now.topology bytes.now) }
+    ensures few { IfOk result (λ requests. length requests.items ≤ MAX_REQUESTS) }
+    ensures allowed { IfOk result (λ requests. All (MayAsk network.now.topology) requests.items) }
 {
     let topology = network.topology();
     let mut requests = Vec::new(alloc);

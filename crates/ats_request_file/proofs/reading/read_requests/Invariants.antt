@@ -1,5 +1,7 @@
 use Rattle.std.proofs.Common.{◌≡◌, ◌+◌, ◌-◌, ◌≤◌, length, drop}
+use Rattle.std.specs.List.{All}
 use Rattle.ats_io.specs.Text.{lines_of}
+use Rattle.ats_requests.specs.Requests.{MayAsk}
 use Rattle.ats_request_file.specs.Reading.{requests_from, requests_of}
 use Rattle.ats_request_file.proofs.reading.read_requests.Given as goal
 
@@ -8,6 +10,8 @@ abbrev pub invariant-loop-at : goal.invariant-loop-at
 invariant-loop-at l = record {
   due : requests_from l.topology l.requests.items l.number (lines_of (drop l.at l.bytes))
       ≡ requests_of l.network.topology l.bytes;
+  allowed : All (MayAsk l.network.topology) l.requests.items;
+  some : length l.requests.items ≤ 10000;
   within : l.at ≤ length l.bytes;
   few : l.number ≤ l.at + 1;
 }
