@@ -95,5 +95,6 @@ pub answer_valid : (topology : DeclaredTopology) (a b : ℕ) (answer : Result (O
     → IsTopology topology → IsStationAt topology a → IsStationAt topology b → a ≢ b
     → IfOk answer (λ found. option_map (λ (walk : Vec ℕ). walk.items) found ≡ shortest_of topology a b)
     → IfOk answer (λ found. IfSome found (λ walk. IsValidPath topology walk.items))
-answer_valid topology a b (Ok found) is begins ends differ same = found_valid topology a b found is begins ends differ same
+answer_valid topology a b (Ok found) is begins ends differ same =
+    found_valid topology a b found is begins ends differ same
 answer_valid topology a b (Err e) is begins ends differ same = tt

@@ -42,7 +42,7 @@ path_in topology n words = do
 abbrev pub made_class : AdmitWords → ℕ
 made_class said = unwrap_or said.class 1
 
--- the stream that the words of an `admit` line declare over a path: the class is one at each port, and it has no address
+-- the stream that the words of an `admit` line declare over a path: its class is one at each port, it has no address
 abbrev pub stream_over : List ℕ → AdmitWords → DeclaredStream
 stream_over path said =
     declared_stream said.name path (classes_for (length path) (made_class said ∷ [])) said.rate_bps said.burst_bits
@@ -78,12 +78,17 @@ request_in topology n words =
     else if bytes_eq (word words 0) (codes "withdraw") then withdraw_line n words
     else Err (BadLine n)
 
--- the requests with what the line with number n asks after them, if it asks anything; at most 10,000
+-- what the words of a line ask after so many requests: at most 10,000 are made
+abbrev pub asked_in : DeclaredTopology → ℕ → ℕ → List (List ℕ) → Result Request RequestFault
+asked_in topology before n words = do
+  request ← request_in topology n words
+  ok_where (nat_lt before 10000) (Limit n) request
+
+-- the requests with what the line with number n asks after them, if it asks anything
 abbrev pub with_line : DeclaredTopology → List Request → ℕ → List ℕ → Result (List Request) RequestFault
 with_line topology requests n line =
     if is_skipped line then Ok requests
-    else request_in topology n (words_of line)
-    >>= λ request. ok_where (nat_lt (length requests) 10000) (Limit n) (requests ++ request ∷ [])
+    else asked_in topology (length requests) n (words_of line) >>= λ request. Ok (requests ++ request ∷ [])
 
 -- these requests and those of these lines, the first of which has number n; or the first fault
 abbrev pub requests_from : DeclaredTopology → List Request → ℕ → List (List ℕ) → Result (List Request) RequestFault

@@ -7,4 +7,5 @@ pub mod reading;
 mod words;
 
 pub use fault::RequestFault;
-pub use reading::{MAX_REQUESTS, read_requests};
+pub use line::MAX_REQUESTS;
+pub use reading::read_requests;

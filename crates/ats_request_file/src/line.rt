@@ -1,6 +1,6 @@
 //! What one line of a request file asks.
 
-ghost use Rattle.std.specs.Prelude.{◌≡◌, ℕ, IfOk, IfSome, None};
+ghost use Rattle.std.specs.Prelude.{◌≡◌, ◌<◌, ℕ, IfOk, IfSome, OnOk, None};
 ghost use Rattle.std.specs.Global.{Vec};
 ghost use Rattle.std.specs.Option.{option_map};
 ghost use Rattle.ats_num.specs.Failure.{Gives, GivesSeen};
@@ -10,7 +10,7 @@ ghost use Rattle.ats_network.specs.Path.{IsValidPath, IsStationAt};
 ghost use Rattle.ats_requests.specs.Requests.{MayAsk};
 ghost use Rattle.ats_request_file.specs.Words.{class_in, admit_in};
 ghost use Rattle.ats_request_file.specs.Reading.{station_of, path_between, path_in, made_class, stream_over};
-ghost use Rattle.ats_request_file.specs.Reading.{stream_made, admit_line, withdraw_line, request_in};
+ghost use Rattle.ats_request_file.specs.Reading.{stream_made, admit_line, withdraw_line, request_in, asked_in};
 
 use crate::fault::RequestFault;
 use crate::words::{has_words, named, numbered, word};
@@ -34,8 +34,29 @@ pub(crate) struct AdmitWords {
     pub deadline_ns: u64,
 }
 
-/// What line `n` asks, or its fault.
-pub(crate) fn request_in(
+/// The most requests of a file.
+pub const MAX_REQUESTS: usize = 10_000;
+
+/// What line `n` asks after so many requests, or its fault.
+pub(crate) fn asked_in(
+    alloc: Global,
+    topology: &Topology,
+    before: usize,
+    n: u32,
+    line: &[u8],
+) -> Result<Request, Failure<RequestFault>>
+    ensures value { Gives result (asked_in topology.now before n (words_of line.now)) }
+    ensures allowed { IfOk result (MayAsk topology.now) }
+    ensures room { OnOk result (before < MAX_REQUESTS) }
+{
+    let request = request_in(alloc, topology, n, line)?;
+    if before >= MAX_REQUESTS {
+        return Err(Failure::Fault(RequestFault::Limit(n)));
+    }
+    Ok(request)
+}
+
+fn request_in(
     alloc: Global,
     topology: &Topology,
     n: u32,

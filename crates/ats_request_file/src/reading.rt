@@ -6,16 +6,13 @@ ghost use Rattle.ats_requests.specs.Requests.{MayAsk};
 ghost use Rattle.ats_request_file.specs.Reading.{requests_of};
 
 use crate::fault::RequestFault;
-use crate::line::request_in;
+use crate::line::{MAX_REQUESTS, asked_in};
 use crate::words::is_skipped;
 use ats_io::line_at;
 use ats_network::Network;
 use ats_num::Failure;
 use ats_requests::Request;
 use std::alloc::Global;
-
-/// The most requests of a file.
-pub const MAX_REQUESTS: usize = 10_000;
 
 /// The requests that a text makes over a network, in order, or its first fault with its line, counted from 1.
 pub fn read_requests(
@@ -36,10 +33,7 @@ pub fn read_requests(
         let (end, next) = line_at(bytes, at);
         let line = &bytes[at..end];
         if !is_skipped(line) {
-            let request = request_in(alloc, topology, number, line)?;
-            if requests.len() >= MAX_REQUESTS {
-                return Err(Failure::Fault(RequestFault::Limit(number)));
-            }
+            let request = asked_in(alloc, topology, requests.len(), number, line)?;
             requests.push(request)?;
         }
         number += 1;

@@ -4,15 +4,15 @@ use Rattle.std.specs.List.{All}
 use Rattle.ats_requests.specs.Requests.{MayAsk}
 use Rattle.ats_requests.specs.declared.request.Request.{Request}
 use Rattle.ats_request_file.proofs.Allowed.{more_allowed}
+use Rattle.ats_request_file.proofs.reading.read_requests.Goals.{then-not-is_skipped+in_ok-request+in_ok-push}
 use Rattle.ats_request_file.proofs.reading.read_requests.Goals.{else-not-is_skipped}
-use Rattle.ats_request_file.proofs.reading.read_requests.Goals.{then-not-is_skipped+in_ok-request+else-len-ge-MAX_REQUESTS+in_ok-push}
 use Rattle.ats_request_file.proofs.reading.read_requests.Goals as goal
 
 pub loop-at-preserved : goal.loop-at-preserved
 loop-at-preserved c = record {
   due = search rules;
   allowed = elim c.if-not-is_skipped.branch [
-    | then-not-is_skipped+in_ok-request+else-len-ge-MAX_REQUESTS+in_ok-push w ↦
+    then-not-is_skipped+in_ok-request+in_ok-push w ↦
         more_allowed c.topology-topology.result.now c.args.network.now.topology c.loop-at.requests.items
         c.if-not-is_skipped.requests.items w.in_ok-request.request c.topology-topology.ensures.value
         c.loop-at.invariant.allowed w.in_ok-request.ensures.allowed
