@@ -54,6 +54,7 @@ const COMMANDS: &[(&[&str], u32, &[u8])] = &[
         4,
         b"hop a s1>s2 12836000\nsum a 12836000\naccepted 1\n",
     ),
+    (&["conform", "n", "r"], 4, b"conforms 1\n"),
     (
         &["replay", "n", "r", "early"],
         4,

@@ -1,4 +1,4 @@
-//! Captures, which no command reads yet: in one piece, byte by byte, and cut in two at each place.
+//! Captures, record by record: in one piece, byte by byte, and cut in two at each place.
 
 ghost use Rattle.std.specs.Prelude.{◌+◌, ◌<◌, ◌≤◌};
 

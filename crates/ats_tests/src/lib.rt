@@ -1,11 +1,16 @@
-//! Tests of captures, schedules, meters, queues, ports, events and runs, which no command reaches
-//! yet. There is nothing else here, so that the crates below are proved without tests.
+//! Tests of crates below the commands, such as queues, ports, captures and meters, and of crates
+//! that no command reaches. There is nothing else here, so that the crates below are proved without
+//! tests.
 #![tactic(auto)]
 
+#[cfg(test)]
+mod admission;
 #[cfg(test)]
 mod capture_files;
 #[cfg(test)]
 mod captures;
+#[cfg(test)]
+mod engines;
 #[cfg(test)]
 mod events;
 #[cfg(test)]

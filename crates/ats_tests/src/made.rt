@@ -20,6 +20,7 @@ const MADE: [(u64, [(u64, u32); 3]); 2] = [
 // Without a stream, and with one that sends a frame every 12,336 seconds.
 const STREAMLESS: &[u8] = b"format = 1\n[[station]]\nname = \"s1\"\n[[station]]\nname = \"s2\"\n\
     [[link]]\na = \"s1\"\nb = \"s2\"\nmbps = 1000\npropagation_ns = 500\n";
+
 const SLOW: &[u8] = b"format = 1\n[[station]]\nname = \"s1\"\n[[station]]\nname = \"s2\"\n\
     [[link]]\na = \"s1\"\nb = \"s2\"\nmbps = 1000\npropagation_ns = 500\n\
     [[stream]]\nname = \"a\"\npath = [\"s1\", \"s2\"]\nclass = 6\nrate_bps = 1\n\
@@ -53,12 +54,22 @@ fn the_first_releases_of_two_seeds(rt: HostRuntime) {
 #[test]
 fn a_network_without_a_stream(rt: HostRuntime) {
     let network = network_of(&rt, STREAMLESS);
-    assert!(rt; matches!(schedule(rt.alloc(), &network, 1, 1), Err(Failure::Fault(GenFault::NoStream))));
+    assert!(rt;
+        matches!(
+            schedule(rt.alloc(), &network, 1, 1),
+            Err(Failure::Fault(GenFault::NoStream))
+        )
+    );
 }
 
 #[test]
 fn a_release_past_the_limit(rt: HostRuntime) {
     let network = network_of(&rt, SLOW);
     assert!(rt; schedule(rt.alloc(), &network, 1, 9).is_ok());
-    assert!(rt; matches!(schedule(rt.alloc(), &network, 1, 10), Err(Failure::Fault(GenFault::Limit))));
+    assert!(rt;
+        matches!(
+            schedule(rt.alloc(), &network, 1, 10),
+            Err(Failure::Fault(GenFault::Limit))
+        )
+    );
 }

@@ -1,0 +1,5 @@
+pub mod After
+pub mod Classed
+pub mod Entered
+pub mod Judgements
+pub mod Lowest

@@ -1,0 +1,62 @@
+use Rattle.std.proofs.Common.{◌≡◌, ◌-◌, sym, ap, ◌∙◌, arith}
+use Rattle.std.proofs.lemmas.List.{length-set}
+use Rattle.ats_network.specs.Edits.{with_class_at}
+use Rattle.ats_network.specs.Network.{DeclaredNetwork}
+use Rattle.ats_bound.specs.Reason.{reason_of}
+use Rattle.ats_admission.specs.Judged.{no_class, sum_at}
+use Rattle.ats_admission.proofs.Classed.{same_classed}
+use Rattle.ats_admission.proofs.Judgements.{IsFree, judged_err, judged_ok}
+use Rattle.ats_admission.proofs.Lowest.{first_given, none_given, refused_more}
+use Rattle.ats_admission.proofs.judging.lowest.Goals as goal
+
+pub returns-in-Ok-clause-given : goal.returns-in-Ok-clause-given
+returns-in-Ok-clause-given c =
+    let n = c.args.stream in
+    let class = c.loop-class.class in
+    let at : c.set_class.new.self ≡ with_class_at c.args.network.now n class =
+    c.set_class.ensures ∙ c.loop-class.invariant.same.classed class in
+    let is : IsFree c.set_class.new.self n c.in-Ok.sum = judged_ok c.set_class.new.self n c.in-Ok.sum c.in-Ok.ensures in
+    let free : reason_of (with_class_at c.args.network.now n class) ≡ _ = ap reason_of (sym at) ∙ is.free in
+    record {
+      lowest = first_given c.args.network.now n class c.loop-class.reasons c.loop-class.invariant.refused
+          c.loop-class.auto.class (omega (arith, c.loop-class-test.true)) free;
+      is_class = record {
+        least = c.loop-class.auto.class;
+        most = omega (arith, c.loop-class-test.true);
+      };
+      free = free;
+      sum_is = is.sum_is ∙ ap (λ (t : DeclaredNetwork). sum_at t n) at;
+    }
+
+pub returns-in-Ok-clause-others : goal.returns-in-Ok-clause-others
+returns-in-Ok-clause-others c = same_classed c.args.stream c.loop-class.class c.args.network.now c.loop-class.network
+    c.set_class.new.self c.requires c.loop-class.invariant.same c.set_class.ensures
+
+pub returns-in-Err-NoMemory-clause-others : goal.returns-in-Err-NoMemory-clause-others
+returns-in-Err-NoMemory-clause-others c =
+    same_classed c.args.stream c.loop-class.class c.args.network.now c.loop-class.network
+    c.set_class.new.self c.requires c.loop-class.invariant.same c.set_class.ensures
+
+pub loop-class-preserved : goal.loop-class-preserved
+loop-class-preserved c =
+    let n = c.args.stream in
+    let class = c.loop-class.class in
+    let at : c.set_class.new.self ≡ with_class_at c.args.network.now n class =
+    c.set_class.ensures ∙ c.loop-class.invariant.same.classed class in
+    let due = rw c.in-Err-Fault.field-0-is at c.in-Err-Fault.ensures in
+    record {
+      same = same_classed n class c.args.network.now c.loop-class.network c.set_class.new.self c.requires
+          c.loop-class.invariant.same c.set_class.ensures;
+      refused = refused_more c.args.network.now n class c.in-Err-Fault.reason c.loop-class.reasons
+          c.loop-class.auto.class
+          (omega (arith, c.loop-class.auto.class, c.loop-class-test.true, c.loop-class.invariant.long))
+          c.loop-class.invariant.refused
+          (ap reason_of (sym at) ∙ judged_err c.set_class.new.self n c.in-Err-Fault.reason due);
+      long = length-set c.loop-class.reasons (class - 1) c.in-Err-Fault.reason ∙ c.loop-class.invariant.long;
+    }
+
+pub returns-clause-none : goal.returns-clause-none
+returns-clause-none c =
+    ap no_class (none_given c.args.network.now c.args.stream c.loop-class.reasons c.loop-class.invariant.long
+    (λ class d least less. c.loop-class.invariant.refused class d least
+    (omega (arith, less, c.loop-class-test.false))))

@@ -1,0 +1,8 @@
+//! Admission: a network that streams ask to enter and leave.
+#![tactic(auto)]
+
+mod admitting;
+mod judging;
+pub mod session;
+
+pub use session::Session;
