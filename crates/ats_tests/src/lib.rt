@@ -30,6 +30,8 @@ mod records;
 #[cfg(test)]
 mod replays;
 #[cfg(test)]
+mod requests;
+#[cfg(test)]
 mod runs;
 #[cfg(test)]
 mod schedules;

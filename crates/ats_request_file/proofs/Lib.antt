@@ -1,0 +1,2 @@
+pub mod LeastWalks
+pub mod Allowed

@@ -1,0 +1,212 @@
+//! What one line of a request file asks.
+
+ghost use Rattle.std.specs.Prelude.{◌≡◌, ◌<◌, ℕ, IfOk, IfSome, OnOk, None};
+ghost use Rattle.std.specs.Global.{Vec};
+ghost use Rattle.std.specs.Option.{option_map};
+ghost use Rattle.ats_num.specs.Failure.{Gives, GivesSeen};
+ghost use Rattle.ats_io.specs.Text.{words_of};
+ghost use Rattle.ats_streams.specs.Stream.{IsStream};
+ghost use Rattle.ats_network.specs.Path.{IsValidPath, IsStationAt};
+ghost use Rattle.ats_requests.specs.Requests.{MayAsk};
+ghost use Rattle.ats_request_file.specs.Words.{class_in, admit_in};
+ghost use Rattle.ats_request_file.specs.Reading.{station_of, path_between, path_in, made_class, stream_over};
+ghost use Rattle.ats_request_file.specs.Reading.{stream_made, admit_line, withdraw_line, request_in, asked_in};
+
+use crate::fault::RequestFault;
+use crate::words::{has_words, named, numbered, word};
+use ats_network::shortest;
+use ats_num::{Failure, Name};
+use ats_requests::Request;
+use ats_streams::Stream;
+use ats_topology::Topology;
+use std::alloc::{AllocError, Global};
+
+/// An `admit` line as it stands: its ends are not looked up and its numbers are not judged yet.
+#[derive(Clone, Copy)]
+pub(crate) struct AdmitWords {
+    pub name: Name,
+    /// `None` for `lowest`.
+    pub class: Option<u64>,
+    pub rate_bps: u64,
+    pub burst_bits: u64,
+    pub min_octets: u64,
+    pub max_octets: u64,
+    pub deadline_ns: u64,
+}
+
+/// The most requests of a file.
+pub const MAX_REQUESTS: usize = 10_000;
+
+/// What line `n` asks after so many requests, or its fault.
+pub(crate) fn asked_in(
+    alloc: Global,
+    topology: &Topology,
+    before: usize,
+    n: u32,
+    line: &[u8],
+) -> Result<Request, Failure<RequestFault>>
+    ensures value { Gives result (asked_in topology.now before n (words_of line.now)) }
+    ensures allowed { IfOk result (MayAsk topology.now) }
+    ensures room { OnOk result (before < MAX_REQUESTS) }
+{
+    let request = request_in(alloc, topology, n, line)?;
+    if before >= MAX_REQUESTS {
+        return Err(Failure::Fault(RequestFault::Limit(n)));
+    }
+    Ok(request)
+}
+
+fn request_in(
+    alloc: Global,
+    topology: &Topology,
+    n: u32,
+    line: &[u8],
+) -> Result<Request, Failure<RequestFault>>
+    ensures value { Gives result (request_in topology.now n (words_of line.now)) }
+    ensures allowed { IfOk result (MayAsk topology.now) }
+{
+    if word(line, 0) == b"admit".as_slice() {
+        return admit_line(alloc, topology, n, line);
+    }
+    if word(line, 0) == b"withdraw".as_slice() {
+        return Ok(withdraw_line(n, line)?);
+    }
+    Err(Failure::Fault(RequestFault::BadLine(n)))
+}
+
+fn withdraw_line(n: u32, line: &[u8]) -> Result<Request, RequestFault>
+    ensures { result ≡ withdraw_line n (words_of line.now) }
+{
+    let name = named(n, line, 1)?;
+    if has_words(line, 2) {
+        Ok(Request::Withdraw(name))
+    } else {
+        Err(RequestFault::BadLine(n))
+    }
+}
+
+fn admit_line(
+    alloc: Global,
+    topology: &Topology,
+    n: u32,
+    line: &[u8],
+) -> Result<Request, Failure<RequestFault>>
+    ensures value { Gives result (admit_line topology.now n (words_of line.now)) }
+    ensures allowed { IfOk result (MayAsk topology.now) }
+{
+    let said = admit_in(n, line)?;
+    let path = path_in(alloc, topology, n, line)?;
+    let stream = stream_over(path, n, &said)?;
+    match said.class {
+        None => Ok(Request::Lowest(stream)),
+        Some(_) => Ok(Request::Admit(stream)),
+    }
+}
+
+// What the words of an `admit` line say.
+fn admit_in(n: u32, line: &[u8]) -> Result<AdmitWords, RequestFault>
+    ensures { result ≡ admit_in n (words_of line.now) }
+{
+    let name = named(n, line, 1)?;
+    let class = class_in(n, line)?;
+    let rate_bps = numbered(n, line, 5)?;
+    let burst_bits = numbered(n, line, 6)?;
+    let min_octets = numbered(n, line, 7)?;
+    let max_octets = numbered(n, line, 8)?;
+    let deadline_ns = numbered(n, line, 9)?;
+    if !has_words(line, 10) {
+        return Err(RequestFault::BadLine(n));
+    }
+    Ok(AdmitWords {
+        name,
+        class,
+        rate_bps,
+        burst_bits,
+        min_octets,
+        max_octets,
+        deadline_ns,
+    })
+}
+
+fn class_in(n: u32, line: &[u8]) -> Result<Option<u64>, RequestFault>
+    ensures { result ≡ class_in n (words_of line.now) }
+{
+    if word(line, 4) == b"lowest".as_slice() {
+        return Ok(None);
+    }
+    Ok(Some(numbered(n, line, 4)?))
+}
+
+// The path between the stations that an `admit` line names.
+fn path_in(
+    alloc: Global,
+    topology: &Topology,
+    n: u32,
+    line: &[u8],
+) -> Result<Vec<u32>, Failure<RequestFault>>
+    ensures value { GivesSeen (λ path. path.items) result (path_in topology.now n (words_of line.now)) }
+    ensures valid { IfOk result (λ path. IsValidPath topology.now path.items) }
+{
+    let from = station_of(topology, word(line, 2)).ok_or(RequestFault::UnknownNode(n))?;
+    let to = station_of(topology, word(line, 3)).ok_or(RequestFault::UnknownNode(n))?;
+    match path_between(alloc, topology, from, to)? {
+        Some(path) => Ok(path),
+        None => Err(Failure::Fault(RequestFault::NoPath(n))),
+    }
+}
+
+// The number of the station that a word names.
+fn station_of(topology: &Topology, word: &[u8]) -> Option<u32>
+    ensures number { result ≡ station_of topology.now word.now }
+    ensures station { IfSome result (IsStationAt topology.now) }
+{
+    let name = Name::new(word)?;
+    let node = topology.node_named(&name)?;
+    if topology.nodes()[node as usize].kind.is_station() {
+        Some(node)
+    } else {
+        None
+    }
+}
+
+// The ports of the least walk from one station to another one.
+fn path_between(
+    alloc: Global,
+    topology: &Topology,
+    from: u32,
+    to: u32,
+) -> Result<Option<Vec<u32>>, AllocError>
+    requires from { IsStationAt topology.now from }
+    requires to { IsStationAt topology.now to }
+    ensures value { IfOk result
+        (λ found. option_map (λ (path : Vec ℕ). path.items) found ≡ path_between topology.now from to) }
+    ensures valid { IfOk result (λ found. IfSome found (λ path. IsValidPath topology.now path.items)) }
+{
+    let _nodes = topology.nodes(); // for what a topology keeps
+    if from == to {
+        return Ok(None);
+    }
+    shortest(alloc, topology, from, to)
+}
+
+// The stream that an `admit` line declares over a path.
+fn stream_over(path: Vec<u32>, n: u32, said: &AdmitWords) -> Result<Stream, RequestFault>
+    ensures value { result ≡ stream_made n said.now (stream_over path.items said.now) }
+    ensures rules { IfOk result (λ stream. IsStream stream × (stream.path ≡ path.items) × (stream.identity ≡ None)) }
+{
+    let made = Stream::new(
+        said.name,
+        path,
+        &[said.class.unwrap_or(1)],
+        said.rate_bps,
+        said.burst_bits,
+        said.min_octets,
+        said.max_octets,
+        said.deadline_ns,
+        None,
+    );
+    match made {
+        Ok(stream) => Ok(stream),
+        Err(fault) => Err(RequestFault::Stream(n, fault)),
+    }
+}
