@@ -60,7 +60,7 @@ abbrev ComesBefore : ℕ → List HopRecord → Ending → Type 0
 ComesBefore time (hop ∷ hops) ending = hop.arrival.0 < time
 ComesBefore time [] ending = IsEndBefore time ending
 
--- what follows from a hop record whose transmission and crossing are before this time
+-- a hop record with this verdict and transmission tells times before this one, and the frame comes further before it
 record IsHopDone (time : ℕ) (verdict : Verdict) (given : Option (Ps × Ps)) (hops : List HopRecord) (ending : Ending)
     : Type 0 where
   eligible : IsEligibleBefore time verdict
@@ -77,7 +77,7 @@ none-comes : (time : ℕ) (hops : List HopRecord) (ending : Ending) → hops ≡
     → ComesBefore time hops ending
 none-comes time hops ending none is = rw (none, is) tt
 
--- nor is there more of its way
+-- and nothing is left of its way
 ended-before : (time : ℕ) (hops : List HopRecord) (ending : Ending) → hops ≡ [] → ending ≡ Discard
     → IsWayBefore time hops ending
 ended-before time hops ending none is =
@@ -92,7 +92,8 @@ comes-released time release [] ending before released = absurd released
 comes-released time release (hop ∷ hops) ending before released =
     subst (λ (at : Ps). at.0 < time) (sym released.0) before
 
--- it does so where the frame was sent and has crossed the port
+-- a hop record of a frame that was sent and has crossed the port, or was discarded, tells times before this one, and
+-- the frame comes further before it
 hop-done : (time ports frame came p : ℕ) (release : Release) (class : ℕ) (path : List ℕ) (verdict : Verdict)
     (sent : Option (Ps × Ps)) (hops : List HopRecord) (ending : Ending) → p < ports
     → IsSentOrEnds (IsWay path hops ending) verdict sent hops ending
@@ -132,7 +133,7 @@ hop-done time ports frame came p release class path Size (Some times) hops endin
 hop-done time ports frame came p release class path Size None hops ending within way later crossed =
     record { eligible = tt; sent = tt; comes = none-comes time hops ending way.0 way.1 }
 
--- what follows a hop record is so where it is so of a way that goes on
+-- what is left behind a hop record is before this time where it is so of a way that goes on there
 onward-before : (time : ℕ) (path : List ℕ) (hops : List HopRecord) (ending : Ending) (verdict : Verdict)
     (given : Option (Ps × Ps)) → (IsWay path hops ending → IsWayBefore time hops ending)
     → IsSentOrEnds (IsWay path hops ending) verdict given hops ending → IsWayBefore time hops ending
@@ -143,7 +144,7 @@ onward-before time path hops ending (Late e) None further way = ended-before tim
 onward-before time path hops ending Size (Some times) further way = absurd way
 onward-before time path hops ending Size None further way = ended-before time hops ending way.0 way.1
 
--- it is so where the frame comes to it before this time, each hop after the other
+-- so all that is left of a way is before this time where the frame comes to it before this time
 way-before : (time ports frame : ℕ) (release : Release) (sender : Sender) (path : List ℕ) (hops : List HopRecord)
     (ending : Ending) → All (λ (p : ℕ). p < ports) path → IsWay path hops ending
     → All (IsLaterAt ports) (hops_along frame release sender path hops)
