@@ -12,7 +12,7 @@ pub loop-at-preserved : goal.loop-at-preserved
 loop-at-preserved c = record {
   due = search rules;
   allowed = elim c.if-not-is_skipped.branch [
-    then-not-is_skipped+in_ok-request+in_ok-push w ↦
+    | then-not-is_skipped+in_ok-request+in_ok-push w ↦
         more_allowed c.topology-topology.result.now c.args.network.now.topology c.loop-at.requests.items
         c.if-not-is_skipped.requests.items w.in_ok-request.request c.topology-topology.ensures.value
         c.loop-at.invariant.allowed w.in_ok-request.ensures.allowed
