@@ -29,7 +29,7 @@ pub enum Command<'a> {
     Replay(&'a str, &'a str, Order),
     /// `capture NET STATION FILE ORDER`: runs what a station sent by a capture, and gives every journey.
     Capture(&'a str, &'a str, &'a str, Order),
-    /// `generate NET SEED COUNT`: makes releases by which all talkers keep their buckets, runs them, and gives a summary.
+    /// `generate NET SEED COUNT`: makes releases by which all talkers keep their buckets, runs them, and sums them up.
     Generate(&'a str, u64, u32),
 }
 

@@ -78,7 +78,8 @@ same_due told (Capture net station file order) one other h k =
     one_status (IsCaptured order) (captured_in net station file (told_bytes told net) (told_bytes told file)) one other
     h.answers k.answers
 same_due told (Generate net seed count) one other h k =
-    one_status (IsGenerated seed count) (generated_in net seed count (told_bytes told net)) one other h.answers k.answers
+    one_status (IsGenerated seed count) (generated_in net seed count (told_bytes told net)) one other h.answers
+    k.answers
 same_due told Unknown one other h k = same_status one other words_answer h.answers k.answers
 
 pub one_status_due : OneStatusIsDue

@@ -60,8 +60,8 @@ network_unless network (Some fault) =
 unfoldable pub made_for : ℕ → ℕ → DeclaredNetwork → Result DeclaredNetwork Answer
 made_for seed count network = network_unless network (gen_fault network seed count)
 
--- the network that a file of these bytes declares, if so many frames are made for it from a seed, or the answer where it
--- has a fault or they are not
+-- the network that a file of these bytes declares, if so many frames are made for it from a seed, or the answer where
+-- it has a fault or they are not
 unfoldable pub generated_in : List ℕ → ℕ → ℕ → List ℕ → Result DeclaredNetwork Answer
 generated_in net seed count bytes = do
   network ← network_in net bytes
