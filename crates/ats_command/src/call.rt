@@ -74,7 +74,7 @@ fn carry_out<F: Files, O: Sink>(
     files: &mut F,
     out: &mut O,
 ) -> Status
-    requires { HasFewFrames (view command.entry) }
+    requires { HasFewFrames (view command) }
     ensures printed { HasText result
         → Printed (F.told files.old) (view command.entry) result (O.held out.old) (O.held out.new) }
     ensures no_words { ¬ (result ≡ Status.Words) }
@@ -95,7 +95,7 @@ fn carry_out<F: Files, O: Sink>(
 
 // What a command of the table comes to.
 fn outcome_of<F: Files>(alloc: Global, command: Command, files: &mut F) -> Result<Vec<u8>, Stop>
-    requires { HasFewFrames (view command.entry) }
+    requires { HasFewFrames (view command) }
     ensures due { Answers (F.told files.old) (view command.entry) result }
     ensures sound { IfOk result (λ text. IsSoundCheck (F.told files.old) (view command.entry) text.items) }
     ensures failed { IsErrOf result Stop.ReadFailed

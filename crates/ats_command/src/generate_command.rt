@@ -46,12 +46,7 @@ pub fn generate<F: Files>(
 }
 
 // What is printed of the releases that are made for a network, or why none are.
-fn summary_of(
-    alloc: Global,
-    network: &Network,
-    seed: u64,
-    count: u32,
-) -> Result<Vec<u8>, Stop>
+fn summary_of(alloc: Global, network: &Network, seed: u64, count: u32) -> Result<Vec<u8>, Stop>
     requires { count ≤ MAX_FRAMES }
     ensures due { GivesOne (IsGenerated seed count) result (made_for seed count network.now) }
     ensures was_read { ¬ IsErrOf result Stop.ReadFailed }
