@@ -1,5 +1,6 @@
 use Rattle.std.specs.Prelude.{ℕ, List, [], ◌∷◌, codes, Option, Some, None, if◌then◌else◌}
 use Rattle.std.specs.Str.{bytes_eq}
+use Rattle.ats_answer.specs.Making.{count_named, seed_named}
 use Rattle.ats_answer.specs.Order.{order_named}
 use Rattle.ats_answer.specs.declared.order.Order.{Order}
 
@@ -13,6 +14,7 @@ pub data Command : Type 0 where
   Conform : List ℕ → List ℕ → Command
   Replay : List ℕ → List ℕ → Order → Command
   Capture : List ℕ → List ℕ → List ℕ → Order → Command
+  Generate : List ℕ → ℕ → ℕ → Command
   Unknown : Command
 
 -- the command of a verb and a file
@@ -36,10 +38,18 @@ abbrev pub replay_in : List ℕ → List ℕ → Option Order → Command
 replay_in net schedule None = Unknown
 replay_in net schedule (Some order) = Replay net schedule order
 
--- the command of a verb, two files and a word
+-- the making of so many frames from a seed, where there are both
+abbrev pub generate_in : List ℕ → Option ℕ → Option ℕ → Command
+generate_in net None count = Unknown
+generate_in net (Some seed) None = Unknown
+generate_in net (Some seed) (Some count) = Generate net seed count
+
+-- the command of a verb, a file, a file or a word, and a word
 abbrev pub command_on_three : List ℕ → List ℕ → List ℕ → List ℕ → Command
 command_on_three verb file second word =
-    if bytes_eq verb (codes "replay") then replay_in file second (order_named word) else Unknown
+    if bytes_eq verb (codes "replay") then replay_in file second (order_named word)
+    else if bytes_eq verb (codes "generate") then generate_in file (seed_named second) (count_named word)
+    else Unknown
 
 -- the replay of a capture at a station in an order, where there is one
 abbrev pub capture_in : List ℕ → List ℕ → List ℕ → Option Order → Command
@@ -71,4 +81,5 @@ file_words (Check net certificate) = net ∷ certificate ∷ []
 file_words (Conform net schedule) = net ∷ schedule ∷ []
 file_words (Replay net schedule order) = net ∷ schedule ∷ []
 file_words (Capture net station file order) = net ∷ file ∷ []
+file_words (Generate net seed count) = net ∷ []
 file_words Unknown = []

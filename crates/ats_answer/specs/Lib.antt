@@ -6,3 +6,4 @@ pub mod Named
 pub mod Outcome
 pub mod Status
 pub mod Station
+pub mod Making

@@ -3,7 +3,7 @@ use Rattle.std.specs.declared.alloc.Global.{Global}
 use Rattle.ats_answer.specs.Command as table
 use Rattle.ats_answer.specs.declared.command.Command.{Command}
 use Rattle.ats_answer.specs.declared.command.Command.TheVariants.{Shape, Show, Bound, Explain, Check, Replay, Capture}
-use Rattle.ats_answer.specs.declared.command.Command.TheVariants.{Conform}
+use Rattle.ats_answer.specs.declared.command.Command.TheVariants.{Conform, Generate}
 
 -- the bytes of words
 abbrev pub texts_of : List (String Global) → List (List ℕ)
@@ -19,6 +19,7 @@ view (Check net certificate) = table.Check net.now certificate.now
 view (Conform net schedule) = table.Conform net.now schedule.now
 view (Replay net schedule order) = table.Replay net.now schedule.now order
 view (Capture net station file order) = table.Capture net.now station.now file.now order
+view (Generate net seed count) = table.Generate net.now seed count
 
 -- the same, where there may be none
 abbrev pub view_of : Option Command → table.Command

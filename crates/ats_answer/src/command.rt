@@ -2,9 +2,12 @@
 
 ghost use Rattle.std.specs.Prelude.{◌≡◌};
 ghost use Rattle.ats_answer.specs.Command.{command_of, command_on, command_on_four, command_on_three};
-ghost use Rattle.ats_answer.specs.Command.{command_on_two};
+ghost use Rattle.ats_answer.specs.Command.{command_on_two, generate_in, replay_in};
+ghost use Rattle.ats_answer.specs.Making.{count_named, seed_named};
+ghost use Rattle.ats_answer.specs.Order.{order_named};
 ghost use Rattle.ats_answer.specs.Named.{texts_of, view_of};
 
+use crate::making::{count_named, seed_named};
 use crate::order::{Order, order_named};
 
 /// A line of the command table, with its words.
@@ -26,6 +29,8 @@ pub enum Command<'a> {
     Replay(&'a str, &'a str, Order),
     /// `capture NET STATION FILE ORDER`: runs what a station sent by a capture, and gives every journey.
     Capture(&'a str, &'a str, &'a str, Order),
+    /// `generate NET SEED COUNT`: makes releases by which all talkers keep their buckets, runs them, and sums them up.
+    Generate(&'a str, u64, u32),
 }
 
 /// The command that words name; `None` exactly where they are not in the table.
@@ -86,15 +91,34 @@ fn on_two<'a>(verb: &str, file: &'a str, second: &'a str) -> Option<Command<'a>>
     }
 }
 
-// The command of a verb, two files and a word.
+// The command of a verb, a file, a file or a word, and a word.
 fn on_three<'a>(verb: &str, file: &'a str, second: &'a str, word: &str) -> Option<Command<'a>>
     ensures { view_of result ≡ command_on_three verb.now file.now second.now word.now }
 {
-    if verb != "replay" {
-        return None;
+    if verb == "replay" {
+        on_schedule(file, second, word)
+    } else if verb == "generate" {
+        on_making(file, second, word)
+    } else {
+        None
     }
+}
+
+// The replay of a schedule in the order that a word names.
+fn on_schedule<'a>(file: &'a str, schedule: &'a str, word: &str) -> Option<Command<'a>>
+    ensures { view_of result ≡ replay_in file.now schedule.now (order_named word.now) }
+{
     let order = order_named(word)?;
-    Some(Command::Replay(file, second, order))
+    Some(Command::Replay(file, schedule, order))
+}
+
+// The making of traffic from the seed and of as many frames as words name.
+fn on_making<'a>(file: &'a str, seed: &str, count: &str) -> Option<Command<'a>>
+    ensures { view_of result ≡ generate_in file.now (seed_named seed.now) (count_named count.now) }
+{
+    let seed = seed_named(seed)?;
+    let count = count_named(count)?;
+    Some(Command::Generate(file, seed, count))
 }
 
 // The command of a verb, a file, a word, a file and a word.

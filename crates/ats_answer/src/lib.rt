@@ -4,6 +4,7 @@
 
 pub mod command;
 pub mod input_file;
+pub mod making;
 pub mod order;
 pub mod outcome;
 pub mod station;
@@ -11,6 +12,7 @@ pub mod status;
 
 pub use command::{Command, named_by};
 pub use input_file::{certificate_in, network_in, schedule_in, shape_in, traffic_in};
+pub use making::{count_named, seed_named};
 pub use order::{Order, order_named};
 pub use outcome::{Stop, finish, print};
 pub use station::station_in;

@@ -12,3 +12,5 @@ pub mod Ending
 pub mod Surely
 pub mod Explaining
 pub mod ConformMeanings
+pub mod FewFrames
+pub mod Generated

@@ -1,11 +1,12 @@
 use Rattle.std.proofs.Common.{◌≡◌, ℕ, List, Option, refl, sym, ap, ◌∙◌}
 use Rattle.ats_answer.specs.Command.{Command, Shape, Show, Bound, Explain, Check, Replay, Unknown, command_of}
-use Rattle.ats_answer.specs.Command.{Capture, Conform}
+use Rattle.ats_answer.specs.Command.{Capture, Conform, Generate}
 use Rattle.ats_answer.specs.Answer.{Answer, words_answer}
 use Rattle.ats_command.specs.Due.{IsDueAnswer, IsTold, told_bytes}
 use Rattle.ats_command.specs.Due.{shape_answer, show_answer, bound_answer, explain_answer, check_answer}
 use Rattle.ats_command.specs.Laws.{HasOneAnswer, OneAnswerIsDue, OneStatusIsDue}
 use Rattle.ats_command.specs.Captured.{IsCaptured, captured_in}
+use Rattle.ats_command.specs.Generated.{IsGenerated, generated_in}
 use Rattle.ats_command.specs.Replayed.{IsReplayed, scheduled_in}
 use Rattle.ats_command.proofs.Conforms.{one_judgement, same_judgement}
 use Rattle.ats_command.proofs.Scheduled.{scheduled_may}
@@ -38,6 +39,9 @@ only_due told (Replay net schedule order) is_told one =
 only_due told (Capture net station file order) is_told one =
     let alone = one_without_texts (IsCaptured order)
     (captured_in net station file (told_bytes told net) (told_bytes told file)) one in
+    (alone.0, record { is_told = is_told; answers = alone.1 }, λ other due. alone.2 other due.answers)
+only_due told (Generate net seed count) is_told one =
+    let alone = one_without_texts (IsGenerated seed count) (generated_in net seed count (told_bytes told net)) one in
     (alone.0, record { is_told = is_told; answers = alone.1 }, λ other due. alone.2 other due.answers)
 only_due told Unknown is_told one =
     (words_answer, record { is_told = is_told; answers = refl }, λ other due. due.answers)
@@ -73,6 +77,9 @@ same_due told (Replay net schedule order) one other h k =
 same_due told (Capture net station file order) one other h k =
     one_status (IsCaptured order) (captured_in net station file (told_bytes told net) (told_bytes told file)) one other
     h.answers k.answers
+same_due told (Generate net seed count) one other h k =
+    one_status (IsGenerated seed count) (generated_in net seed count (told_bytes told net)) one other h.answers
+    k.answers
 same_due told Unknown one other h k = same_status one other words_answer h.answers k.answers
 
 pub one_status_due : OneStatusIsDue

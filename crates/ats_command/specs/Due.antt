@@ -3,7 +3,7 @@ use Rattle.ats_io.specs.Outside.{IfTold}
 use Rattle.ats_shape.specs.Text.{text_of}
 use Rattle.ats_network_text.specs.Text.{show_text}
 use Rattle.ats_answer.specs.Command.{Command, Shape, Show, Bound, Explain, Check, Replay, Unknown, file_words}
-use Rattle.ats_answer.specs.Command.{Capture, Conform}
+use Rattle.ats_answer.specs.Command.{Capture, Conform, Generate}
 use Rattle.ats_num.specs.Failure.{◌>>=◌}
 use Rattle.ats_answer.specs.declared.order.Order.{Order}
 use Rattle.ats_answer.specs.Answer.{Answer, words_answer, settled}
@@ -12,6 +12,7 @@ use Rattle.ats_command.specs.Judged.{bound_judged, certificate_judged, explain_j
 use Rattle.ats_answer.specs.Station.{station_in}
 use Rattle.ats_command.specs.Captured.{IsCaptured, captured_in}
 use Rattle.ats_command.specs.Conformed.{IsAnswerTo, JudgesScheduled}
+use Rattle.ats_command.specs.Generated.{IsGenerated, generated_in}
 use Rattle.ats_command.specs.Replayed.{IsOneOf, IsReplayed, scheduled_in}
 
 -- to `shape FILE`, by the bytes of the file
@@ -59,6 +60,11 @@ abbrev pub IsConformAnswer : List ℕ → List ℕ → List ℕ → List ℕ →
 IsConformAnswer net schedule net_bytes schedule_bytes answer =
     IsAnswerTo JudgesScheduled (scheduled_in net schedule net_bytes schedule_bytes) answer
 
+-- an answer to `generate NET SEED COUNT`, by the bytes of the file: it says what came of some run in the order `early`
+abbrev pub IsGenerateAnswer : List ℕ → ℕ → ℕ → List ℕ → Answer → Type 0
+IsGenerateAnswer net seed count bytes answer =
+    IsOneOf (IsGenerated seed count) (generated_in net seed count bytes) answer
+
 -- an answer to a command, where its files have these bytes
 abbrev pub IsAnswer : (List ℕ → List ℕ) → Command → Answer → Type 0
 IsAnswer bytes (Shape file) answer = answer ≡ shape_answer file (bytes file)
@@ -71,6 +77,7 @@ IsAnswer bytes (Replay net schedule order) answer =
     IsReplayAnswer net schedule order (bytes net) (bytes schedule) answer
 IsAnswer bytes (Capture net station file order) answer =
     IsCaptureAnswer net station file order (bytes net) (bytes file) answer
+IsAnswer bytes (Generate net seed count) answer = IsGenerateAnswer net seed count (bytes net) answer
 IsAnswer bytes Unknown answer = answer ≡ words_answer
 
 -- the bytes of each file word are told
@@ -106,4 +113,5 @@ Reaches told (Conform net schedule) name = (name ≡ net) ⊎ ((name ≡ schedul
 Reaches told (Replay net schedule order) name = (name ≡ net) ⊎ ((name ≡ schedule) × Declares told net)
 Reaches told (Capture net station file order) name =
     (name ≡ net) ⊎ ((name ≡ file) × DeclaresStation told net station)
+Reaches told (Generate net seed count) name = name ≡ net
 Reaches told Unknown name = ⊥

@@ -10,10 +10,11 @@ use Rattle.ats_certificate.specs.declared.row.Row.{Row}
 use Rattle.ats_soundness_law.specs.Sound.{bounds_of}
 use Rattle.ats_verdict_text.specs.Text.{stream_lines}
 use Rattle.ats_answer.specs.Command.{Command, Shape, Show, Bound, Explain, Check, Replay, Unknown, command_of}
-use Rattle.ats_answer.specs.Command.{Capture, Conform}
+use Rattle.ats_answer.specs.Command.{Capture, Conform, Generate}
 use Rattle.ats_answer.specs.Answer.{Answer}
 use Rattle.ats_command.specs.Due.{IsDueAnswer, IsTold, told_bytes}
 use Rattle.ats_command.specs.Captured.{captured_in}
+use Rattle.ats_command.specs.Generated.{generated_in}
 use Rattle.ats_command.specs.Replayed.{scheduled_in}
 
 -- this answer is due, and no other
@@ -21,8 +22,8 @@ pub record IsOnlyDue (told : List ℕ → Option (List ℕ)) (words : List (List
   pub due : IsDueAnswer told (command_of words) answer
   pub only : (other : Answer) → IsDueAnswer told (command_of words) other → other ≡ answer
 
--- the bytes that are told leave one answer alone: to each command but `replay` and `capture`, which may print any run
--- in their order, and to these where a file has a fault or no station has the name
+-- the bytes that are told leave one answer alone: to each command but `replay`, `capture` and `generate`, which may
+-- print any run in their order, and to these where a file has a fault, no station has the name, or no releases are made
 abbrev pub HasOneAnswer : (List ℕ → Option (List ℕ)) → Command → Type 0
 HasOneAnswer told (Shape file) = Unit {0}
 HasOneAnswer told (Show net) = Unit {0}
@@ -34,6 +35,7 @@ HasOneAnswer told (Replay net schedule order) =
     IsErr (scheduled_in net schedule (told_bytes told net) (told_bytes told schedule))
 HasOneAnswer told (Capture net station file order) =
     IsErr (captured_in net station file (told_bytes told net) (told_bytes told file))
+HasOneAnswer told (Generate net seed count) = IsErr (generated_in net seed count (told_bytes told net))
 HasOneAnswer told Unknown = Unit {0}
 
 -- for all words, and all bytes told under the names of their files, just one answer is due, where they leave one alone

@@ -7,6 +7,7 @@ ghost use Rattle.ats_answer.specs.Command as table;
 ghost use Rattle.ats_answer.specs.Named.{texts_of, view};
 ghost use Rattle.ats_answer.specs.Answer.{HasText};
 ghost use Rattle.ats_command.specs.Due.{IsTold};
+ghost use Rattle.ats_command.specs.Generated.{HasFewFrames};
 ghost use Rattle.ats_command.specs.Soundness.{IsSoundCheck, PrintsSoundly};
 ghost use Rattle.ats_command.specs.Calls.{Answers, Printed, PrintedPrefix, ReadRose, IsCalm, StatusIsDue};
 
@@ -15,6 +16,7 @@ use crate::capture_command::capture;
 use crate::check_command::check;
 use crate::conform_command::conform;
 use crate::explain_command::explain;
+use crate::generate_command::generate;
 use crate::replay_command::replay;
 use crate::shape_command::shape;
 use crate::show_command::show;
@@ -72,6 +74,7 @@ fn carry_out<F: Files, O: Sink>(
     files: &mut F,
     out: &mut O,
 ) -> Status
+    requires { HasFewFrames (view command) }
     ensures printed { HasText result
         → Printed (F.told files.old) (view command.entry) result (O.held out.old) (O.held out.new) }
     ensures no_words { ¬ (result ≡ Status.Words) }
@@ -92,6 +95,7 @@ fn carry_out<F: Files, O: Sink>(
 
 // What a command of the table comes to.
 fn outcome_of<F: Files>(alloc: Global, command: Command, files: &mut F) -> Result<Vec<u8>, Stop>
+    requires { HasFewFrames (view command) }
     ensures due { Answers (F.told files.old) (view command.entry) result }
     ensures sound { IfOk result (λ text. IsSoundCheck (F.told files.old) (view command.entry) text.items) }
     ensures failed { IsErrOf result Stop.ReadFailed
@@ -109,5 +113,6 @@ fn outcome_of<F: Files>(alloc: Global, command: Command, files: &mut F) -> Resul
         Command::Capture(net, station, file, order) => {
             capture(alloc, net, station, file, order, files)
         }
+        Command::Generate(net, seed, count) => generate(alloc, net, seed, count, files),
     }
 }

@@ -15,7 +15,8 @@ use ats_io::{Files, SureFiles, SureSink};
 use std::alloc::Global;
 
 /// For all words, and all bytes told under the names of their files, just one answer is due, except to `replay` and
-/// `capture` of files without a fault, which may print any run in their order.
+/// `capture` of files without a fault, and to `generate` where releases are made: these may print any run in their
+/// order.
 pub fn one_answer_is_due()
     ensures { OneAnswerIsDue }
 {}
