@@ -12,9 +12,12 @@ pub returns-in_ok-text_of-in-Ok-clause-due : goal.returns-in_ok-text_of-in-Ok-cl
 returns-in_ok-text_of-in-Ok-clause-due c = (
   c.args.network.now,
   made_is c.args.network.now c.args.seed c.args.count c.in-Ok.ensures.sound,
-  (c.in-Ok.releases.items, c.in-Ok.ensures.made,
-  subst (λ (rs : List Release). IsReportText c.args.network.now rs c.in_ok-text_of-in-Ok.field-0.items)
-  c.deref.ensures.value c.in_ok-text_of-in-Ok.ensures),
+  (
+    c.in-Ok.releases.items,
+    c.in-Ok.ensures.made,
+    subst (λ (rs : List Release). IsReportText c.args.network.now rs c.in_ok-text_of-in-Ok.field-0.items)
+        c.deref.ensures.value c.in_ok-text_of-in-Ok.ensures,
+  ),
 )
 
 pub returns-in_ok-refused-in-Err-Fault-clause-due : goal.returns-in_ok-refused-in-Err-Fault-clause-due
