@@ -109,7 +109,7 @@ fn nodes_named(
     ensures { IfOk result
         (λ found. option_map (λ (nodes : Vec ℕ). nodes.items) found ≡ nodes_named topology.now names.now) }
 {
-    let mut nodes = Vec::new(alloc);
+    let mut nodes = Vec::with_capacity(alloc, names.len())?;
     for name in names {
         let Some(node) = topology.node_named(name) else {
             return Ok(None);
@@ -132,7 +132,7 @@ fn ports_along(
         return Ok(None);
     };
     let mut at = *first;
-    let mut path = Vec::new(alloc);
+    let mut path = Vec::with_capacity(alloc, rest.len())?;
     for node in rest {
         let Some(port) = topology.port_between(at, *node) else {
             return Ok(None);
