@@ -1,0 +1,54 @@
+use Rattle.std.specs.Prelude.{◌≡◌, ℕ, ◌+◌, ◌*◌, ◌<◌, ◌≤◌, false, if◌then◌else◌, List, map, length, Option, Some, None}
+use Rattle.std.specs.Prelude.{slice_index_or}
+use Rattle.ats_streams.specs.Stream.{DeclaredStream}
+use Rattle.ats_streams.specs.Flow.{DeclaredFlow}
+use Rattle.ats_network.specs.Edits.{no_stream}
+use Rattle.ats_network.specs.Network.{DeclaredNetwork}
+use Rattle.ats_certificate.specs.PortSums.{is_used}
+use Rattle.ats_bound.specs.Least.{least_row}
+use Rattle.ats_bound.specs.Reason.{reason_of}
+use Rattle.ats_admission_law.specs.Less.{IsLessBy}
+use Rattle.ats_port_users.specs.Users.{PathsAt, has_port, paths_at}
+
+-- which streams and which flows use each port, and a bound for each port and class, at 8 * port + class
+pub record KeptState : Type 0 where
+  pub streams : PathsAt
+  pub flows : PathsAt
+  pub bounds : List (Option ℕ)
+
+-- the users of a network's ports, by the paths of its streams and flows
+pub record ListsUsers (network : DeclaredNetwork) (kept : KeptState) : Type 0 where
+  pub streams : kept.streams ≡ paths_at (length network.topology.ports) (map (λ (s : DeclaredStream). s.path) network.streams)
+  pub flows : kept.flows ≡ paths_at (length network.topology.ports) (map (λ (f : DeclaredFlow). f.path) network.flows)
+
+-- the least bound of a port and a class that some stream uses there; of another none
+abbrev pub least_bound : DeclaredNetwork → ℕ → ℕ → Option ℕ
+least_bound network port class = if is_used network port class then Some (least_row network (port, class)).bound else None
+
+-- bounds are the least ones at each port and class
+pub record AreLeast (network : DeclaredNetwork) (bounds : List (Option ℕ)) : Type 0 where
+  pub count : length bounds ≡ 8 * length network.topology.ports
+  pub each : (port class : ℕ) (d : Option ℕ) → port < length network.topology.ports → 1 ≤ class → class ≤ 7
+      → slice_index_or bounds (8 * port + class) d ≡ least_bound network port class
+
+-- so they are at each port that is not on this path
+pub record AreLeastBeside (network : DeclaredNetwork) (path : List ℕ) (bounds : List (Option ℕ)) : Type 0 where
+  pub count : length bounds ≡ 8 * length network.topology.ports
+  pub each : (port class : ℕ) (d : Option ℕ) → port < length network.topology.ports → 1 ≤ class → class ≤ 7
+      → has_port port path ≡ false → slice_index_or bounds (8 * port + class) d ≡ least_bound network port class
+
+-- what is kept is that of the network
+pub record IsKept (network : DeclaredNetwork) (kept : KeptState) : Type 0 where
+  pub users : ListsUsers network kept
+  pub bounds : AreLeast network kept.bounds
+
+-- so it is but for the bounds along a path
+pub record IsKeptBeside (network : DeclaredNetwork) (path : List ℕ) (kept : KeptState) : Type 0 where
+  pub users : ListsUsers network kept
+  pub bounds : AreLeastBeside network path kept.bounds
+
+-- a certificate holds for the network without this stream
+pub record IsFreeWithout (network : DeclaredNetwork) (x : DeclaredStream) : Type 0 where
+  pub less : DeclaredNetwork
+  pub is_less : IsLessBy network less x
+  pub free : reason_of less ≡ None

@@ -1,0 +1,59 @@
+//! What is kept of a network.
+
+// imports to come
+
+/// What is kept of a network that streams enter and leave: which streams and flows use each port, and the least bound of
+/// each port and class. Contracts see these three.
+#[derive(Drop)]
+pub struct Kept {
+    streams: PortUsers,
+    flows: PortUsers,
+    bounds: Vec<Option<u128>>,
+}
+
+// Model: Value = { KeptState }, the record of the three
+
+impl Kept {
+    /// What is kept of a network whose ports and classes all fit their links. It takes time and memory linear in the number
+    /// of ports and the sum of the paths' lengths. `AllocError` where memory runs out.
+    pub fn new(alloc: Global, network: &Network) -> Result<Self, AllocError>
+        requires { reason_of network.now ≡ None }
+        ensures { IfOk result (λ kept. IsKept network.now kept) }
+
+    /// Lists a path as that of the last stream. `AllocError` leaves all as it was.
+    pub fn push(&mut self, path: &[u32]) -> Result<(), AllocError>
+        requires ports { All (λ p. p < self.old.streams.ports) path.now }
+        requires apart { AllPairs (λ p q. p ≢ q) path.now }
+        requires room { length self.old.streams.paths < MAX_PATHS }
+        ensures ok { OnOk result (self.new ≡ record self.old { streams = with_path self.old.streams path.now }) }
+        ensures err { OnErr result (self.new ≡ self.old) }
+
+    /// Lists the path of the stream with this number no longer. It takes no memory.
+    pub fn take(&mut self, stream: u32, path: &[u32])
+        requires number { stream < length self.old.streams.paths }
+        requires path { slice_index_or self.old.streams.paths stream [] ≡ path.now }
+        ensures { self.new ≡ record self.old { streams = without_path self.old.streams stream } }
+
+    /// Makes the bounds along a path anew, where no certificate is refused for the network. It takes no memory.
+    pub fn renew(&mut self, network: &Network, path: &[u32])
+        requires free { reason_of network.now ≡ None }
+        requires ports { All (λ p. p < length network.now.topology.ports) path.now }
+        requires beside { IsKeptBeside network.now path.now self.old }
+        ensures { IsKept network.now self.new }
+
+    /// Judges a network by the stream with this number, without which a certificate holds for it: only the ports of the
+    /// stream's path are judged anew, and only the deadlines of streams that use one of these. The sum of the stream's
+    /// least bounds. It takes no memory.
+    ///
+    /// # Errors
+    ///
+    /// The reason against the network exactly where there is one. The bounds along the path then are any.
+    pub fn judge(&mut self, network: &Network, stream: u32) -> Result<u128, Reason>
+        requires number { stream < length network.now.streams }
+        requires free { IsFreeWithout network.now (slice_index_or network.now.streams stream no_stream) }
+        requires beside { IsKeptBeside network.now (slice_index_or network.now.streams stream no_stream).path self.old }
+        ensures answer { result ≡ judged network.now stream }
+        ensures ok { OnOk result (IsKept network.now self.new) }
+        ensures err { OnErr result (IsKeptBeside network.now (slice_index_or network.now.streams stream no_stream).path
+            self.new) }
+}

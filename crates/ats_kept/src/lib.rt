@@ -1,0 +1,9 @@
+//! What is kept of a network that streams enter and leave, so that each is judged along its own path.
+#![tactic(auto)]
+
+pub mod kept;
+pub mod laws;
+mod judging;
+mod tallies;
+
+pub use kept::Kept;

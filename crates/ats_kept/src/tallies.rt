@@ -1,0 +1,10 @@
+//! What the senders at one port make of each class.
+
+/// What the senders at a port make of each class from 1 to 7; that of class 0 is no sender's. It takes no memory, and
+/// looks at the senders that use the port alone.
+pub(crate) fn tallies_at(network: &Network, streams: &PortUsers, flows: &PortUsers, port: u32) -> [Tally; 8]
+    requires port { port < length network.now.topology.ports }
+    requires streams { streams.now ≡ paths_at (length network.now.topology.ports) (map (λ s. s.path) network.now.streams) }
+    requires flows { flows.now ≡ paths_at (length network.now.topology.ports) (map (λ f. f.path) network.now.flows) }
+    ensures { (class : ℕ) (d : Tally) → 1 ≤ class → class ≤ 7
+        → IsTally class (senders_at port (senders_of network.now)) (slice_index_or result class d) }

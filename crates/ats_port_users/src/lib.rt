@@ -1,0 +1,6 @@
+//! Which paths use each port of a topology.
+#![tactic(auto)]
+
+pub mod port_users;
+
+pub use port_users::PortUsers;
