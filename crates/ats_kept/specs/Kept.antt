@@ -8,18 +8,25 @@ use Rattle.ats_certificate.specs.PortSums.{is_used}
 use Rattle.ats_bound.specs.Least.{least_row}
 use Rattle.ats_bound.specs.Reason.{reason_of}
 use Rattle.ats_admission_law.specs.Less.{IsLessBy}
-use Rattle.ats_port_users.specs.Users.{PathsAt, has_port, paths_at}
+use Rattle.ats_port_users.specs.Users.{UsersState, ListsPaths, has_port}
 
 -- which streams and which flows use each port, and a bound for each port and class, at 8 * port + class
 pub record KeptState : Type 0 where
-  pub streams : PathsAt
-  pub flows : PathsAt
+  pub streams : UsersState
+  pub flows : UsersState
   pub bounds : List (Option ℕ)
+
+-- the paths of a network's streams, and of its flows
+abbrev pub stream_paths : DeclaredNetwork → List (List ℕ)
+stream_paths network = map (λ (s : DeclaredStream). s.path) network.streams
+
+abbrev pub flow_paths : DeclaredNetwork → List (List ℕ)
+flow_paths network = map (λ (f : DeclaredFlow). f.path) network.flows
 
 -- the users of a network's ports, by the paths of its streams and flows
 pub record ListsUsers (network : DeclaredNetwork) (kept : KeptState) : Type 0 where
-  pub streams : kept.streams ≡ paths_at (length network.topology.ports) (map (λ (s : DeclaredStream). s.path) network.streams)
-  pub flows : kept.flows ≡ paths_at (length network.topology.ports) (map (λ (f : DeclaredFlow). f.path) network.flows)
+  pub streams : ListsPaths (length network.topology.ports) (stream_paths network) kept.streams
+  pub flows : ListsPaths (length network.topology.ports) (flow_paths network) kept.flows
 
 -- the least bound of a port and a class that some stream uses there; of another none
 abbrev pub least_bound : DeclaredNetwork → ℕ → ℕ → Option ℕ

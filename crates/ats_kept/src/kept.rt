@@ -20,19 +20,20 @@ impl Kept {
         requires { reason_of network.now ≡ None }
         ensures { IfOk result (λ kept. IsKept network.now kept) }
 
-    /// Lists a path as that of the last stream. `AllocError` leaves all as it was.
+    /// Lists a path, which has no port twice, as that of the last stream. `AllocError` leaves all as it was.
     pub fn push(&mut self, path: &[u32]) -> Result<(), AllocError>
-        requires ports { All (λ p. p < self.old.streams.ports) path.now }
+        requires ports { All (λ p. p < length self.old.streams.lists) path.now }
         requires apart { AllPairs (λ p q. p ≢ q) path.now }
-        requires room { length self.old.streams.paths < MAX_PATHS }
-        ensures ok { OnOk result (self.new ≡ record self.old { streams = with_path self.old.streams path.now }) }
+        requires room { length self.old.streams.serials < MAX_PATHS }
+        ensures ok { OnOk result (PushesPath path.now self.old self.new) }
         ensures err { OnErr result (self.new ≡ self.old) }
 
     /// Lists the path of the stream with this number no longer. It takes no memory.
     pub fn take(&mut self, stream: u32, path: &[u32])
-        requires number { stream < length self.old.streams.paths }
-        requires path { slice_index_or self.old.streams.paths stream [] ≡ path.now }
-        ensures { self.new ≡ record self.old { streams = without_path self.old.streams stream } }
+        requires number { stream < length self.old.streams.serials }
+        ensures { TakesPath stream path.now self.old self.new }
+    // PushesPath, TakesPath: records in specs: flows and bounds are the same, and the streams' users change as
+    // PortUsers::push and take say (for all ports, paths).
 
     /// Makes the bounds along a path anew, where no certificate is refused for the network. It takes no memory.
     pub fn renew(&mut self, network: &Network, path: &[u32])

@@ -4,7 +4,7 @@
 /// looks at the senders that use the port alone.
 pub(crate) fn tallies_at(network: &Network, streams: &PortUsers, flows: &PortUsers, port: u32) -> [Tally; 8]
     requires port { port < length network.now.topology.ports }
-    requires streams { streams.now ≡ paths_at (length network.now.topology.ports) (map (λ s. s.path) network.now.streams) }
-    requires flows { flows.now ≡ paths_at (length network.now.topology.ports) (map (λ f. f.path) network.now.flows) }
+    requires streams { ListsPaths (length network.now.topology.ports) (stream_paths network.now) streams.now }
+    requires flows { ListsPaths (length network.now.topology.ports) (flow_paths network.now) flows.now }
     ensures { (class : ℕ) (d : Tally) → 1 ≤ class → class ≤ 7
         → IsTally class (senders_at port (senders_of network.now)) (slice_index_or result class d) }

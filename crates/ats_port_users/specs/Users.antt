@@ -1,13 +1,6 @@
-use Rattle.std.specs.Prelude.{◌≡◌, ℕ, ◌+◌, Bool, ◌==◌, if◌then◌else◌, List, [], ◌∷◌, ◌++◌}
-use Rattle.std.specs.List.{list_any, remove}
-
--- paths over so many ports, in order
-pub record PathsAt : Type 0 where
-  pub ports : ℕ
-  pub paths : List (List ℕ)
-
-abbrev pub paths_at : ℕ → List (List ℕ) → PathsAt
-paths_at ports paths = record { ports = ports; paths = paths }
+use Rattle.std.specs.Prelude.{◌≡◌, ℕ, ◌+◌, ◌<◌, Bool, ◌==◌, if◌then◌else◌, List, [], ◌∷◌, map, length, slice_index_or}
+use Rattle.std.specs.List.{list_any}
+use Rattle.ats_serials.specs.Serials.{AreRising}
 
 -- a path has the port
 abbrev pub has_port : ℕ → List ℕ → Bool
@@ -23,9 +16,14 @@ users_from n port (path ∷ paths) =
 abbrev pub users_of : List (List ℕ) → ℕ → List ℕ
 users_of paths port = users_from 0 port paths
 
--- with one path more at the end, and without the one of this number
-abbrev pub with_path : PathsAt → List ℕ → PathsAt
-with_path users path = record users { paths = users.paths ++ path ∷ [] }
+-- the serial numbers of paths, and for each port those of the paths that have it
+pub record UsersState : Type 0 where
+  pub serials : List ℕ
+  pub lists : List (List ℕ)
 
-abbrev pub without_path : PathsAt → ℕ → PathsAt
-without_path users n = record users { paths = remove users.paths n }
+-- these are the users of so many ports by these paths
+pub record ListsPaths (ports : ℕ) (paths : List (List ℕ)) (users : UsersState) : Type 0 where
+  pub count : length users.serials ≡ length paths
+  pub ports_are : length users.lists ≡ ports
+  pub each : (port : ℕ) (d : List ℕ) → port < ports
+      → slice_index_or users.lists port d ≡ map (λ n. slice_index_or users.serials n 0) (users_of paths port)
