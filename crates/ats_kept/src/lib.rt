@@ -3,7 +3,10 @@
 
 pub mod kept;
 pub mod laws;
-mod judging;
+mod late;
+mod opening;
+mod ports;
 mod tallies;
+mod walks;
 
 pub use kept::Kept;
