@@ -1,5 +1,6 @@
-use Rattle.std.specs.Prelude.{◌≡◌, ◌≢◌, ℕ, ◌+◌, ◌*◌, ◌<◌, ◌≤◌, if◌then◌else◌, List, [], ◌∷◌, ◌++◌, length, map, filter, fold}
+use Rattle.std.specs.Prelude.{◌≡◌, ◌≢◌, ℕ, ◌+◌, ◌*◌, ◌<◌, ◌≤◌, if◌then◌else◌, List, length, map, filter, fold}
 use Rattle.std.specs.Prelude.{Option, None, slice_index_or}
+use Rattle.std.specs.List.{flat_map}
 use Rattle.std.specs.Option.{option_or}
 use Rattle.ats_network.specs.Network.{DeclaredNetwork}
 use Rattle.ats_certificate.specs.PortSums.{is_used}
@@ -41,8 +42,7 @@ found_on network path =
 
 -- the numbers of the streams that use a port of a path, port by port
 abbrev pub numbers_on : DeclaredNetwork → List ℕ → List ℕ
-numbers_on network [] = []
-numbers_on network (port ∷ path) = users_of (stream_paths network) port ++ numbers_on network path
+numbers_on network path = flat_map (users_of (stream_paths network)) path
 
 -- of a late stream found so far and the late ones with these numbers, the one with the lowest number
 abbrev pub lowest_late_of : DeclaredNetwork → Option (ℕ × Reason) → List ℕ → Option (ℕ × Reason)

@@ -1,12 +1,11 @@
 //! Sums of least bounds along the streams' paths, and the streams whose sum is over their deadline.
 
-ghost use Rattle.std.specs.Prelude.{◌≡◌, ◌<◌, length, All, slice_index_or};
+ghost use Rattle.std.specs.Prelude.{◌≡◌, ◌≢◌, ◌<◌, length, All, AllPairs, None};
 ghost use Rattle.ats_bound.specs.Least.{least_certificate};
 ghost use Rattle.ats_certificate.specs.Certificate.{bound_along};
 ghost use Rattle.ats_tally.specs.Reason.{late_by};
 ghost use Rattle.ats_admission_law.specs.Near.{found_there, late_at};
 ghost use Rattle.ats_port_users.specs.Users.{ListsPaths, users_of};
-ghost use Rattle.ats_network.specs.Edits.{no_stream};
 ghost use Rattle.ats_kept.specs.Judged.{sum_at};
 ghost use Rattle.ats_kept.specs.Judging.{lowest_late_of, numbers_on};
 ghost use Rattle.ats_kept.specs.Kept.{AreLeast, stream_paths};
@@ -90,7 +89,17 @@ pub(crate) fn sum_at(bounds: &[Option<u128>], network: &Network, stream: u32) ->
     requires least { AreLeast network.now bounds.now }
     ensures { result ≡ sum_at network.now stream }
 {
-    let stream = &network.streams()[stream as usize];
+    sum_along(bounds, network, &network.streams()[stream as usize])
+}
+
+// The sum of the least bounds along a stream's path.
+fn sum_along(bounds: &[Option<u128>], network: &Network, stream: &Stream) -> u128
+    requires ports { All (λ p. p < length network.now.topology.ports) stream.now.path }
+    requires apart { AllPairs (λ p q. p ≢ q) stream.now.path }
+    requires least { AreLeast network.now bounds.now }
+    ensures { result ≡ bound_along (least_certificate network.now) stream.now }
+{
+    let _rules = network.topology(); // for what a network keeps
     let classes = stream.classes();
     let mut sum = 0;
     for (hop, port) in stream.path().iter().enumerate() {

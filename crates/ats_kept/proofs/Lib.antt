@@ -1,0 +1,6 @@
+pub mod Beside
+pub mod Placed
+pub mod Found
+pub mod Users
+pub mod Near
+pub mod Sums
