@@ -2,7 +2,7 @@
 use Rattle.std.proofs.Common.{◌≡◌, ℕ, zero, suc, ◌+◌, ◌<◌, ◌≤◌, Bool, true, false, cond, List, [], ◌∷◌, ◌++◌, length}
 use Rattle.std.proofs.Common.{get_or, map, filter, drop, Option, Some, None, refl, sym, ap, ◌∙◌, inl, inr, arith}
 use Rattle.std.specs.Prelude.{fold, nat_lt}
-use Rattle.std.specs.Option.{option_or, option_map}
+use Rattle.std.specs.Option.{option_or}
 use Rattle.std.proofs.lemmas.Bool.{cases_eq}
 use Rattle.std.proofs.lemmas.List.{drop_more, drop_all}
 use Rattle.std.proofs.lemmas.Option.{none-some}
@@ -33,11 +33,11 @@ classes_more (suc (suc (suc (suc (suc (suc zero)))))) some most = refl
 classes_more (suc (suc (suc (suc (suc (suc (suc zero))))))) some most = refl
 classes_more (suc (suc (suc (suc (suc (suc (suc (suc n)))))))) some most = absurd (omega arith)
 
-or_none : {X : Type 0} (o : Option X) → option_or o None ≡ o
+pub or_none : {X : Type 0} (o : Option X) → option_or o None ≡ o
 or_none None = refl
 or_none (Some x) = refl
 
-or_assoc : {X : Type 0} (a b c : Option X) → option_or (option_or a b) c ≡ option_or a (option_or b c)
+pub or_assoc : {X : Type 0} (a b c : Option X) → option_or (option_or a b) c ≡ option_or a (option_or b c)
 or_assoc None b c = refl
 or_assoc (Some x) b c = refl
 
@@ -124,6 +124,13 @@ lower_some (Some best) port reason h = by (nat_lt port best.0) h
     by : (b : Bool) → cond b (Some (port, reason)) (Some best) ≡ None → ⊥
     by true h = none-some (port, reason) (sym h)
     by false h = none-some best (sym h)
+
+-- so where nothing is lower, nothing was found before
+pub lower_none : (best : Option (ℕ × Reason)) (port : ℕ) (found : Option Reason) → lower_of best port found ≡ None
+    → best ≡ None
+lower_none None port found h = refl
+lower_none (Some best) port None h = h
+lower_none (Some best) port (Some reason) h = absurd (lower_some (Some best) port reason h)
 
 -- a fold over what is left of a list, one step on
 pub fold_more : {A B : Type 0} (f : B → A → B) (b : B) (xs : List A) (i : ℕ) (d : A) → i < length xs

@@ -4,3 +4,4 @@ pub mod Found
 pub mod Users
 pub mod Near
 pub mod Sums
+pub mod Judgements

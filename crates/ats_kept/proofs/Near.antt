@@ -1,5 +1,5 @@
 -- The streams that use a port of a path are those that share one with a stream of this path.
-use Rattle.std.proofs.Common.{◌≡◌, ℕ, ◌<◌, Bool, true, false, List, [], ◌∷◌, ◌++◌, length, get_or, map, refl, sym, ap, ◌∙◌}
+use Rattle.std.proofs.Common.{◌≡◌, ℕ, ◌<◌, true, false, List, [], ◌∷◌, length, get_or, refl, sym, ap, ◌∙◌}
 use Rattle.std.proofs.Common.{inl, inr, eqb, arith, None}
 use Rattle.std.specs.Prelude.{◌||◌}
 use Rattle.std.specs.List.{All, list_any, flat_map}
@@ -11,13 +11,12 @@ use Rattle.ats_streams.specs.Stream.{DeclaredStream}
 use Rattle.ats_network.specs.Edits.{no_stream}
 use Rattle.ats_network.specs.Network.{DeclaredNetwork}
 use Rattle.ats_tally.proofs.Lists.{any_gives}
-use Rattle.ats_admission_law.specs.Near.{AreNear, IsNear, found_there, late_near, shares}
+use Rattle.ats_admission_law.specs.Near.{AreNear, IsNear, found_there, late_near}
 use Rattle.ats_admission_law.proofs.Near.{near_finds_late}
 use Rattle.ats_port_users.specs.Users.{has_port, users_of}
 use Rattle.ats_kept.specs.Judging.{lowest_late_of, numbers_on}
 use Rattle.ats_kept.specs.Kept.{stream_paths}
 use Rattle.ats_kept.proofs.Users.{IsUser, all_users, is_listed}
-
 
 -- each port of a path is one of the path's
 pub on_own : (path : List ℕ) → All (λ port. has_port port path ≡ true) path

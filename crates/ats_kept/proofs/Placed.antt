@@ -1,8 +1,7 @@
 -- Bounds by port and class, where those of some ports are made anew.
-use Rattle.std.proofs.Common.{◌≡◌, ℕ, ◌+◌, ◌*◌, ◌<◌, ◌≤◌, Bool, true, false, List, [], ◌∷◌, length, get_or, set, Option}
+use Rattle.std.proofs.Common.{◌≡◌, ℕ, ◌+◌, ◌*◌, ◌<◌, ◌≤◌, true, List, [], ◌∷◌, length, get_or, set, Option}
 use Rattle.std.proofs.Common.{refl, sym, ap, ◌∙◌, inl, inr, arith, length-set, get_or-set_same, get_or-set_other}
-use Rattle.std.specs.Prelude.{◌||◌}
-use Rattle.std.proofs.lemmas.Bool.{cases_eq, eqb-false, ne_eqb, or_from, true≢false}
+use Rattle.std.proofs.lemmas.Bool.{cases_eq, ne_eqb, or_from, true≢false}
 use Rattle.ats_network.specs.Network.{DeclaredNetwork}
 use Rattle.ats_port_users.specs.Users.{has_port}
 use Rattle.ats_kept.specs.Judging.{KeepsOthers, SetsBelow}

@@ -8,7 +8,7 @@ use Rattle.ats_certificate.specs.Used.{place}
 use Rattle.ats_tally.specs.Reason.{first_some}
 use Rattle.ats_tally.specs.declared.reason.Reason.{Reason}
 use Rattle.ats_bound.specs.Reason.{overload}
-use Rattle.ats_admission_law.specs.Lowest.{found_at, lower_of, lowest_found}
+use Rattle.ats_admission_law.specs.Lowest.{lower_of, lowest_found}
 use Rattle.ats_admission_law.specs.Near.{found_there, late_at, overstay_at}
 use Rattle.ats_port_users.specs.Users.{users_of}
 use Rattle.ats_kept.specs.Kept.{least_bound, stream_paths}

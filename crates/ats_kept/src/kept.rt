@@ -94,6 +94,12 @@ impl Kept {
         ensures err { OnErr result (IsKeptBeside network.now (slice_index_or network.now.streams stream no_stream).path
             self.new) }
     {
-        judge_stream(&mut self.bounds, network, &self.streams, &self.flows, stream)
+        judge_stream(
+            &mut self.bounds,
+            network,
+            &self.streams,
+            &self.flows,
+            stream,
+        )
     }
 }

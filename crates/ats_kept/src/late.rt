@@ -67,7 +67,10 @@ fn late_at(bounds: &[Option<u128>], network: &Network, stream: u32) -> Option<Re
     requires least { AreLeast network.now bounds.now }
     ensures { result ≡ late_at network.now stream }
 {
-    late_by(&network.streams()[stream as usize], sum_at(bounds, network, stream))
+    late_by(
+        &network.streams()[stream as usize],
+        sum_at(bounds, network, stream),
+    )
 }
 
 // The sum of a stream's bounds, where it is over the stream's deadline.

@@ -2,8 +2,8 @@
 #![tactic(auto)]
 
 pub mod kept;
-pub mod laws;
 mod late;
+pub mod laws;
 mod opening;
 mod ports;
 mod tallies;

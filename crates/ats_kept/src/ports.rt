@@ -61,8 +61,10 @@ pub(crate) fn judge_port(
     let tallies = tallies_at(network, streams, flows, port);
     let mut stay = None;
     for class in 1..8 {
-        let found = judge_class(bounds, network, port, class, tallies[class as usize])?;
-        stay = stay.or(found);
+        match judge_class(bounds, network, port, class, tallies[class as usize]) {
+            Ok(found) => stay = stay.or(found),
+            Err(load) => return Err(load),
+        }
     }
     Ok(stay)
 }

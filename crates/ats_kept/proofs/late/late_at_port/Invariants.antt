@@ -8,4 +8,4 @@ use Rattle.ats_kept.proofs.late.late_at_port.Given as goal
 abbrev pub invariant-loop-rank : goal.invariant-loop-rank
 invariant-loop-rank l =
     lowest_late_of l.network l.lowest (drop l.rank (users_of (stream_paths l.network) l.port))
-    ≡ lowest_late_of l.network l.best (users_of (stream_paths l.network) l.port)
+    ≡ lowest_late_of l.network l.fn.best (users_of (stream_paths l.network) l.port)
