@@ -1,3 +1,4 @@
+pub mod ClassTallies
 pub mod Judged
 pub mod Kept
 pub mod Laws
