@@ -1,5 +1,5 @@
-use Rattle.std.specs.Prelude.{◌≡◌, ℕ, ◌<◌, ◌≤◌, ◌==◌, if◌then◌else◌, not, List, [], ◌∷◌, ◌++◌, map, filter, length}
-use Rattle.std.specs.Prelude.{slice_index_or}
+use Rattle.std.specs.Prelude.{◌≡◌, ℕ, ◌+◌, ◌<◌, ◌≤◌, ◌==◌, if◌then◌else◌, not, List, [], ◌∷◌, ◌++◌, map, filter, length}
+use Rattle.std.specs.Prelude.{slice_index_or, vec_len, vec_capacity}
 use Rattle.std.specs.Global.{Vec}
 use Rattle.ats_serials.specs.Serials.{AreRising}
 use Rattle.ats_port_users.specs.Users.{has_port}
@@ -17,6 +17,11 @@ pub record AreSerials (serials : List ℕ) : Type 0 where
 -- a list without a serial number
 abbrev pub without : ℕ → List ℕ → List ℕ
 without serial list = filter (λ s. not (s == serial)) list
+
+-- the list of a port has room for one more
+abbrev pub HasRoom : List (Vec ℕ) → ℕ → Type 0
+HasRoom lists port =
+    (d : Vec ℕ) → vec_len (slice_index_or lists port d) + 1 ≤ vec_capacity (slice_index_or lists port d)
 
 -- each list of a port on the path has this serial number more, at its end; the others are as they were
 pub record Enters (serial : ℕ) (path : List ℕ) (old new : List (List ℕ)) : Type 0 where

@@ -6,7 +6,7 @@ ghost use Rattle.std.specs.Global.{Vec};
 ghost use Rattle.std.specs.List.{remove};
 ghost use Rattle.ats_serials.specs.Serials.{AreRising};
 ghost use Rattle.ats_port_users.specs.Users.{ListsPaths, users_of};
-ghost use Rattle.ats_port_users.specs.Lists.{items_of, Enters, Leaves};
+ghost use Rattle.ats_port_users.specs.Lists.{items_of, HasRoom, Enters, Leaves};
 
 use ats_serials::{place_in, serial_after};
 use std::alloc::{AllocError, Global};
@@ -59,7 +59,8 @@ impl PortUsers {
     {
         let serial = serial_after(&self.serials)?;
         self.serials.reserve(1)?;
-        enter(&mut self.lists, path, serial)?;
+        make_room(&mut self.lists, path)?;
+        enter(&mut self.lists, path, serial);
         self.serials.push_reserved(serial);
         Ok(())
     }
@@ -109,24 +110,27 @@ fn empty_lists(alloc: Global, ports: usize) -> Result<Vec<Vec<u64>>, AllocError>
     Ok(lists)
 }
 
-// Puts a serial number at the end of the list of each port on a path, which has no port twice. `AllocError` leaves the
-// lists as they were.
-fn enter(lists: &mut Vec<Vec<u64>>, path: &[u32], serial: u64) -> Result<(), AllocError>
-    requires { (All (λ p. p < length lists.old.items) path.now) × (AllPairs (λ p q. p ≢ q) path.now) }
-    ensures ok { OnOk result (Enters serial path.now (items_of lists.old.items) (items_of lists.new.items)) }
-    ensures err { OnErr result (items_of lists.new.items ≡ items_of lists.old.items) }
+// Makes room for one more in the list of each port on a path. `AllocError` where memory runs out.
+fn make_room(lists: &mut Vec<Vec<u64>>, path: &[u32]) -> Result<(), AllocError>
+    requires { All (λ p. p < length lists.old.items) path.now }
+    ensures items { items_of lists.new.items ≡ items_of lists.old.items }
+    ensures room { OnOk result (All (HasRoom lists.new.items) path.now) }
 {
-    let Some((port, rest)) = path.split_first() else {
-        return Ok(());
-    };
-    let place = *port as usize;
-    lists[place].push(serial)?;
-    match enter(lists, rest, serial) {
-        Ok(()) => Ok(()),
-        Err(_) => {
-            lists[place].pop();
-            Err(AllocError)
-        }
+    for port in path {
+        lists[*port as usize].reserve(1)?;
+    }
+    Ok(())
+}
+
+// Puts a serial number at the end of the list of each port on a path, which has no port twice.
+fn enter(lists: &mut Vec<Vec<u64>>, path: &[u32], serial: u64)
+    requires ports { All (λ p. p < length lists.old.items) path.now }
+    requires apart { AllPairs (λ p q. p ≢ q) path.now }
+    requires room { All (HasRoom lists.old.items) path.now }
+    ensures { Enters serial path.now (items_of lists.old.items) (items_of lists.new.items) }
+{
+    for port in path {
+        lists[*port as usize].push_reserved(serial);
     }
 }
 
