@@ -15,8 +15,8 @@ use ats_network::Network;
 use ats_port_users::PortUsers;
 use ats_tally::{SeenSender, Tally};
 
-/// What the senders at a port make of each class from 1 to 7, at the class. It takes no memory, and looks at the senders
-/// that use the port alone.
+/// What the senders at a port make of each class from 1 to 7, at the class. It takes no memory, and looks at the
+/// senders that use the port alone.
 pub(crate) fn tallies_at(
     network: &Network,
     streams: &PortUsers,

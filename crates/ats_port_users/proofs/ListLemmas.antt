@@ -1,9 +1,9 @@
 -- Serial numbers that enter lists and leave them.
-use Rattle.std.proofs.Common.{◌≡◌, ◌≢◌, ℕ, suc, ◌<◌, ◌≤◌, Bool, true, false, cond, not, eqb, List, [], ◌∷◌, ◌++◌, length}
-use Rattle.std.proofs.Common.{get_or, set, map, take, drop, ◌+◌, Err, refl, sym, ap, subst, ◌∙◌, ◌⊎◌, inl, inr, arith}
+use Rattle.std.proofs.Common.{◌≡◌, ◌≢◌, ℕ, ◌<◌, ◌≤◌, Bool, true, false, cond, not, eqb, List, [], ◌∷◌, ◌++◌, length}
+use Rattle.std.proofs.Common.{get_or, set, take, drop, ◌+◌, Err, refl, sym, ap, subst, ◌∙◌, ◌⊎◌, inl, inr, arith}
 use Rattle.std.specs.Prelude.{◌||◌, vec_len, vec_capacity}
 use Rattle.std.specs.Ordering.{nat_cmp}
-use Rattle.std.specs.List.{All, AllPairs, list_any, remove}
+use Rattle.std.specs.List.{All, AllPairs, remove}
 use Rattle.std.specs.List.Sorted.{IsBinarySearchResult}
 use Rattle.std.specs.Global.{Vec}
 use Rattle.std.proofs.lemmas.Bool.{cases_eq, eq-eqb, ne_eqb, not-true, or_left, or_right}
@@ -28,7 +28,8 @@ not_before path i apart within =
     let before : k < i = omega (arith, below, short) in
     let differ : get_or path k 0 ≢ get_or path i 0 = apart k i 0 before within in
     ne_eqb (get_or (take i path) k d) (get_or path i 0)
-    (λ e. differ (get_or_default path k 0 d (omega (arith, before, within)) ∙ sym (get_or-take i path k d before) ∙ e))))
+    (λ e. differ (get_or_default path k 0 d (omega (arith, before, within)) ∙ sym (get_or-take i path k d before)
+    ∙ e))))
 
 -- nor among those behind it
 pub apart_behind : (path : List ℕ) (i : ℕ) → AllPairs (λ p q. p ≢ q) path → i < length path
@@ -93,7 +94,8 @@ enters_more serial port path old now list within other before is = record {
 
     by : (place : ℕ) (d : List ℕ) → place < length old → (port ≡ place) ⊎ (port ≡ place → ⊥)
         → get_or (set now port list) place d
-        ≡ cond (has_port place path || has_port place (port ∷ [])) (get_or old place d ++ serial ∷ []) (get_or old place d)
+        ≡ cond (has_port place path || has_port place (port ∷ [])) (get_or old place d ++ serial ∷ [])
+        (get_or old place d)
     by place d inside (inl e) =
         ap (λ (p : ℕ). get_or (set now port list) p d) (sym e)
         ∙ get_or-set_same now port list d within_now
@@ -198,7 +200,8 @@ leaves_one serial port lists list within is = record {
         (ne_eqb port place other))
 
 -- a port that is not there
-pub leaves_past : (serial port : ℕ) (lists : List (List ℕ)) → length lists ≤ port → Leaves serial (port ∷ []) lists lists
+pub leaves_past : (serial port : ℕ) (lists : List (List ℕ)) → length lists ≤ port
+    → Leaves serial (port ∷ []) lists lists
 leaves_past serial port lists past = record {
   count = refl;
   each = λ place d inside.

@@ -1,7 +1,7 @@
 -- The serial numbers of the paths that have a port.
 use Rattle.std.proofs.Common.{◌≡◌, ◌≢◌, ℕ, zero, suc, ◌+◌, ◌<◌, Bool, true, false, cond, not, eqb, List, [], ◌∷◌, ◌++◌}
-use Rattle.std.proofs.Common.{length, map, get_or, filter, refl, sym, ap, subst, ◌∙◌, arith}
-use Rattle.std.specs.List.{All, AllPairs, remove}
+use Rattle.std.proofs.Common.{length, map, get_or, refl, sym, ap, ◌∙◌, arith}
+use Rattle.std.specs.List.{All, remove}
 use Rattle.std.proofs.lemmas.Bool.{eq-eqb, ne_eqb}
 use Rattle.std.proofs.lemmas.List.Elements.{All-nil, All-cons, All-head, All-tail, All-weaker}
 use Rattle.std.proofs.lemmas.List.Kept.{AllPairs-cons}
@@ -9,7 +9,7 @@ use Rattle.ats_facts.proofs.Lists.{pairs_head, pairs_tail}
 use Rattle.ats_serials.specs.Serials.{AreRising}
 use Rattle.ats_port_users.specs.Users.{has_port, users_from, users_of}
 use Rattle.ats_port_users.specs.Lists.{without}
-use Rattle.ats_port_users.proofs.UserLemmas.{map_agree, users_from-later}
+use Rattle.ats_port_users.proofs.UserLemmas.{users_from-later}
 
 -- of serial numbers that belong to paths, one by one, those of the paths that have a port
 abbrev pub serials_at : ℕ → List (List ℕ) → List ℕ → List ℕ
@@ -103,8 +103,9 @@ pub without_at : (list : List ℕ) (serial n : ℕ) → AreRising list → n < l
 without_at [] serial n rising within stands = absurd (omega arith)
 without_at (s ∷ list) serial zero rising within stands =
     sym (ap (λ (b : Bool). cond (not b) (s ∷ without serial list) (without serial list)) (eq-eqb s serial stands)
-    ∙ without_absent serial list (All-weaker (λ t. s < t) (λ t. t ≢ serial) (λ t above e. omega (arith, above, e, stands))
-    list (pairs_head (λ a b. a < b) s list rising)))
+    ∙ without_absent serial list
+    (All-weaker (λ t. s < t) (λ t. t ≢ serial) (λ t above e. omega (arith, above, e, stands)) list
+    (pairs_head (λ a b. a < b) s list rising)))
 without_at (s ∷ list) serial (suc n) rising within stands =
     let above : s < get_or list n 0 = pairs_head (λ a b. a < b) s list rising n 0 (omega arith) in
     ap (λ (l : List ℕ). s ∷ l)

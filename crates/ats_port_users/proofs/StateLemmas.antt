@@ -1,17 +1,16 @@
 -- The users of ports, and the paths of which they are.
-use Rattle.std.proofs.Common.{◌≡◌, ℕ, ◌+◌, ◌<◌, Bool, true, false, cond, List, [], ◌∷◌, ◌++◌, length, map, get_or, refl}
-use Rattle.std.proofs.Common.{sym, ap, subst, ◌∙◌, ◌⊎◌, inl, inr, arith}
+use Rattle.std.proofs.Common.{◌≡◌, ℕ, ◌+◌, ◌<◌, Bool, true, false, cond, List, [], ◌∷◌, ◌++◌, length, get_or, refl}
+use Rattle.std.proofs.Common.{sym, ap, subst, ◌∙◌, arith}
 use Rattle.std.specs.List.{All, remove}
 use Rattle.std.specs.Global.{Vec}
-use Rattle.std.proofs.lemmas.Bool.{cases_Bool}
-use Rattle.std.proofs.lemmas.List.{length-map, length_push, get_or-map, get_or_default}
+use Rattle.std.proofs.lemmas.List.{length-map, length_push, get_or-map}
 use Rattle.std.proofs.lemmas.List.Edits.{length-remove}
 use Rattle.ats_serials.specs.Serials.{AreRising}
 use Rattle.ats_port_users.specs.Users.{UsersState, ListsPaths, has_port, users_of}
 use Rattle.ats_port_users.specs.Lists.{items_of, without, Enters, Leaves}
 use Rattle.ats_port_users.proofs.UserLemmas.{users_within}
-use Rattle.ats_port_users.proofs.Serials.{serials_at, serials_at-less, serials_at-other, serials_at-push, serials_at-rising}
-use Rattle.ats_port_users.proofs.Serials.{users_listed}
+use Rattle.ats_port_users.proofs.Serials.{serials_at, serials_at-less, serials_at-other, serials_at-push}
+use Rattle.ats_port_users.proofs.Serials.{serials_at-rising, users_listed}
 
 -- no paths
 pub none_listed : (ports : ℕ) (lists : List (Vec ℕ)) → length lists ≡ ports

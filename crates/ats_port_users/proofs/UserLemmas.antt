@@ -1,6 +1,6 @@
 -- The numbers of the paths that have a port.
-use Rattle.std.proofs.Common.{◌≡◌, ℕ, suc, ◌+◌, ◌-◌, ◌<◌, ◌≤◌, Bool, true, false, cond, List, [], ◌∷◌, ◌++◌, length, map, get_or}
-use Rattle.std.proofs.Common.{refl, sym, ap, ◌∙◌, arith}
+use Rattle.std.proofs.Common.{◌≡◌, ℕ, suc, ◌+◌, ◌-◌, ◌<◌, ◌≤◌, Bool, true, false, cond, List, [], ◌∷◌, length, map}
+use Rattle.std.proofs.Common.{get_or, refl, ap, ◌∙◌, arith}
 use Rattle.std.specs.List.{All}
 use Rattle.std.proofs.lemmas.List.Elements.{All-nil, All-cons, All-weaker}
 use Rattle.ats_port_users.specs.Users.{has_port, users_from, users_of}
@@ -49,7 +49,8 @@ users_have n port (path ∷ paths) =
         }
 
     by : (b : Bool) → has_port port path ≡ b → All (IsUser n port (path ∷ paths)) (users_from (n + 1) port paths)
-        → All (IsUser n port (path ∷ paths)) (cond b (n ∷ users_from (n + 1) port paths) (users_from (n + 1) port paths))
+        → All (IsUser n port (path ∷ paths))
+        (cond b (n ∷ users_from (n + 1) port paths) (users_from (n + 1) port paths))
     by true e h = All-cons (IsUser n port (path ∷ paths)) n (users_from (n + 1) port paths) first h
       where
         first : IsUser n port (path ∷ paths) n

@@ -6,8 +6,8 @@ ghost use Rattle.ats_serials.specs.Serials.{AreRising};
 
 use std::alloc::AllocError;
 
-/// The place of a serial number among numbers that rise, found by halving; `None` exactly where it does not stand there.
-/// There are at most 2^32 of them.
+/// The place of a serial number among numbers that rise, found by halving; `None` exactly where it does not stand
+/// there. There are at most 2^32 of them.
 pub fn place_in(serials: &[u64], serial: u64) -> Option<u32>
     requires rising { AreRising serials.now }
     requires few { length serials.now ≤ 2 ^ 32 }

@@ -1,6 +1,3 @@
-use Rattle.std.proofs.Common.{◌≡◌, List, ℕ, [], ap, subst, sym}
-use Rattle.ats_port_users.specs.Users.{ListsPaths}
-use Rattle.ats_port_users.specs.Lists.{items_of}
 use Rattle.ats_port_users.proofs.StateLemmas.{none_listed}
 use Rattle.ats_port_users.proofs.port_users.PortUsers.new.Goals as goal
 

@@ -1,5 +1,4 @@
-use Rattle.std.proofs.Common.{◌≡◌, ◌∷◌, [], ◌++◌, List, ℕ, sym, ap, subst, ◌∙◌}
-use Rattle.std.specs.Global.{Vec}
+use Rattle.std.proofs.Common.{◌∷◌, [], ◌++◌, List, ℕ, sym, ap, subst, ◌∙◌}
 use Rattle.ats_port_users.specs.Users.{UsersState, ListsPaths}
 use Rattle.ats_port_users.specs.Lists.{items_of, Enters}
 use Rattle.ats_port_users.proofs.StateLemmas.{listed_push}
