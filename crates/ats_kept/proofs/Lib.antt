@@ -5,3 +5,4 @@ pub mod Users
 pub mod Near
 pub mod Sums
 pub mod Judgements
+pub mod UserTallies

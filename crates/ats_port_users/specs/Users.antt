@@ -1,6 +1,5 @@
 use Rattle.std.specs.Prelude.{◌≡◌, ℕ, ◌+◌, ◌<◌, Bool, ◌==◌, if◌then◌else◌, List, [], ◌∷◌, map, length, slice_index_or}
 use Rattle.std.specs.List.{list_any}
-use Rattle.ats_serials.specs.Serials.{AreRising}
 
 -- a path has the port
 abbrev pub has_port : ℕ → List ℕ → Bool

@@ -1,0 +1,4 @@
+pub mod UserLemmas
+pub mod Serials
+pub mod ListLemmas
+pub mod StateLemmas

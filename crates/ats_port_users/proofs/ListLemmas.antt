@@ -1,0 +1,242 @@
+-- Serial numbers that enter lists and leave them.
+use Rattle.std.proofs.Common.{◌≡◌, ◌≢◌, ℕ, ◌<◌, ◌≤◌, Bool, true, false, cond, not, eqb, List, [], ◌∷◌, ◌++◌, length}
+use Rattle.std.proofs.Common.{get_or, set, take, drop, ◌+◌, Err, refl, sym, ap, subst, ◌∙◌, ◌⊎◌, inl, inr, arith}
+use Rattle.std.specs.Prelude.{◌||◌, vec_len, vec_capacity}
+use Rattle.std.specs.Ordering.{nat_cmp}
+use Rattle.std.specs.List.{All, AllPairs, remove}
+use Rattle.std.specs.List.Sorted.{IsBinarySearchResult}
+use Rattle.std.specs.Global.{Vec}
+use Rattle.std.proofs.lemmas.Bool.{cases_eq, eq-eqb, ne_eqb, not-true, or_left, or_right}
+use Rattle.std.proofs.lemmas.List.{map-set, length-map, length-set, get_or-map, get_or-set_same, get_or-set_other}
+use Rattle.std.proofs.lemmas.List.{get_or_default, get_or-take, get_or-drop, length-take-le, length-drop, set-get_or}
+use Rattle.std.proofs.lemmas.List.Elements.{All-push, All-weaker, filter_passes}
+use Rattle.std.proofs.lemmas.List.Folds.{list_any-append, list_any_none}
+use Rattle.std.proofs.lemmas.List.Kept.{AllPairs-filter}
+use Rattle.ats_serials.specs.Serials.{AreRising}
+use Rattle.ats_serials.proofs.Rising.{unsearched}
+use Rattle.ats_port_users.specs.Users.{has_port}
+use Rattle.ats_port_users.specs.Lists.{items_of, without, HasRoom, Enters, Leaves}
+use Rattle.ats_port_users.proofs.Serials.{without_absent, without_at}
+
+-- of ports that are apart, none is among those before it
+pub not_before : (path : List ℕ) (i : ℕ) → AllPairs (λ p q. p ≢ q) path → i < length path
+    → has_port (get_or path i 0) (take i path) ≡ false
+not_before path i apart within =
+    list_any_none (λ p. eqb p (get_or path i 0)) (take i path)
+    (λ k d below. (
+    let short = length-take-le i path (omega arith) in
+    let before : k < i = omega (arith, below, short) in
+    let differ : get_or path k 0 ≢ get_or path i 0 = apart k i 0 before within in
+    ne_eqb (get_or (take i path) k d) (get_or path i 0)
+    (λ e. differ (get_or_default path k 0 d (omega (arith, before, within)) ∙ sym (get_or-take i path k d before)
+    ∙ e))))
+
+-- nor among those behind it
+pub apart_behind : (path : List ℕ) (i : ℕ) → AllPairs (λ p q. p ≢ q) path → i < length path
+    → All (λ p. get_or path i 0 ≢ p) (drop (i + 1) path)
+apart_behind path i apart within k d below e =
+    let long = length-drop (i + 1) path in
+    let there : (i + 1) + k < length path = omega (arith, long, below) in
+    let differ : get_or path i d ≢ get_or path ((i + 1) + k) d = apart i ((i + 1) + k) d (omega arith) there in
+    differ (get_or_default path i d 0 within ∙ e ∙ get_or-drop (i + 1) path k d)
+
+-- a list more that has room
+pub room_set : (lists : List (Vec ℕ)) (port : ℕ) (list : Vec ℕ) (path : List ℕ) → port < length lists
+    → vec_len list + 1 ≤ vec_capacity list → All (HasRoom lists) path
+    → All (HasRoom (set lists port list)) (path ++ port ∷ [])
+room_set lists port list path within room has =
+    All-push (HasRoom (set lists port list)) path port
+    (All-weaker (HasRoom lists) (HasRoom (set lists port list)) kept path has) here
+  where
+    here : HasRoom (set lists port list) port
+    here d = subst (λ (v : Vec ℕ). vec_len v + 1 ≤ vec_capacity v) (sym (get_or-set_same lists port list d within)) room
+
+    kept : (p : ℕ) → HasRoom lists p → HasRoom (set lists port list) p
+    kept p h d = by (cases_eq port p)
+      where
+        by : (port ≡ p) ⊎ (port ≡ p → ⊥)
+            → vec_len (get_or (set lists port list) p d) + 1 ≤ vec_capacity (get_or (set lists port list) p d)
+        by (inl e) = subst (λ (n : ℕ). vec_len (get_or (set lists port list) n d) + 1
+            ≤ vec_capacity (get_or (set lists port list) n d)) e (here d)
+        by (inr other) = subst (λ (v : Vec ℕ). vec_len v + 1 ≤ vec_capacity v)
+            (sym (get_or-set_other lists port p list d (λ e. other (sym e)))) (h d)
+
+-- the others keep theirs
+pub room_apart : (lists : List (Vec ℕ)) (port : ℕ) (list : Vec ℕ) (path : List ℕ) → All (λ p. port ≢ p) path
+    → All (HasRoom lists) path → All (HasRoom (set lists port list)) path
+room_apart lists port list path apart has k d below e =
+    subst (λ (v : Vec ℕ). vec_len v + 1 ≤ vec_capacity v)
+    (sym (get_or-set_other lists port (get_or path k d) list e (λ same. apart k d below (sym same))))
+    (has k d below e)
+
+-- the items of lists of which one was changed
+pub items_set : (lists : List (Vec ℕ)) (place : ℕ) (list : Vec ℕ)
+    → items_of (set lists place list) ≡ set (items_of lists) place list.items
+items_set lists place list = map-set (λ (v : Vec ℕ). v.items) lists place list
+
+pub item_at : (lists : List (Vec ℕ)) (place : ℕ) (d : Vec ℕ) (e : List ℕ) → place < length lists
+    → get_or (items_of lists) place e ≡ (get_or lists place d).items
+item_at lists place d e within = get_or-map (λ (v : Vec ℕ). v.items) lists place d e within
+
+-- a serial number enters the lists of a path, and then that of a port which this path does not have
+pub enters_more : (serial port : ℕ) (path : List ℕ) (old now : List (List ℕ)) (list : List ℕ) → port < length old
+    → has_port port path ≡ false → Enters serial path old now → list ≡ get_or now port [] ++ serial ∷ []
+    → Enters serial (path ++ port ∷ []) old (set now port list)
+enters_more serial port path old now list within other before is = record {
+  count = length-set now port list ∙ before.count;
+  each = λ place d inside. by place d inside (cases_eq port place)
+      ∙ sym (ap (λ (b : Bool). cond b (get_or old place d ++ serial ∷ []) (get_or old place d))
+      (list_any-append (λ p. eqb p place) path (port ∷ [])));
+}
+  where
+    within_now : port < length now
+    within_now = omega (arith, within, before.count)
+
+    by : (place : ℕ) (d : List ℕ) → place < length old → (port ≡ place) ⊎ (port ≡ place → ⊥)
+        → get_or (set now port list) place d
+        ≡ cond (has_port place path || has_port place (port ∷ [])) (get_or old place d ++ serial ∷ [])
+        (get_or old place d)
+    by place d inside (inl e) =
+        ap (λ (p : ℕ). get_or (set now port list) p d) (sym e)
+        ∙ get_or-set_same now port list d within_now
+        ∙ is
+        ∙ ap (λ (l : List ℕ). l ++ serial ∷ [])
+        (before.each port [] within
+        ∙ ap (λ (b : Bool). cond b (get_or old port [] ++ serial ∷ []) (get_or old port [])) other
+        ∙ get_or_default old port [] d within ∙ ap (λ (p : ℕ). get_or old p d) e)
+        ∙ sym (ap (λ (b : Bool). cond b (get_or old place d ++ serial ∷ []) (get_or old place d))
+        (or_right (has_port place path) (has_port place (port ∷ [])) (one place e)))
+      where
+        one : (place : ℕ) → port ≡ place → has_port place (port ∷ []) ≡ true
+        one place e = or_left (eqb port place) false (eq-eqb port place e)
+    by place d inside (inr differ) =
+        get_or-set_other now port place list d (λ e. differ (sym e))
+        ∙ before.each place d inside
+        ∙ sym (ap (λ (b : Bool). cond b (get_or old place d ++ serial ∷ []) (get_or old place d)) (none place differ))
+      where
+        none : (place : ℕ) → (port ≡ place → ⊥)
+            → (has_port place path || has_port place (port ∷ [])) ≡ has_port place path
+        none place differ =
+            ap (λ (b : Bool). has_port place path || (b || false)) (ne_eqb port place differ)
+            ∙ or_no (has_port place path)
+          where
+            or_no : (b : Bool) → (b || (false || false)) ≡ b
+            or_no true = refl
+            or_no false = refl
+
+-- a path without ports changes nothing
+pub enters_none : (serial : ℕ) (lists : List (List ℕ)) → Enters serial [] lists lists
+enters_none serial lists = record { count = refl; each = λ port d within. refl }
+
+pub leaves_none : (serial : ℕ) (lists : List (List ℕ)) → Leaves serial [] lists lists
+leaves_none serial lists = record { count = refl; each = λ port d within. refl }
+
+-- a list without a serial number rises where it did
+pub without_rising : (serial : ℕ) (list : List ℕ) → AreRising list → AreRising (without serial list)
+without_rising serial list rising = AllPairs-filter (λ a b. a < b) (λ s. not (eqb s serial)) list rising
+
+-- to take it out once more changes nothing
+pub without_twice : (serial : ℕ) (list : List ℕ) → without serial (without serial list) ≡ without serial list
+without_twice serial list =
+    without_absent serial (without serial list)
+    (All-weaker (λ s. not (eqb s serial) ≡ true) (λ s. s ≢ serial)
+    (λ s passes e. (let same = eq-eqb s serial e in let other = not-true (eqb s serial) passes in
+    absurd (let no : true ≡ false = sym same ∙ other in cc))) (without serial list)
+    (filter_passes (λ s. not (eqb s serial)) list))
+
+pub leaves_rising : (serial : ℕ) (path : List ℕ) (old new : List (List ℕ)) → All AreRising old
+    → Leaves serial path old new → All AreRising new
+leaves_rising serial path old new rising gone place d within =
+    let inside : place < length old = omega (arith, gone.count, within) in
+    subst AreRising (sym (gone.each place d inside)) (by (has_port place path) (rising place d inside))
+  where
+    by : (b : Bool) → AreRising (get_or old place d)
+        → AreRising (cond b (without serial (get_or old place d)) (get_or old place d))
+    by true h = without_rising serial (get_or old place d) h
+    by false h = h
+
+-- it leaves the lists of a path, and then that of one port more
+pub leaves_more : (serial port : ℕ) (path : List ℕ) (old now new : List (List ℕ)) → Leaves serial path old now
+    → Leaves serial (port ∷ []) now new → Leaves serial (path ++ port ∷ []) old new
+leaves_more serial port path old now new first second = record {
+  count = second.count ∙ first.count;
+  each = λ place d within.
+      second.each place d (omega (arith, first.count, within))
+      ∙ ap (λ (l : List ℕ). cond (has_port place (port ∷ [])) (without serial l) l) (first.each place d within)
+      ∙ by (has_port place (port ∷ [])) (has_port place path) (get_or old place d)
+      ∙ sym (ap (λ (b : Bool). cond b (without serial (get_or old place d)) (get_or old place d))
+      (list_any-append (λ p. eqb p place) path (port ∷ [])));
+}
+  where
+    by : (b t : Bool) (list : List ℕ)
+        → cond b (without serial (cond t (without serial list) list)) (cond t (without serial list) list)
+        ≡ cond (t || b) (without serial list) list
+    by true true list = without_twice serial list
+    by true false list = refl
+    by false true list = refl
+    by false false list = refl
+
+-- one list without the serial number
+pub leaves_one : (serial port : ℕ) (lists : List (List ℕ)) (list : List ℕ) → port < length lists
+    → list ≡ without serial (get_or lists port []) → Leaves serial (port ∷ []) lists (set lists port list)
+leaves_one serial port lists list within is = record {
+  count = length-set lists port list;
+  each = λ place d inside. by place d inside (cases_eq port place);
+}
+  where
+    by : (place : ℕ) (d : List ℕ) → place < length lists → (port ≡ place) ⊎ (port ≡ place → ⊥)
+        → get_or (set lists port list) place d
+        ≡ cond (has_port place (port ∷ [])) (without serial (get_or lists place d)) (get_or lists place d)
+    by place d inside (inl e) =
+        ap (λ (p : ℕ). get_or (set lists port list) p d) (sym e)
+        ∙ get_or-set_same lists port list d within
+        ∙ is
+        ∙ ap (without serial) (get_or_default lists port [] d within ∙ ap (λ (p : ℕ). get_or lists p d) e)
+        ∙ sym (ap (λ (b : Bool). cond (b || false) (without serial (get_or lists place d)) (get_or lists place d))
+        (eq-eqb port place e))
+    by place d inside (inr other) =
+        get_or-set_other lists port place list d (λ e. other (sym e))
+        ∙ sym (ap (λ (b : Bool). cond (b || false) (without serial (get_or lists place d)) (get_or lists place d))
+        (ne_eqb port place other))
+
+-- a port that is not there
+pub leaves_past : (serial port : ℕ) (lists : List (List ℕ)) → length lists ≤ port
+    → Leaves serial (port ∷ []) lists lists
+leaves_past serial port lists past = record {
+  count = refl;
+  each = λ place d inside.
+      sym (ap (λ (b : Bool). cond (b || false) (without serial (get_or lists place d)) (get_or lists place d))
+      (ne_eqb port place (λ e. omega (arith, e, inside, past))));
+}
+
+-- a serial number that was found is taken out
+pub leaves_found : (serial port at : ℕ) (lists : List (Vec ℕ)) (old new : Vec ℕ) → port < length lists
+    → All AreRising (items_of lists) → old ≡ get_or lists port old → at < length old.items
+    → get_or old.items at 0 ≡ serial → new.items ≡ remove old.items at
+    → Leaves serial (port ∷ []) (items_of lists) (items_of (set lists port new))
+leaves_found serial port at lists old new within rising is inside stands taken =
+    let list : get_or (items_of lists) port [] ≡ old.items =
+    item_at lists port old [] within ∙ sym (ap (λ (v : Vec ℕ). v.items) is) in
+    let long : length (items_of lists) ≡ length lists = length-map lists (λ (v : Vec ℕ). v.items) in
+    let rises : AreRising old.items = subst AreRising list (rising port [] (omega (arith, long, within))) in
+    subst (λ (l : List (List ℕ)). Leaves serial (port ∷ []) (items_of lists) l) (sym (items_set lists port new))
+    (leaves_one serial port (items_of lists) new.items (omega (arith, long, within))
+    (taken ∙ without_at old.items serial at rises inside stands ∙ ap (without serial) (sym list)))
+
+-- one that was not found stands nowhere
+pub leaves_unfound : (serial port at : ℕ) (lists : List (Vec ℕ)) (old : Vec ℕ) → port < length lists
+    → All AreRising (items_of lists) → old ≡ get_or lists port old
+    → IsBinarySearchResult (λ y. nat_cmp y serial) old.items (Err at)
+    → Leaves serial (port ∷ []) (items_of lists) (items_of lists)
+leaves_unfound serial port at lists old within rising is result =
+    let list : get_or (items_of lists) port [] ≡ old.items =
+    item_at lists port old [] within ∙ sym (ap (λ (v : Vec ℕ). v.items) is) in
+    let long : length (items_of lists) ≡ length lists = length-map lists (λ (v : Vec ℕ). v.items) in
+    let inside : port < length (items_of lists) = omega (arith, long, within) in
+    let rises : AreRising old.items = subst AreRising list (rising port [] inside) in
+    let absent : All (λ s. s ≢ serial) old.items =
+    λ k d below e. unsearched old.items serial at k rises result below (get_or_default old.items k 0 d below ∙ e) in
+    subst (λ (l : List (List ℕ)). Leaves serial (port ∷ []) (items_of lists) l)
+    (set-get_or (items_of lists) port [])
+    (leaves_one serial port (items_of lists) (get_or (items_of lists) port []) inside
+    (list ∙ sym (without_absent serial old.items absent) ∙ ap (without serial) (sym list)))

@@ -1,0 +1,131 @@
+-- The users of ports, and the paths of which they are.
+use Rattle.std.proofs.Common.{◌≡◌, ℕ, ◌+◌, ◌<◌, Bool, true, false, cond, List, [], ◌∷◌, ◌++◌, length, get_or, refl}
+use Rattle.std.proofs.Common.{sym, ap, subst, ◌∙◌, arith}
+use Rattle.std.specs.List.{All, remove}
+use Rattle.std.specs.Global.{Vec}
+use Rattle.std.proofs.lemmas.List.{length-map, length_push, get_or-map}
+use Rattle.std.proofs.lemmas.List.Edits.{length-remove}
+use Rattle.ats_serials.specs.Serials.{AreRising}
+use Rattle.ats_port_users.specs.Users.{UsersState, ListsPaths, has_port, users_of}
+use Rattle.ats_port_users.specs.Lists.{items_of, without, Enters, Leaves}
+use Rattle.ats_port_users.proofs.UserLemmas.{users_within}
+use Rattle.ats_port_users.proofs.Serials.{serials_at, serials_at-less, serials_at-other, serials_at-push}
+use Rattle.ats_port_users.proofs.Serials.{serials_at-rising, users_listed}
+
+-- no paths
+pub none_listed : (ports : ℕ) (lists : List (Vec ℕ)) → length lists ≡ ports
+    → All (λ (list : Vec ℕ). list.items ≡ []) lists
+    → ListsPaths ports [] (record { serials = []; lists = items_of lists })
+none_listed ports lists count empty = record {
+  count = refl;
+  ports_are = length-map lists (λ (v : Vec ℕ). v.items) ∙ count;
+  each = λ port d within. by lists port d (omega (arith, count, within)) empty;
+}
+  where
+    by : (lists : List (Vec ℕ)) (port : ℕ) (d : List ℕ) → port < length lists
+        → All (λ (list : Vec ℕ). list.items ≡ []) lists → get_or (items_of lists) port d ≡ []
+    by [] port d within empty = absurd (omega (arith, within))
+    by (list ∷ lists) port d within empty =
+        get_or-map (λ (v : Vec ℕ). v.items) (list ∷ lists) port list d within ∙ empty port list within
+
+-- the list of a port
+pub list_is : (ports : ℕ) (paths : List (List ℕ)) (users : UsersState) (port : ℕ) (d : List ℕ)
+    → ListsPaths ports paths users → port < length users.lists
+    → get_or users.lists port d ≡ serials_at port paths users.serials
+list_is ports paths users port d listed within =
+    listed.each port d (omega (arith, within, listed.ports_are)) ∙ users_listed port paths users.serials listed.count
+
+-- the lists rise
+pub lists_rising : (ports : ℕ) (paths : List (List ℕ)) (users : UsersState) → ListsPaths ports paths users
+    → AreRising users.serials → All AreRising users.lists
+lists_rising ports paths users listed rising port d within =
+    subst AreRising (sym (list_is ports paths users port d listed within))
+    (serials_at-rising port paths users.serials rising)
+
+-- from the lists by serial numbers those by the paths' numbers
+from_lists : (ports : ℕ) (paths : List (List ℕ)) (users : UsersState) → length users.serials ≡ length paths
+    → length users.lists ≡ ports
+    → ((port : ℕ) (d : List ℕ) → port < ports → get_or users.lists port d ≡ serials_at port paths users.serials)
+    → ListsPaths ports paths users
+from_lists ports paths users count long each = record {
+  count = count;
+  ports_are = long;
+  each = λ port d within. each port d within ∙ sym (users_listed port paths users.serials count);
+}
+
+-- a path more at the end
+pub listed_push : (ports : ℕ) (paths : List (List ℕ)) (path : List ℕ) (serial : ℕ) (old new : UsersState)
+    → ListsPaths ports paths old → new.serials ≡ old.serials ++ serial ∷ [] → Enters serial path old.lists new.lists
+    → ListsPaths ports (paths ++ path ∷ []) new
+listed_push ports paths path serial old new listed serials entered =
+    from_lists ports (paths ++ path ∷ []) new
+    (ap (λ (l : List ℕ). length l) serials ∙ length_push old.serials serial ∙ ap (λ (n : ℕ). n + 1) listed.count
+    ∙ sym (length_push paths path))
+    (entered.count ∙ listed.ports_are)
+    (λ port d within. (
+    let inside : port < length old.lists = omega (arith, within, listed.ports_are) in
+    entered.each port d inside
+    ∙ ap (λ (l : List ℕ). cond (has_port port path) (l ++ serial ∷ []) l) (list_is ports paths old port d listed inside)
+    ∙ sym (ap (serials_at port (paths ++ path ∷ [])) serials
+    ∙ serials_at-push port paths old.serials path serial listed.count)))
+
+-- a path less
+pub listed_less : (ports : ℕ) (paths : List (List ℕ)) (n : ℕ) (path : List ℕ) (old new : UsersState)
+    → ListsPaths ports paths old → AreRising old.serials → n < length old.serials → get_or paths n [] ≡ path
+    → new.serials ≡ remove old.serials n
+    → (All AreRising old.lists → Leaves (get_or old.serials n 0) path old.lists new.lists)
+    → ListsPaths ports (remove paths n) new
+listed_less ports paths n path old new listed rising within is serials leaves =
+    from_lists ports (remove paths n) new
+    (let here = length-remove old.serials n within in
+    let there = length-remove paths n (omega (arith, within, listed.count)) in
+    let many : length new.serials ≡ length (remove old.serials n) = ap (λ (l : List ℕ). length l) serials in
+    omega (arith, here, there, many, listed.count))
+    (gone.count ∙ listed.ports_are)
+    (λ port d below. (
+    let inside : port < length old.lists = omega (arith, below, listed.ports_are) in
+    gone.each port d inside
+    ∙ ap (λ (l : List ℕ). cond (has_port port path) (without (get_or old.serials n 0) l) l)
+    (list_is ports paths old port d listed inside)
+    ∙ by port (has_port port path) refl
+    ∙ sym (ap (serials_at port (remove paths n)) serials)))
+  where
+    gone : Leaves (get_or old.serials n 0) path old.lists new.lists
+    gone = leaves (lists_rising ports paths old listed rising)
+
+    by : (port : ℕ) (b : Bool) → has_port port path ≡ b
+        → cond b (without (get_or old.serials n 0) (serials_at port paths old.serials))
+        (serials_at port paths old.serials) ≡ serials_at port (remove paths n) (remove old.serials n)
+    by port true e = sym (serials_at-less port paths old.serials n listed.count within rising)
+    by port false e = sym (serials_at-other port paths old.serials n listed.count within (ap (has_port port) is ∙ e))
+
+-- as many serial numbers at a port as paths that have it
+pub count_is : (ports : ℕ) (paths : List (List ℕ)) (users : UsersState) (port : ℕ) (d : List ℕ)
+    → ListsPaths ports paths users → port < length users.lists
+    → length (get_or users.lists port d) ≡ length (users_of paths port)
+count_is ports paths users port d listed within =
+    ap (λ (l : List ℕ). length l) (listed.each port d (omega (arith, within, listed.ports_are)))
+    ∙ length-map (users_of paths port) (λ n. get_or users.serials n 0)
+
+-- the path that a serial number at a port belongs to
+pub record IsUserAt (paths : List (List ℕ)) (users : UsersState) (port place : ℕ) : Type 0 where
+  pub within : get_or (users_of paths port) place 0 < length users.serials
+  pub below : get_or (users_of paths port) place 0 < length paths
+  pub stands : get_or users.serials (get_or (users_of paths port) place 0) 0
+      ≡ get_or (get_or users.lists port []) place 0
+
+pub user_is : (ports : ℕ) (paths : List (List ℕ)) (users : UsersState) (port place : ℕ)
+    → ListsPaths ports paths users → port < length users.lists → place < length (get_or users.lists port [])
+    → IsUserAt paths users port place
+user_is ports paths users port place listed within inside =
+    let count : length (get_or users.lists port []) ≡ length (users_of paths port) =
+    count_is ports paths users port [] listed within in
+    let there : place < length (users_of paths port) = omega (arith, inside, count) in
+    let below : get_or (users_of paths port) place 0 < length paths = users_within port paths place 0 there in
+    record {
+      within = omega (arith, below, listed.count);
+      below = below;
+      stands = sym (ap (λ (l : List ℕ). get_or l place 0)
+          (listed.each port [] (omega (arith, within, listed.ports_are)))
+          ∙ get_or-map (λ n. get_or users.serials n 0) (users_of paths port) place 0 0 there);
+    }

@@ -1,0 +1,43 @@
+use Rattle.std.proofs.Common.{◌≡◌, ◌<◌, List, ℕ, [], Some, length, get_or, sym, ap, ◌∙◌, arith}
+use Rattle.std.specs.Global.{Vec}
+use Rattle.std.specs.Prelude.{unwrap_or}
+use Rattle.std.proofs.lemmas.List.{get_or_default, length-map}
+use Rattle.ats_port_users.specs.Users.{UsersState, ListsPaths, users_of}
+use Rattle.ats_port_users.proofs.ListLemmas.{item_at}
+use Rattle.ats_port_users.proofs.StateLemmas.{IsUserAt, user_is}
+use Rattle.ats_port_users.proofs.port_users.PortUsers.user.Goals as goal
+
+-- the number of the path that the serial number belongs to
+value : (c : goal.After-unwrap_or) (ports : ℕ) (paths : List (List ℕ)) → ListsPaths ports paths c.args.self.now
+    → c.unwrap_or.result ≡ get_or (users_of paths c.args.port) c.args.place 0
+value c ports paths listed =
+    let lists : List (Vec ℕ) = c.self.inside.lists.items in
+    let is : IsUserAt paths c.args.self.now c.args.port c.args.place =
+    user_is ports paths c.args.self.now c.args.port c.args.place listed c.requires.port c.requires.place in
+    let long : length lists ≡ length c.args.self.now.lists =
+    sym (length-map lists (λ (v : Vec ℕ). v.items)) ∙ ap (λ (u : UsersState). length u.lists) c.self.view_is in
+    let list : c.index-list.result.now.items ≡ get_or c.args.self.now.lists c.args.port [] =
+    ap (λ (v : Vec ℕ). v.items) c.index-list.ensures
+    ∙ sym (item_at lists c.args.port c.index-list.result.now [] (omega (arith, long, c.requires.port)))
+    ∙ ap (λ (u : UsersState). get_or u.lists c.args.port []) c.self.view_is in
+    let inside : c.args.place < length c.index-list.result.now.items =
+    omega (arith, c.requires.place, ap (λ (l : List ℕ). length l) list) in
+    let serial : c.index.result.now ≡ get_or (get_or c.args.self.now.lists c.args.port []) c.args.place 0 =
+    c.index.ensures ∙ get_or_default c.index-list.result.now.items c.args.place c.index.result.now 0 inside
+    ∙ ap (λ (l : List ℕ). get_or l c.args.place 0) list in
+    let serials : c.deref.result.now ≡ c.args.self.now.serials =
+    c.deref.ensures.value ∙ ap (λ (u : UsersState). u.serials) c.self.view_is in
+    let n : ℕ = get_or (users_of paths c.args.port) c.args.place 0 in
+    let place : c.place_in.result ≡ Some n =
+    c.place_in.ensures.place n (omega (arith, is.within, ap (λ (l : List ℕ). length l) serials))
+    (ap (λ (l : List ℕ). get_or l n 0) serials ∙ is.stands ∙ sym serial) in
+    c.unwrap_or.ensures ∙ ap (λ o. unwrap_or o 0) place
+
+pub returns-clause-value : goal.returns-clause-value
+returns-clause-value c ports paths listed = value c ports paths listed
+
+pub returns-clause-within : goal.returns-clause-within
+returns-clause-within c ports paths listed =
+    let is : IsUserAt paths c.args.self.now c.args.port c.args.place =
+    user_is ports paths c.args.self.now c.args.port c.args.place listed c.requires.port c.requires.place in
+    omega (arith, is.below, value c ports paths listed)
