@@ -23,15 +23,15 @@ found_among given network port classes =
     first_some given (map (place port) (filter (λ class. is_used network port class) classes))
 
 -- the bounds of all ports but this one stay
-pub record KeepsOthers (port : ℕ) (old new : List (Option ℕ)) : Type 0 where
+pub record KeepsOthers (port : ℕ) (old new : List ℕ) : Type 0 where
   pub count : length new ≡ length old
-  pub others : (p class : ℕ) (d : Option ℕ) → p ≢ port → class ≤ 7
+  pub others : (p class : ℕ) (d : ℕ) → p ≢ port → class ≤ 7
       → slice_index_or new (8 * p + class) d ≡ slice_index_or old (8 * p + class) d
 
 -- so they do, and the bounds of those classes of the port from 1 on that are below this one become the least
-pub record SetsBelow (network : DeclaredNetwork) (port below : ℕ) (old new : List (Option ℕ)) : Type 0 where
+pub record SetsBelow (network : DeclaredNetwork) (port below : ℕ) (old new : List ℕ) : Type 0 where
   pub kept : KeepsOthers port old new
-  pub least : (class : ℕ) (d : Option ℕ) → 1 ≤ class → class < below
+  pub least : (class : ℕ) (d : ℕ) → 1 ≤ class → class < below
       → slice_index_or new (8 * port + class) d ≡ least_bound network port class
 
 -- what is found against a network at the ports of a path: an overload, or else a need of residence

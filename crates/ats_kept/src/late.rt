@@ -23,7 +23,7 @@ use ats_tally::Reason;
 /// Of the streams that use a port of a path, the one with the lowest number whose sum is over its deadline. A stream is
 /// looked at where it uses a port but not the one before.
 pub(crate) fn first_late(
-    bounds: &[Option<u128>],
+    bounds: &[u128],
     network: &Network,
     streams: &PortUsers,
     path: &[u32],
@@ -48,7 +48,7 @@ pub(crate) fn first_late(
 // Of a late stream found so far and those that use the port but not the one before, the one with the lowest number.
 fn late_at_port(
     best: Option<(u32, Reason)>,
-    bounds: &[Option<u128>],
+    bounds: &[u128],
     network: &Network,
     streams: &PortUsers,
     before: Option<u32>,
@@ -70,7 +70,7 @@ fn late_at_port(
 // port before is passed over.
 fn late_at(
     best: Option<(u32, Reason)>,
-    bounds: &[Option<u128>],
+    bounds: &[u128],
     network: &Network,
     before: Option<u32>,
     stream: u32,
@@ -115,7 +115,7 @@ fn late_by(stream: &Stream, sum: u128) -> Option<Reason>
 }
 
 /// The sum of the least bounds of the stream with this number.
-pub(crate) fn sum_at(bounds: &[Option<u128>], network: &Network, stream: u32) -> u128
+pub(crate) fn sum_at(bounds: &[u128], network: &Network, stream: u32) -> u128
     requires number { stream < length network.now.streams }
     requires least { AreLeast network.now bounds.now }
     ensures { result ≡ sum_at network.now stream }
@@ -124,7 +124,7 @@ pub(crate) fn sum_at(bounds: &[Option<u128>], network: &Network, stream: u32) ->
 }
 
 // The sum of the least bounds along a stream's path.
-fn sum_along(bounds: &[Option<u128>], network: &Network, stream: &Stream) -> u128
+fn sum_along(bounds: &[u128], network: &Network, stream: &Stream) -> u128
     requires ports { All (λ p. p < length network.now.topology.ports) stream.now.path }
     requires apart { AllPairs (λ p q. p ≢ q) stream.now.path }
     requires least { AreLeast network.now bounds.now }
@@ -134,7 +134,7 @@ fn sum_along(bounds: &[Option<u128>], network: &Network, stream: &Stream) -> u12
     let classes = stream.classes();
     let mut sum = 0;
     for (hop, port) in stream.path().iter().enumerate() {
-        sum += bounds[place(*port, classes[hop])].unwrap_or(0);
+        sum += bounds[place(*port, classes[hop])];
     }
     sum
 }
