@@ -1,8 +1,12 @@
 -- The senders at a port, by the users that an index tells.
-use Rattle.std.proofs.Common.{◌≡◌, ℕ, zero, suc, ◌+◌, ◌<◌, ◌≤◌, Bool, true, false, cond, List, [], ◌∷◌, ◌++◌, length, map}
-use Rattle.std.proofs.Common.{get_or, take, drop, filter, refl, sym, ap, subst, ◌∙◌, arith, append_assoc}
-use Rattle.std.specs.List.{All}
-use Rattle.std.proofs.lemmas.List.{map-append, length-map, length-append, length-take, length-take-le, length-drop}
+use Rattle.std.proofs.Common.{◌≡◌, ℕ, suc, ◌+◌, ◌-◌, ◌<◌, ◌≤◌, Bool, true, false, cond, List, [], ◌∷◌, ◌++◌, length}
+use Rattle.std.proofs.Common.{map, get_or, take, drop, filter, refl, sym, ap, subst, ◌∙◌, arith, append_assoc, eqb}
+use Rattle.std.proofs.Common.{Option, Some}
+use Rattle.std.specs.Prelude.{◌||◌}
+use Rattle.std.specs.List.{position_from}
+use Rattle.std.proofs.lemmas.Bool.{false≢true, eqb-true}
+use Rattle.std.proofs.lemmas.Option.{same_Some}
+use Rattle.std.proofs.lemmas.List.{length-map, length-append, length-take, length-take-le, length-drop}
 use Rattle.std.proofs.lemmas.List.{get_or-map, get_or-take, get_or-drop, take_more, take_all, take-take}
 use Rattle.std.proofs.lemmas.List.{take-append-drop, drop-take, take_at, drop_at}
 use Rattle.std.proofs.lemmas.List.Elements.{All-append, All-take, All-drop}
@@ -13,7 +17,7 @@ use Rattle.ats_network.specs.Senders.{IsSender, no_sender, sender_at}
 use Rattle.ats_network.proofs.SenderLemmas.{each_is_sender}
 use Rattle.ats_certificate.specs.PortSums.{uses, senders_at}
 use Rattle.ats_tally.specs.Tally.{IsTally, IsWithin, tally_with}
-use Rattle.ats_tally.specs.Tallies.{AddsSender, HaveRoom}
+use Rattle.ats_tally.specs.Tallies.{AddsSender}
 use Rattle.ats_tally.specs.declared.tally.Tally.{Tally}
 use Rattle.ats_tally.specs.declared.tally.TheConstants.{MAX_SENDERS}
 use Rattle.ats_tally.proofs.Network.{few_senders}
@@ -25,7 +29,8 @@ use Rattle.ats_port_users.proofs.UserLemmas.{IsUser, users_from-later, users_hav
 use Rattle.ats_kept.specs.ClassTallies.{AreClassTallies, senders_from, paths_from}
 use Rattle.ats_kept.specs.Kept.{stream_paths, flow_paths}
 
-abbrev path_of : Sender → List ℕ
+-- a sender's path
+abbrev pub path_of : Sender → List ℕ
 path_of s = s.path
 
 -- the senders at a port are those with the numbers of its users
@@ -44,6 +49,81 @@ seen_users port (s ∷ part) =
         (cond b (0 ∷ users_from (0 + 1) port (map path_of part)) (users_from (0 + 1) port (map path_of part)))
     by true h = ap (λ (l : List PortSender). seen_at port s ∷ l) h
     by false h = h
+
+-- where a path has a port, a search finds a hop at which it does
+pub record IsHop (port : ℕ) (path : List ℕ) (n : ℕ) : Type 0 where
+  pub hop : ℕ
+  pub found : position_from (λ p. eqb p port) n path ≡ Some (n + hop)
+  pub within : hop < length path
+  pub stands : get_or path hop 0 ≡ port
+
+pub hop_found : (port : ℕ) (path : List ℕ) (n : ℕ) → has_port port path ≡ true → IsHop port path n
+hop_found port [] n has = absurd (false≢true has)
+hop_found port (p ∷ path) n has = by (eqb p port) refl has (hop_found port path (n + 1))
+  where
+    by : (b : Bool) → eqb p port ≡ b → (b || has_port port path) ≡ true
+        → (has_port port path ≡ true → IsHop port path (n + 1)) → IsHop port (p ∷ path) n
+    by true e h more = record {
+      hop = 0;
+      found =
+          ap (λ (t : Bool). cond t (Some n) (position_from (λ q. eqb q port) (n + 1) path)) e
+          ∙ ap (λ (k : ℕ). Some k) (let k : n ≡ n + 0 = omega arith in k);
+      within = omega arith;
+      stands = eqb-true p port e;
+    }
+    by false e h more =
+        let later : IsHop port path (n + 1) = more h in
+        let same : (n + 1) + later.hop ≡ n + suc later.hop = omega arith in
+        record {
+          hop = suc later.hop;
+          found =
+              ap (λ (t : Bool). cond t (Some n) (position_from (λ q. eqb q port) (n + 1) path)) e
+              ∙ later.found ∙ ap (λ (k : ℕ). Some k) same;
+          within = omega (arith, later.within);
+          stands = later.stands;
+        }
+
+-- the hop at which a sender's path has a port, as a search of the path found it
+pub record IsHopOf (network : DeclaredNetwork) (sender port : ℕ) (found : Option ℕ) : Type 0 where
+  pub hop : ℕ
+  pub is : found ≡ Some hop
+  pub within : hop < length (sender_at network sender).path
+  pub few : hop < 16
+  pub stands : get_or (sender_at network sender).path hop 0 ≡ port
+
+pub hop_is : (network : DeclaredNetwork) (sender port : ℕ) (path : List ℕ) (found : Option ℕ) → IsNetwork network
+    → sender < length (senders_of network) → has_port port (sender_at network sender).path ≡ true
+    → path ≡ (sender_at network sender).path → found ≡ position_from (λ p. eqb p port) 0 path
+    → IsHopOf network sender port found
+hop_is network sender port path found is inside has same search =
+    let own : List ℕ = (sender_at network sender).path in
+    let there : IsHop port own 0 = hop_found port own 0 has in
+    let rules : IsSender network.topology (sender_at network sender) =
+    each_is_sender network is sender no_sender inside in
+    let none : 0 + there.hop ≡ there.hop = omega arith in
+    record {
+      hop = there.hop;
+      is = search ∙ ap (position_from (λ p. eqb p port) 0) same ∙ there.found ∙ ap (λ (k : ℕ). Some k) none;
+      within = there.within;
+      few = omega (arith, there.within, rules.path.most);
+      stands = there.stands;
+    }
+
+-- what is so of the hop by which the search answers
+pub record IsHopAt (network : DeclaredNetwork) (sender port hop : ℕ) : Type 0 where
+  pub within : hop < length (sender_at network sender).path
+  pub few : hop < 16
+  pub stands : get_or (sender_at network sender).path hop 0 ≡ port
+
+pub hop_at : (network : DeclaredNetwork) (sender port hop : ℕ) (found : Option ℕ) → IsHopOf network sender port found
+    → found ≡ Some hop → IsHopAt network sender port hop
+hop_at network sender port hop found h is =
+    let same : h.hop ≡ hop = same_Some h.hop hop (sym h.is ∙ is) in
+    record {
+      within = omega (arith, same, h.within);
+      few = omega (arith, same, h.few);
+      stands = ap (λ (k : ℕ). get_or (sender_at network sender).path k 0) (sym same) ∙ h.stands;
+    }
 
 -- a user of a port, by its place, is a sender of the network, and has the port
 pub record IsAtPort (network : DeclaredNetwork) (first count port place : ℕ) : Type 0 where
@@ -85,8 +165,12 @@ at_port network first count port place fits inside =
       has = sym (ap (λ (s : Sender). has_port port s.path) one)
           ∙ sym (ap (has_port port) (get_or-map path_of part n no_sender [] below))
           ∙ sym (ap (λ (k : ℕ). has_port port (get_or (map path_of part) k [])) here) ∙ is.has;
-      inside = omega (arith, inside, ap (λ (l : List PortSender). length l) (seen_users port part),
-          length-map users (λ k. seen_at port (get_or part k no_sender)));
+      inside = omega (
+        arith,
+        inside,
+        ap (λ (l : List PortSender). length l) (seen_users port part),
+        length-map users (λ k. seen_at port (get_or part k no_sender)),
+      );
       seen = λ d. ap (λ (l : List PortSender). get_or l place d) (seen_users port part)
           ∙ get_or-map (λ k. seen_at port (get_or part k no_sender)) users place 0 d inside
           ∙ ap (seen_at port) one;
@@ -156,8 +240,12 @@ counted_all network first count port place tallies end counted =
     let part : List Sender = senders_from network first count in
     let users : List ℕ = users_of (map path_of part) port in
     let whole : take place (senders_at port part) ≡ senders_at port part = take_all place (senders_at port part)
-    (omega (arith, end, ap (λ (l : List PortSender). length l) (seen_users port part),
-    length-map users (λ k. seen_at port (get_or part k no_sender)))) in
+    (omega (
+      arith,
+      end,
+      ap (λ (l : List PortSender). length l) (seen_users port part),
+      length-map users (λ k. seen_at port (get_or part k no_sender)),
+    )) in
     subst (λ (l : List PortSender). AreClassTallies l tallies)
     (ap (λ (l : List PortSender). senders_at port (take first senders) ++ l) whole
     ∙ sym (senders_at-append port (take first senders) part)

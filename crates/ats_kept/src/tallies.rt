@@ -1,8 +1,9 @@
 //! What the senders at one port make of each class.
 
-ghost use Rattle.std.specs.Prelude.{◌≡◌, ◌+◌, ◌<◌, ◌≤◌, length, slice_index_or, take, IsTrue};
+ghost use Rattle.std.specs.Prelude.{◌≡◌, ◌==◌, ◌+◌, ◌<◌, ◌≤◌, length, take, IsTrue};
+ghost use Rattle.std.specs.List.{position_from};
 ghost use Rattle.ats_network.specs.Class.{seen_at};
-ghost use Rattle.ats_network.specs.Network.{senders_of};
+ghost use Rattle.ats_network.specs.Network.{IsNetwork, senders_of};
 ghost use Rattle.ats_network.specs.Senders.{sender_at};
 ghost use Rattle.ats_certificate.specs.PortSums.{senders_at};
 ghost use Rattle.ats_tally.specs.SenderAtPort.{port_sender, KeepsLimits};
@@ -28,10 +29,10 @@ pub(crate) fn tallies_at(
     requires flows { ListsPaths (length network.now.topology.ports) (flow_paths network.now) flows.now }
     ensures { AreClassTallies (senders_at port (senders_of network.now)) result }
 {
+    let flow = network.streams().len() as u32;
     let mut tallies = [Tally::new(); 8];
     count_users(&mut tallies, network, streams, 0, port);
-    let first = network.streams().len() as u32;
-    count_users(&mut tallies, network, flows, first, port);
+    count_users(&mut tallies, network, flows, flow, port);
     tallies
 }
 
@@ -43,6 +44,7 @@ fn count_users(
     first: u32,
     port: u32,
 )
+    requires rules { IsNetwork network.now }
     requires port { port < length network.now.topology.ports }
     requires senders { first + length users.now.serials ≤ length (senders_of network.now) }
     requires users { ListsPaths (length network.now.topology.ports)
@@ -65,22 +67,15 @@ fn sender_seen(network: &Network, sender: u32, port: u32) -> SeenSender
     ensures seen { port_sender result ≡ seen_at port (sender_at network.now sender) }
     ensures limits { KeepsLimits result }
 {
-    let hop = hop_of(network.sender_path(sender), port);
-    SeenSender::at(network, sender, hop)
+    let hop = hop_of(network.sender_path(sender), port).unwrap();
+    SeenSender::at(network, sender, hop as u32)
 }
 
-// The hop at which a path has this port.
-fn hop_of(path: &[u32], port: u32) -> u32
-    requires long { length path.now ≤ 16 }
-    requires has { IsTrue (has_port port path.now) }
-    ensures within { result < length path.now }
-    ensures port { slice_index_or path.now result 0 ≡ port }
+// The place of a port on a path, if it is there.
+fn hop_of(path: &[u32], port: u32) -> Option<usize>
+    ensures { result ≡ position_from (λ p. p == port) 0 path.now }
 {
-    let mut hop = 0;
-    while path[hop] != port {
-        hop += 1;
-    }
-    hop as u32
+    path.iter().position(|p| *p == port)
 }
 
 // Counts a sender in each class.
