@@ -5,4 +5,5 @@ pub mod Users
 pub mod Near
 pub mod Sums
 pub mod Judgements
+pub mod Opened
 pub mod UserTallies
