@@ -1,4 +1,5 @@
-pub mod ClassTallies
-pub mod Judged
 pub mod Kept
+pub mod Judged
+pub mod ClassTallies
+pub mod Judging
 pub mod Laws
