@@ -24,7 +24,7 @@ use Rattle.ats_tally.proofs.Network.{few_senders}
 use Rattle.ats_tally.proofs.SeenLemmas.{IsSeen, all_seen, few_at, senders_at-append}
 use Rattle.ats_tally.proofs.Tallied.{tally_more, tally_within}
 use Rattle.ats_port_users.specs.Users.{has_port, users_from, users_of}
-use Rattle.ats_port_users.proofs.Serials.{mapped}
+use Rattle.ats_port_users.proofs.Slots.{mapped}
 use Rattle.ats_port_users.proofs.UserLemmas.{IsUser, users_from-later, users_have}
 use Rattle.ats_kept.specs.ClassTallies.{AreClassTallies, senders_from, paths_from}
 use Rattle.ats_kept.specs.Kept.{stream_paths, flow_paths}

@@ -46,12 +46,12 @@ fn count_users(
 )
     requires rules { IsNetwork network.now }
     requires port { port < length network.now.topology.ports }
-    requires senders { first + length users.now.serials ≤ length (senders_of network.now) }
+    requires senders { first + length users.now.slots ≤ length (senders_of network.now) }
     requires users { ListsPaths (length network.now.topology.ports)
-        (paths_from network.now first (length users.now.serials)) users.now }
+        (paths_from network.now first (length users.now.slots)) users.now }
     requires before { AreClassTallies (senders_at port (take first (senders_of network.now))) tallies.old }
     ensures { AreClassTallies
-        (senders_at port (take (first + length users.now.serials) (senders_of network.now))) tallies.new }
+        (senders_at port (take (first + length users.now.slots) (senders_of network.now))) tallies.new }
 {
     for place in 0..users.count(port) {
         let sender = first + users.user(port, place);

@@ -11,11 +11,11 @@ use Rattle.ats_kept.proofs.UserTallies.{IsAtPort, at_port, counted_within, count
 use Rattle.ats_kept.proofs.tallies.count_users.Goals as goal
 
 -- the user is a sender of the network that has the port
-user : (c : goal.After-user) → IsAtPort c.args.network.now c.args.first (length c.args.users.now.serials) c.args.port
+user : (c : goal.After-user) → IsAtPort c.args.network.now c.args.first (length c.args.users.now.slots) c.args.port
     c.loop-place.place
 user c =
     let network = c.args.network.now in
-    let count : ℕ = length c.args.users.now.serials in
+    let count : ℕ = length c.args.users.now.slots in
     let paths : List (List ℕ) = paths_from network c.args.first count in
     at_port network c.args.first count c.args.port c.loop-place.place c.requires.senders
     (omega (
@@ -26,10 +26,10 @@ user c =
 
 -- it has this number
 number : (c : goal.After-user) → c.user.result
-    ≡ get_or (users_of (map path_of (senders_from c.args.network.now c.args.first (length c.args.users.now.serials)))
+    ≡ get_or (users_of (map path_of (senders_from c.args.network.now c.args.first (length c.args.users.now.slots)))
     c.args.port) c.loop-place.place 0
 number c = c.user.ensures.value (length c.args.network.now.topology.ports)
-    (paths_from c.args.network.now c.args.first (length c.args.users.now.serials)) c.requires.users
+    (paths_from c.args.network.now c.args.first (length c.args.users.now.slots)) c.requires.users
 
 pub overflow_add-sender : goal.overflow_add-sender
 overflow_add-sender c =
@@ -46,13 +46,13 @@ pub count-requires-clause-room : goal.count-requires-clause-room
 count-requires-clause-room c class d least most =
     let same : 0 + class ≡ class = omega arith in
     subst (λ (n : ℕ). IsWithin MAX_SENDERS (get_or c.loop-place.tallies n d)) (sym same)
-    (counted_within c.args.network.now c.args.first (length c.args.users.now.serials) c.args.port c.loop-place.place
+    (counted_within c.args.network.now c.args.first (length c.args.users.now.slots) c.args.port c.loop-place.place
     c.loop-place.tallies c.requires.rules c.requires.senders c.loop-place.invariant class d least most)
 
 pub loop-place-preserved : goal.loop-place-preserved
 loop-place-preserved c =
     let network = c.args.network.now in
-    let count : ℕ = length c.args.users.now.serials in
+    let count : ℕ = length c.args.users.now.slots in
     let paths : List (List ℕ) = paths_from network c.args.first count in
     let n : ℕ = get_or (users_of paths c.args.port) c.loop-place.place 0 in
     let is : IsAtPort network c.args.first count c.args.port c.loop-place.place =
@@ -73,7 +73,7 @@ loop-place-preserved c =
 pub returns : goal.returns
 returns c =
     let network = c.args.network.now in
-    let count : ℕ = length c.args.users.now.serials in
+    let count : ℕ = length c.args.users.now.slots in
     let paths : List (List ℕ) = paths_from network c.args.first count in
     counted_all network c.args.first count c.args.port c.loop-place.place c.loop-place.tallies
     (omega (

@@ -8,5 +8,5 @@ use Rattle.ats_kept.proofs.tallies.count_users.Given as goal
 abbrev pub invariant-loop-place : goal.invariant-loop-place
 invariant-loop-place l = AreClassTallies
     (senders_at l.port (take l.first (senders_of l.network))
-    ++ take l.place (senders_at l.port (senders_from l.network l.first (length l.users.serials))))
+    ++ take l.place (senders_at l.port (senders_from l.network l.first (length l.users.slots))))
     l.tallies
