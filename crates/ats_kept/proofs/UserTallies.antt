@@ -1,0 +1,286 @@
+-- The senders at a port, by the users that an index tells.
+use Rattle.std.proofs.Common.{◌≡◌, ℕ, suc, ◌+◌, ◌-◌, ◌<◌, ◌≤◌, Bool, true, false, cond, List, [], ◌∷◌, ◌++◌, length}
+use Rattle.std.proofs.Common.{map, get_or, take, drop, filter, refl, sym, ap, subst, ◌∙◌, arith, append_assoc, eqb}
+use Rattle.std.proofs.Common.{Option, Some}
+use Rattle.std.specs.Prelude.{◌||◌}
+use Rattle.std.specs.List.{position_from}
+use Rattle.std.proofs.lemmas.Bool.{false≢true, eqb-true}
+use Rattle.std.proofs.lemmas.Option.{same_Some}
+use Rattle.std.proofs.lemmas.List.{length-map, length-append, length-take, length-take-le, length-drop}
+use Rattle.std.proofs.lemmas.List.{get_or-map, get_or-take, get_or-drop, take_more, take_all, take-take}
+use Rattle.std.proofs.lemmas.List.{take-append-drop, drop-take, take_at, drop_at}
+use Rattle.std.proofs.lemmas.List.Elements.{All-append, All-take, All-drop}
+use Rattle.ats_network.specs.Sender.{Sender, stream_sender, flow_sender}
+use Rattle.ats_network.specs.Class.{PortSender, seen_at}
+use Rattle.ats_network.specs.Network.{DeclaredNetwork, IsNetwork, senders_of}
+use Rattle.ats_network.specs.Senders.{IsSender, no_sender, sender_at}
+use Rattle.ats_network.proofs.SenderLemmas.{each_is_sender}
+use Rattle.ats_certificate.specs.PortSums.{uses, senders_at}
+use Rattle.ats_tally.specs.Tally.{IsTally, IsWithin, tally_with}
+use Rattle.ats_tally.specs.Tallies.{AddsSender}
+use Rattle.ats_tally.specs.declared.tally.Tally.{Tally}
+use Rattle.ats_tally.specs.declared.tally.TheConstants.{MAX_SENDERS}
+use Rattle.ats_tally.proofs.Network.{few_senders}
+use Rattle.ats_tally.proofs.SeenLemmas.{IsSeen, all_seen, few_at, senders_at-append}
+use Rattle.ats_tally.proofs.Tallied.{tally_more, tally_within}
+use Rattle.ats_port_users.specs.Users.{has_port, users_from, users_of}
+use Rattle.ats_port_users.proofs.Slots.{mapped}
+use Rattle.ats_port_users.proofs.UserLemmas.{IsUser, users_from-later, users_have}
+use Rattle.ats_kept.specs.ClassTallies.{AreClassTallies, senders_from, paths_from}
+use Rattle.ats_kept.specs.Kept.{stream_paths, flow_paths}
+
+-- a sender's path
+abbrev pub path_of : Sender → List ℕ
+path_of s = s.path
+
+-- the senders at a port are those with the numbers of its users
+pub seen_users : (port : ℕ) (part : List Sender) → senders_at port part
+    ≡ map (λ n. seen_at port (get_or part n no_sender)) (users_of (map path_of part) port)
+seen_users port [] = refl
+seen_users port (s ∷ part) =
+    by (has_port port s.path) (seen_users port part
+    ∙ sym (ap (map (λ n. seen_at port (get_or (s ∷ part) n no_sender))) (users_from-later 0 port (map path_of part))
+    ∙ mapped (λ m. suc m) (λ n. seen_at port (get_or (s ∷ part) n no_sender)) (users_of (map path_of part) port)))
+  where
+    by : (b : Bool) → senders_at port part
+        ≡ map (λ n. seen_at port (get_or (s ∷ part) n no_sender)) (users_from (0 + 1) port (map path_of part))
+        → map (seen_at port) (cond b (s ∷ filter (uses port) part) (filter (uses port) part))
+        ≡ map (λ n. seen_at port (get_or (s ∷ part) n no_sender))
+        (cond b (0 ∷ users_from (0 + 1) port (map path_of part)) (users_from (0 + 1) port (map path_of part)))
+    by true h = ap (λ (l : List PortSender). seen_at port s ∷ l) h
+    by false h = h
+
+-- where a path has a port, a search finds a hop at which it does
+pub record IsHop (port : ℕ) (path : List ℕ) (n : ℕ) : Type 0 where
+  pub hop : ℕ
+  pub found : position_from (λ p. eqb p port) n path ≡ Some (n + hop)
+  pub within : hop < length path
+  pub stands : get_or path hop 0 ≡ port
+
+pub hop_found : (port : ℕ) (path : List ℕ) (n : ℕ) → has_port port path ≡ true → IsHop port path n
+hop_found port [] n has = absurd (false≢true has)
+hop_found port (p ∷ path) n has = by (eqb p port) refl has (hop_found port path (n + 1))
+  where
+    by : (b : Bool) → eqb p port ≡ b → (b || has_port port path) ≡ true
+        → (has_port port path ≡ true → IsHop port path (n + 1)) → IsHop port (p ∷ path) n
+    by true e h more = record {
+      hop = 0;
+      found =
+          ap (λ (t : Bool). cond t (Some n) (position_from (λ q. eqb q port) (n + 1) path)) e
+          ∙ ap (λ (k : ℕ). Some k) (let k : n ≡ n + 0 = omega arith in k);
+      within = omega arith;
+      stands = eqb-true p port e;
+    }
+    by false e h more =
+        let later : IsHop port path (n + 1) = more h in
+        let same : (n + 1) + later.hop ≡ n + suc later.hop = omega arith in
+        record {
+          hop = suc later.hop;
+          found =
+              ap (λ (t : Bool). cond t (Some n) (position_from (λ q. eqb q port) (n + 1) path)) e
+              ∙ later.found ∙ ap (λ (k : ℕ). Some k) same;
+          within = omega (arith, later.within);
+          stands = later.stands;
+        }
+
+-- the hop at which a sender's path has a port, as a search of the path found it
+pub record IsHopOf (network : DeclaredNetwork) (sender port : ℕ) (found : Option ℕ) : Type 0 where
+  pub hop : ℕ
+  pub is : found ≡ Some hop
+  pub within : hop < length (sender_at network sender).path
+  pub few : hop < 16
+  pub stands : get_or (sender_at network sender).path hop 0 ≡ port
+
+pub hop_is : (network : DeclaredNetwork) (sender port : ℕ) (path : List ℕ) (found : Option ℕ) → IsNetwork network
+    → sender < length (senders_of network) → has_port port (sender_at network sender).path ≡ true
+    → path ≡ (sender_at network sender).path → found ≡ position_from (λ p. eqb p port) 0 path
+    → IsHopOf network sender port found
+hop_is network sender port path found is inside has same search =
+    let own : List ℕ = (sender_at network sender).path in
+    let there : IsHop port own 0 = hop_found port own 0 has in
+    let rules : IsSender network.topology (sender_at network sender) =
+    each_is_sender network is sender no_sender inside in
+    let none : 0 + there.hop ≡ there.hop = omega arith in
+    record {
+      hop = there.hop;
+      is = search ∙ ap (position_from (λ p. eqb p port) 0) same ∙ there.found ∙ ap (λ (k : ℕ). Some k) none;
+      within = there.within;
+      few = omega (arith, there.within, rules.path.most);
+      stands = there.stands;
+    }
+
+-- what is so of the hop by which the search answers
+pub record IsHopAt (network : DeclaredNetwork) (sender port hop : ℕ) : Type 0 where
+  pub within : hop < length (sender_at network sender).path
+  pub few : hop < 16
+  pub stands : get_or (sender_at network sender).path hop 0 ≡ port
+
+pub hop_at : (network : DeclaredNetwork) (sender port hop : ℕ) (found : Option ℕ) → IsHopOf network sender port found
+    → found ≡ Some hop → IsHopAt network sender port hop
+hop_at network sender port hop found h is =
+    let same : h.hop ≡ hop = same_Some h.hop hop (sym h.is ∙ is) in
+    record {
+      within = omega (arith, same, h.within);
+      few = omega (arith, same, h.few);
+      stands = ap (λ (k : ℕ). get_or (sender_at network sender).path k 0) (sym same) ∙ h.stands;
+    }
+
+-- a user of a port, by its place, is a sender of the network, and has the port
+pub record IsAtPort (network : DeclaredNetwork) (first count port place : ℕ) : Type 0 where
+  pub within : first + get_or (users_of (map path_of (senders_from network first count)) port) place 0
+      < length (senders_of network)
+  pub has : has_port port (sender_at network
+      (first + get_or (users_of (map path_of (senders_from network first count)) port) place 0)).path ≡ true
+  pub inside : place < length (senders_at port (senders_from network first count))
+  pub seen : (d : PortSender) → get_or (senders_at port (senders_from network first count)) place d
+      ≡ seen_at port (sender_at network
+      (first + get_or (users_of (map path_of (senders_from network first count)) port) place 0))
+
+long_from : (network : DeclaredNetwork) (first count : ℕ) → first + count ≤ length (senders_of network)
+    → length (senders_from network first count) ≡ count
+long_from network first count fits =
+    length-take-le count (drop first (senders_of network)) (omega (arith, length-drop first (senders_of network), fits))
+
+one_from : (network : DeclaredNetwork) (first count n : ℕ) → n < count
+    → get_or (senders_from network first count) n no_sender ≡ sender_at network (first + n)
+one_from network first count n below =
+    get_or-take count (drop first (senders_of network)) n no_sender below
+    ∙ get_or-drop first (senders_of network) n no_sender
+
+pub at_port : (network : DeclaredNetwork) (first count port place : ℕ) → first + count ≤ length (senders_of network)
+    → place < length (users_of (map path_of (senders_from network first count)) port)
+    → IsAtPort network first count port place
+at_port network first count port place fits inside =
+    let part : List Sender = senders_from network first count in
+    let users : List ℕ = users_of (map path_of part) port in
+    let n : ℕ = get_or users place 0 in
+    let is : IsUser 0 port (map path_of part) n = users_have 0 port (map path_of part) place 0 inside in
+    let long : length part ≡ count = long_from network first count fits in
+    let below : n < length part = omega (arith, is.within, length-map part path_of) in
+    let one : get_or part n no_sender ≡ sender_at network (first + n) =
+    one_from network first count n (omega (arith, below, long)) in
+    let here : n - 0 ≡ n = omega arith in
+    record {
+      within = omega (arith, below, long, fits);
+      has = sym (ap (λ (s : Sender). has_port port s.path) one)
+          ∙ sym (ap (has_port port) (get_or-map path_of part n no_sender [] below))
+          ∙ sym (ap (λ (k : ℕ). has_port port (get_or (map path_of part) k [])) here) ∙ is.has;
+      inside = omega (
+        arith,
+        inside,
+        ap (λ (l : List PortSender). length l) (seen_users port part),
+        length-map users (λ k. seen_at port (get_or part k no_sender)),
+      );
+      seen = λ d. ap (λ (l : List PortSender). get_or l place d) (seen_users port part)
+          ∙ get_or-map (λ k. seen_at port (get_or part k no_sender)) users place 0 d inside
+          ∙ ap (seen_at port) one;
+    }
+
+-- of the senders counted so far, the tallies have room for one more
+pub counted_within : (network : DeclaredNetwork) (first count port place : ℕ) (tallies : List Tally)
+    → IsNetwork network → first + count ≤ length (senders_of network)
+    → AreClassTallies (senders_at port (take first (senders_of network))
+    ++ take place (senders_at port (senders_from network first count))) tallies
+    → (class : ℕ) (d : Tally) → 1 ≤ class → class ≤ 7 → IsWithin MAX_SENDERS (get_or tallies class d)
+counted_within network first count port place tallies is fits counted class d least most =
+    let senders : List Sender = senders_of network in
+    let front : List Sender = take first senders in
+    let part : List Sender = senders_from network first count in
+    let all = each_is_sender network is in
+    tally_within class (senders_at port front ++ take place (senders_at port part)) (get_or tallies class d) least
+    (All-append IsSeen (senders_at port front) (take place (senders_at port part))
+    (all_seen network.topology port front (All-take (IsSender network.topology) first senders all))
+    (All-take IsSeen place (senders_at port part) (all_seen network.topology port part
+    (All-take (IsSender network.topology) count (drop first senders)
+    (All-drop (IsSender network.topology) first senders all)))))
+    (omega (
+      arith,
+      length-append (senders_at port front) (take place (senders_at port part)),
+      length-take place (senders_at port part),
+      few_at port front,
+      few_at port part,
+      long_from network first count fits,
+      length-take-le first senders (omega (arith, fits)),
+      fits,
+      few_senders network is,
+    ))
+    (counted class d least most)
+
+-- one user more is counted
+pub counted_more : (network : DeclaredNetwork) (first count port place : ℕ) (old new : List Tally) (seen : PortSender)
+    → place < length (senders_at port (senders_from network first count))
+    → ((d : PortSender) → get_or (senders_at port (senders_from network first count)) place d ≡ seen)
+    → AreClassTallies (senders_at port (take first (senders_of network))
+    ++ take place (senders_at port (senders_from network first count))) old → AddsSender seen 0 8 old new
+    → AreClassTallies (senders_at port (take first (senders_of network))
+    ++ take (place + 1) (senders_at port (senders_from network first count))) new
+counted_more network first count port place old new seen inside is counted adds class d least most =
+    let front : List PortSender = senders_at port (take first (senders_of network)) in
+    let part : List PortSender = senders_at port (senders_from network first count) in
+    let none : class - 0 ≡ class = omega arith in
+    let value : get_or new class d ≡ tally_with class seen (get_or old class d) =
+    adds.added class d (omega arith) (omega arith)
+    ∙ ap (λ (n : ℕ). tally_with n seen (get_or old class d)) none in
+    let list : front ++ take (place + 1) part ≡ (front ++ take place part) ++ seen ∷ [] =
+    ap (λ (l : List PortSender). front ++ l) (take_more part place seen inside
+    ∙ ap (λ (s : PortSender). take place part ++ s ∷ []) (is seen))
+    ∙ sym (append_assoc front (take place part) (seen ∷ [])) in
+    subst (λ (t : Tally). IsTally class (front ++ take (place + 1) part) t) (sym value)
+    (subst (λ (l : List PortSender). IsTally class l (tally_with class seen (get_or old class d))) (sym list)
+    (tally_more class (front ++ take place part) (get_or old class d) seen (counted class d least most)))
+
+-- all users are counted
+pub counted_all : (network : DeclaredNetwork) (first count port place : ℕ) (tallies : List Tally)
+    → length (users_of (map path_of (senders_from network first count)) port) ≤ place
+    → AreClassTallies (senders_at port (take first (senders_of network))
+    ++ take place (senders_at port (senders_from network first count))) tallies
+    → AreClassTallies (senders_at port (take (first + count) (senders_of network))) tallies
+counted_all network first count port place tallies end counted =
+    let senders : List Sender = senders_of network in
+    let part : List Sender = senders_from network first count in
+    let users : List ℕ = users_of (map path_of part) port in
+    let whole : take place (senders_at port part) ≡ senders_at port part = take_all place (senders_at port part)
+    (omega (
+      arith,
+      end,
+      ap (λ (l : List PortSender). length l) (seen_users port part),
+      length-map users (λ k. seen_at port (get_or part k no_sender)),
+    )) in
+    subst (λ (l : List PortSender). AreClassTallies l tallies)
+    (ap (λ (l : List PortSender). senders_at port (take first senders) ++ l) whole
+    ∙ sym (senders_at-append port (take first senders) part)
+    ∙ ap (senders_at port) (sym (take_add first count senders))) counted
+  where
+    take_add : (m n : ℕ) (xs : List Sender) → take (m + n) xs ≡ take m xs ++ take n (drop m xs)
+    take_add m n xs =
+        sym (take-append-drop m (take (m + n) xs))
+        ∙ ap (λ (l : List Sender). l ++ drop m (take (m + n) xs)) (take-take m (m + n) xs (omega arith))
+        ∙ ap (λ (l : List Sender). take m xs ++ l) (drop-take m n xs)
+
+-- the streams of a network, and its flows, as parts of its senders
+pub streams_part : (network : DeclaredNetwork) (count : ℕ) → count ≡ length network.streams
+    → senders_from network 0 count ≡ map stream_sender network.streams
+streams_part network count many =
+    let streams : List Sender = map stream_sender network.streams in
+    let long : length streams ≡ count = length-map network.streams stream_sender ∙ sym many in
+    take_at streams (map flow_sender network.flows) count long
+
+pub flows_part : (network : DeclaredNetwork) (first count : ℕ) → first ≡ length network.streams
+    → count ≡ length network.flows → senders_from network first count ≡ map flow_sender network.flows
+flows_part network first count before many =
+    let streams : List Sender = map stream_sender network.streams in
+    let flows : List Sender = map flow_sender network.flows in
+    let long : length streams ≡ first = length-map network.streams stream_sender ∙ sym before in
+    let short : length flows ≤ count = omega (arith, length-map network.flows flow_sender, many) in
+    ap (take count) (drop_at streams flows first long) ∙ take_all count flows short
+
+-- the paths of these
+pub paths_of_streams : (network : DeclaredNetwork) (count : ℕ) → count ≡ length network.streams
+    → paths_from network 0 count ≡ stream_paths network
+paths_of_streams network count many =
+    ap (map path_of) (streams_part network count many) ∙ mapped stream_sender path_of network.streams
+
+pub paths_of_flows : (network : DeclaredNetwork) (first count : ℕ) → first ≡ length network.streams
+    → count ≡ length network.flows → paths_from network first count ≡ flow_paths network
+paths_of_flows network first count before many =
+    ap (map path_of) (flows_part network first count before many) ∙ mapped flow_sender path_of network.flows

@@ -1,0 +1,5 @@
+pub mod Kept
+pub mod Judged
+pub mod ClassTallies
+pub mod Judging
+pub mod Laws
