@@ -1,4 +1,5 @@
 pub mod ClassTallies
+pub mod Shares
 pub mod Judged
 pub mod Kept
 pub mod Laws
