@@ -1,8 +1,8 @@
-use Rattle.std.specs.Prelude.{◌≡◌, ℕ, ◌+◌, ◌*◌, ◌<◌, ◌≤◌, false, if◌then◌else◌, List, map, length, Option, Some, None}
-use Rattle.std.specs.Prelude.{slice_index_or}
+use Rattle.std.specs.Prelude.{◌≡◌, ℕ, ◌+◌, ◌*◌, ◌<◌, ◌≤◌, false, if◌then◌else◌, List, [], ◌∷◌, ◌++◌, map, length, Option, Some}
+use Rattle.std.specs.Prelude.{None, slice_index_or}
+use Rattle.std.specs.List.{remove}
 use Rattle.ats_streams.specs.Stream.{DeclaredStream}
 use Rattle.ats_streams.specs.Flow.{DeclaredFlow}
-use Rattle.ats_network.specs.Edits.{no_stream}
 use Rattle.ats_network.specs.Network.{DeclaredNetwork}
 use Rattle.ats_certificate.specs.PortSums.{is_used}
 use Rattle.ats_bound.specs.Least.{least_row}
@@ -15,6 +15,10 @@ pub record KeptState : Type 0 where
   pub streams : UsersState
   pub flows : UsersState
   pub bounds : List (Option ℕ)
+
+-- these as one state
+abbrev pub kept_state : UsersState → UsersState → List (Option ℕ) → KeptState
+kept_state streams flows bounds = record { streams = streams; flows = flows; bounds = bounds }
 
 -- the paths of a network's streams, and of its flows
 abbrev pub stream_paths : DeclaredNetwork → List (List ℕ)
@@ -53,6 +57,20 @@ pub record IsKept (network : DeclaredNetwork) (kept : KeptState) : Type 0 where
 pub record IsKeptBeside (network : DeclaredNetwork) (path : List ℕ) (kept : KeptState) : Type 0 where
   pub users : ListsUsers network kept
   pub bounds : AreLeastBeside network path kept.bounds
+
+-- a path comes last among those of the streams; the flows and the bounds stay
+pub record PushesPath (path : List ℕ) (old new : KeptState) : Type 0 where
+  pub streams : (ports : ℕ) (paths : List (List ℕ)) → ListsPaths ports paths old.streams
+      → ListsPaths ports (paths ++ path ∷ []) new.streams
+  pub flows : new.flows ≡ old.flows
+  pub bounds : new.bounds ≡ old.bounds
+
+-- the path with this number goes from among those of the streams; the flows and the bounds stay
+pub record TakesPath (number : ℕ) (path : List ℕ) (old new : KeptState) : Type 0 where
+  pub streams : (ports : ℕ) (paths : List (List ℕ)) → ListsPaths ports paths old.streams
+      → slice_index_or paths number [] ≡ path → ListsPaths ports (remove paths number) new.streams
+  pub flows : new.flows ≡ old.flows
+  pub bounds : new.bounds ≡ old.bounds
 
 -- a certificate holds for the network without this stream
 pub record IsFreeWithout (network : DeclaredNetwork) (x : DeclaredStream) : Type 0 where

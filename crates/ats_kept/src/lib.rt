@@ -2,8 +2,12 @@
 #![tactic(auto)]
 
 pub mod kept;
+mod late;
 pub mod laws;
-mod judging;
+mod opening;
+mod ports;
+mod shares;
 mod tallies;
+mod walks;
 
 pub use kept::Kept;

@@ -1,10 +1,8 @@
--- Serial numbers that enter lists and leave them.
+-- Slots that enter lists and leave them.
 use Rattle.std.proofs.Common.{◌≡◌, ◌≢◌, ℕ, ◌<◌, ◌≤◌, Bool, true, false, cond, not, eqb, List, [], ◌∷◌, ◌++◌, length}
-use Rattle.std.proofs.Common.{get_or, set, take, drop, ◌+◌, Err, refl, sym, ap, subst, ◌∙◌, ◌⊎◌, inl, inr, arith}
+use Rattle.std.proofs.Common.{get_or, set, take, drop, ◌+◌, refl, sym, ap, subst, ◌∙◌, ◌⊎◌, inl, inr, arith}
 use Rattle.std.specs.Prelude.{◌||◌, vec_len, vec_capacity}
-use Rattle.std.specs.Ordering.{nat_cmp}
 use Rattle.std.specs.List.{All, AllPairs, remove}
-use Rattle.std.specs.List.Sorted.{IsBinarySearchResult}
 use Rattle.std.specs.Global.{Vec}
 use Rattle.std.proofs.lemmas.Bool.{cases_eq, eq-eqb, ne_eqb, not-true, or_left, or_right}
 use Rattle.std.proofs.lemmas.List.{map-set, length-map, length-set, get_or-map, get_or-set_same, get_or-set_other}
@@ -12,11 +10,9 @@ use Rattle.std.proofs.lemmas.List.{get_or_default, get_or-take, get_or-drop, len
 use Rattle.std.proofs.lemmas.List.Elements.{All-push, All-weaker, filter_passes}
 use Rattle.std.proofs.lemmas.List.Folds.{list_any-append, list_any_none}
 use Rattle.std.proofs.lemmas.List.Kept.{AllPairs-filter}
-use Rattle.ats_serials.specs.Serials.{AreRising}
-use Rattle.ats_serials.proofs.Rising.{unsearched}
 use Rattle.ats_port_users.specs.Users.{has_port}
-use Rattle.ats_port_users.specs.Lists.{items_of, without, HasRoom, Enters, Leaves}
-use Rattle.ats_port_users.proofs.Serials.{without_absent, without_at}
+use Rattle.ats_port_users.specs.Lists.{items_of, without, AllDiffer, HasRoom, Enters, Leaves}
+use Rattle.ats_port_users.proofs.Slots.{without_absent, without_at}
 
 -- of ports that are apart, none is among those before it
 pub not_before : (path : List ℕ) (i : ℕ) → AllPairs (λ p q. p ≢ q) path → i < length path
@@ -78,14 +74,14 @@ pub item_at : (lists : List (Vec ℕ)) (place : ℕ) (d : Vec ℕ) (e : List ℕ
     → get_or (items_of lists) place e ≡ (get_or lists place d).items
 item_at lists place d e within = get_or-map (λ (v : Vec ℕ). v.items) lists place d e within
 
--- a serial number enters the lists of a path, and then that of a port which this path does not have
-pub enters_more : (serial port : ℕ) (path : List ℕ) (old now : List (List ℕ)) (list : List ℕ) → port < length old
-    → has_port port path ≡ false → Enters serial path old now → list ≡ get_or now port [] ++ serial ∷ []
-    → Enters serial (path ++ port ∷ []) old (set now port list)
-enters_more serial port path old now list within other before is = record {
+-- a slot enters the lists of a path, and then that of a port which this path does not have
+pub enters_more : (slot port : ℕ) (path : List ℕ) (old now : List (List ℕ)) (list : List ℕ) → port < length old
+    → has_port port path ≡ false → Enters slot path old now → list ≡ get_or now port [] ++ slot ∷ []
+    → Enters slot (path ++ port ∷ []) old (set now port list)
+enters_more slot port path old now list within other before is = record {
   count = length-set now port list ∙ before.count;
   each = λ place d inside. by place d inside (cases_eq port place)
-      ∙ sym (ap (λ (b : Bool). cond b (get_or old place d ++ serial ∷ []) (get_or old place d))
+      ∙ sym (ap (λ (b : Bool). cond b (get_or old place d ++ slot ∷ []) (get_or old place d))
       (list_any-append (λ p. eqb p place) path (port ∷ [])));
 }
   where
@@ -94,17 +90,17 @@ enters_more serial port path old now list within other before is = record {
 
     by : (place : ℕ) (d : List ℕ) → place < length old → (port ≡ place) ⊎ (port ≡ place → ⊥)
         → get_or (set now port list) place d
-        ≡ cond (has_port place path || has_port place (port ∷ [])) (get_or old place d ++ serial ∷ [])
+        ≡ cond (has_port place path || has_port place (port ∷ [])) (get_or old place d ++ slot ∷ [])
         (get_or old place d)
     by place d inside (inl e) =
         ap (λ (p : ℕ). get_or (set now port list) p d) (sym e)
         ∙ get_or-set_same now port list d within_now
         ∙ is
-        ∙ ap (λ (l : List ℕ). l ++ serial ∷ [])
+        ∙ ap (λ (l : List ℕ). l ++ slot ∷ [])
         (before.each port [] within
-        ∙ ap (λ (b : Bool). cond b (get_or old port [] ++ serial ∷ []) (get_or old port [])) other
+        ∙ ap (λ (b : Bool). cond b (get_or old port [] ++ slot ∷ []) (get_or old port [])) other
         ∙ get_or_default old port [] d within ∙ ap (λ (p : ℕ). get_or old p d) e)
-        ∙ sym (ap (λ (b : Bool). cond b (get_or old place d ++ serial ∷ []) (get_or old place d))
+        ∙ sym (ap (λ (b : Bool). cond b (get_or old place d ++ slot ∷ []) (get_or old place d))
         (or_right (has_port place path) (has_port place (port ∷ [])) (one place e)))
       where
         one : (place : ℕ) → port ≡ place → has_port place (port ∷ []) ≡ true
@@ -112,7 +108,7 @@ enters_more serial port path old now list within other before is = record {
     by place d inside (inr differ) =
         get_or-set_other now port place list d (λ e. differ (sym e))
         ∙ before.each place d inside
-        ∙ sym (ap (λ (b : Bool). cond b (get_or old place d ++ serial ∷ []) (get_or old place d)) (none place differ))
+        ∙ sym (ap (λ (b : Bool). cond b (get_or old place d ++ slot ∷ []) (get_or old place d)) (none place differ))
       where
         none : (place : ℕ) → (port ≡ place → ⊥)
             → (has_port place path || has_port place (port ∷ [])) ≡ has_port place path
@@ -125,118 +121,114 @@ enters_more serial port path old now list within other before is = record {
             or_no false = refl
 
 -- a path without ports changes nothing
-pub enters_none : (serial : ℕ) (lists : List (List ℕ)) → Enters serial [] lists lists
-enters_none serial lists = record { count = refl; each = λ port d within. refl }
+pub enters_none : (slot : ℕ) (lists : List (List ℕ)) → Enters slot [] lists lists
+enters_none slot lists = record { count = refl; each = λ port d within. refl }
 
-pub leaves_none : (serial : ℕ) (lists : List (List ℕ)) → Leaves serial [] lists lists
-leaves_none serial lists = record { count = refl; each = λ port d within. refl }
+pub leaves_none : (slot : ℕ) (lists : List (List ℕ)) → Leaves slot [] lists lists
+leaves_none slot lists = record { count = refl; each = λ port d within. refl }
 
--- a list without a serial number rises where it did
-pub without_rising : (serial : ℕ) (list : List ℕ) → AreRising list → AreRising (without serial list)
-without_rising serial list rising = AllPairs-filter (λ a b. a < b) (λ s. not (eqb s serial)) list rising
+-- a list without a slot has different ones where it had
+pub without_differ : (slot : ℕ) (list : List ℕ) → AllDiffer list → AllDiffer (without slot list)
+without_differ slot list differ = AllPairs-filter (λ a b. a ≢ b) (λ s. not (eqb s slot)) list differ
 
 -- to take it out once more changes nothing
-pub without_twice : (serial : ℕ) (list : List ℕ) → without serial (without serial list) ≡ without serial list
-without_twice serial list =
-    without_absent serial (without serial list)
-    (All-weaker (λ s. not (eqb s serial) ≡ true) (λ s. s ≢ serial)
-    (λ s passes e. (let same = eq-eqb s serial e in let other = not-true (eqb s serial) passes in
-    absurd (let no : true ≡ false = sym same ∙ other in cc))) (without serial list)
-    (filter_passes (λ s. not (eqb s serial)) list))
+pub without_twice : (slot : ℕ) (list : List ℕ) → without slot (without slot list) ≡ without slot list
+without_twice slot list =
+    without_absent slot (without slot list)
+    (All-weaker (λ s. not (eqb s slot) ≡ true) (λ s. s ≢ slot)
+    (λ s passes e. (let same = eq-eqb s slot e in let other = not-true (eqb s slot) passes in
+    absurd (let no : true ≡ false = sym same ∙ other in cc))) (without slot list)
+    (filter_passes (λ s. not (eqb s slot)) list))
 
-pub leaves_rising : (serial : ℕ) (path : List ℕ) (old new : List (List ℕ)) → All AreRising old
-    → Leaves serial path old new → All AreRising new
-leaves_rising serial path old new rising gone place d within =
+pub leaves_differ : (slot : ℕ) (path : List ℕ) (old new : List (List ℕ)) → All AllDiffer old
+    → Leaves slot path old new → All AllDiffer new
+leaves_differ slot path old new differ gone place d within =
     let inside : place < length old = omega (arith, gone.count, within) in
-    subst AreRising (sym (gone.each place d inside)) (by (has_port place path) (rising place d inside))
+    subst AllDiffer (sym (gone.each place d inside)) (by (has_port place path) (differ place d inside))
   where
-    by : (b : Bool) → AreRising (get_or old place d)
-        → AreRising (cond b (without serial (get_or old place d)) (get_or old place d))
-    by true h = without_rising serial (get_or old place d) h
+    by : (b : Bool) → AllDiffer (get_or old place d)
+        → AllDiffer (cond b (without slot (get_or old place d)) (get_or old place d))
+    by true h = without_differ slot (get_or old place d) h
     by false h = h
 
 -- it leaves the lists of a path, and then that of one port more
-pub leaves_more : (serial port : ℕ) (path : List ℕ) (old now new : List (List ℕ)) → Leaves serial path old now
-    → Leaves serial (port ∷ []) now new → Leaves serial (path ++ port ∷ []) old new
-leaves_more serial port path old now new first second = record {
+pub leaves_more : (slot port : ℕ) (path : List ℕ) (old now new : List (List ℕ)) → Leaves slot path old now
+    → Leaves slot (port ∷ []) now new → Leaves slot (path ++ port ∷ []) old new
+leaves_more slot port path old now new first second = record {
   count = second.count ∙ first.count;
   each = λ place d within.
       second.each place d (omega (arith, first.count, within))
-      ∙ ap (λ (l : List ℕ). cond (has_port place (port ∷ [])) (without serial l) l) (first.each place d within)
+      ∙ ap (λ (l : List ℕ). cond (has_port place (port ∷ [])) (without slot l) l) (first.each place d within)
       ∙ by (has_port place (port ∷ [])) (has_port place path) (get_or old place d)
-      ∙ sym (ap (λ (b : Bool). cond b (without serial (get_or old place d)) (get_or old place d))
+      ∙ sym (ap (λ (b : Bool). cond b (without slot (get_or old place d)) (get_or old place d))
       (list_any-append (λ p. eqb p place) path (port ∷ [])));
 }
   where
     by : (b t : Bool) (list : List ℕ)
-        → cond b (without serial (cond t (without serial list) list)) (cond t (without serial list) list)
-        ≡ cond (t || b) (without serial list) list
-    by true true list = without_twice serial list
+        → cond b (without slot (cond t (without slot list) list)) (cond t (without slot list) list)
+        ≡ cond (t || b) (without slot list) list
+    by true true list = without_twice slot list
     by true false list = refl
     by false true list = refl
     by false false list = refl
 
--- one list without the serial number
-pub leaves_one : (serial port : ℕ) (lists : List (List ℕ)) (list : List ℕ) → port < length lists
-    → list ≡ without serial (get_or lists port []) → Leaves serial (port ∷ []) lists (set lists port list)
-leaves_one serial port lists list within is = record {
+-- one list without the slot
+pub leaves_one : (slot port : ℕ) (lists : List (List ℕ)) (list : List ℕ) → port < length lists
+    → list ≡ without slot (get_or lists port []) → Leaves slot (port ∷ []) lists (set lists port list)
+leaves_one slot port lists list within is = record {
   count = length-set lists port list;
   each = λ place d inside. by place d inside (cases_eq port place);
 }
   where
     by : (place : ℕ) (d : List ℕ) → place < length lists → (port ≡ place) ⊎ (port ≡ place → ⊥)
         → get_or (set lists port list) place d
-        ≡ cond (has_port place (port ∷ [])) (without serial (get_or lists place d)) (get_or lists place d)
+        ≡ cond (has_port place (port ∷ [])) (without slot (get_or lists place d)) (get_or lists place d)
     by place d inside (inl e) =
         ap (λ (p : ℕ). get_or (set lists port list) p d) (sym e)
         ∙ get_or-set_same lists port list d within
         ∙ is
-        ∙ ap (without serial) (get_or_default lists port [] d within ∙ ap (λ (p : ℕ). get_or lists p d) e)
-        ∙ sym (ap (λ (b : Bool). cond (b || false) (without serial (get_or lists place d)) (get_or lists place d))
+        ∙ ap (without slot) (get_or_default lists port [] d within ∙ ap (λ (p : ℕ). get_or lists p d) e)
+        ∙ sym (ap (λ (b : Bool). cond (b || false) (without slot (get_or lists place d)) (get_or lists place d))
         (eq-eqb port place e))
     by place d inside (inr other) =
         get_or-set_other lists port place list d (λ e. other (sym e))
-        ∙ sym (ap (λ (b : Bool). cond (b || false) (without serial (get_or lists place d)) (get_or lists place d))
+        ∙ sym (ap (λ (b : Bool). cond (b || false) (without slot (get_or lists place d)) (get_or lists place d))
         (ne_eqb port place other))
 
 -- a port that is not there
-pub leaves_past : (serial port : ℕ) (lists : List (List ℕ)) → length lists ≤ port
-    → Leaves serial (port ∷ []) lists lists
-leaves_past serial port lists past = record {
+pub leaves_past : (slot port : ℕ) (lists : List (List ℕ)) → length lists ≤ port
+    → Leaves slot (port ∷ []) lists lists
+leaves_past slot port lists past = record {
   count = refl;
   each = λ place d inside.
-      sym (ap (λ (b : Bool). cond (b || false) (without serial (get_or lists place d)) (get_or lists place d))
+      sym (ap (λ (b : Bool). cond (b || false) (without slot (get_or lists place d)) (get_or lists place d))
       (ne_eqb port place (λ e. omega (arith, e, inside, past))));
 }
 
--- a serial number that was found is taken out
-pub leaves_found : (serial port at : ℕ) (lists : List (Vec ℕ)) (old new : Vec ℕ) → port < length lists
-    → All AreRising (items_of lists) → old ≡ get_or lists port old → at < length old.items
-    → get_or old.items at 0 ≡ serial → new.items ≡ remove old.items at
-    → Leaves serial (port ∷ []) (items_of lists) (items_of (set lists port new))
-leaves_found serial port at lists old new within rising is inside stands taken =
+-- a slot that was found is taken out
+pub leaves_found : (slot port at : ℕ) (lists : List (Vec ℕ)) (old new : Vec ℕ) → port < length lists
+    → All AllDiffer (items_of lists) → old ≡ get_or lists port old → at < length old.items
+    → get_or old.items at 0 ≡ slot → new.items ≡ remove old.items at
+    → Leaves slot (port ∷ []) (items_of lists) (items_of (set lists port new))
+leaves_found slot port at lists old new within differ is inside stands taken =
     let list : get_or (items_of lists) port [] ≡ old.items =
     item_at lists port old [] within ∙ sym (ap (λ (v : Vec ℕ). v.items) is) in
     let long : length (items_of lists) ≡ length lists = length-map lists (λ (v : Vec ℕ). v.items) in
-    let rises : AreRising old.items = subst AreRising list (rising port [] (omega (arith, long, within))) in
-    subst (λ (l : List (List ℕ)). Leaves serial (port ∷ []) (items_of lists) l) (sym (items_set lists port new))
-    (leaves_one serial port (items_of lists) new.items (omega (arith, long, within))
-    (taken ∙ without_at old.items serial at rises inside stands ∙ ap (without serial) (sym list)))
+    let rises : AllDiffer old.items = subst AllDiffer list (differ port [] (omega (arith, long, within))) in
+    subst (λ (l : List (List ℕ)). Leaves slot (port ∷ []) (items_of lists) l) (sym (items_set lists port new))
+    (leaves_one slot port (items_of lists) new.items (omega (arith, long, within))
+    (taken ∙ without_at old.items slot at rises inside stands ∙ ap (without slot) (sym list)))
 
 -- one that was not found stands nowhere
-pub leaves_unfound : (serial port at : ℕ) (lists : List (Vec ℕ)) (old : Vec ℕ) → port < length lists
-    → All AreRising (items_of lists) → old ≡ get_or lists port old
-    → IsBinarySearchResult (λ y. nat_cmp y serial) old.items (Err at)
-    → Leaves serial (port ∷ []) (items_of lists) (items_of lists)
-leaves_unfound serial port at lists old within rising is result =
+pub leaves_unfound : (slot port : ℕ) (lists : List (Vec ℕ)) (old : Vec ℕ) → port < length lists
+    → old ≡ get_or lists port old → All (λ s. s ≢ slot) old.items
+    → Leaves slot (port ∷ []) (items_of lists) (items_of lists)
+leaves_unfound slot port lists old within is absent =
     let list : get_or (items_of lists) port [] ≡ old.items =
     item_at lists port old [] within ∙ sym (ap (λ (v : Vec ℕ). v.items) is) in
     let long : length (items_of lists) ≡ length lists = length-map lists (λ (v : Vec ℕ). v.items) in
     let inside : port < length (items_of lists) = omega (arith, long, within) in
-    let rises : AreRising old.items = subst AreRising list (rising port [] inside) in
-    let absent : All (λ s. s ≢ serial) old.items =
-    λ k d below e. unsearched old.items serial at k rises result below (get_or_default old.items k 0 d below ∙ e) in
-    subst (λ (l : List (List ℕ)). Leaves serial (port ∷ []) (items_of lists) l)
+    subst (λ (l : List (List ℕ)). Leaves slot (port ∷ []) (items_of lists) l)
     (set-get_or (items_of lists) port [])
-    (leaves_one serial port (items_of lists) (get_or (items_of lists) port []) inside
-    (list ∙ sym (without_absent serial old.items absent) ∙ ap (without serial) (sym list)))
+    (leaves_one slot port (items_of lists) (get_or (items_of lists) port []) inside
+    (list ∙ sym (without_absent slot old.items absent) ∙ ap (without slot) (sym list)))

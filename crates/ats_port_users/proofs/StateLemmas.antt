@@ -5,17 +5,16 @@ use Rattle.std.specs.List.{All, remove}
 use Rattle.std.specs.Global.{Vec}
 use Rattle.std.proofs.lemmas.List.{length-map, length_push, get_or-map}
 use Rattle.std.proofs.lemmas.List.Edits.{length-remove}
-use Rattle.ats_serials.specs.Serials.{AreRising}
 use Rattle.ats_port_users.specs.Users.{UsersState, ListsPaths, has_port, users_of}
-use Rattle.ats_port_users.specs.Lists.{items_of, without, Enters, Leaves}
+use Rattle.ats_port_users.specs.Lists.{items_of, without, AllDiffer, Enters, Leaves}
 use Rattle.ats_port_users.proofs.UserLemmas.{users_within}
-use Rattle.ats_port_users.proofs.Serials.{serials_at, serials_at-less, serials_at-other, serials_at-push}
-use Rattle.ats_port_users.proofs.Serials.{serials_at-rising, users_listed}
+use Rattle.ats_port_users.proofs.Slots.{slots_at, slots_at-less, slots_at-other, slots_at-push}
+use Rattle.ats_port_users.proofs.Slots.{slots_at-differ, users_listed}
 
 -- no paths
 pub none_listed : (ports : ℕ) (lists : List (Vec ℕ)) → length lists ≡ ports
     → All (λ (list : Vec ℕ). list.items ≡ []) lists
-    → ListsPaths ports [] (record { serials = []; lists = items_of lists })
+    → ListsPaths ports [] (record { slots = []; lists = items_of lists })
 none_listed ports lists count empty = record {
   count = refl;
   ports_are = length-map lists (λ (v : Vec ℕ). v.items) ∙ count;
@@ -31,87 +30,87 @@ none_listed ports lists count empty = record {
 -- the list of a port
 pub list_is : (ports : ℕ) (paths : List (List ℕ)) (users : UsersState) (port : ℕ) (d : List ℕ)
     → ListsPaths ports paths users → port < length users.lists
-    → get_or users.lists port d ≡ serials_at port paths users.serials
+    → get_or users.lists port d ≡ slots_at port paths users.slots
 list_is ports paths users port d listed within =
-    listed.each port d (omega (arith, within, listed.ports_are)) ∙ users_listed port paths users.serials listed.count
+    listed.each port d (omega (arith, within, listed.ports_are)) ∙ users_listed port paths users.slots listed.count
 
--- the lists rise
-pub lists_rising : (ports : ℕ) (paths : List (List ℕ)) (users : UsersState) → ListsPaths ports paths users
-    → AreRising users.serials → All AreRising users.lists
-lists_rising ports paths users listed rising port d within =
-    subst AreRising (sym (list_is ports paths users port d listed within))
-    (serials_at-rising port paths users.serials rising)
+-- the slots in a list differ
+pub lists_differ : (ports : ℕ) (paths : List (List ℕ)) (users : UsersState) → ListsPaths ports paths users
+    → AllDiffer users.slots → All AllDiffer users.lists
+lists_differ ports paths users listed differ port d within =
+    subst AllDiffer (sym (list_is ports paths users port d listed within))
+    (slots_at-differ port paths users.slots differ)
 
--- from the lists by serial numbers those by the paths' numbers
-from_lists : (ports : ℕ) (paths : List (List ℕ)) (users : UsersState) → length users.serials ≡ length paths
+-- from the lists by slots those by the paths' numbers
+from_lists : (ports : ℕ) (paths : List (List ℕ)) (users : UsersState) → length users.slots ≡ length paths
     → length users.lists ≡ ports
-    → ((port : ℕ) (d : List ℕ) → port < ports → get_or users.lists port d ≡ serials_at port paths users.serials)
+    → ((port : ℕ) (d : List ℕ) → port < ports → get_or users.lists port d ≡ slots_at port paths users.slots)
     → ListsPaths ports paths users
 from_lists ports paths users count long each = record {
   count = count;
   ports_are = long;
-  each = λ port d within. each port d within ∙ sym (users_listed port paths users.serials count);
+  each = λ port d within. each port d within ∙ sym (users_listed port paths users.slots count);
 }
 
 -- a path more at the end
-pub listed_push : (ports : ℕ) (paths : List (List ℕ)) (path : List ℕ) (serial : ℕ) (old new : UsersState)
-    → ListsPaths ports paths old → new.serials ≡ old.serials ++ serial ∷ [] → Enters serial path old.lists new.lists
+pub listed_push : (ports : ℕ) (paths : List (List ℕ)) (path : List ℕ) (slot : ℕ) (old new : UsersState)
+    → ListsPaths ports paths old → new.slots ≡ old.slots ++ slot ∷ [] → Enters slot path old.lists new.lists
     → ListsPaths ports (paths ++ path ∷ []) new
-listed_push ports paths path serial old new listed serials entered =
+listed_push ports paths path slot old new listed slots entered =
     from_lists ports (paths ++ path ∷ []) new
-    (ap (λ (l : List ℕ). length l) serials ∙ length_push old.serials serial ∙ ap (λ (n : ℕ). n + 1) listed.count
+    (ap (λ (l : List ℕ). length l) slots ∙ length_push old.slots slot ∙ ap (λ (n : ℕ). n + 1) listed.count
     ∙ sym (length_push paths path))
     (entered.count ∙ listed.ports_are)
     (λ port d within. (
     let inside : port < length old.lists = omega (arith, within, listed.ports_are) in
     entered.each port d inside
-    ∙ ap (λ (l : List ℕ). cond (has_port port path) (l ++ serial ∷ []) l) (list_is ports paths old port d listed inside)
-    ∙ sym (ap (serials_at port (paths ++ path ∷ [])) serials
-    ∙ serials_at-push port paths old.serials path serial listed.count)))
+    ∙ ap (λ (l : List ℕ). cond (has_port port path) (l ++ slot ∷ []) l) (list_is ports paths old port d listed inside)
+    ∙ sym (ap (slots_at port (paths ++ path ∷ [])) slots
+    ∙ slots_at-push port paths old.slots path slot listed.count)))
 
 -- a path less
 pub listed_less : (ports : ℕ) (paths : List (List ℕ)) (n : ℕ) (path : List ℕ) (old new : UsersState)
-    → ListsPaths ports paths old → AreRising old.serials → n < length old.serials → get_or paths n [] ≡ path
-    → new.serials ≡ remove old.serials n
-    → (All AreRising old.lists → Leaves (get_or old.serials n 0) path old.lists new.lists)
+    → ListsPaths ports paths old → AllDiffer old.slots → n < length old.slots → get_or paths n [] ≡ path
+    → new.slots ≡ remove old.slots n
+    → (All AllDiffer old.lists → Leaves (get_or old.slots n 0) path old.lists new.lists)
     → ListsPaths ports (remove paths n) new
-listed_less ports paths n path old new listed rising within is serials leaves =
+listed_less ports paths n path old new listed differ within is slots leaves =
     from_lists ports (remove paths n) new
-    (let here = length-remove old.serials n within in
+    (let here = length-remove old.slots n within in
     let there = length-remove paths n (omega (arith, within, listed.count)) in
-    let many : length new.serials ≡ length (remove old.serials n) = ap (λ (l : List ℕ). length l) serials in
+    let many : length new.slots ≡ length (remove old.slots n) = ap (λ (l : List ℕ). length l) slots in
     omega (arith, here, there, many, listed.count))
     (gone.count ∙ listed.ports_are)
     (λ port d below. (
     let inside : port < length old.lists = omega (arith, below, listed.ports_are) in
     gone.each port d inside
-    ∙ ap (λ (l : List ℕ). cond (has_port port path) (without (get_or old.serials n 0) l) l)
+    ∙ ap (λ (l : List ℕ). cond (has_port port path) (without (get_or old.slots n 0) l) l)
     (list_is ports paths old port d listed inside)
     ∙ by port (has_port port path) refl
-    ∙ sym (ap (serials_at port (remove paths n)) serials)))
+    ∙ sym (ap (slots_at port (remove paths n)) slots)))
   where
-    gone : Leaves (get_or old.serials n 0) path old.lists new.lists
-    gone = leaves (lists_rising ports paths old listed rising)
+    gone : Leaves (get_or old.slots n 0) path old.lists new.lists
+    gone = leaves (lists_differ ports paths old listed differ)
 
     by : (port : ℕ) (b : Bool) → has_port port path ≡ b
-        → cond b (without (get_or old.serials n 0) (serials_at port paths old.serials))
-        (serials_at port paths old.serials) ≡ serials_at port (remove paths n) (remove old.serials n)
-    by port true e = sym (serials_at-less port paths old.serials n listed.count within rising)
-    by port false e = sym (serials_at-other port paths old.serials n listed.count within (ap (has_port port) is ∙ e))
+        → cond b (without (get_or old.slots n 0) (slots_at port paths old.slots))
+        (slots_at port paths old.slots) ≡ slots_at port (remove paths n) (remove old.slots n)
+    by port true e = sym (slots_at-less port paths old.slots n listed.count within differ)
+    by port false e = sym (slots_at-other port paths old.slots n listed.count within (ap (has_port port) is ∙ e))
 
--- as many serial numbers at a port as paths that have it
+-- as many slots at a port as paths that have it
 pub count_is : (ports : ℕ) (paths : List (List ℕ)) (users : UsersState) (port : ℕ) (d : List ℕ)
     → ListsPaths ports paths users → port < length users.lists
     → length (get_or users.lists port d) ≡ length (users_of paths port)
 count_is ports paths users port d listed within =
     ap (λ (l : List ℕ). length l) (listed.each port d (omega (arith, within, listed.ports_are)))
-    ∙ length-map (users_of paths port) (λ n. get_or users.serials n 0)
+    ∙ length-map (users_of paths port) (λ n. get_or users.slots n 0)
 
--- the path that a serial number at a port belongs to
+-- the path that a slot at a port belongs to
 pub record IsUserAt (paths : List (List ℕ)) (users : UsersState) (port place : ℕ) : Type 0 where
-  pub within : get_or (users_of paths port) place 0 < length users.serials
+  pub within : get_or (users_of paths port) place 0 < length users.slots
   pub below : get_or (users_of paths port) place 0 < length paths
-  pub stands : get_or users.serials (get_or (users_of paths port) place 0) 0
+  pub stands : get_or users.slots (get_or (users_of paths port) place 0) 0
       ≡ get_or (get_or users.lists port []) place 0
 
 pub user_is : (ports : ℕ) (paths : List (List ℕ)) (users : UsersState) (port place : ℕ)
@@ -127,5 +126,5 @@ user_is ports paths users port place listed within inside =
       below = below;
       stands = sym (ap (λ (l : List ℕ). get_or l place 0)
           (listed.each port [] (omega (arith, within, listed.ports_are)))
-          ∙ get_or-map (λ n. get_or users.serials n 0) (users_of paths port) place 0 0 there);
+          ∙ get_or-map (λ n. get_or users.slots n 0) (users_of paths port) place 0 0 there);
     }

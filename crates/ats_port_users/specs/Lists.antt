@@ -1,7 +1,6 @@
-use Rattle.std.specs.Prelude.{◌≡◌, ℕ, ◌+◌, ◌<◌, ◌≤◌, ◌==◌, if◌then◌else◌, not, List, [], ◌∷◌, ◌++◌, map, filter, length}
-use Rattle.std.specs.Prelude.{slice_index_or, vec_len, vec_capacity}
+use Rattle.std.specs.Prelude.{◌≡◌, ◌≢◌, ℕ, ◌+◌, ◌<◌, ◌≤◌, ◌==◌, if◌then◌else◌, not, List, [], ◌∷◌, ◌++◌, map, filter, length}
+use Rattle.std.specs.Prelude.{slice_index_or, vec_len, vec_capacity, All, AllPairs}
 use Rattle.std.specs.Global.{Vec}
-use Rattle.ats_serials.specs.Serials.{AreRising}
 use Rattle.ats_port_users.specs.Users.{has_port}
 use Rattle.ats_port_users.specs.declared.port_users.TheConstants.{MAX_PATHS}
 
@@ -9,28 +8,44 @@ use Rattle.ats_port_users.specs.declared.port_users.TheConstants.{MAX_PATHS}
 abbrev pub items_of : List (Vec ℕ) → List (List ℕ)
 items_of lists = map (λ (list : Vec ℕ). list.items) lists
 
--- the serial numbers of paths rise
-pub record AreSerials (serials : List ℕ) : Type 0 where
-  pub rising : AreRising serials
-  pub few : length serials ≤ MAX_PATHS
+-- no slot stands twice
+abbrev pub AllDiffer : List ℕ → Type 0
+AllDiffer slots = AllPairs (λ a b. a ≢ b) slots
 
--- a list without a serial number
+-- the places, by slot, are those of the slots, so far as these stand below some place
+abbrev pub Tells : List ℕ → List ℕ → ℕ → Type 0
+Tells slots places below =
+    (n : ℕ) → n < below → n < length slots → slice_index_or places (slice_index_or slots n 0) 0 ≡ n
+
+-- the places of these slots are all told
+pub record AreSlots (slots places : List ℕ) : Type 0 where
+  pub few : length slots ≤ MAX_PATHS
+  pub many : length places ≡ length slots
+  pub inside : All (λ slot. slot < length places) slots
+  pub told : Tells slots places (length slots)
+
+-- so they are, and so many of the slots are used
+pub record AreUsed (used : ℕ) (slots places : List ℕ) : Type 0 where
+  pub within : used ≤ length slots
+  pub slots_are : AreSlots slots places
+
+-- a list without a slot
 abbrev pub without : ℕ → List ℕ → List ℕ
-without serial list = filter (λ s. not (s == serial)) list
+without slot list = filter (λ s. not (s == slot)) list
 
 -- the list of a port has room for one more
 abbrev pub HasRoom : List (Vec ℕ) → ℕ → Type 0
 HasRoom lists port =
     (d : Vec ℕ) → vec_len (slice_index_or lists port d) + 1 ≤ vec_capacity (slice_index_or lists port d)
 
--- each list of a port on the path has this serial number more, at its end; the others are as they were
-pub record Enters (serial : ℕ) (path : List ℕ) (old new : List (List ℕ)) : Type 0 where
+-- each list of a port on the path has this slot more, at its end; the others are as they were
+pub record Enters (slot : ℕ) (path : List ℕ) (old new : List (List ℕ)) : Type 0 where
   pub count : length new ≡ length old
   pub each : (port : ℕ) (d : List ℕ) → port < length old → slice_index_or new port d
-      ≡ (if has_port port path then slice_index_or old port d ++ serial ∷ [] else slice_index_or old port d)
+      ≡ (if has_port port path then slice_index_or old port d ++ slot ∷ [] else slice_index_or old port d)
 
--- no list of a port on the path has this serial number; the others are as they were
-pub record Leaves (serial : ℕ) (path : List ℕ) (old new : List (List ℕ)) : Type 0 where
+-- no list of a port on the path has this slot; the others are as they were
+pub record Leaves (slot : ℕ) (path : List ℕ) (old new : List (List ℕ)) : Type 0 where
   pub count : length new ≡ length old
   pub each : (port : ℕ) (d : List ℕ) → port < length old → slice_index_or new port d
-      ≡ (if has_port port path then without serial (slice_index_or old port d) else slice_index_or old port d)
+      ≡ (if has_port port path then without slot (slice_index_or old port d) else slice_index_or old port d)

@@ -15,14 +15,14 @@ users_from n port (path ∷ paths) =
 abbrev pub users_of : List (List ℕ) → ℕ → List ℕ
 users_of paths port = users_from 0 port paths
 
--- the serial numbers of paths, and for each port those of the paths that have it
+-- the slots of paths, and for each port those of the paths that have it
 pub record UsersState : Type 0 where
-  pub serials : List ℕ
+  pub slots : List ℕ
   pub lists : List (List ℕ)
 
 -- these are the users of so many ports by these paths
 pub record ListsPaths (ports : ℕ) (paths : List (List ℕ)) (users : UsersState) : Type 0 where
-  pub count : length users.serials ≡ length paths
+  pub count : length users.slots ≡ length paths
   pub ports_are : length users.lists ≡ ports
   pub each : (port : ℕ) (d : List ℕ) → port < ports
-      → slice_index_or users.lists port d ≡ map (λ n. slice_index_or users.serials n 0) (users_of paths port)
+      → slice_index_or users.lists port d ≡ map (λ n. slice_index_or users.slots n 0) (users_of paths port)

@@ -36,17 +36,17 @@ loop-port-preserved c =
     let within : port < length c.args.lists.now.items = c.requires.ports i 0 c.loop-port-test.true in
     let behind : All (HasRoom lists) (port ∷ drop (i + 1) path) =
     subst (All (HasRoom lists)) (drop_more path i 0 c.loop-port-test.true) c.loop-port.invariant.room in
-    let list : c.push_reserved.new.self.items ≡ get_or (items_of lists) port [] ++ c.args.serial ∷ [] =
+    let list : c.push_reserved.new.self.items ≡ get_or (items_of lists) port [] ++ c.args.slot ∷ [] =
     c.push_reserved.ensures.items
-    ∙ ap (λ (l : List ℕ). l ++ c.args.serial ∷ []) (ap (λ (v : Vec ℕ). v.items) c.index_mut.ensures.value
+    ∙ ap (λ (l : List ℕ). l ++ c.args.slot ∷ []) (ap (λ (v : Vec ℕ). v.items) c.index_mut.ensures.value
     ∙ sym (item_at lists port c.index_mut.result.now [] (omega (arith, long, within)))) in
     record {
       entered =
-          subst (λ (p : List ℕ). Enters c.args.serial p first (items_of (set lists port c.push_reserved.new.self)))
+          subst (λ (p : List ℕ). Enters c.args.slot p first (items_of (set lists port c.push_reserved.new.self)))
           (sym (take_more path i 0 c.loop-port-test.true))
-          (subst (λ (l : List (List ℕ)). Enters c.args.serial (take i path ++ port ∷ []) first l)
+          (subst (λ (l : List (List ℕ)). Enters c.args.slot (take i path ++ port ∷ []) first l)
           (sym (items_set lists port c.push_reserved.new.self))
-          (enters_more c.args.serial port (take i path) first (items_of lists) c.push_reserved.new.self.items
+          (enters_more c.args.slot port (take i path) first (items_of lists) c.push_reserved.new.self.items
           (omega (arith, within, length-map c.args.lists.now.items (λ (v : Vec ℕ). v.items)))
           (not_before path i c.requires.apart c.loop-port-test.true) c.loop-port.invariant.entered list));
       room = room_apart lists port c.push_reserved.new.self (drop (i + 1) path)

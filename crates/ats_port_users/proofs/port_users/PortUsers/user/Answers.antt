@@ -1,15 +1,15 @@
-use Rattle.std.proofs.Common.{◌≡◌, ◌<◌, List, ℕ, [], Some, length, get_or, sym, ap, ◌∙◌, arith}
+use Rattle.std.proofs.Common.{◌≡◌, ◌<◌, List, ℕ, [], length, get_or, take, sym, ap, ◌∙◌, arith}
 use Rattle.std.specs.Global.{Vec}
-use Rattle.std.specs.Prelude.{unwrap_or}
 use Rattle.std.proofs.lemmas.List.{get_or_default, length-map}
 use Rattle.ats_port_users.specs.Users.{UsersState, ListsPaths, users_of}
 use Rattle.ats_port_users.proofs.ListLemmas.{item_at}
+use Rattle.ats_port_users.proofs.Places.{place_told}
 use Rattle.ats_port_users.proofs.StateLemmas.{IsUserAt, user_is}
 use Rattle.ats_port_users.proofs.port_users.PortUsers.user.Goals as goal
 
--- the number of the path that the serial number belongs to
-value : (c : goal.After-unwrap_or) (ports : ℕ) (paths : List (List ℕ)) → ListsPaths ports paths c.args.self.now
-    → c.unwrap_or.result ≡ get_or (users_of paths c.args.port) c.args.place 0
+-- the number of the path whose slot it is
+value : (c : goal.After-told) (ports : ℕ) (paths : List (List ℕ)) → ListsPaths ports paths c.args.self.now
+    → c.told.result ≡ get_or (users_of paths c.args.port) c.args.place 0
 value c ports paths listed =
     let lists : List (Vec ℕ) = c.self.inside.lists.items in
     let is : IsUserAt paths c.args.self.now c.args.port c.args.place =
@@ -22,16 +22,18 @@ value c ports paths listed =
     ∙ ap (λ (u : UsersState). get_or u.lists c.args.port []) c.self.view_is in
     let inside : c.args.place < length c.index-list.result.now.items =
     omega (arith, c.requires.place, ap (λ (l : List ℕ). length l) list) in
-    let serial : c.index.result.now ≡ get_or (get_or c.args.self.now.lists c.args.port []) c.args.place 0 =
-    c.index.ensures ∙ get_or_default c.index-list.result.now.items c.args.place c.index.result.now 0 inside
-    ∙ ap (λ (l : List ℕ). get_or l c.args.place 0) list in
-    let serials : c.deref.result.now ≡ c.args.self.now.serials =
-    c.deref.ensures.value ∙ ap (λ (u : UsersState). u.serials) c.self.view_is in
     let n : ℕ = get_or (users_of paths c.args.port) c.args.place 0 in
-    let place : c.place_in.result ≡ Some n =
-    c.place_in.ensures.place n (omega (arith, is.within, ap (λ (l : List ℕ). length l) serials))
-    (ap (λ (l : List ℕ). get_or l n 0) serials ∙ is.stands ∙ sym serial) in
-    c.unwrap_or.ensures ∙ ap (λ o. unwrap_or o 0) place
+    let slots : take c.self.inside.used c.self.inside.slots.items ≡ c.args.self.now.slots =
+    ap (λ (u : UsersState). u.slots) c.self.view_is in
+    let slot : c.index.result.now ≡ get_or (take c.self.inside.used c.self.inside.slots.items) n 0 =
+    c.index.ensures ∙ get_or_default c.index-list.result.now.items c.args.place c.index.result.now 0 inside
+    ∙ ap (λ (l : List ℕ). get_or l c.args.place 0) list
+    ∙ sym is.stands
+    ∙ sym (ap (λ (l : List ℕ). get_or l n 0) slots) in
+    c.told.ensures
+    ∙ ap (λ (l : List ℕ). get_or l c.index.result.now 0) c.deref.ensures.value
+    ∙ place_told c.self.inside.used c.self.inside.slots.items c.self.inside.places.items n c.index.result.now
+    c.self.invariant (omega (arith, is.within, ap (λ (l : List ℕ). length l) slots)) slot
 
 pub returns-clause-value : goal.returns-clause-value
 returns-clause-value c ports paths listed = value c ports paths listed

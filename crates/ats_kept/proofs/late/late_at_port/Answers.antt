@@ -1,0 +1,25 @@
+use Rattle.std.proofs.Common.{◌<◌, ◌+◌, ℕ, List, length, drop, Option, ap, ◌∙◌, arith}
+use Rattle.std.specs.Prelude.{fold}
+use Rattle.ats_tally.specs.declared.reason.Reason.{Reason}
+use Rattle.ats_admission_law.specs.Lowest.{lower_of}
+use Rattle.ats_admission_law.specs.Near.{late_at}
+use Rattle.ats_port_users.specs.Users.{users_of}
+use Rattle.ats_network.specs.Network.{DeclaredNetwork}
+use Rattle.ats_kept.specs.Kept.{stream_paths}
+use Rattle.ats_kept.proofs.Found.{fold_more}
+use Rattle.ats_kept.proofs.late.late_at_port.Goals as goal
+
+pub loop-rank-preserved : goal.loop-rank-preserved
+loop-rank-preserved c =
+    let network : DeclaredNetwork = c.args.network.now in
+    let ports : ℕ = length network.topology.ports in
+    let users : List ℕ = users_of (stream_paths network) c.args.port in
+    let rank : ℕ = c.loop-rank.rank in
+    let best : Option (ℕ × Reason) = c.loop-rank.lowest in
+    let many = c.count-rank-end.ensures.users ports (stream_paths network) c.requires.streams in
+    let within : rank < length users = omega (arith, many, c.loop-rank-test.true) in
+    let step = λ (found : Option (ℕ × Reason)) (n : ℕ). lower_of found n (late_at network n) in
+    ap (λ (o : Option (ℕ × Reason)). fold step o (drop (rank + 1) users))
+    (c.lower_of-lowest.ensures ∙ ap (lower_of best c.user-stream.result) c.late_at.ensures
+    ∙ ap (step best) (c.user-stream.ensures.value ports (stream_paths network) c.requires.streams))
+    ∙ fold_more step best users rank 0 within ∙ c.loop-rank.invariant

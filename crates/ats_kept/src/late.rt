@@ -1,0 +1,112 @@
+//! Sums of least bounds along the streams' paths, and the streams whose sum is over their deadline.
+
+ghost use Rattle.std.specs.Prelude.{◌≡◌, ◌≢◌, ◌<◌, length, All, AllPairs, None};
+ghost use Rattle.ats_bound.specs.Least.{least_certificate};
+ghost use Rattle.ats_certificate.specs.Certificate.{bound_along};
+ghost use Rattle.ats_tally.specs.Reason.{late_by};
+ghost use Rattle.ats_admission_law.specs.Near.{found_there, late_at};
+ghost use Rattle.ats_port_users.specs.Users.{ListsPaths, users_of};
+ghost use Rattle.ats_kept.specs.Judged.{sum_at};
+ghost use Rattle.ats_kept.specs.Judging.{lowest_late_of, numbers_on};
+ghost use Rattle.ats_kept.specs.Kept.{AreLeast, stream_paths};
+
+use crate::ports::place;
+use crate::walks::lower_of;
+use ats_network::Network;
+use ats_num::time::PS_PER_NS;
+use ats_port_users::PortUsers;
+use ats_streams::Stream;
+use ats_tally::Reason;
+
+/// Of the streams that use a port of a path, the one with the lowest number whose sum is over its deadline.
+pub(crate) fn first_late(
+    bounds: &[Option<u128>],
+    network: &Network,
+    streams: &PortUsers,
+    path: &[u32],
+) -> Option<Reason>
+    requires ports { All (λ p. p < length network.now.topology.ports) path.now }
+    requires least { AreLeast network.now bounds.now }
+    requires streams { ListsPaths (length network.now.topology.ports) (stream_paths network.now) streams.now }
+    ensures { result ≡ found_there (lowest_late_of network.now None (numbers_on network.now path.now)) }
+{
+    let mut lowest = None;
+    for port in path {
+        lowest = late_at_port(lowest, bounds, network, streams, *port);
+    }
+    match lowest {
+        Some(found) => Some(found.1),
+        None => None,
+    }
+}
+
+// Of a late stream found so far and those that use the port, the one with the lowest number.
+fn late_at_port(
+    best: Option<(u32, Reason)>,
+    bounds: &[Option<u128>],
+    network: &Network,
+    streams: &PortUsers,
+    port: u32,
+) -> Option<(u32, Reason)>
+    requires port { port < length network.now.topology.ports }
+    requires least { AreLeast network.now bounds.now }
+    requires streams { ListsPaths (length network.now.topology.ports) (stream_paths network.now) streams.now }
+    ensures { result ≡ lowest_late_of network.now best (users_of (stream_paths network.now) port) }
+{
+    let mut lowest = best;
+    for rank in 0..streams.count(port) {
+        let stream = streams.user(port, rank);
+        lowest = lower_of(lowest, stream, late_at(bounds, network, stream));
+    }
+    lowest
+}
+
+// The sum of the least bounds of the stream with this number, where it is over the stream's deadline.
+fn late_at(bounds: &[Option<u128>], network: &Network, stream: u32) -> Option<Reason>
+    requires number { stream < length network.now.streams }
+    requires least { AreLeast network.now bounds.now }
+    ensures { result ≡ late_at network.now stream }
+{
+    late_by(
+        &network.streams()[stream as usize],
+        sum_at(bounds, network, stream),
+    )
+}
+
+// The sum of a stream's bounds, where it is over the stream's deadline.
+fn late_by(stream: &Stream, sum: u128) -> Option<Reason>
+    ensures { result ≡ late_by stream.now sum }
+{
+    if sum <= u128::from(PS_PER_NS) * u128::from(stream.deadline_ns()) {
+        return None;
+    }
+    Some(Reason::Deadline {
+        stream: stream.name(),
+        sum,
+    })
+}
+
+/// The sum of the least bounds of the stream with this number.
+pub(crate) fn sum_at(bounds: &[Option<u128>], network: &Network, stream: u32) -> u128
+    requires number { stream < length network.now.streams }
+    requires least { AreLeast network.now bounds.now }
+    ensures { result ≡ sum_at network.now stream }
+{
+    sum_along(bounds, network, &network.streams()[stream as usize])
+}
+
+// The sum of the least bounds along a stream's path.
+fn sum_along(bounds: &[Option<u128>], network: &Network, stream: &Stream) -> u128
+    requires ports { All (λ p. p < length network.now.topology.ports) stream.now.path }
+    requires apart { AllPairs (λ p q. p ≢ q) stream.now.path }
+    requires least { AreLeast network.now bounds.now }
+    ensures { result ≡ bound_along (least_certificate network.now) stream.now }
+{
+    let _rules = network.topology(); // for what a network keeps
+    let classes = stream.classes();
+    let mut sum = 0;
+    for (hop, port) in stream.path().iter().enumerate() {
+        sum += bounds[place(*port, classes[hop])].unwrap_or(0);
+    }
+    sum
+}
