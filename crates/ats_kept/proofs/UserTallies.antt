@@ -17,7 +17,7 @@ use Rattle.ats_network.proofs.SenderLemmas.{each_is_sender}
 use Rattle.ats_certificate.specs.PortSums.{uses, senders_at}
 use Rattle.ats_tally.proofs.SeenLemmas.{all_seen, few_at, seen_is, senders_at-append}
 use Rattle.ats_port_users.specs.Users.{has_port, users_from, users_of}
-use Rattle.ats_port_users.proofs.Serials.{mapped}
+use Rattle.ats_port_users.proofs.Slots.{mapped}
 use Rattle.ats_port_users.proofs.UserLemmas.{IsUser, users_from-later, users_have}
 use Rattle.ats_kept.specs.ClassTallies.{senders_from, paths_from}
 use Rattle.ats_kept.specs.Shares.{no_share, share_with, AreShares}

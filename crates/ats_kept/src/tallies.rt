@@ -43,14 +43,14 @@ pub(crate) fn tallies_at(
 fn count_users(shares: &mut [Share; 8], network: &Network, users: &PortUsers, first: u32, port: u32)
     requires rules { IsNetwork network.now }
     requires port { port < length network.now.topology.ports }
-    requires senders { first + length users.now.serials ≤ length (senders_of network.now) }
+    requires senders { first + length users.now.slots ≤ length (senders_of network.now) }
     requires users { ListsPaths (length network.now.topology.ports)
-        (paths_from network.now first (length users.now.serials)) users.now }
+        (paths_from network.now first (length users.now.slots)) users.now }
     requires limits { All (IsLimited first) shares.old }
     requires before { AreShares (senders_at port (take first (senders_of network.now))) shares.old }
-    ensures limits { All (IsLimited (first + length users.now.serials)) shares.new }
+    ensures limits { All (IsLimited (first + length users.now.slots)) shares.new }
     ensures counted { AreShares
-        (senders_at port (take (first + length users.now.serials) (senders_of network.now))) shares.new }
+        (senders_at port (take (first + length users.now.slots) (senders_of network.now))) shares.new }
 {
     for place in 0..users.count(port) {
         let sender = first + users.user(port, place);

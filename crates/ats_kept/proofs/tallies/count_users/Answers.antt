@@ -16,11 +16,11 @@ use Rattle.ats_kept.proofs.UserTallies.{IsAtPort, at_port, class_seen, counted_m
 use Rattle.ats_kept.proofs.tallies.count_users.Goals as goal
 
 -- the user is a sender of the network that has the port
-user : (c : goal.After-user) → IsAtPort c.args.network.now c.args.first (length c.args.users.now.serials) c.args.port
+user : (c : goal.After-user) → IsAtPort c.args.network.now c.args.first (length c.args.users.now.slots) c.args.port
     c.loop-place.place
 user c =
     let network = c.args.network.now in
-    let count : ℕ = length c.args.users.now.serials in
+    let count : ℕ = length c.args.users.now.slots in
     let paths : List (List ℕ) = paths_from network c.args.first count in
     at_port network c.args.first count c.args.port c.loop-place.place c.requires.senders
     (omega (
@@ -31,10 +31,10 @@ user c =
 
 -- it has this number
 number : (c : goal.After-user) → c.user.result
-    ≡ get_or (users_of (map path_of (senders_from c.args.network.now c.args.first (length c.args.users.now.serials)))
+    ≡ get_or (users_of (map path_of (senders_from c.args.network.now c.args.first (length c.args.users.now.slots)))
     c.args.port) c.loop-place.place 0
 number c = c.user.ensures.value (length c.args.network.now.topology.ports)
-    (paths_from c.args.network.now c.args.first (length c.args.users.now.serials)) c.requires.users
+    (paths_from c.args.network.now c.args.first (length c.args.users.now.slots)) c.requires.users
 
 pub overflow_add-sender : goal.overflow_add-sender
 overflow_add-sender c =
@@ -50,7 +50,7 @@ sender_seen-seen-requires-clause-has c =
 pub returns-clause-counted : goal.returns-clause-counted
 returns-clause-counted c =
     let network = c.args.network.now in
-    let count : ℕ = length c.args.users.now.serials in
+    let count : ℕ = length c.args.users.now.slots in
     let paths : List (List ℕ) = paths_from network c.args.first count in
     counted_all network c.args.first count c.args.port c.loop-place.place c.loop-place.shares
     (omega (
@@ -63,7 +63,7 @@ returns-clause-counted c =
 pub count-requires-clause-class : goal.count-requires-clause-class
 count-requires-clause-class c =
     let network = c.args.network.now in
-    let count : ℕ = length c.args.users.now.serials in
+    let count : ℕ = length c.args.users.now.slots in
     let paths : List (List ℕ) = paths_from network c.args.first count in
     let is : IsAtPort network c.args.first count c.args.port c.loop-place.place =
     at_port network c.args.first count c.args.port c.loop-place.place c.requires.senders
@@ -82,7 +82,7 @@ count-requires-clause-class c =
 pub count-requires-clause-room : goal.count-requires-clause-room
 count-requires-clause-room c =
     let network = c.args.network.now in
-    let count : ℕ = length c.args.users.now.serials in
+    let count : ℕ = length c.args.users.now.slots in
     let paths : List (List ℕ) = paths_from network c.args.first count in
     limited_wider (c.args.first + c.loop-place.place) MAX_SENDERS c.loop-place.shares
     (omega (
@@ -98,7 +98,7 @@ count-requires-clause-room c =
 pub loop-place-preserved : goal.loop-place-preserved
 loop-place-preserved c =
     let network = c.args.network.now in
-    let count : ℕ = length c.args.users.now.serials in
+    let count : ℕ = length c.args.users.now.slots in
     let paths : List (List ℕ) = paths_from network c.args.first count in
     let is : IsAtPort network c.args.first count c.args.port c.loop-place.place =
     at_port network c.args.first count c.args.port c.loop-place.place c.requires.senders
@@ -142,7 +142,7 @@ loop-place-preserved c =
 pub returns-clause-limits : goal.returns-clause-limits
 returns-clause-limits c =
     let network = c.args.network.now in
-    let count : ℕ = length c.args.users.now.serials in
+    let count : ℕ = length c.args.users.now.slots in
     let paths : List (List ℕ) = paths_from network c.args.first count in
     limited_wider (c.args.first + c.loop-place.place) (c.args.first + count) c.loop-place.shares
     (omega (

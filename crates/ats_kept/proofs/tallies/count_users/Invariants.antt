@@ -13,6 +13,6 @@ invariant-loop-place l = record {
   limits : All (IsLimited (l.first + l.place)) l.shares;
   counted : AreShares
       (senders_at l.port (take l.first (senders_of l.network))
-      ++ take l.place (senders_at l.port (senders_from l.network l.first (length l.users.serials))))
+      ++ take l.place (senders_at l.port (senders_from l.network l.first (length l.users.slots))))
       l.shares;
 }

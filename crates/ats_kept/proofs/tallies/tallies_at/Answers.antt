@@ -13,14 +13,14 @@ use Rattle.ats_kept.proofs.tallies.tallies_at.Goals as goal
 pub count_users-requires-clause-users : goal.count_users-requires-clause-users
 count_users-requires-clause-users c =
     subst (λ (paths : List (List ℕ)). ListsPaths (length c.args.network.now.topology.ports) paths c.args.streams.now)
-    (sym (paths_of_streams c.args.network.now (length c.args.streams.now.serials)
+    (sym (paths_of_streams c.args.network.now (length c.args.streams.now.slots)
     (c.requires.streams.count ∙ length-map c.args.network.now.streams (λ (s : DeclaredStream). s.path))))
     c.requires.streams
 
 pub count_users-requires-2-clause-users : goal.count_users-requires-2-clause-users
 count_users-requires-2-clause-users c =
     subst (λ (paths : List (List ℕ)). ListsPaths (length c.args.network.now.topology.ports) paths c.args.flows.now)
-    (sym (paths_of_flows c.args.network.now (length c.streams.result.now) (length c.args.flows.now.serials)
+    (sym (paths_of_flows c.args.network.now (length c.streams.result.now) (length c.args.flows.now.slots)
     (ap (λ (l : List DeclaredStream). length l) c.streams.ensures.value)
     (c.requires.flows.count ∙ length-map c.args.network.now.flows (λ (f : DeclaredFlow). f.path))))
     c.requires.flows
@@ -29,7 +29,7 @@ pub returns : goal.returns
 returns c class d least most =
     let network = c.args.network.now in
     let first : ℕ = length c.streams.result.now in
-    let count : ℕ = length c.args.flows.now.serials in
+    let count : ℕ = length c.args.flows.now.slots in
     let streams : List Sender = map stream_sender network.streams in
     let flows : List Sender = map flow_sender network.flows in
     let before : first ≡ length network.streams = ap (λ (l : List DeclaredStream). length l) c.streams.ensures.value in
