@@ -5,5 +5,6 @@ pub mod Users
 pub mod Near
 pub mod Sums
 pub mod Judgements
+pub mod Opened
 pub mod ShareLemmas
 pub mod UserTallies

@@ -1,7 +1,7 @@
-use Rattle.std.specs.Prelude.{◌≡◌, ◌≢◌, ℕ, ◌+◌, ◌*◌, ◌<◌, ◌≤◌, if◌then◌else◌, List, length, map, filter, fold}
-use Rattle.std.specs.Prelude.{Option, None, slice_index_or}
-use Rattle.std.specs.List.{flat_map}
+use Rattle.std.specs.Prelude.{◌≡◌, ◌≢◌, ℕ, ◌+◌, ◌*◌, ◌<◌, ◌≤◌, Bool, true, not, if◌then◌else◌, List, [], ◌∷◌, ◌++◌}
+use Rattle.std.specs.Prelude.{length, map, filter, fold, Option, Some, None, slice_index_or}
 use Rattle.std.specs.Option.{option_or}
+use Rattle.ats_network.specs.Edits.{no_stream}
 use Rattle.ats_network.specs.Network.{DeclaredNetwork}
 use Rattle.ats_certificate.specs.PortSums.{is_used}
 use Rattle.ats_certificate.specs.Used.{place}
@@ -10,7 +10,7 @@ use Rattle.ats_tally.specs.declared.reason.Reason.{Reason}
 use Rattle.ats_bound.specs.Reason.{overload}
 use Rattle.ats_admission_law.specs.Lowest.{lower_of, lowest_found}
 use Rattle.ats_admission_law.specs.Near.{found_there, late_at, overstay_at}
-use Rattle.ats_port_users.specs.Users.{users_of}
+use Rattle.ats_port_users.specs.Users.{has_port, users_of}
 use Rattle.ats_kept.specs.Kept.{least_bound, stream_paths}
 
 -- what a search finds at a port and a class, where some stream uses them
@@ -23,15 +23,15 @@ found_among given network port classes =
     first_some given (map (place port) (filter (λ class. is_used network port class) classes))
 
 -- the bounds of all ports but this one stay
-pub record KeepsOthers (port : ℕ) (old new : List (Option ℕ)) : Type 0 where
+pub record KeepsOthers (port : ℕ) (old new : List ℕ) : Type 0 where
   pub count : length new ≡ length old
-  pub others : (p class : ℕ) (d : Option ℕ) → p ≢ port → class ≤ 7
+  pub others : (p class : ℕ) (d : ℕ) → p ≢ port → class ≤ 7
       → slice_index_or new (8 * p + class) d ≡ slice_index_or old (8 * p + class) d
 
 -- so they do, and the bounds of those classes of the port from 1 on that are below this one become the least
-pub record SetsBelow (network : DeclaredNetwork) (port below : ℕ) (old new : List (Option ℕ)) : Type 0 where
+pub record SetsBelow (network : DeclaredNetwork) (port below : ℕ) (old new : List ℕ) : Type 0 where
   pub kept : KeepsOthers port old new
-  pub least : (class : ℕ) (d : Option ℕ) → 1 ≤ class → class < below
+  pub least : (class : ℕ) (d : ℕ) → 1 ≤ class → class < below
       → slice_index_or new (8 * port + class) d ≡ least_bound network port class
 
 -- what is found against a network at the ports of a path: an overload, or else a need of residence
@@ -40,10 +40,25 @@ found_on network path =
     option_or (found_there (lowest_found (overload network) network path))
     (found_there (lowest_found (overstay_at network) network path))
 
--- the numbers of the streams that use a port of a path, port by port
-abbrev pub numbers_on : DeclaredNetwork → List ℕ → List ℕ
-numbers_on network path = flat_map (users_of (stream_paths network)) path
+-- a path does not have the port that comes before, where one is given
+abbrev pub is_new : Option ℕ → List ℕ → Bool
+is_new None path = true
+is_new (Some port) path = not (has_port port path)
+
+-- the numbers of the streams that use a port but not the one before it
+abbrev pub new_at : DeclaredNetwork → Option ℕ → ℕ → List ℕ
+new_at network before port =
+    filter (λ n. is_new before (slice_index_or network.streams n no_stream).path) (users_of (stream_paths network) port)
+
+-- so along a path, behind this port
+abbrev pub new_along : DeclaredNetwork → Option ℕ → List ℕ → List ℕ
+new_along network before [] = []
+new_along network before (port ∷ path) = new_at network before port ++ new_along network (Some port) path
 
 -- of a late stream found so far and the late ones with these numbers, the one with the lowest number
 abbrev pub lowest_late_of : DeclaredNetwork → Option (ℕ × Reason) → List ℕ → Option (ℕ × Reason)
 lowest_late_of network best numbers = fold (λ found n. lower_of found n (late_at network n)) best numbers
+
+-- the late stream with the lowest number among those that use a port of a path
+abbrev pub late_on : DeclaredNetwork → List ℕ → Option Reason
+late_on network path = found_there (lowest_late_of network None (new_along network None path))

@@ -21,7 +21,7 @@ use std::marker::Model;
 pub struct Kept {
     streams: PortUsers,
     flows: PortUsers,
-    bounds: Vec<Option<u128>>,
+    bounds: Vec<u128>,
 }
 
 impl Model for Kept {

@@ -1,12 +1,14 @@
-use Rattle.std.proofs.Common.{◌<◌, ◌+◌, ℕ, List, length, drop, Option, ap, ◌∙◌, arith}
+use Rattle.std.proofs.Common.{◌<◌, ◌+◌, ℕ, cond, List, length, drop, filter, get_or, Option, ap, ◌∙◌, arith}
 use Rattle.std.specs.Prelude.{fold}
+use Rattle.ats_network.specs.Edits.{no_stream}
+use Rattle.ats_network.specs.Network.{DeclaredNetwork}
 use Rattle.ats_tally.specs.declared.reason.Reason.{Reason}
 use Rattle.ats_admission_law.specs.Lowest.{lower_of}
 use Rattle.ats_admission_law.specs.Near.{late_at}
 use Rattle.ats_port_users.specs.Users.{users_of}
-use Rattle.ats_network.specs.Network.{DeclaredNetwork}
+use Rattle.ats_kept.specs.Judging.{is_new}
 use Rattle.ats_kept.specs.Kept.{stream_paths}
-use Rattle.ats_kept.proofs.Found.{fold_more}
+use Rattle.ats_kept.proofs.Found.{fold_filtered}
 use Rattle.ats_kept.proofs.late.late_at_port.Goals as goal
 
 pub loop-rank-preserved : goal.loop-rank-preserved
@@ -19,7 +21,8 @@ loop-rank-preserved c =
     let many = c.count-rank-end.ensures.users ports (stream_paths network) c.requires.streams in
     let within : rank < length users = omega (arith, many, c.loop-rank-test.true) in
     let step = λ (found : Option (ℕ × Reason)) (n : ℕ). lower_of found n (late_at network n) in
-    ap (λ (o : Option (ℕ × Reason)). fold step o (drop (rank + 1) users))
-    (c.lower_of-lowest.ensures ∙ ap (lower_of best c.user-stream.result) c.late_at.ensures
-    ∙ ap (step best) (c.user-stream.ensures.value ports (stream_paths network) c.requires.streams))
-    ∙ fold_more step best users rank 0 within ∙ c.loop-rank.invariant
+    let test = λ (n : ℕ). is_new c.args.before (get_or network.streams n no_stream).path in
+    ap (λ (o : Option (ℕ × Reason)). fold step o (filter test (drop (rank + 1) users)))
+    (c.late_at-lowest.ensures ∙ ap (λ (n : ℕ). cond (test n) (step best n) best)
+    (c.user.ensures.value ports (stream_paths network) c.requires.streams))
+    ∙ fold_filtered step test best users rank 0 within ∙ c.loop-rank.invariant
