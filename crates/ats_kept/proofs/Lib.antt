@@ -6,4 +6,5 @@ pub mod Near
 pub mod Sums
 pub mod Judgements
 pub mod Opened
+pub mod ShareLemmas
 pub mod UserTallies
