@@ -114,6 +114,14 @@ def unknown_key(document, table, number):
     return None
 
 
+def missing_key(document, table, number):
+    """Which entry lacks the key: its name, and the key there that may have been meant for it."""
+    entry = entry_of(document, table, number)
+    name = entry.get("name") if table != "top" else None
+    told = [f"{table} {number} is {shown(name)}" if name else None, unknown_key(document, table, number)]
+    return "; ".join(part for part in told if part)
+
+
 def letters(name):
     if not isinstance(name, str):
         return f"{shown(name)} is no text in quotes"
@@ -251,9 +259,8 @@ def network_hint(raw, words):
             last = identity(streams[-1])
             first = next(stream["name"] for stream in streams if identity(stream) == last)
             return f"{shown(streams[-1]['name'])} has the address and vlan of {shown(first)}"
-        case ["missing", table, number, key] if table != "top":
-            name = entry_of(document, table, int(number)).get("name")
-            return f"{table} {number} is {shown(name)}" if name and key != "name" else None
+        case ["missing", table, number, _]:
+            return missing_key(document, table, int(number))
         case [table, number, fault]:
             return sender_fault(document, table, int(number), fault)
     return None
