@@ -1,8 +1,8 @@
-# Tells whether the program is the one of these sources, and proves and builds it. `ats`, `install` and `.ci/run` read this
-# file; they set `top` to the folder of the repository, `program` to the program, and define `say`.
+# Tells whether the program is the one of these sources, and proves and builds it. `ats`, `install` and `.ci/run` read
+# this file; they set `top` to the folder of the repository, `program` to the program, and define `say`.
 
-# The program in a tree. `rt run` writes the stamp once the program is built from proved crates, and removes it before it
-# builds anew. `rt ci` links the program of proved crates as well, and writes none.
+# The program in a tree. `rt run` writes the stamp once the program is built from proved crates, and removes it before
+# it builds anew. `rt ci` links the program of proved crates as well, and writes none.
 built=crates/ats_cli/out/ats_cli
 stamp=$built.stamp
 
@@ -25,8 +25,8 @@ needed_lines() {
     ' "$1"
 }
 
-# The checksum of what the program in a tree is built from, and of the files named: sum_of TREE FILE.. Times, places and other
-# files count nothing. It fails where any of it cannot be read.
+# The checksum of what the program in a tree is built from, and of the files named: sum_of TREE FILE.. Times, places
+# and other files count nothing. It fails where any of it cannot be read.
 sum_of() {
     (
         cd "$1" || exit 1
@@ -93,8 +93,8 @@ tell_progress() {
     done
 }
 
-# Puts the crates that the program stands on into a folder of their own, with what earlier runs left of each, since `rt all`
-# takes all crates that it finds.
+# Puts the crates that the program stands on into a folder of their own, with what earlier runs left of each, since
+# `rt all` takes all crates that it finds.
 set_apart() {
     mkdir "$notes/crates" && cp -p "$top/HANDLES" "$notes/" && needed_lines "$top/crates.txt" >"$notes/crates.txt" || return 1
     needed=$(sed 's/[ :].*//' "$notes/crates.txt")
@@ -138,7 +138,8 @@ descendants() {
     done
 }
 
-# Waits until no other call builds, and goes on alone. The lock is on a file that is always there, and ends with this call.
+# Waits until no other call builds, and goes on alone. The lock is on a file that is always there, and ends with this
+# call.
 stand_alone() {
     exec 9<"$top/crates.txt"
     if ! command -v flock >/dev/null || flock -n 9; then
@@ -160,8 +161,8 @@ build() {
     exec 9<&-
 }
 
-# `rt run` also runs the program, here with no words and its output discarded, and then ends with the program's status. So
-# whether it was built is seen by the line with which rt starts it, and by the stamp.
+# `rt run` also runs the program, here with no words and its output discarded, and then ends with the program's
+# status. So whether it was built is seen by the line with which rt starts it, and by the stamp.
 build_alone() {
     if ! notes=$(mktemp -d 2>/dev/null); then
         say 'no folder for temporary files could be made, so the program was not built'

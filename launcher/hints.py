@@ -88,7 +88,8 @@ def not_toml(raw):
         if not place:
             return f"Python's reader of TOML says: {error}"
         number = int(place[1])
-        return f"Python's reader of TOML says: {error}; line {number} is {shown(line_of(text, number))}"
+        more = "; tables of which there are several have two pairs of brackets" if "twice" in str(error) else ""
+        return f"Python's reader of TOML says: {error}; line {number} is {shown(line_of(text, number))}{more}"
     except RecursionError:
         return f"arrays are nested deeper than {MOST_NESTED}"
 
