@@ -1,0 +1,222 @@
+"""Inputs at and past each limit, and of the worst form that there is, made for bench/limits. Each maker writes files into a
+folder, in pieces, and takes a share of the full size: 1, or 4 for a quarter of it."""
+
+MAX_BYTES = 16_777_216
+MAX_SCHEDULE_BYTES = 33_554_432
+MAX_CAPTURE_BYTES = 268_435_456
+MAX_RECORDS = 1_000_000
+MAX_FRAMES = 200_000
+MAX_REQUESTS = 10_000
+
+PIECE = 1 << 16
+
+STATIONS = '[[station]]\nname = "s1"\n[[station]]\nname = "s2"\n'
+BRIDGE = '[[bridge]]\nname = "b1"\nprocessing_ns = 1000\nresidence_ns = 1000000\n'
+LINKS = (
+    '[[link]]\na = "s1"\nb = "b1"\nmbps = 1000\npropagation_ns = 500\n'
+    '[[link]]\na = "b1"\nb = "s2"\nmbps = 1000\npropagation_ns = 500\n'
+)
+STREAM = (
+    '[[stream]]\nname = "a"\npath = ["s1", "b1", "s2"]\nclass = 6\nrate_bps = 100000000\nburst_bits = 12336\n'
+    'min_octets = 64\nmax_octets = 1522\naddress = "02:00:00:00:00:01"\nvlan = 1\n'
+)
+
+# s1 - b1 - s2 with stream a from s1 to s2.
+SMALL_NETWORK = f"format = 1\n{STATIONS}{BRIDGE}{LINKS}{STREAM}"
+
+CERTIFICATE_HEADER = "port,class,higher,equal,bursts,lower,least,wait,bound\n"
+CERTIFICATE = CERTIFICATE_HEADER + (
+    "s1>b1,6,0,100000000000,12336,0,672,11664000,13836000\nb1>s2,6,0,100000000000,12336,0,672,11664000,12836000\n"
+)
+SCHEDULE_HEADER = "at_ps,sender,octets\n"
+CAPTURE_HEADER = bytes.fromhex("d4c3b2a1020004000000000000000000ffff000001000000")
+
+
+def write(path, begin, part, size, end=""):
+    """Writes a file of this size: its beginning, this part as often as it fits, and its end; what is left are line ends."""
+    begin, part, end = (text.encode() if isinstance(text, str) else text for text in (begin, part, end))
+    times, left = divmod(size - len(begin) - len(end), len(part))
+    at_once = max(1, PIECE // len(part))
+    with open(path, "wb") as file:
+        file.write(begin)
+        for _ in range(times // at_once):
+            file.write(part * at_once)
+        file.write(part * (times % at_once) + end + b"\n" * left)
+
+
+def write_lines(path, lines, begin=""):
+    """Writes a file of these lines, each with its end, behind this beginning."""
+    with open(path, "w", encoding="ascii") as file:
+        file.write(begin)
+        file.writelines(lines)
+
+
+def small(name, text):
+    """A maker of a small file."""
+
+    def make(share):
+        del share
+        write_lines(name, (), text)
+
+    return make
+
+
+def padded(name, begin, part, size, end=""):
+    """A maker of a file of a size, or of a share of it."""
+
+    def make(share):
+        write(name, begin, part, size if share == 1 else len(begin) + len(end) + (size - len(begin) - len(end)) // share, end)
+
+    return make
+
+
+def repeated(name, begin, count, line):
+    """A maker of a file of so many lines, or a share of them, the k-th of which `line` gives."""
+
+    def make(share):
+        write_lines(name, (line(k) for k in range(count // share)), begin)
+
+    return make
+
+
+def nested(depth, opening, closing):
+    """A maker of a network whose key x nests so deep."""
+    return small("n.toml", f"format = 1\nx = {opening * depth}1{closing * depth}\n")
+
+
+def letters(k):
+    """The number k in five letters."""
+    out = ""
+    for _ in range(5):
+        k, place = divmod(k, 26)
+        out = chr(97 + place) + out
+    return out
+
+
+def capture(records):
+    """A maker of a capture of so many records without captured bytes."""
+
+    def make(share):
+        write("c.pcap", CAPTURE_HEADER, bytes(16), len(CAPTURE_HEADER) + records // share * 16)
+
+    return make
+
+
+def sized_capture(records, more):
+    """A maker of a capture of so many records of one length, the last of which ends where a file may end, and of so many bytes
+    behind it."""
+    length = MAX_CAPTURE_BYTES // records
+
+    def make(share):
+        size = records // share * length
+        with open("c.pcap", "wb") as file:
+            file.write(CAPTURE_HEADER)
+            for at in range(len(CAPTURE_HEADER), size, length):
+                captured = min(length, size - at) - 16
+                file.seek(at)
+                file.write(bytes(8) + captured.to_bytes(4, "little") * 2)
+            file.truncate(size + more)
+
+    return make
+
+
+def station_capture(own, other):
+    """A maker of a capture of so many frames of stream a and so many of none, spread evenly, a millisecond apart."""
+    frame = bytes.fromhex("020000000001" "020000000011" "8100c0010800")
+    stranger = bytes.fromhex("0200000000ff" "020000000011" "8100c0010800")
+
+    def make(share):
+        with open("c.pcap", "wb") as file:
+            file.write(CAPTURE_HEADER)
+            for k in range((own + other) // share):
+                second, milli = divmod(k, 1000)
+                at = second.to_bytes(4, "little") + (1000 * milli).to_bytes(4, "little")
+                kind = frame if k * own // (own + other) != (k + 1) * own // (own + other) else stranger
+                file.write(at + len(kind).to_bytes(4, "little") + (1518).to_bytes(4, "little") + kind)
+
+    return make
+
+
+# A torus of bridges, in which any two bridges that are apart in row and column have several least walks, with stations at
+# some of them: 1024 nodes. A walk from a bridge to the one 7 rows and 7 columns on has 14 links, and 3432 of them tie.
+ROWS, COLUMNS, APART = 28, 32, 7
+TORUS_STATIONS = 1024 - ROWS * COLUMNS
+
+
+def torus_lines(streams, flows, share):
+    """The lines of the network of ties, each of whose streams and flows has 16 ports."""
+
+    def bridge(place):
+        return f"b{place // COLUMNS % ROWS}_{place % COLUMNS}"
+
+    def station(place):
+        return f"s{place // COLUMNS % ROWS}_{place % COLUMNS}"
+
+    # Stations stand in diagonals, so that the one 7 rows and 7 columns on has one too.
+    places = [row * COLUMNS + (row + shift) % COLUMNS for shift in (0, 8, 16, 24) for row in range(ROWS)]
+    places += [row * COLUMNS + (row + 4) % COLUMNS for row in range(TORUS_STATIONS - len(places))]
+    yield "format = 1\n"
+    for place in places:
+        yield f'[[station]]\nname = "{station(place)}"\n'
+    for place in range(ROWS * COLUMNS):
+        yield f'[[bridge]]\nname = "{bridge(place)}"\nprocessing_ns = 1000\nresidence_ns = 1000000000\n'
+    for place in range(ROWS * COLUMNS):
+        row, column = divmod(place, COLUMNS)
+        for other in (row * COLUMNS + (column + 1) % COLUMNS, (row + 1) % ROWS * COLUMNS + column):
+            yield f'[[link]]\na = "{bridge(place)}"\nb = "{bridge(other)}"\nmbps = 100000\npropagation_ns = 500\n'
+    for place in places:
+        yield f'[[link]]\na = "{station(place)}"\nb = "{bridge(place)}"\nmbps = 100000\npropagation_ns = 500\n'
+    for k in range((streams + flows) // share):
+        diagonal, row = divmod(k * 37 % (4 * ROWS), ROWS)
+        first = places[diagonal * ROWS + row % (ROWS - APART)]
+        row, column = divmod(first, COLUMNS)
+        last = (row + APART) * COLUMNS + (column + APART) % COLUMNS
+        ends = f'from = "{station(first)}"\nto = "{station(last)}"\n'
+        if k < streams // share:
+            yield (
+                f'[[stream]]\nname = "stream_{k}"\n{ends}class = {1 + k % 7}\nrate_bps = 1000000\nburst_bits = 12336\n'
+                "min_octets = 64\nmax_octets = 1522\n"
+            )
+        else:
+            yield f'[[flow]]\nname = "flow_{k}"\n{ends}max_octets = 1522\n'
+
+
+def torus(streams, flows):
+    """A maker of the network of ties."""
+
+    def make(share):
+        write_lines("n.toml", torus_lines(streams, flows, share))
+
+    return make
+
+
+def long_line(streams):
+    """A maker of a line of 15 bridges with streams from end to end: 16 ports, as many as a path may have."""
+
+    def lines():
+        yield 'format = 1\n[[station]]\nname = "t"\n[[station]]\nname = "u"\n'
+        for k in range(15):
+            yield f'[[bridge]]\nname = "b{k}"\nprocessing_ns = 1000\nresidence_ns = 1000000000\n'
+        nodes = ["t"] + [f"b{k}" for k in range(15)] + ["u"]
+        for a, b in zip(nodes, nodes[1:]):
+            yield f'[[link]]\na = "{a}"\nb = "{b}"\nmbps = 1000\npropagation_ns = 500\n'
+        for k in range(streams):
+            yield (
+                f'[[stream]]\nname = "stream_{k}"\nfrom = "t"\nto = "u"\nclass = 6\nrate_bps = 1000000\nburst_bits = 16160\n'
+                f'min_octets = 64\nmax_octets = 2000\naddress = "02:00:00:00:00:{k + 1:02x}"\nvlan = 1\n'
+            )
+
+    def make(share):
+        del share
+        write_lines("n.toml", lines())
+
+    return make
+
+
+# What a rate of 1 Mb/s gives to a frame of 64 octets, of 672 wire bits.
+PAUSE_PS = 672_000_000
+
+
+def releases(streams, pause, octets=64):
+    """A maker of a schedule of as many frames as a run may have, of these streams in turn, so many picoseconds apart."""
+    return repeated("s.csv", SCHEDULE_HEADER, MAX_FRAMES, lambda k: f"{k * pause},stream_{k % streams},{octets}\n")
