@@ -190,20 +190,27 @@ def torus(streams, flows):
     return make
 
 
-def long_line(streams):
-    """A maker of a line of 15 bridges with streams from end to end: 16 ports, as many as a path may have."""
+def padded_name(name, length):
+    """A name of at least this length."""
+    return name + "_" * (length - len(name))
+
+
+def long_line(streams, length=0):
+    """A maker of a line of 15 bridges with streams from end to end: 16 ports, as many as a path may have. All names have at
+    least this length."""
+    nodes = [padded_name(name, length) for name in ["t"] + [f"b{k}" for k in range(15)] + ["u"]]
 
     def lines():
-        yield 'format = 1\n[[station]]\nname = "t"\n[[station]]\nname = "u"\n'
-        for k in range(15):
-            yield f'[[bridge]]\nname = "b{k}"\nprocessing_ns = 1000\nresidence_ns = 1000000000\n'
-        nodes = ["t"] + [f"b{k}" for k in range(15)] + ["u"]
+        yield f'format = 1\n[[station]]\nname = "{nodes[0]}"\n[[station]]\nname = "{nodes[-1]}"\n'
+        for name in nodes[1:-1]:
+            yield f'[[bridge]]\nname = "{name}"\nprocessing_ns = 1000\nresidence_ns = 1000000000\n'
         for a, b in zip(nodes, nodes[1:]):
             yield f'[[link]]\na = "{a}"\nb = "{b}"\nmbps = 1000\npropagation_ns = 500\n'
         for k in range(streams):
             yield (
-                f'[[stream]]\nname = "stream_{k}"\nfrom = "t"\nto = "u"\nclass = 6\nrate_bps = 1000000\nburst_bits = 16160\n'
-                f'min_octets = 64\nmax_octets = 2000\naddress = "02:00:00:00:00:{k + 1:02x}"\nvlan = 1\n'
+                f'[[stream]]\nname = "{padded_name(f"stream_{k}", length)}"\nfrom = "{nodes[0]}"\nto = "{nodes[-1]}"\nclass = 6\n'
+                "rate_bps = 1000000\nburst_bits = 16160\nmin_octets = 64\nmax_octets = 2000\n"
+                f'address = "02:00:00:00:00:{k + 1:02x}"\nvlan = 1\n'
             )
 
     def make(share):
@@ -217,6 +224,8 @@ def long_line(streams):
 PAUSE_PS = 672_000_000
 
 
-def releases(streams, pause, octets=64):
-    """A maker of a schedule of as many frames as a run may have, of these streams in turn, so many picoseconds apart."""
-    return repeated("s.csv", SCHEDULE_HEADER, MAX_FRAMES, lambda k: f"{k * pause},stream_{k % streams},{octets}\n")
+def releases(streams, pause, octets=64, begin=0, length=0):
+    """A maker of a schedule of as many frames as a run may have, of these streams in turn, so many picoseconds apart and from
+    this time on. The streams' names have at least this length."""
+    names = [padded_name(f"stream_{k}", length) for k in range(streams)]
+    return repeated("s.csv", SCHEDULE_HEADER, MAX_FRAMES, lambda k: f"{begin + k * pause},{names[k % streams]},{octets}\n")
