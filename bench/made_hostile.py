@@ -143,35 +143,63 @@ ROWS, COLUMNS, APART = 28, 32, 7
 TORUS_STATIONS = 1024 - ROWS * COLUMNS
 
 
+# Stations stand in diagonals, so that the one 7 rows and 7 columns on has one too.
+PLACES = [(row, (row + shift) % COLUMNS) for shift in (0, 8, 16, 24) for row in range(ROWS)]
+PLACES += [(row, (row + 4) % COLUMNS) for row in range(TORUS_STATIONS - len(PLACES))]
+
+
+def bridge(row, column):
+    """The name of a bridge of the torus; that of the station at it begins with s in place of b."""
+    return f"b{row % ROWS}_{column % COLUMNS}"
+
+
+def station(row, column):
+    """The name of a station of the torus."""
+    return "s" + bridge(row, column)[1:]
+
+
+def start_of(k):
+    """The row and the column at which stream or flow k begins."""
+    diagonal, row = divmod(k * 37 % (4 * ROWS), ROWS)
+    return PLACES[diagonal * ROWS + row % (ROWS - APART)]
+
+
+def torus_routes(senders):
+    """The ports of each sender: of two that a bridge's links to the right and down give, the first is the one to the right, so
+    the first of all least walks goes to the right first."""
+    for k in range(senders):
+        row, column = start_of(k)
+        nodes = [station(row, column)] + [bridge(row, column + step) for step in range(APART)]
+        nodes += [bridge(row + step, column + APART) for step in range(APART + 1)] + [station(row + APART, column + APART)]
+        yield [f"{a}>{b}" for a, b in zip(nodes, nodes[1:])]
+
+
+def has_torus_routes(senders):
+    """A test of what `show` printed: whether the senders have these ports."""
+
+    def test(lines):
+        shown = [line.split() for line in lines if line.startswith(b"stream ") or line.startswith(b"flow ")]
+        due = torus_routes(senders)
+        return len(shown) == senders and all([word.decode() for word in line[3:]] == next(due) for line in shown)
+
+    return test
+
+
 def torus_lines(streams, flows, share):
     """The lines of the network of ties, each of whose streams and flows has 16 ports."""
-
-    def bridge(place):
-        return f"b{place // COLUMNS % ROWS}_{place % COLUMNS}"
-
-    def station(place):
-        return f"s{place // COLUMNS % ROWS}_{place % COLUMNS}"
-
-    # Stations stand in diagonals, so that the one 7 rows and 7 columns on has one too.
-    places = [row * COLUMNS + (row + shift) % COLUMNS for shift in (0, 8, 16, 24) for row in range(ROWS)]
-    places += [row * COLUMNS + (row + 4) % COLUMNS for row in range(TORUS_STATIONS - len(places))]
     yield "format = 1\n"
-    for place in places:
-        yield f'[[station]]\nname = "{station(place)}"\n'
-    for place in range(ROWS * COLUMNS):
-        yield f'[[bridge]]\nname = "{bridge(place)}"\nprocessing_ns = 1000\nresidence_ns = 1000000000\n'
-    for place in range(ROWS * COLUMNS):
-        row, column = divmod(place, COLUMNS)
-        for other in (row * COLUMNS + (column + 1) % COLUMNS, (row + 1) % ROWS * COLUMNS + column):
-            yield f'[[link]]\na = "{bridge(place)}"\nb = "{bridge(other)}"\nmbps = 100000\npropagation_ns = 500\n'
-    for place in places:
-        yield f'[[link]]\na = "{station(place)}"\nb = "{bridge(place)}"\nmbps = 100000\npropagation_ns = 500\n'
+    for place in PLACES:
+        yield f'[[station]]\nname = "{station(*place)}"\n'
+    bridges = [(row, column) for row in range(ROWS) for column in range(COLUMNS)]
+    for place in bridges:
+        yield f'[[bridge]]\nname = "{bridge(*place)}"\nprocessing_ns = 1000\nresidence_ns = 1000000000\n'
+    links = [(bridge(r, c), other) for r, c in bridges for other in (bridge(r, c + 1), bridge(r + 1, c))]
+    links += [(station(*place), bridge(*place)) for place in PLACES]
+    for a, b in links:
+        yield f'[[link]]\na = "{a}"\nb = "{b}"\nmbps = 100000\npropagation_ns = 500\n'
     for k in range((streams + flows) // share):
-        diagonal, row = divmod(k * 37 % (4 * ROWS), ROWS)
-        first = places[diagonal * ROWS + row % (ROWS - APART)]
-        row, column = divmod(first, COLUMNS)
-        last = (row + APART) * COLUMNS + (column + APART) % COLUMNS
-        ends = f'from = "{station(first)}"\nto = "{station(last)}"\n'
+        row, column = start_of(k)
+        ends = f'from = "{station(row, column)}"\nto = "{station(row + APART, column + APART)}"\n'
         if k < streams // share:
             yield (
                 f'[[stream]]\nname = "stream_{k}"\n{ends}class = {1 + k % 7}\nrate_bps = 1000000\nburst_bits = 12336\n'
