@@ -223,27 +223,29 @@ def padded_name(name, length):
     return name + "_" * (length - len(name))
 
 
-def long_line(streams, length=0):
-    """A maker of a line of 15 bridges with streams from end to end: 16 ports, as many as a path may have. All names have at
-    least this length."""
+def long_line(streams, length=0, flows=0, rate=1_000_000, octets=2000):
+    """A maker of a line of 15 bridges with streams and flows from end to end: 16 ports, as many as a path may have. All names
+    have at least this length, frames at most so many octets."""
     nodes = [padded_name(name, length) for name in ["t"] + [f"b{k}" for k in range(15)] + ["u"]]
+    ends = f'from = "{nodes[0]}"\nto = "{nodes[-1]}"\n'
 
-    def lines():
+    def lines(share):
         yield f'format = 1\n[[station]]\nname = "{nodes[0]}"\n[[station]]\nname = "{nodes[-1]}"\n'
         for name in nodes[1:-1]:
             yield f'[[bridge]]\nname = "{name}"\nprocessing_ns = 1000\nresidence_ns = 1000000000\n'
         for a, b in zip(nodes, nodes[1:]):
             yield f'[[link]]\na = "{a}"\nb = "{b}"\nmbps = 1000\npropagation_ns = 500\n'
-        for k in range(streams):
+        for k in range(streams // share):
             yield (
-                f'[[stream]]\nname = "{padded_name(f"stream_{k}", length)}"\nfrom = "{nodes[0]}"\nto = "{nodes[-1]}"\nclass = 6\n'
-                "rate_bps = 1000000\nburst_bits = 16160\nmin_octets = 64\nmax_octets = 2000\n"
-                f'address = "02:00:00:00:00:{k + 1:02x}"\nvlan = 1\n'
+                f'[[stream]]\nname = "{padded_name(f"stream_{k}", length)}"\n{ends}class = {6 if rate > 100_000 else 1 + k % 7}\n'
+                f"rate_bps = {rate}\nburst_bits = {8 * (octets + 20)}\nmin_octets = 64\nmax_octets = {octets}\n"
+                f'address = "02:00:00:00:{k >> 8:02x}:{k & 255:02x}"\nvlan = 1\n'
             )
+        for k in range(flows // share):
+            yield f'[[flow]]\nname = "flow_{k}"\n{ends}max_octets = {octets}\n'
 
     def make(share):
-        del share
-        write_lines("n.toml", lines())
+        write_lines("n.toml", lines(share if flows else 1))
 
     return make
 
