@@ -209,6 +209,20 @@ def torus_lines(streams, flows, share):
             yield f'[[flow]]\nname = "flow_{k}"\n{ends}max_octets = 1522\n'
 
 
+def torus_requests(count):
+    """A maker of so many requests to enter the network of ties, each by a route of 16 ports and in the lowest class that
+    there is; every fourth of them withdraws the stream before it."""
+
+    def request(k):
+        if k % 4 == 3:
+            return f"withdraw new_{k - 1}\n"
+        row, column = start_of(k)
+        ends = f"{station(row, column)} {station(row + APART, column + APART)}"
+        return f"admit new_{k} {ends} lowest 1000000 12336 64 1522 1000000000\n"
+
+    return repeated("r.txt", "", count, request)
+
+
 def torus(streams, flows):
     """A maker of the network of ties."""
 
