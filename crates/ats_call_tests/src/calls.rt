@@ -29,6 +29,9 @@ const CAPTURE: &[u8] = b"\xd4\xc3\xb2\xa1\x02\x00\x04\x00\x00\x00\x00\x00\x00\x0
 // The most bytes that a write takes.
 const MOST: usize = 16;
 
+// One more than the writes of the longest text.
+const WRITES: u32 = 20;
+
 // Each command with the number of its reads and the text that is due.
 const COMMANDS: &[(&[&str], u32, &[u8])] = &[
     (
@@ -66,6 +69,12 @@ const COMMANDS: &[(&[&str], u32, &[u8])] = &[
         4,
         b"frame 0 a 64 0\nhop s1>s2 0 eligible 0 start 0 end 672000\nsink 1172000\n\
         total frames 1 sunk 1 late 0 size 0\nrecords 1 unidentified 0 oversize 0\n",
+    ),
+    // The first draw from the seed 1 is 908834774, so the frame has 394 octets.
+    (
+        &["generate", "n", "1", "1"],
+        2,
+        b"stream a frames 1 sunk 1 late 0 size 0 worst 3812000 bound 12836000\ntotal frames 1 sunk 1 late 0 size 0\n",
     ),
 ];
 
@@ -132,7 +141,8 @@ fn each_read_fails(rt: HostRuntime) {
 #[test]
 fn each_write_fails(rt: HostRuntime) {
     for (words, _, text) in COMMANDS {
-        for taken in 0..8u32 {
+        assert!(rt; text.len() < WRITES as usize * MOST);
+        for taken in 0..WRITES {
             let front = text.len().min(taken as usize * MOST);
             let is_whole = front == text.len();
             let (status, out) = call(&rt, words, 0, taken + 1, 4096);
