@@ -1,7 +1,7 @@
 use Rattle.std.proofs.Common.{◌<◌, length, sym, arith}
 use Rattle.std.proofs.lemmas.Grind.{common_steps}
 use Rattle.ats_heap.proofs.Tops.{top_leads}
-use Rattle.ats_heap.proofs.heap.Heap.peek.Goals as goal
+use Rattle.ats_heap.proofs.tree.Tree.peek.Goals as goal
 
 pub returns-clause-first : goal.returns-clause-first
 returns-clause-first g c =
