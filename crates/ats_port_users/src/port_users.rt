@@ -4,9 +4,12 @@ ghost use Rattle.std.specs.Prelude.{◌≡◌, ◌≢◌, ℕ, ◌+◌, ◌<◌,
 ghost use Rattle.std.specs.Prelude.{AllPairs, IfSome, IfNone, IfOk, OnOk, OnErr};
 ghost use Rattle.std.specs.Global.{Vec};
 ghost use Rattle.std.specs.List.{remove};
-ghost use Rattle.ats_port_users.specs.Users.{ListsPaths, users_of};
-ghost use Rattle.ats_port_users.specs.Lists.{items_of, AllDiffer, AreSlots, AreUsed, HasRoom, Enters, Leaves, Tells};
+ghost use Rattle.ats_port_users.specs.Users.{IsHop, ListsPaths, entry_at, users_of};
+ghost use Rattle.ats_port_users.specs.declared.entry.Entry.{Entry};
+ghost use Rattle.ats_port_users.specs.Lists.{items_of, AllDiffer, AreSlots, AreUsed, EntriesDiffer, HasRoom};
+ghost use Rattle.ats_port_users.specs.Lists.{Enters, Leaves, Tells};
 
+use crate::entry::Entry;
 use std::alloc::{AllocError, Global};
 use std::marker::Model;
 
@@ -14,15 +17,15 @@ use std::marker::Model;
 pub const MAX_PATHS: usize = 4096;
 
 /// Paths over the ports of a topology, numbered from 0 in the order in which they came; for each port the numbers of
-/// those that have it are found at once. Each path has a slot, which it keeps; a port tells slots, so that when a path is
-/// taken out the lists of other ports stay. What comes later may have the slot of one that went. Contracts see the slots
-/// and the lists, and say of which paths they are (`ListsPaths`).
+/// those that have it, and the hops at which they do, are found at once. Each path has a slot, which it keeps, and the
+/// lists of ports tell slots: so when a path is taken out, no entry of another changes. A later path may have its slot.
+/// Contracts see the slots and the lists, and say of which paths they are (`ListsPaths`).
 #[derive(Drop)]
 pub struct PortUsers {
     used: usize,
     slots: Vec<u32>,
     places: Vec<u32>,
-    lists: Vec<Vec<u32>>,
+    lists: Vec<Vec<Entry>>,
 }
 
 impl Model for PortUsers {
@@ -97,14 +100,24 @@ impl PortUsers {
         ensures within { (ports : ℕ) (paths : List (List ℕ)) → ListsPaths ports paths self.now → result < length paths }
     {
         let list = &self.lists[port as usize];
-        told(&self.places, list[place])
+        told(&self.places, list[place].slot)
+    }
+
+    /// The hop, counted from 0, at which the path that `user` tells for this place has the port.
+    pub fn hop(&self, port: u32, place: usize) -> usize
+        requires port { port < length self.now.lists }
+        requires place { place < length (slice_index_or self.now.lists port []) }
+        ensures { (ports : ℕ) (paths : List (List ℕ)) → ListsPaths ports paths self.now
+            → IsHop port (slice_index_or paths (slice_index_or (users_of paths port) place 0) []) result }
+    {
+        self.lists[port as usize][place].hop
     }
 }
 
 // So many empty lists.
-fn empty_lists(alloc: Global, ports: usize) -> Result<Vec<Vec<u32>>, AllocError>
+fn empty_lists(alloc: Global, ports: usize) -> Result<Vec<Vec<Entry>>, AllocError>
     ensures count { IfOk result (λ lists. length lists.items ≡ ports) }
-    ensures empty { IfOk result (λ lists. All (λ (list : Vec ℕ). list.items ≡ []) lists.items) }
+    ensures empty { IfOk result (λ lists. All (λ (list : Vec Entry). list.items ≡ []) lists.items) }
 {
     let mut lists = Vec::with_capacity(alloc, ports)?;
     for _ in 0..ports {
@@ -114,7 +127,7 @@ fn empty_lists(alloc: Global, ports: usize) -> Result<Vec<Vec<u32>>, AllocError>
 }
 
 // Makes room for one more in the list of each port on a path. `AllocError` where memory runs out.
-fn make_room(lists: &mut Vec<Vec<u32>>, path: &[u32]) -> Result<(), AllocError>
+fn make_room(lists: &mut Vec<Vec<Entry>>, path: &[u32]) -> Result<(), AllocError>
     requires { All (λ p. p < length lists.old.items) path.now }
     ensures items { items_of lists.new.items ≡ items_of lists.old.items }
     ensures room { OnOk result (All (HasRoom lists.new.items) path.now) }
@@ -125,21 +138,22 @@ fn make_room(lists: &mut Vec<Vec<u32>>, path: &[u32]) -> Result<(), AllocError>
     Ok(())
 }
 
-// Puts a slot at the end of the list of each port on a path, which has no port twice.
-fn enter(lists: &mut Vec<Vec<u32>>, path: &[u32], slot: u32)
+// Puts the entry of a path with this slot at the end of the list of each port on it. It has no port twice.
+fn enter(lists: &mut Vec<Vec<Entry>>, path: &[u32], slot: u32)
     requires ports { All (λ p. p < length lists.old.items) path.now }
     requires apart { AllPairs (λ p q. p ≢ q) path.now }
     requires room { All (HasRoom lists.old.items) path.now }
-    ensures { Enters slot path.now (items_of lists.old.items) (items_of lists.new.items) }
+    ensures { Enters (λ port. entry_at port slot path.now) path.now (items_of lists.old.items)
+        (items_of lists.new.items) }
 {
-    for port in path {
-        lists[*port as usize].push_reserved(slot);
+    for (hop, port) in path.iter().enumerate() {
+        lists[*port as usize].push_reserved(Entry { slot, hop });
     }
 }
 
 // Takes a slot out of the list of each port on a path, where none stands twice in a list.
-fn leave(lists: &mut Vec<Vec<u32>>, path: &[u32], slot: u32)
-    ensures { All AllDiffer (items_of lists.old.items)
+fn leave(lists: &mut Vec<Vec<Entry>>, path: &[u32], slot: u32)
+    ensures { All EntriesDiffer (items_of lists.old.items)
         → Leaves slot path.now (items_of lists.old.items) (items_of lists.new.items) }
 {
     for port in path {
@@ -148,8 +162,8 @@ fn leave(lists: &mut Vec<Vec<u32>>, path: &[u32], slot: u32)
 }
 
 // Takes a slot out of the list of one port, where none stands twice in a list.
-fn leave_at(lists: &mut Vec<Vec<u32>>, port: u32, slot: u32)
-    ensures { All AllDiffer (items_of lists.old.items)
+fn leave_at(lists: &mut Vec<Vec<Entry>>, port: u32, slot: u32)
+    ensures { All EntriesDiffer (items_of lists.old.items)
         → Leaves slot (port ∷ []) (items_of lists.old.items) (items_of lists.new.items) }
 {
     let place = port as usize;
@@ -162,13 +176,13 @@ fn leave_at(lists: &mut Vec<Vec<u32>>, port: u32, slot: u32)
 }
 
 // Where a slot stands in a list; `None` exactly where it does not.
-fn found_at(list: &[u32], slot: u32) -> Option<usize>
+fn found_at(list: &[Entry], slot: u32) -> Option<usize>
     ensures within { IfSome result (λ at. at < length list.now) }
-    ensures stands { IfSome result (λ at. slice_index_or list.now at 0 ≡ slot) }
-    ensures none { IfNone result (All (λ s. s ≢ slot) list.now) }
+    ensures stands { IfSome result (λ at. (d : Entry) → (slice_index_or list.now at d).slot ≡ slot) }
+    ensures none { IfNone result (All (λ (e : Entry). e.slot ≢ slot) list.now) }
 {
-    for (at, listed) in list.iter().enumerate() {
-        if *listed == slot {
+    for (at, entry) in list.iter().enumerate() {
+        if entry.slot == slot {
             return Some(at);
         }
     }

@@ -4,23 +4,24 @@ use Rattle.std.specs.Global.{Vec}
 use Rattle.std.specs.List.{All}
 use Rattle.std.proofs.lemmas.List.{length-map, take_more, take_all, set-get_or}
 use Rattle.ats_port_users.specs.Lists.{items_of, HasRoom}
+use Rattle.ats_port_users.specs.declared.entry.Entry.{Entry}
 use Rattle.ats_port_users.proofs.ListLemmas.{room_set, items_set, item_at}
 use Rattle.ats_port_users.proofs.port_users.make_room.Goals as goal
 
 -- a list with room for more has the same items
-same : (lists : List (Vec ℕ)) (port : ℕ) (old new : Vec ℕ) → port < length lists → old ≡ get_or lists port old
+same : (lists : List (Vec Entry)) (port : ℕ) (old new : Vec Entry) → port < length lists → old ≡ get_or lists port old
     → new.items ≡ old.items → items_of (set lists port new) ≡ items_of lists
 same lists port old new within was is =
     items_set lists port new
     ∙ ap (set (items_of lists) port)
-    (is ∙ ap (λ (v : Vec ℕ). v.items) was ∙ sym (item_at lists port old [] within))
+    (is ∙ ap (λ (v : Vec Entry). v.items) was ∙ sym (item_at lists port old [] within))
     ∙ set-get_or (items_of lists) port []
 
 -- there are as many lists as before
-many : (old now : List (Vec ℕ)) → items_of now ≡ items_of old → length now ≡ length old
+many : (old now : List (Vec Entry)) → items_of now ≡ items_of old → length now ≡ length old
 many old now same =
-    sym (length-map now (λ (v : Vec ℕ). v.items)) ∙ ap (λ (l : List (List ℕ)). length l) same
-    ∙ length-map old (λ (v : Vec ℕ). v.items)
+    sym (length-map now (λ (v : Vec Entry). v.items)) ∙ ap (λ (l : List (List Entry)). length l) same
+    ∙ length-map old (λ (v : Vec Entry). v.items)
 
 pub returns-in_err-reserve-clause-items : goal.returns-in_err-reserve-clause-items
 returns-in_err-reserve-clause-items c =
@@ -36,7 +37,7 @@ pub loop-port-preserved : goal.loop-port-preserved
 loop-port-preserved c =
     let path : List ℕ = c.args.path.now in
     let i : ℕ = c.loop-port.port-index in
-    let lists : List (Vec ℕ) = c.loop-port.lists.items in
+    let lists : List (Vec Entry) = c.loop-port.lists.items in
     let long = many c.args.lists.now.items lists c.loop-port.invariant.same in
     let within : get_or path i 0 < length c.args.lists.now.items = c.requires i 0 c.loop-port-test.true in
     record {

@@ -2,7 +2,7 @@ use Rattle.std.proofs.Common.{◌≡◌, ◌<◌, ◌-◌, ℕ, suc, List, lengt
 use Rattle.std.specs.List.{All, remove}
 use Rattle.std.proofs.lemmas.List.{get_or-take, length-take-le}
 use Rattle.ats_port_users.specs.Users.{UsersState, ListsPaths}
-use Rattle.ats_port_users.specs.Lists.{items_of, AllDiffer, Leaves}
+use Rattle.ats_port_users.specs.Lists.{items_of, EntriesDiffer, Leaves}
 use Rattle.ats_port_users.proofs.Places.{take_freed, used_differ}
 use Rattle.ats_port_users.proofs.StateLemmas.{listed_less}
 use Rattle.ats_port_users.proofs.port_users.PortUsers.take.Goals as goal
@@ -28,6 +28,6 @@ returns c ports paths listed is =
     ∙ take_freed slots n (used - 1) c.free-slot.result (omega (arith, before))
     (omega (arith, before, c.self.invariant.within))
     ∙ ap (λ (k : ℕ). remove (take k slots) n) next)
-    (subst (λ (k : ℕ). All AllDiffer (items_of c.self.inside.lists.items)
+    (subst (λ (k : ℕ). All EntriesDiffer (items_of c.self.inside.lists.items)
     → Leaves k c.args.path.now (items_of c.self.inside.lists.items) (items_of c.leave.new.lists.items)) slot
     c.leave.ensures)
