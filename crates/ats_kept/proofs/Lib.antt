@@ -7,4 +7,5 @@ pub mod Hops
 pub mod Sums
 pub mod Judgements
 pub mod Opened
+pub mod ShareLemmas
 pub mod UserTallies

@@ -1,13 +1,18 @@
-use Rattle.std.proofs.Common.{◌≡◌, ◌+◌, true, ℕ, List, length, map, get_or, sym, ap, subst, ◌∙◌, arith}
+use Rattle.std.proofs.Common.{◌≡◌, ◌+◌, ◌≤◌, true, ℕ, List, ◌++◌, take, length, map, get_or, set, sym, ap, subst, ◌∙◌, arith}
+use Rattle.std.specs.List.{All}
 use Rattle.ats_network.specs.Class.{PortSender, seen_at}
+use Rattle.ats_network.specs.Network.{senders_of}
 use Rattle.ats_network.specs.Senders.{sender_at}
-use Rattle.ats_tally.specs.Tally.{IsWithin}
-use Rattle.ats_tally.specs.Tallies.{AddsSender}
+use Rattle.ats_certificate.specs.PortSums.{senders_at}
+use Rattle.ats_tally.specs.SenderAtPort.{port_sender}
 use Rattle.ats_tally.specs.declared.tally.TheConstants.{MAX_SENDERS}
 use Rattle.ats_tally.proofs.Network.{few_senders}
 use Rattle.ats_port_users.specs.Users.{has_port, users_of}
 use Rattle.ats_kept.specs.ClassTallies.{paths_from, senders_from}
-use Rattle.ats_kept.proofs.UserTallies.{IsAtPort, at_port, counted_within, counted_more, counted_all, path_of}
+use Rattle.ats_kept.specs.Shares.{no_share, share_with, AreShares, IsLimited}
+use Rattle.ats_kept.specs.declared.shares.Share.{Share}
+use Rattle.ats_kept.proofs.ShareLemmas.{limited_more, limited_wider}
+use Rattle.ats_kept.proofs.UserTallies.{IsAtPort, at_port, class_seen, counted_more, counted_all, few_users, path_of}
 use Rattle.ats_kept.proofs.tallies.count_users.Goals as goal
 
 -- the user is a sender of the network that has the port
@@ -42,19 +47,24 @@ sender_seen-seen-requires-clause-has c =
     subst (λ (n : ℕ). has_port c.args.port (sender_at c.args.network.now (c.args.first + n)).path ≡ true)
     (sym (number c)) is.has
 
-pub count-requires-clause-room : goal.count-requires-clause-room
-count-requires-clause-room c class d least most =
-    let same : 0 + class ≡ class = omega arith in
-    subst (λ (n : ℕ). IsWithin MAX_SENDERS (get_or c.loop-place.tallies n d)) (sym same)
-    (counted_within c.args.network.now c.args.first (length c.args.users.now.slots) c.args.port c.loop-place.place
-    c.loop-place.tallies c.requires.rules c.requires.senders c.loop-place.invariant class d least most)
-
-pub loop-place-preserved : goal.loop-place-preserved
-loop-place-preserved c =
+pub returns-clause-counted : goal.returns-clause-counted
+returns-clause-counted c =
     let network = c.args.network.now in
     let count : ℕ = length c.args.users.now.slots in
     let paths : List (List ℕ) = paths_from network c.args.first count in
-    let n : ℕ = get_or (users_of paths c.args.port) c.loop-place.place 0 in
+    counted_all network c.args.first count c.args.port c.loop-place.place c.loop-place.shares
+    (omega (
+      arith,
+      c.loop-place-test.false,
+      c.count-place-end.ensures.users (length network.topology.ports) paths c.requires.users,
+    ))
+    c.loop-place.invariant.counted
+
+pub count-requires-clause-class : goal.count-requires-clause-class
+count-requires-clause-class c =
+    let network = c.args.network.now in
+    let count : ℕ = length c.args.users.now.slots in
+    let paths : List (List ℕ) = paths_from network c.args.first count in
     let is : IsAtPort network c.args.first count c.args.port c.loop-place.place =
     at_port network c.args.first count c.args.port c.loop-place.place c.requires.senders
     (omega (
@@ -62,23 +72,83 @@ loop-place-preserved c =
       c.loop-place-test.true,
       c.count-place-end.ensures.users (length network.topology.ports) paths c.requires.users,
     )) in
+    let n : ℕ = get_or (users_of paths c.args.port) c.loop-place.place 0 in
     let same : c.user.result ≡ n = c.user.ensures.value (length network.topology.ports) paths c.requires.users in
-    counted_more network c.args.first count c.args.port c.loop-place.place c.loop-place.tallies c.count.new.tallies
-    (seen_at c.args.port (sender_at network (c.args.first + n))) is.inside is.seen c.loop-place.invariant
-    (subst (λ (s : PortSender). AddsSender s 0 8 c.loop-place.tallies c.count.new.tallies)
-    (c.sender_seen-seen.ensures.seen
-    ∙ ap (λ (k : ℕ). seen_at c.args.port (sender_at network (c.args.first + k))) same)
-    c.count.ensures)
+    let seen : c.sender_seen-seen.result.class ≡ (seen_at c.args.port (sender_at network (c.args.first + n))).class =
+    ap (λ (s : PortSender). s.class) (c.sender_seen-seen.ensures.seen
+    ∙ ap (λ (k : ℕ). seen_at c.args.port (sender_at network (c.args.first + k))) same) in
+    omega (arith, seen, class_seen network (c.args.first + n) c.args.port c.requires.rules is.within)
 
-pub returns : goal.returns
-returns c =
+pub count-requires-clause-room : goal.count-requires-clause-room
+count-requires-clause-room c =
     let network = c.args.network.now in
     let count : ℕ = length c.args.users.now.slots in
     let paths : List (List ℕ) = paths_from network c.args.first count in
-    counted_all network c.args.first count c.args.port c.loop-place.place c.loop-place.tallies
+    limited_wider (c.args.first + c.loop-place.place) MAX_SENDERS c.loop-place.shares
     (omega (
       arith,
-      c.loop-place-test.false,
+      c.loop-place.auto.place-end,
+      few_users network c.args.first count c.args.port c.requires.senders,
+      c.requires.senders,
+      few_senders network c.requires.rules,
       c.count-place-end.ensures.users (length network.topology.ports) paths c.requires.users,
     ))
-    c.loop-place.invariant
+    c.loop-place.invariant.limits
+
+pub loop-place-preserved : goal.loop-place-preserved
+loop-place-preserved c =
+    let network = c.args.network.now in
+    let count : ℕ = length c.args.users.now.slots in
+    let paths : List (List ℕ) = paths_from network c.args.first count in
+    let is : IsAtPort network c.args.first count c.args.port c.loop-place.place =
+    at_port network c.args.first count c.args.port c.loop-place.place c.requires.senders
+    (omega (
+      arith,
+      c.loop-place-test.true,
+      c.count-place-end.ensures.users (length network.topology.ports) paths c.requires.users,
+    )) in
+    let n : ℕ = get_or (users_of paths c.args.port) c.loop-place.place 0 in
+    let same : c.user.result ≡ n = c.user.ensures.value (length network.topology.ports) paths c.requires.users in
+    let seen : port_sender c.sender_seen-seen.result ≡ seen_at c.args.port (sender_at network (c.args.first + n)) =
+    c.sender_seen-seen.ensures.seen
+    ∙ ap (λ (k : ℕ). seen_at c.args.port (sender_at network (c.args.first + k))) same in
+    let most : c.sender_seen-seen.result.class ≤ 7 =
+    omega (
+      arith,
+      ap (λ (s : PortSender). s.class) seen,
+      class_seen network (c.args.first + n) c.args.port c.requires.rules is.within,
+    ) in
+    let next : c.args.first + (c.loop-place.place + 1) ≡ (c.args.first + c.loop-place.place) + 1 = omega arith in
+    let long : length c.loop-place.shares ≡ 8 = c.loop-place.invariant.long in
+    record {
+      long = c.count.array_long;
+      limits = subst (λ (s : List Share). All (IsLimited (c.args.first + (c.loop-place.place + 1))) s)
+          (sym c.count.ensures)
+          (subst (λ (k : ℕ). All (IsLimited k) (set c.loop-place.shares c.sender_seen-seen.result.class
+          (share_with (port_sender c.sender_seen-seen.result)
+          (get_or c.loop-place.shares c.sender_seen-seen.result.class no_share)))) (sym next)
+          (limited_more (c.args.first + c.loop-place.place) c.loop-place.shares
+          (port_sender c.sender_seen-seen.result) (omega (arith, long, most))
+          c.sender_seen-seen.ensures.limits.rate c.sender_seen-seen.ensures.limits.burst
+          c.loop-place.invariant.limits));
+      counted = subst (AreShares (senders_at c.args.port (take c.args.first (senders_of network))
+          ++ take (c.loop-place.place + 1) (senders_at c.args.port (senders_from network c.args.first count))))
+          (sym c.count.ensures)
+          (counted_more network c.args.first count c.args.port c.loop-place.place c.loop-place.shares
+          (port_sender c.sender_seen-seen.result) long most is.inside (λ d. is.seen d ∙ sym seen)
+          c.loop-place.invariant.counted);
+    }
+
+pub returns-clause-limits : goal.returns-clause-limits
+returns-clause-limits c =
+    let network = c.args.network.now in
+    let count : ℕ = length c.args.users.now.slots in
+    let paths : List (List ℕ) = paths_from network c.args.first count in
+    limited_wider (c.args.first + c.loop-place.place) (c.args.first + count) c.loop-place.shares
+    (omega (
+      arith,
+      c.loop-place.auto.place-end,
+      few_users network c.args.first count c.args.port c.requires.senders,
+      c.count-place-end.ensures.users (length network.topology.ports) paths c.requires.users,
+    ))
+    c.loop-place.invariant.limits
