@@ -242,9 +242,7 @@ impl<'a> Section<'a> {
         if self.has(Key::Classes) {
             return Err(Failure::Fault(self.wrong_kind(Key::Classes)));
         }
-        let mut classes = Vec::new(alloc);
-        classes.push(class)?;
-        Ok(classes)
+        Ok(vec![in alloc; class]?)
     }
 
     // The items of the array that stands with a key.
@@ -311,7 +309,7 @@ fn items_in<T: FromValue>(
 ) -> Result<Vec<T>, Failure<DocumentFault>>
     ensures { GivesSeen (λ items. items.items) result (or_fault fault (all_in T.kind (items_view values.now))) }
 {
-    let mut items = Vec::new(alloc);
+    let mut items = Vec::with_capacity(alloc, values.len())?;
     for value in values {
         let item = match T::from_value(value) {
             Some(item) => item,
