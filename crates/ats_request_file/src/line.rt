@@ -13,12 +13,13 @@ ghost use Rattle.ats_request_file.specs.Reading.{station_of, path_between, path_
 ghost use Rattle.ats_request_file.specs.Reading.{stream_made, admit_line, withdraw_line, request_in, asked_in};
 
 use crate::fault::RequestFault;
-use crate::words::{has_words, named, numbered, word};
+use crate::words::{named, numbered};
 use ats_network::shortest;
 use ats_num::{Failure, Name};
 use ats_requests::Request;
 use ats_streams::Stream;
 use ats_topology::Topology;
+use ats_words::WordLine;
 use std::alloc::{AllocError, Global};
 
 /// An `admit` line as it stands: its ends are not looked up and its numbers are not judged yet.
@@ -43,7 +44,7 @@ pub(crate) fn asked_in(
     topology: &Topology,
     before: usize,
     n: u32,
-    line: &[u8],
+    line: &WordLine,
 ) -> Result<Request, Failure<RequestFault>>
     ensures value { Gives result (asked_in topology.now before n (words_of line.now)) }
     ensures allowed { IfOk result (MayAsk topology.now) }
@@ -60,25 +61,25 @@ fn request_in(
     alloc: Global,
     topology: &Topology,
     n: u32,
-    line: &[u8],
+    line: &WordLine,
 ) -> Result<Request, Failure<RequestFault>>
     ensures value { Gives result (request_in topology.now n (words_of line.now)) }
     ensures allowed { IfOk result (MayAsk topology.now) }
 {
-    if word(line, 0) == b"admit".as_slice() {
+    if line.word(0) == b"admit".as_slice() {
         return admit_line(alloc, topology, n, line);
     }
-    if word(line, 0) == b"withdraw".as_slice() {
+    if line.word(0) == b"withdraw".as_slice() {
         return Ok(withdraw_line(n, line)?);
     }
     Err(Failure::Fault(RequestFault::BadLine(n)))
 }
 
-fn withdraw_line(n: u32, line: &[u8]) -> Result<Request, RequestFault>
+fn withdraw_line(n: u32, line: &WordLine) -> Result<Request, RequestFault>
     ensures { result ≡ withdraw_line n (words_of line.now) }
 {
     let name = named(n, line, 1)?;
-    if has_words(line, 2) {
+    if line.has_words(2) {
         Ok(Request::Withdraw(name))
     } else {
         Err(RequestFault::BadLine(n))
@@ -89,7 +90,7 @@ fn admit_line(
     alloc: Global,
     topology: &Topology,
     n: u32,
-    line: &[u8],
+    line: &WordLine,
 ) -> Result<Request, Failure<RequestFault>>
     ensures value { Gives result (admit_line topology.now n (words_of line.now)) }
     ensures allowed { IfOk result (MayAsk topology.now) }
@@ -104,7 +105,7 @@ fn admit_line(
 }
 
 // What the words of an `admit` line say.
-fn admit_in(n: u32, line: &[u8]) -> Result<AdmitWords, RequestFault>
+fn admit_in(n: u32, line: &WordLine) -> Result<AdmitWords, RequestFault>
     ensures { result ≡ admit_in n (words_of line.now) }
 {
     let name = named(n, line, 1)?;
@@ -114,7 +115,7 @@ fn admit_in(n: u32, line: &[u8]) -> Result<AdmitWords, RequestFault>
     let min_octets = numbered(n, line, 7)?;
     let max_octets = numbered(n, line, 8)?;
     let deadline_ns = numbered(n, line, 9)?;
-    if !has_words(line, 10) {
+    if !line.has_words(10) {
         return Err(RequestFault::BadLine(n));
     }
     Ok(AdmitWords {
@@ -128,10 +129,10 @@ fn admit_in(n: u32, line: &[u8]) -> Result<AdmitWords, RequestFault>
     })
 }
 
-fn class_in(n: u32, line: &[u8]) -> Result<Option<u64>, RequestFault>
+fn class_in(n: u32, line: &WordLine) -> Result<Option<u64>, RequestFault>
     ensures { result ≡ class_in n (words_of line.now) }
 {
-    if word(line, 4) == b"lowest".as_slice() {
+    if line.word(4) == b"lowest".as_slice() {
         return Ok(None);
     }
     Ok(Some(numbered(n, line, 4)?))
@@ -142,13 +143,13 @@ fn path_in(
     alloc: Global,
     topology: &Topology,
     n: u32,
-    line: &[u8],
+    line: &WordLine,
 ) -> Result<Vec<u32>, Failure<RequestFault>>
     ensures value { GivesSeen (λ path. path.items) result (path_in topology.now n (words_of line.now)) }
     ensures valid { IfOk result (λ path. IsValidPath topology.now path.items) }
 {
-    let from = station_of(topology, word(line, 2)).ok_or(RequestFault::UnknownNode(n))?;
-    let to = station_of(topology, word(line, 3)).ok_or(RequestFault::UnknownNode(n))?;
+    let from = station_of(topology, line.word(2)).ok_or(RequestFault::UnknownNode(n))?;
+    let to = station_of(topology, line.word(3)).ok_or(RequestFault::UnknownNode(n))?;
     match path_between(alloc, topology, from, to)? {
         Some(path) => Ok(path),
         None => Err(Failure::Fault(RequestFault::NoPath(n))),
