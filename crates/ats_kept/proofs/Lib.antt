@@ -3,6 +3,7 @@ pub mod Placed
 pub mod Found
 pub mod Users
 pub mod Near
+pub mod Hops
 pub mod Sums
 pub mod Judgements
 pub mod Opened

@@ -1,11 +1,8 @@
 -- The senders at a port, by the users that an index tells.
-use Rattle.std.proofs.Common.{◌≡◌, ℕ, suc, ◌+◌, ◌-◌, ◌<◌, ◌≤◌, Bool, true, false, cond, List, [], ◌∷◌, ◌++◌, length}
-use Rattle.std.proofs.Common.{map, get_or, take, drop, filter, refl, sym, ap, subst, ◌∙◌, arith, append_assoc, eqb}
-use Rattle.std.proofs.Common.{Option, Some, set}
-use Rattle.std.specs.Prelude.{◌||◌}
-use Rattle.std.specs.List.{All, position_from}
-use Rattle.std.proofs.lemmas.Bool.{false≢true, eqb-true}
-use Rattle.std.proofs.lemmas.Option.{same_Some}
+use Rattle.std.proofs.Common.{◌≡◌, ℕ, suc, ◌+◌, ◌<◌, ◌≤◌, Bool, true, false, cond, List, [], ◌∷◌, ◌++◌, length}
+use Rattle.std.proofs.Common.{map, get_or, take, drop, filter, refl, sym, ap, subst, ◌∙◌, arith, append_assoc}
+use Rattle.std.proofs.Common.{set}
+use Rattle.std.specs.List.{All}
 use Rattle.std.proofs.lemmas.List.{length-map, length-take-le, length-drop}
 use Rattle.std.proofs.lemmas.List.{get_or-map, get_or-take, get_or-drop, take_more, take_all, take-take}
 use Rattle.std.proofs.lemmas.List.{take-append-drop, drop-take, take_at, drop_at}
@@ -16,9 +13,9 @@ use Rattle.ats_network.specs.Senders.{IsSender, no_sender, sender_at}
 use Rattle.ats_network.proofs.SenderLemmas.{each_is_sender}
 use Rattle.ats_certificate.specs.PortSums.{uses, senders_at}
 use Rattle.ats_tally.proofs.SeenLemmas.{all_seen, few_at, seen_is, senders_at-append}
-use Rattle.ats_port_users.specs.Users.{has_port, users_from, users_of}
+use Rattle.ats_port_users.specs.Users.{IsHop, has_port, users_from, users_of}
 use Rattle.ats_port_users.proofs.Slots.{mapped}
-use Rattle.ats_port_users.proofs.UserLemmas.{IsUser, users_from-later, users_have}
+use Rattle.ats_port_users.proofs.UserLemmas.{users_from-later, users_within}
 use Rattle.ats_kept.specs.ClassTallies.{senders_from, paths_from}
 use Rattle.ats_kept.specs.Shares.{no_share, share_with, AreShares}
 use Rattle.ats_kept.specs.declared.shares.Share.{Share}
@@ -46,92 +43,7 @@ seen_users port (s ∷ part) =
     by true h = ap (λ (l : List PortSender). seen_at port s ∷ l) h
     by false h = h
 
--- where a path has a port, a search finds a hop at which it does
-pub record IsHop (port : ℕ) (path : List ℕ) (n : ℕ) : Type 0 where
-  pub hop : ℕ
-  pub found : position_from (λ p. eqb p port) n path ≡ Some (n + hop)
-  pub within : hop < length path
-  pub stands : get_or path hop 0 ≡ port
-
-pub hop_found : (port : ℕ) (path : List ℕ) (n : ℕ) → has_port port path ≡ true → IsHop port path n
-hop_found port [] n has = absurd (false≢true has)
-hop_found port (p ∷ path) n has = by (eqb p port) refl has (hop_found port path (n + 1))
-  where
-    by : (b : Bool) → eqb p port ≡ b → (b || has_port port path) ≡ true
-        → (has_port port path ≡ true → IsHop port path (n + 1)) → IsHop port (p ∷ path) n
-    by true e h more = record {
-      hop = 0;
-      found =
-          ap (λ (t : Bool). cond t (Some n) (position_from (λ q. eqb q port) (n + 1) path)) e
-          ∙ ap (λ (k : ℕ). Some k) (let k : n ≡ n + 0 = omega arith in k);
-      within = omega arith;
-      stands = eqb-true p port e;
-    }
-    by false e h more =
-        let later : IsHop port path (n + 1) = more h in
-        let same : (n + 1) + later.hop ≡ n + suc later.hop = omega arith in
-        record {
-          hop = suc later.hop;
-          found =
-              ap (λ (t : Bool). cond t (Some n) (position_from (λ q. eqb q port) (n + 1) path)) e
-              ∙ later.found ∙ ap (λ (k : ℕ). Some k) same;
-          within = omega (arith, later.within);
-          stands = later.stands;
-        }
-
--- the hop at which a sender's path has a port, as a search of the path found it
-pub record IsHopOf (network : DeclaredNetwork) (sender port : ℕ) (found : Option ℕ) : Type 0 where
-  pub hop : ℕ
-  pub is : found ≡ Some hop
-  pub within : hop < length (sender_at network sender).path
-  pub few : hop < 16
-  pub stands : get_or (sender_at network sender).path hop 0 ≡ port
-
-pub hop_is : (network : DeclaredNetwork) (sender port : ℕ) (path : List ℕ) (found : Option ℕ) → IsNetwork network
-    → sender < length (senders_of network) → has_port port (sender_at network sender).path ≡ true
-    → path ≡ (sender_at network sender).path → found ≡ position_from (λ p. eqb p port) 0 path
-    → IsHopOf network sender port found
-hop_is network sender port path found is inside has same search =
-    let own : List ℕ = (sender_at network sender).path in
-    let there : IsHop port own 0 = hop_found port own 0 has in
-    let rules : IsSender network.topology (sender_at network sender) =
-    each_is_sender network is sender no_sender inside in
-    let none : 0 + there.hop ≡ there.hop = omega arith in
-    record {
-      hop = there.hop;
-      is = search ∙ ap (position_from (λ p. eqb p port) 0) same ∙ there.found ∙ ap (λ (k : ℕ). Some k) none;
-      within = there.within;
-      few = omega (arith, there.within, rules.path.most);
-      stands = there.stands;
-    }
-
--- what is so of the hop by which the search answers
-pub record IsHopAt (network : DeclaredNetwork) (sender port hop : ℕ) : Type 0 where
-  pub within : hop < length (sender_at network sender).path
-  pub few : hop < 16
-  pub stands : get_or (sender_at network sender).path hop 0 ≡ port
-
-pub hop_at : (network : DeclaredNetwork) (sender port hop : ℕ) (found : Option ℕ) → IsHopOf network sender port found
-    → found ≡ Some hop → IsHopAt network sender port hop
-hop_at network sender port hop found h is =
-    let same : h.hop ≡ hop = same_Some h.hop hop (sym h.is ∙ is) in
-    record {
-      within = omega (arith, same, h.within);
-      few = omega (arith, same, h.few);
-      stands = ap (λ (k : ℕ). get_or (sender_at network sender).path k 0) (sym same) ∙ h.stands;
-    }
-
--- a user of a port, by its place, is a sender of the network, and has the port
-pub record IsAtPort (network : DeclaredNetwork) (first count port place : ℕ) : Type 0 where
-  pub within : first + get_or (users_of (map path_of (senders_from network first count)) port) place 0
-      < length (senders_of network)
-  pub has : has_port port (sender_at network
-      (first + get_or (users_of (map path_of (senders_from network first count)) port) place 0)).path ≡ true
-  pub inside : place < length (senders_at port (senders_from network first count))
-  pub seen : (d : PortSender) → get_or (senders_at port (senders_from network first count)) place d
-      ≡ seen_at port (sender_at network
-      (first + get_or (users_of (map path_of (senders_from network first count)) port) place 0))
-
+-- so many senders from a number on, where there are as many
 long_from : (network : DeclaredNetwork) (first count : ℕ) → first + count ≤ length (senders_of network)
     → length (senders_from network first count) ≡ count
 long_from network first count fits =
@@ -143,24 +55,51 @@ one_from network first count n below =
     get_or-take count (drop first (senders_of network)) n no_sender below
     ∙ get_or-drop first (senders_of network) n no_sender
 
-pub at_port : (network : DeclaredNetwork) (first count port place : ℕ) → first + count ≤ length (senders_of network)
-    → place < length (users_of (map path_of (senders_from network first count)) port)
-    → IsAtPort network first count port place
-at_port network first count port place fits inside =
+-- what is so of a user of a port, with its number among the senders and its hop
+pub record IsUserOf (network : DeclaredNetwork) (first count port place user hop : ℕ) : Type 0 where
+  pub sender : first + user < length (senders_of network)
+  pub within : hop < length (sender_at network (first + user)).path
+  pub few : hop < 16
+  pub class : (seen_at (get_or (sender_at network (first + user)).path hop 0)
+      (sender_at network (first + user))).class ≤ 7
+  pub inside : place < length (senders_at port (senders_from network first count))
+  pub seen : (d : PortSender) → get_or (senders_at port (senders_from network first count)) place d
+      ≡ seen_at (get_or (sender_at network (first + user)).path hop 0) (sender_at network (first + user))
+
+pub user_is : (network : DeclaredNetwork) (first count port place user hop : ℕ) → IsNetwork network
+    → first + count ≤ length (senders_of network) → place < length (users_of (paths_from network first count) port)
+    → user ≡ get_or (users_of (paths_from network first count) port) place 0
+    → IsHop port (get_or (paths_from network first count)
+    (get_or (users_of (paths_from network first count) port) place 0) []) hop
+    → IsUserOf network first count port place user hop
+user_is network first count port place user hop is fits inside same h =
     let part : List Sender = senders_from network first count in
     let users : List ℕ = users_of (map path_of part) port in
     let n : ℕ = get_or users place 0 in
-    let is : IsUser 0 port (map path_of part) n = users_have 0 port (map path_of part) place 0 inside in
+    let below : n < length part = omega (
+      arith,
+      users_within port (map path_of part) place 0 inside,
+      length-map part path_of,
+    ) in
     let long : length part ≡ count = long_from network first count fits in
-    let below : n < length part = omega (arith, is.within, length-map part path_of) in
-    let one : get_or part n no_sender ≡ sender_at network (first + n) =
-    one_from network first count n (omega (arith, below, long)) in
-    let here : n - 0 ≡ n = omega arith in
+    let one : get_or part n no_sender ≡ sender_at network (first + user) =
+    one_from network first count n (omega (arith, below, long))
+    ∙ ap (λ (k : ℕ). sender_at network (first + k)) (sym same) in
+    let sender : first + user < length (senders_of network) = omega (arith, below, long, fits, same) in
+    let rules : IsSender network.topology (sender_at network (first + user)) =
+    each_is_sender network is (first + user) no_sender sender in
+    let path : get_or (map path_of part) n [] ≡ (sender_at network (first + user)).path =
+    get_or-map path_of part n no_sender [] below ∙ ap path_of one in
+    let within : hop < length (sender_at network (first + user)).path =
+    subst (λ (p : List ℕ). hop < length p) path h.within in
+    let stands : get_or (sender_at network (first + user)).path hop 0 ≡ port =
+    sym (ap (λ (p : List ℕ). get_or p hop 0) path) ∙ h.stands in
     record {
-      within = omega (arith, below, long, fits);
-      has = sym (ap (λ (s : Sender). has_port port s.path) one)
-          ∙ sym (ap (has_port port) (get_or-map path_of part n no_sender [] below))
-          ∙ sym (ap (λ (k : ℕ). has_port port (get_or (map path_of part) k [])) here) ∙ is.has;
+      sender = sender;
+      within = within;
+      few = omega (arith, within, rules.path.most);
+      class = (seen_is network.topology (get_or (sender_at network (first + user)).path hop 0)
+          (sender_at network (first + user)) rules).class;
       inside = omega (
         arith,
         inside,
@@ -169,7 +108,8 @@ at_port network first count port place fits inside =
       );
       seen = λ d. ap (λ (l : List PortSender). get_or l place d) (seen_users port part)
           ∙ get_or-map (λ k. seen_at port (get_or part k no_sender)) users place 0 d inside
-          ∙ ap (seen_at port) one;
+          ∙ ap (seen_at port) one
+          ∙ ap (λ (p : ℕ). seen_at p (sender_at network (first + user))) (sym stands);
     }
 
 -- one user more is counted
@@ -234,12 +174,7 @@ few_users network first count port fits =
       long_from network first count fits,
     )
 
--- a port sees a sender in a class of at most 7
-pub class_seen : (network : DeclaredNetwork) (sender port : ℕ) → IsNetwork network → sender < length (senders_of network)
-    → (seen_at port (sender_at network sender)).class ≤ 7
-class_seen network sender port is within =
-    (seen_is network.topology port (sender_at network sender) (each_is_sender network is sender no_sender within)).class
-
+-- a port sees each sender in a class of at most 7
 pub classes_seen : (network : DeclaredNetwork) (port : ℕ) → IsNetwork network
     → All (λ (s : PortSender). s.class ≤ 7) (senders_at port (senders_of network))
 classes_seen network port is k d inside =

@@ -1,4 +1,4 @@
-use Rattle.std.specs.Prelude.{◌≡◌, ◌≢◌, ℕ, ◌+◌, ◌*◌, ◌<◌, ◌≤◌, Bool, true, not, if◌then◌else◌, List, [], ◌∷◌, ◌++◌}
+use Rattle.std.specs.Prelude.{◌≡◌, ◌≢◌, ℕ, ◌+◌, ◌*◌, ◌<◌, ◌≤◌, Bool, true, false, ◌==◌, ◌&&◌, ◌||◌, not, if◌then◌else◌, List, [], ◌∷◌, ◌++◌}
 use Rattle.std.specs.Prelude.{length, map, filter, fold, Option, Some, None, slice_index_or}
 use Rattle.std.specs.Option.{option_or}
 use Rattle.ats_network.specs.Edits.{no_stream}
@@ -10,7 +10,7 @@ use Rattle.ats_tally.specs.declared.reason.Reason.{Reason}
 use Rattle.ats_bound.specs.Reason.{overload}
 use Rattle.ats_admission_law.specs.Lowest.{lower_of, lowest_found}
 use Rattle.ats_admission_law.specs.Near.{found_there, late_at, overstay_at}
-use Rattle.ats_port_users.specs.Users.{has_port, users_of}
+use Rattle.ats_port_users.specs.Users.{users_of}
 use Rattle.ats_kept.specs.Kept.{least_bound, stream_paths}
 
 -- what a search finds at a port and a class, where some stream uses them
@@ -40,15 +40,29 @@ found_on network path =
     option_or (found_there (lowest_found (overload network) network path))
     (found_there (lowest_found (overstay_at network) network path))
 
--- a path does not have the port that comes before, where one is given
-abbrev pub is_new : Option ℕ → List ℕ → Bool
-is_new None path = true
-is_new (Some port) path = not (has_port port path)
+-- a path begins with a port
+abbrev pub begins_with : ℕ → List ℕ → Bool
+begins_with port [] = false
+begins_with port (p ∷ path) = p == port
 
--- the numbers of the streams that use a port but not the one before it
+-- a path leads from one port right to another
+abbrev pub leads_on : ℕ → ℕ → List ℕ → Bool
+leads_on before port [] = false
+leads_on before port (p ∷ path) = (p == before && begins_with port path) || leads_on before port path
+
+-- a path does not lead right to a port from the one that comes before, where one is given
+abbrev pub is_new : Option ℕ → ℕ → List ℕ → Bool
+is_new None port path = true
+is_new (Some before) port path = not (leads_on before port path)
+
+-- the path of the stream with a number
+abbrev pub path_at : DeclaredNetwork → ℕ → List ℕ
+path_at network n = (slice_index_or network.streams n no_stream).path
+
+-- the numbers of the streams that use a port and whose paths do not lead there from the one before
 abbrev pub new_at : DeclaredNetwork → Option ℕ → ℕ → List ℕ
 new_at network before port =
-    filter (λ n. is_new before (slice_index_or network.streams n no_stream).path) (users_of (stream_paths network) port)
+    filter (λ n. is_new before port (path_at network n)) (users_of (stream_paths network) port)
 
 -- so along a path, behind this port
 abbrev pub new_along : DeclaredNetwork → Option ℕ → List ℕ → List ℕ
@@ -58,6 +72,11 @@ new_along network before (port ∷ path) = new_at network before port ++ new_alo
 -- of a late stream found so far and the late ones with these numbers, the one with the lowest number
 abbrev pub lowest_late_of : DeclaredNetwork → Option (ℕ × Reason) → List ℕ → Option (ℕ × Reason)
 lowest_late_of network best numbers = fold (λ found n. lower_of found n (late_at network n)) best numbers
+
+-- the same with one stream, unless its path leads to a port from the one before
+abbrev pub lowest_late_with : DeclaredNetwork → Option (ℕ × Reason) → Option ℕ → ℕ → ℕ → Option (ℕ × Reason)
+lowest_late_with network best before port n =
+    if is_new before port (path_at network n) then lower_of best n (late_at network n) else best
 
 -- the late stream with the lowest number among those that use a port of a path
 abbrev pub late_on : DeclaredNetwork → List ℕ → Option Reason

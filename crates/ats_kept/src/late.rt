@@ -1,7 +1,6 @@
 //! Sums of least bounds along the streams' paths, and the streams whose sum is over their deadline.
 
-ghost use Rattle.std.specs.Prelude.{◌≡◌, ◌≢◌, ◌<◌, if◌then◌else◌, length, slice_index_or, All, AllPairs};
-ghost use Rattle.ats_network.specs.Edits.{no_stream};
+ghost use Rattle.std.specs.Prelude.{◌≡◌, ◌≢◌, ◌<◌, length, slice_index_or, All, AllPairs};
 ghost use Rattle.ats_admission_law.specs.Lowest.{lower_of};
 ghost use Rattle.ats_bound.specs.Least.{least_certificate};
 ghost use Rattle.ats_certificate.specs.Certificate.{bound_along};
@@ -9,7 +8,7 @@ ghost use Rattle.ats_tally.specs.Reason.{late_by};
 ghost use Rattle.ats_admission_law.specs.Near.{late_at};
 ghost use Rattle.ats_port_users.specs.Users.{ListsPaths};
 ghost use Rattle.ats_kept.specs.Judged.{sum_at};
-ghost use Rattle.ats_kept.specs.Judging.{is_new, late_on, lowest_late_of, new_at};
+ghost use Rattle.ats_kept.specs.Judging.{is_new, late_on, lowest_late_of, lowest_late_with, new_at, path_at};
 ghost use Rattle.ats_kept.specs.Kept.{AreLeast, stream_paths};
 
 use crate::ports::place;
@@ -21,7 +20,7 @@ use ats_streams::Stream;
 use ats_tally::Reason;
 
 /// Of the streams that use a port of a path, the one with the lowest number whose sum is over its deadline. A stream is
-/// looked at where it uses a port but not the one before.
+/// looked at where its path does not lead to the port from the one before.
 pub(crate) fn first_late(
     bounds: &[u128],
     network: &Network,
@@ -45,7 +44,8 @@ pub(crate) fn first_late(
     }
 }
 
-// Of a late stream found so far and those that use the port but not the one before, the one with the lowest number.
+// Of a late stream found so far and those that use the port and whose paths do not lead there from the one before, the
+// one with the lowest number.
 fn late_at_port(
     best: Option<(u32, Reason)>,
     bounds: &[u128],
@@ -61,27 +61,37 @@ fn late_at_port(
 {
     let mut lowest = best;
     for rank in 0..streams.count(port) {
-        lowest = late_at(lowest, bounds, network, before, streams.user(port, rank));
+        let stream = streams.user(port, rank);
+        lowest = late_at(
+            lowest,
+            bounds,
+            network,
+            before,
+            stream,
+            streams.hop(port, rank),
+        );
     }
     lowest
 }
 
-// Of a late stream found so far and the one with this number, the one with the lower number. A stream that uses the
-// port before is passed over.
+// Of a late stream found so far and the one with this number, which uses a port at this hop, the one with the lower
+// number. A stream whose path leads to the port from the one before is passed over.
 fn late_at(
     best: Option<(u32, Reason)>,
     bounds: &[u128],
     network: &Network,
     before: Option<u32>,
     stream: u32,
+    hop: usize,
 ) -> Option<(u32, Reason)>
     requires number { stream < length network.now.streams }
     requires least { AreLeast network.now bounds.now }
-    ensures { result ≡ (if is_new before (slice_index_or network.now.streams stream no_stream).path
-        then lower_of best stream (late_at network.now stream) else best) }
+    requires hop { hop < length (path_at network.now stream) }
+    ensures { result
+        ≡ lowest_late_with network.now best before (slice_index_or (path_at network.now stream) hop 0) stream }
 {
     let declared = &network.streams()[stream as usize];
-    if !is_new(before, declared.path()) {
+    if !is_new(before, declared.path(), hop) {
         return best;
     }
     lower_of(
@@ -91,13 +101,16 @@ fn late_at(
     )
 }
 
-// Whether a path does not have the port that comes before, where one is given.
-fn is_new(before: Option<u32>, path: &[u32]) -> bool
-    ensures { result ≡ is_new before path.now }
+// Whether a path, which has no port twice, does not lead right to this hop from the port that comes before, where one is
+// given.
+fn is_new(before: Option<u32>, path: &[u32], hop: usize) -> bool
+    requires hop { hop < length path.now }
+    requires apart { AllPairs (λ p q. p ≢ q) path.now }
+    ensures { result ≡ is_new before (slice_index_or path.now hop 0) path.now }
 {
     match before {
         None => true,
-        Some(port) => !path.contains(&port),
+        Some(port) => hop == 0 || path[hop - 1] != port,
     }
 }
 

@@ -54,27 +54,9 @@ fn count_users(shares: &mut [Share; 8], network: &Network, users: &PortUsers, fi
 {
     for place in 0..users.count(port) {
         let sender = first + users.user(port, place);
-        let seen = sender_seen(network, sender, port);
-        count(shares, &seen);
+        let hop = users.hop(port, place) as u32;
+        count(shares, &SeenSender::at(network, sender, hop));
     }
-}
-
-// A sender of a network as a port of its path sees it.
-fn sender_seen(network: &Network, sender: u32, port: u32) -> SeenSender
-    requires sender { sender < length (senders_of network.now) }
-    requires has { IsTrue (has_port port (sender_at network.now sender).path) }
-    ensures seen { port_sender result ≡ seen_at port (sender_at network.now sender) }
-    ensures limits { KeepsLimits result }
-{
-    let hop = hop_of(network.sender_path(sender), port).unwrap();
-    SeenSender::at(network, sender, hop as u32)
-}
-
-// The place of a port on a path, if it is there.
-fn hop_of(path: &[u32], port: u32) -> Option<usize>
-    ensures { result ≡ position_from (λ p. p == port) 0 path.now }
-{
-    path.iter().position(|p| *p == port)
 }
 
 // Counts a sender in its class.

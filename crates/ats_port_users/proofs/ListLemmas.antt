@@ -78,7 +78,8 @@ item_at lists place d e within = get_or-map (λ (v : Vec Entry). v.items) lists 
 
 -- entries come into the lists of a path, and then one into that of a port which this path does not have
 pub enters_more : (entry : ℕ → Entry) (port : ℕ) (path : List ℕ) (old now : List (List Entry)) (list : List Entry)
-    → port < length old → has_port port path ≡ false → Enters entry path old now → list ≡ get_or now port [] ++ entry port ∷ []
+    → port < length old → has_port port path ≡ false → Enters entry path old now
+    → list ≡ get_or now port [] ++ entry port ∷ []
     → Enters entry (path ++ port ∷ []) old (set now port list)
 enters_more entry port path old now list within other before is = record {
   count = length-set now port list ∙ before.count;
