@@ -1,5 +1,5 @@
 -- Beside the path of a stream that comes or goes, the least bounds are the same.
-use Rattle.std.proofs.Common.{◌≡◌, ℕ, ◌*◌, Bool, false, cond, Some, None, length, sym, ap, ◌∙◌, arith}
+use Rattle.std.proofs.Common.{◌≡◌, ℕ, ◌*◌, Bool, false, cond, length, sym, ap, ◌∙◌, arith}
 use Rattle.ats_topology.specs.Topology.{DeclaredTopology}
 use Rattle.ats_streams.specs.Stream.{DeclaredStream}
 use Rattle.ats_network.specs.Network.{DeclaredNetwork}
@@ -17,8 +17,8 @@ same_beside : (old new : DeclaredNetwork) (x : DeclaredStream) (port class : ℕ
     → has_port port x.path ≡ false → least_bound new port class ≡ least_bound old port class
 same_beside old new x port class is off =
     let s : StaysSame old new (port, class) = other_ports_stay old new x port class is off in
-    ap (λ (b : Bool). cond b (Some (least_row new (port, class)).bound) None) s.used
-    ∙ ap (λ (row : Row). cond (is_used old port class) (Some row.bound) None) s.row
+    ap (λ (b : Bool). cond b (least_row new (port, class)).bound 0) s.used
+    ∙ ap (λ (row : Row). cond (is_used old port class) row.bound 0) s.row
 
 pub bounds_stay_beside : BoundsStayBeside
 bounds_stay_beside old new x bounds is =

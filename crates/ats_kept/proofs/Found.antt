@@ -137,6 +137,20 @@ pub fold_more : {A B : Type 0} (f : B → A → B) (b : B) (xs : List A) (i : �
     → fold f (f b (get_or xs i d)) (drop (i + 1) xs) ≡ fold f b (drop i xs)
 fold_more f b xs i d within = sym (ap (fold f b) (drop_more xs i d within))
 
+-- over what is left of those that pass a test, of which the next counts where it passes
+pub fold_filtered : {A B : Type 0} (f : B → A → B) (test : A → Bool) (b : B) (xs : List A) (i : ℕ) (d : A) → i < length xs
+    → fold f (cond (test (get_or xs i d)) (f b (get_or xs i d)) b) (filter test (drop (i + 1) xs))
+    ≡ fold f b (filter test (drop i xs))
+fold_filtered {A} {B} f test b xs i d within =
+    by (test (get_or xs i d)) ∙ sym (ap (λ (left : List A). fold f b (filter test left)) (drop_more xs i d within))
+  where
+    rest : List A
+    rest = filter test (drop (i + 1) xs)
+
+    by : (t : Bool) → fold f (cond t (f b (get_or xs i d)) b) rest ≡ fold f b (cond t (get_or xs i d ∷ rest) rest)
+    by true = refl
+    by false = refl
+
 -- and at the end
 pub fold_end : {A B : Type 0} (f : B → A → B) (b : B) (xs : List A) (i : ℕ) → length xs ≤ i → fold f b (drop i xs) ≡ b
 fold_end f b xs i past = ap (fold f b) (drop_all i xs past)

@@ -11,7 +11,7 @@ use Rattle.ats_admission_law.specs.Lowest.{lowest_found}
 use Rattle.ats_admission_law.specs.Near.{found_there, late_near, overstay_at}
 use Rattle.ats_admission_law.proofs.Along.{reason_is_judged}
 use Rattle.ats_kept.specs.Judged.{judged, sum_at}
-use Rattle.ats_kept.specs.Judging.{found_on, lowest_late_of, numbers_on}
+use Rattle.ats_kept.specs.Judging.{found_on, late_on}
 use Rattle.ats_kept.specs.Kept.{IsFreeWithout}
 use Rattle.ats_kept.proofs.Found.{or_assoc}
 use Rattle.ats_kept.proofs.Near.{late_is}
@@ -21,11 +21,7 @@ module _ (network : DeclaredNetwork) (n : ℕ) (rules : IsNetwork network)
   abbrev x : DeclaredStream
   x = get_or network.streams n no_stream
 
-  -- what is found among the streams near it
-  abbrev pub late_on : Option Reason
-  late_on = found_there (lowest_late_of network None (numbers_on network x.path))
-
-  reason_is : reason_of network ≡ option_or (found_on network x.path) late_on
+  reason_is : reason_of network ≡ option_or (found_on network x.path) (late_on network x.path)
   reason_is =
       let loads : Option Reason = found_there (lowest_found (overload network) network x.path) in
       let stays : Option Reason = found_there (lowest_found (overstay_at network) network x.path) in
@@ -38,15 +34,15 @@ module _ (network : DeclaredNetwork) (n : ℕ) (rules : IsNetwork network)
 
   pub found_err : (reason : Reason) → Some reason ≡ found_on network x.path → Err reason ≡ judged network n
   found_err reason found =
-      ap (λ (o : Option Reason). by_reason (option_or o late_on)) found ∙ sym (ap by_reason reason_is)
+      ap (λ (o : Option Reason). by_reason (option_or o (late_on network x.path))) found ∙ sym (ap by_reason reason_is)
 
-  pub late_err : (reason : Reason) → None ≡ found_on network x.path → Some reason ≡ late_on
+  pub late_err : (reason : Reason) → None ≡ found_on network x.path → Some reason ≡ (late_on network x.path)
       → Err reason ≡ judged network n
   late_err reason none late =
-      ap by_reason late ∙ ap (λ (o : Option Reason). by_reason (option_or o late_on)) none
+      ap by_reason late ∙ ap (λ (o : Option Reason). by_reason (option_or o (late_on network x.path))) none
       ∙ sym (ap by_reason reason_is)
 
-  pub sum_ok : None ≡ found_on network x.path → None ≡ late_on → Ok (sum_at network n) ≡ judged network n
+  pub sum_ok : None ≡ found_on network x.path → None ≡ (late_on network x.path) → Ok (sum_at network n) ≡ judged network n
   sum_ok none early =
-      ap by_reason early ∙ ap (λ (o : Option Reason). by_reason (option_or o late_on)) none
+      ap by_reason early ∙ ap (λ (o : Option Reason). by_reason (option_or o (late_on network x.path))) none
       ∙ sym (ap by_reason reason_is)

@@ -1,5 +1,5 @@
 -- Bounds by port and class, where those of some ports are made anew.
-use Rattle.std.proofs.Common.{◌≡◌, ℕ, ◌+◌, ◌*◌, ◌<◌, ◌≤◌, true, List, [], ◌∷◌, length, get_or, set, Option}
+use Rattle.std.proofs.Common.{◌≡◌, ℕ, ◌+◌, ◌*◌, ◌<◌, ◌≤◌, true, List, [], ◌∷◌, length, get_or, set}
 use Rattle.std.proofs.Common.{refl, sym, ap, ◌∙◌, inl, inr, arith, length-set, get_or-set_same, get_or-set_other}
 use Rattle.std.proofs.lemmas.Bool.{cases_eq, ne_eqb, or_from, true≢false}
 use Rattle.ats_network.specs.Network.{DeclaredNetwork}
@@ -8,7 +8,7 @@ use Rattle.ats_kept.specs.Judging.{KeepsOthers, SetsBelow}
 use Rattle.ats_kept.specs.Kept.{AreLeast, AreLeastBeside, least_bound}
 
 -- nothing is made anew at first
-pub sets_none : (network : DeclaredNetwork) (port : ℕ) (bounds : List (Option ℕ))
+pub sets_none : (network : DeclaredNetwork) (port : ℕ) (bounds : List ℕ)
     → SetsBelow network port 1 bounds bounds
 sets_none network port bounds = record {
   kept = record { count = refl; others = λ p class d other most. refl };
@@ -16,7 +16,7 @@ sets_none network port bounds = record {
 }
 
 -- one class more
-pub sets_more : (network : DeclaredNetwork) (port class : ℕ) (old bounds : List (Option ℕ)) → 1 ≤ class → class ≤ 7
+pub sets_more : (network : DeclaredNetwork) (port class : ℕ) (old bounds : List ℕ) → 1 ≤ class → class ≤ 7
     → 8 * port + class < length bounds → SetsBelow network port class old bounds
     → SetsBelow network port (class + 1) old (set bounds (8 * port + class) (least_bound network port class))
 sets_more network port class old bounds some most within before = record {
@@ -37,10 +37,10 @@ sets_more network port class old bounds some most within before = record {
     at : ℕ
     at = 8 * port + class
 
-    value : Option ℕ
+    value : ℕ
     value = least_bound network port class
 
-module _ (network : DeclaredNetwork) (port : ℕ) (old new : List (Option ℕ)) where
+module _ (network : DeclaredNetwork) (port : ℕ) (old new : List ℕ) where
   -- with the bounds of the first port of a path, only those of the others may differ from the least
   pub beside_next : (path : List ℕ) → SetsBelow network port 8 old new → AreLeastBeside network (port ∷ path) old
       → AreLeastBeside network path new
@@ -68,14 +68,14 @@ module _ (network : DeclaredNetwork) (port : ℕ) (old new : List (Option ℕ)) 
   }
 
 -- beside no port the bounds are the least everywhere
-pub beside_none : (network : DeclaredNetwork) (bounds : List (Option ℕ)) → AreLeastBeside network [] bounds
+pub beside_none : (network : DeclaredNetwork) (bounds : List ℕ) → AreLeastBeside network [] bounds
     → AreLeast network bounds
 beside_none network bounds before = record {
   count = before.count;
   each = λ port class d within some most. before.each port class d within some most refl;
 }
 
-pub least_beside : (network : DeclaredNetwork) (path : List ℕ) (bounds : List (Option ℕ)) → AreLeast network bounds
+pub least_beside : (network : DeclaredNetwork) (path : List ℕ) (bounds : List ℕ) → AreLeast network bounds
     → AreLeastBeside network path bounds
 least_beside network path bounds are = record {
   count = are.count;
@@ -83,12 +83,12 @@ least_beside network path bounds are = record {
 }
 
 -- the bounds of the ports below this one are the least
-pub record AreLeastBelow (network : DeclaredNetwork) (below : ℕ) (bounds : List (Option ℕ)) : Type 0 where
+pub record AreLeastBelow (network : DeclaredNetwork) (below : ℕ) (bounds : List ℕ) : Type 0 where
   pub count : length bounds ≡ 8 * length network.topology.ports
-  pub each : (port class : ℕ) (d : Option ℕ) → port < below → 1 ≤ class → class ≤ 7
+  pub each : (port class : ℕ) (d : ℕ) → port < below → 1 ≤ class → class ≤ 7
       → get_or bounds (8 * port + class) d ≡ least_bound network port class
 
-pub below_more : (network : DeclaredNetwork) (port : ℕ) (old new : List (Option ℕ)) → SetsBelow network port 8 old new
+pub below_more : (network : DeclaredNetwork) (port : ℕ) (old new : List ℕ) → SetsBelow network port 8 old new
     → AreLeastBelow network port old → AreLeastBelow network (port + 1) new
 below_more network port old new sets before = record {
   count = sets.kept.count ∙ before.count;

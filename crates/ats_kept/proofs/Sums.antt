@@ -1,6 +1,6 @@
 -- The least bounds as the bounds of the least certificate, and how great they are.
 use Rattle.std.proofs.Common.{◌≡◌, ℕ, ◌+◌, ◌-◌, ◌*◌, ◌<◌, ◌≤◌, ◌^◌, Bool, cond, List, [], ◌∷◌, length, map}
-use Rattle.std.proofs.Common.{filter, get_or, Option, Some, None, refl, sym, ap, ◌∙◌, inl, inr, arith}
+use Rattle.std.proofs.Common.{filter, get_or, refl, sym, ap, ◌∙◌, inl, inr, arith}
 use Rattle.std.specs.Prelude.{unwrap_or}
 use Rattle.std.specs.List.{All}
 use Rattle.std.proofs.Math.Nat.{div-le_self, mul-le-mul_left, mul-le-mul_right}
@@ -26,30 +26,29 @@ use Rattle.ats_bound.specs.Least.{least_certificate, least_row}
 use Rattle.ats_admission_law.proofs.LeastRows.{bound_used, bound_unused}
 use Rattle.ats_kept.specs.Kept.{AreLeast, least_bound}
 
--- a least bound is that of the least certificate, and 0 where there is none
+-- a least bound is that of the least certificate
 pub least_is : (network : DeclaredNetwork) (port class : ℕ) → IsNetwork network
-    → unwrap_or (least_bound network port class) 0 ≡ bound_at (least_certificate network) port class
+    → least_bound network port class ≡ bound_at (least_certificate network) port class
 least_is network port class is =
-    elim (cases_Bool (is_used network port class)) as (λ _. unwrap_or (least_bound network port class) 0
+    elim (cases_Bool (is_used network port class)) as (λ _. least_bound network port class
     ≡ bound_at (least_certificate network) port class) [
-      | inl used ↦ ap (λ (b : Bool). unwrap_or (cond b (Some (least_row network (port, class)).bound) None) 0) used
+      | inl used ↦ ap (λ (b : Bool). cond b (least_row network (port, class)).bound 0) used
           ∙ sym (bound_used network port class is used)
       | inr unused ↦
-          ap (λ (b : Bool). unwrap_or (cond b (Some (least_row network (port, class)).bound) None) 0) unused
+          ap (λ (b : Bool). cond b (least_row network (port, class)).bound 0) unused
           ∙ sym (bound_unused network port class unused)
     ]
 
 -- at a hop of a stream's path, whose port and class stand at the same place of the path and of the classes
-pub hop_is : (network : DeclaredNetwork) (stream : DeclaredStream) (bounds : List (Option ℕ)) (hop port class : ℕ)
+pub hop_is : (network : DeclaredNetwork) (stream : DeclaredStream) (bounds : List ℕ) (hop port class : ℕ)
     → IsNetwork network → IsStream stream → All (λ p. p < length network.topology.ports) stream.path
     → AreLeast network bounds → hop < length stream.path → port ≡ get_or stream.path hop 0
     → class ≡ get_or stream.classes hop 0
-    → unwrap_or (get_or bounds (8 * port + class) None) 0 ≡ bound_at (least_certificate network) port class
+    → get_or bounds (8 * port + class) 0 ≡ bound_at (least_certificate network) port class
 hop_is network stream bounds hop port class rules is inside least within port_is class_is =
     let at : IsClass (get_or stream.classes hop 0) = is.classes hop 0 (omega (arith, is.each_port, within)) in
-    ap (λ (o : Option ℕ). unwrap_or o 0)
-    (least.each port class None (omega (arith, port_is, inside hop 0 within)) (omega (arith, class_is, at.least))
-    (omega (arith, class_is, at.most)))
+    least.each port class 0 (omega (arith, port_is, inside hop 0 within)) (omega (arith, class_is, at.least))
+    (omega (arith, class_is, at.most))
     ∙ least_is network port class rules
 
 -- a quotient that is rounded up is at most the divided number

@@ -1,5 +1,5 @@
-use Rattle.std.specs.Prelude.{◌≡◌, ℕ, ◌+◌, ◌*◌, ◌<◌, ◌≤◌, false, if◌then◌else◌, List, [], ◌∷◌, ◌++◌, map, length, Option, Some}
-use Rattle.std.specs.Prelude.{None, slice_index_or}
+use Rattle.std.specs.Prelude.{◌≡◌, ℕ, ◌+◌, ◌*◌, ◌<◌, ◌≤◌, false, if◌then◌else◌, List, [], ◌∷◌, ◌++◌, map, length, None}
+use Rattle.std.specs.Prelude.{slice_index_or}
 use Rattle.std.specs.List.{remove}
 use Rattle.ats_streams.specs.Stream.{DeclaredStream}
 use Rattle.ats_streams.specs.Flow.{DeclaredFlow}
@@ -14,10 +14,10 @@ use Rattle.ats_port_users.specs.Users.{UsersState, ListsPaths, has_port}
 pub record KeptState : Type 0 where
   pub streams : UsersState
   pub flows : UsersState
-  pub bounds : List (Option ℕ)
+  pub bounds : List ℕ
 
 -- these as one state
-abbrev pub kept_state : UsersState → UsersState → List (Option ℕ) → KeptState
+abbrev pub kept_state : UsersState → UsersState → List ℕ → KeptState
 kept_state streams flows bounds = record { streams = streams; flows = flows; bounds = bounds }
 
 -- the paths of a network's streams, and of its flows
@@ -32,20 +32,20 @@ pub record ListsUsers (network : DeclaredNetwork) (kept : KeptState) : Type 0 wh
   pub streams : ListsPaths (length network.topology.ports) (stream_paths network) kept.streams
   pub flows : ListsPaths (length network.topology.ports) (flow_paths network) kept.flows
 
--- the least bound of a port and a class that some stream uses there; of another none
-abbrev pub least_bound : DeclaredNetwork → ℕ → ℕ → Option ℕ
-least_bound network port class = if is_used network port class then Some (least_row network (port, class)).bound else None
+-- the least bound of a port and a class that some stream uses there; of another 0
+abbrev pub least_bound : DeclaredNetwork → ℕ → ℕ → ℕ
+least_bound network port class = if is_used network port class then (least_row network (port, class)).bound else 0
 
 -- bounds are the least ones at each port and class
-pub record AreLeast (network : DeclaredNetwork) (bounds : List (Option ℕ)) : Type 0 where
+pub record AreLeast (network : DeclaredNetwork) (bounds : List ℕ) : Type 0 where
   pub count : length bounds ≡ 8 * length network.topology.ports
-  pub each : (port class : ℕ) (d : Option ℕ) → port < length network.topology.ports → 1 ≤ class → class ≤ 7
+  pub each : (port class : ℕ) (d : ℕ) → port < length network.topology.ports → 1 ≤ class → class ≤ 7
       → slice_index_or bounds (8 * port + class) d ≡ least_bound network port class
 
 -- so they are at each port that is not on this path
-pub record AreLeastBeside (network : DeclaredNetwork) (path : List ℕ) (bounds : List (Option ℕ)) : Type 0 where
+pub record AreLeastBeside (network : DeclaredNetwork) (path : List ℕ) (bounds : List ℕ) : Type 0 where
   pub count : length bounds ≡ 8 * length network.topology.ports
-  pub each : (port class : ℕ) (d : Option ℕ) → port < length network.topology.ports → 1 ≤ class → class ≤ 7
+  pub each : (port class : ℕ) (d : ℕ) → port < length network.topology.ports → 1 ≤ class → class ≤ 7
       → has_port port path ≡ false → slice_index_or bounds (8 * port + class) d ≡ least_bound network port class
 
 -- what is kept is that of the network

@@ -21,7 +21,7 @@ use std::marker::Model;
 pub struct Kept {
     streams: PortUsers,
     flows: PortUsers,
-    bounds: Vec<Option<u128>>,
+    bounds: Vec<u128>,
 }
 
 impl Model for Kept {
@@ -53,7 +53,7 @@ impl Kept {
     pub fn push(&mut self, path: &[u32]) -> Result<(), AllocError>
         requires ports { All (λ p. p < length self.old.streams.lists) path.now }
         requires apart { AllPairs (λ p q. p ≢ q) path.now }
-        requires room { length self.old.streams.serials < MAX_PATHS }
+        requires room { length self.old.streams.slots < MAX_PATHS }
         ensures ok { OnOk result (PushesPath path.now self.old self.new) }
         ensures err { OnErr result (self.new ≡ self.old) }
     {
@@ -62,7 +62,7 @@ impl Kept {
 
     /// Lists the path of the stream with this number no longer. It takes no memory.
     pub fn take(&mut self, stream: u32, path: &[u32])
-        requires number { stream < length self.old.streams.serials }
+        requires number { stream < length self.old.streams.slots }
         ensures { TakesPath stream path.now self.old self.new }
     {
         self.streams.take(stream, path);

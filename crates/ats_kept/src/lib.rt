@@ -6,6 +6,7 @@ mod late;
 pub mod laws;
 mod opening;
 mod ports;
+mod shares;
 mod tallies;
 mod walks;
 

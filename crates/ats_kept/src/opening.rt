@@ -38,14 +38,14 @@ pub(crate) fn least_bounds(
     network: &Network,
     streams: &PortUsers,
     flows: &PortUsers,
-) -> Result<Vec<Option<u128>>, AllocError>
+) -> Result<Vec<u128>, AllocError>
     requires free { reason_of network.now ≡ None }
     requires streams { ListsPaths (length network.now.topology.ports) (stream_paths network.now) streams.now }
     requires flows { ListsPaths (length network.now.topology.ports) (flow_paths network.now) flows.now }
     ensures { IfOk result (λ bounds. AreLeast network.now bounds.items) }
 {
     let ports = network.topology().ports().len();
-    let mut bounds = vec![in alloc; None; 8 * ports]?;
+    let mut bounds = vec![in alloc; 0; 8 * ports]?;
     for port in 0..ports as u32 {
         renew_port(&mut bounds, network, streams, flows, port);
     }

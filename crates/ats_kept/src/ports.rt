@@ -19,7 +19,7 @@ use ats_tally::{Reason, Tally, first_overstay};
 
 /// Makes the bounds of a port anew, where no certificate is refused for the network. Those of all other ports stay.
 pub(crate) fn renew_port(
-    bounds: &mut Vec<Option<u128>>,
+    bounds: &mut Vec<u128>,
     network: &Network,
     streams: &PortUsers,
     flows: &PortUsers,
@@ -42,7 +42,7 @@ pub(crate) fn renew_port(
 ///
 /// The overload of the lowest class that has one. Some bounds of the port then stay.
 pub(crate) fn judge_port(
-    bounds: &mut Vec<Option<u128>>,
+    bounds: &mut Vec<u128>,
     network: &Network,
     streams: &PortUsers,
     flows: &PortUsers,
@@ -72,7 +72,7 @@ pub(crate) fn judge_port(
 // Makes the bound of a port and a class anew, of which the senders at the port make so much. The need of residence
 // there, where it is over the residence time behind the port, or the overload as the error.
 fn judge_class(
-    bounds: &mut Vec<Option<u128>>,
+    bounds: &mut Vec<u128>,
     network: &Network,
     port: u32,
     class: u8,
@@ -91,12 +91,12 @@ fn judge_class(
     ensures same { OnErr result (bounds.new.items ≡ bounds.old.items) }
 {
     if tally.least.is_none() {
-        bounds[place(port, class)] = None;
+        bounds[place(port, class)] = 0;
         return Ok(None);
     }
     match row_of(network, port, class, tally) {
         Ok(row) => {
-            bounds[place(port, class)] = Some(row.bound);
+            bounds[place(port, class)] = row.bound;
             Ok(first_overstay(network, &[row]))
         }
         Err(load) => Err(Reason::Overloaded { port, class, load }),

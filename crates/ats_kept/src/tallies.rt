@@ -1,18 +1,21 @@
 //! What the senders at one port make of each class.
 
-ghost use Rattle.std.specs.Prelude.{◌≡◌, ◌+◌, ◌<◌, ◌≤◌, length, slice_index_or, take, IsTrue};
+ghost use Rattle.std.specs.Prelude.{◌≡◌, ◌==◌, ◌+◌, ◌<◌, ◌≤◌, length, take, All, IsTrue, slice_index_or, slice_set};
+ghost use Rattle.std.specs.List.{position_from};
 ghost use Rattle.ats_network.specs.Class.{seen_at};
-ghost use Rattle.ats_network.specs.Network.{senders_of};
+ghost use Rattle.ats_network.specs.Network.{IsNetwork, senders_of};
 ghost use Rattle.ats_network.specs.Senders.{sender_at};
 ghost use Rattle.ats_certificate.specs.PortSums.{senders_at};
 ghost use Rattle.ats_tally.specs.SenderAtPort.{port_sender, KeepsLimits};
-ghost use Rattle.ats_tally.specs.Tallies.{AddsSender, HaveRoom};
 ghost use Rattle.ats_port_users.specs.Users.{ListsPaths, has_port};
 ghost use Rattle.ats_kept.specs.ClassTallies.{AreClassTallies, paths_from};
+ghost use Rattle.ats_kept.specs.Shares.{no_share, share_with, AreShares, IsLimited};
 ghost use Rattle.ats_kept.specs.Kept.{stream_paths, flow_paths};
 
+use crate::shares::{Share, tallies_of};
 use ats_network::Network;
 use ats_port_users::PortUsers;
+use ats_tally::tally::MAX_SENDERS;
 use ats_tally::{SeenSender, Tally};
 
 /// What the senders at a port make of each class from 1 to 7, at the class. It takes no memory, and looks at the
@@ -28,69 +31,42 @@ pub(crate) fn tallies_at(
     requires flows { ListsPaths (length network.now.topology.ports) (flow_paths network.now) flows.now }
     ensures { AreClassTallies (senders_at port (senders_of network.now)) result }
 {
-    let mut tallies = [Tally::new(); 8];
-    count_users(&mut tallies, network, streams, 0, port);
-    let first = network.streams().len() as u32;
-    count_users(&mut tallies, network, flows, first, port);
-    tallies
+    let first_flow = network.streams().len() as u32;
+    let mut shares = [Share::new(); 8];
+    count_users(&mut shares, network, streams, 0, port);
+    count_users(&mut shares, network, flows, first_flow, port);
+    tallies_of(&shares)
 }
 
-// Counts those of the senders from this number on that use a port, where the senders before it are counted.
-fn count_users(
-    tallies: &mut [Tally; 8],
-    network: &Network,
-    users: &PortUsers,
-    first: u32,
-    port: u32,
-)
+// Counts those of the senders from this number on that use a port, each in its class there, where the senders before
+// it are counted.
+fn count_users(shares: &mut [Share; 8], network: &Network, users: &PortUsers, first: u32, port: u32)
+    requires rules { IsNetwork network.now }
     requires port { port < length network.now.topology.ports }
-    requires senders { first + length users.now.serials ≤ length (senders_of network.now) }
+    requires senders { first + length users.now.slots ≤ length (senders_of network.now) }
     requires users { ListsPaths (length network.now.topology.ports)
-        (paths_from network.now first (length users.now.serials)) users.now }
-    requires before { AreClassTallies (senders_at port (take first (senders_of network.now))) tallies.old }
-    ensures { AreClassTallies
-        (senders_at port (take (first + length users.now.serials) (senders_of network.now))) tallies.new }
+        (paths_from network.now first (length users.now.slots)) users.now }
+    requires limits { All (IsLimited first) shares.old }
+    requires before { AreShares (senders_at port (take first (senders_of network.now))) shares.old }
+    ensures limits { All (IsLimited (first + length users.now.slots)) shares.new }
+    ensures counted { AreShares
+        (senders_at port (take (first + length users.now.slots) (senders_of network.now))) shares.new }
 {
     for place in 0..users.count(port) {
         let sender = first + users.user(port, place);
-        let seen = sender_seen(network, sender, port);
-        count(tallies, &seen);
+        let hop = users.hop(port, place) as u32;
+        count(shares, &SeenSender::at(network, sender, hop));
     }
 }
 
-// A sender of a network as a port of its path sees it.
-fn sender_seen(network: &Network, sender: u32, port: u32) -> SeenSender
-    requires sender { sender < length (senders_of network.now) }
-    requires has { IsTrue (has_port port (sender_at network.now sender).path) }
-    ensures seen { port_sender result ≡ seen_at port (sender_at network.now sender) }
-    ensures limits { KeepsLimits result }
-{
-    let hop = hop_of(network.sender_path(sender), port);
-    SeenSender::at(network, sender, hop)
-}
-
-// The hop at which a path has this port.
-fn hop_of(path: &[u32], port: u32) -> u32
-    requires long { length path.now ≤ 16 }
-    requires has { IsTrue (has_port port path.now) }
-    ensures within { result < length path.now }
-    ensures port { slice_index_or path.now result 0 ≡ port }
-{
-    let mut hop = 0;
-    while path[hop] != port {
-        hop += 1;
-    }
-    hop as u32
-}
-
-// Counts a sender in each class.
-fn count(tallies: &mut [Tally; 8], sender: &SeenSender)
+// Counts a sender in its class.
+fn count(shares: &mut [Share; 8], sender: &SeenSender)
     requires limits { KeepsLimits sender.now }
-    requires room { HaveRoom 0 tallies.old }
-    ensures { AddsSender (port_sender sender.now) 0 8 tallies.old tallies.new }
+    requires class { sender.now.class ≤ 7 }
+    requires room { All (IsLimited MAX_SENDERS) shares.old }
+    ensures { shares.new ≡ slice_set shares.old sender.now.class
+        (share_with (port_sender sender.now) (slice_index_or shares.old sender.now.class no_share)) }
 {
-    for class in 1..8 {
-        let tally = &mut tallies[class as usize];
-        *tally = tally.with_sender(class, sender);
-    }
+    let share = &mut shares[sender.class as usize];
+    *share = share.with_sender(sender);
 }

@@ -26,7 +26,7 @@ struct Found {
 
 /// Makes the bounds along a path anew, where no certificate is refused for the network.
 pub(crate) fn renew_path(
-    bounds: &mut Vec<Option<u128>>,
+    bounds: &mut Vec<u128>,
     network: &Network,
     streams: &PortUsers,
     flows: &PortUsers,
@@ -47,7 +47,7 @@ pub(crate) fn renew_path(
 /// Judges a network by the stream with this number, without which a certificate holds for it. The sum of the stream's
 /// least bounds, or the reason against the network exactly where there is one.
 pub(crate) fn judge_stream(
-    bounds: &mut Vec<Option<u128>>,
+    bounds: &mut Vec<u128>,
     network: &Network,
     streams: &PortUsers,
     flows: &PortUsers,
@@ -77,7 +77,7 @@ pub(crate) fn judge_stream(
 // Makes the bounds along a path anew, unless a class is overloaded there. What is found first at the lowest port: an
 // overload, or else a need of residence over the residence time behind the port.
 fn judge_path(
-    bounds: &mut Vec<Option<u128>>,
+    bounds: &mut Vec<u128>,
     network: &Network,
     streams: &PortUsers,
     flows: &PortUsers,
@@ -106,7 +106,7 @@ fn judge_path(
 
 // What is found with one port more, whose bounds are made anew, unless a class is overloaded so far.
 fn judge_next(
-    bounds: &mut Vec<Option<u128>>,
+    bounds: &mut Vec<u128>,
     network: &Network,
     streams: &PortUsers,
     flows: &PortUsers,

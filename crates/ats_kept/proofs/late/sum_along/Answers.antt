@@ -1,6 +1,5 @@
-use Rattle.std.proofs.Common.{◌≡◌, ◌≤◌, ◌<◌, ◌+◌, ◌^◌, ℕ, List, length, None, sum_by, take, slice_index_or, ap, sym, ◌∙◌}
+use Rattle.std.proofs.Common.{◌≡◌, ◌≤◌, ◌<◌, ◌+◌, ◌^◌, ℕ, List, length, sum_by, take, slice_index_or, ap, sym, ◌∙◌}
 use Rattle.std.proofs.Common.{arith}
-use Rattle.std.specs.Prelude.{unwrap_or}
 use Rattle.std.proofs.lemmas.List.Sums.{sum_by_more}
 use Rattle.ats_streams.specs.Stream.{DeclaredStream}
 use Rattle.ats_network.specs.Network.{DeclaredNetwork}
@@ -22,9 +21,8 @@ overflow_add-sum c =
     let long : length c.path-port-items.result.now ≡ length stream.path =
     ap (λ (ports : List ℕ). length ports) c.path-port-items.ensures.value in
     let within : hop < length stream.path = omega (arith, long, c.loop-hop-test.true) in
-    let value : c.unwrap_or-sum.result ≡ bound_at (least_certificate network) port class =
-    c.unwrap_or-sum.ensures
-    ∙ ap (λ (k : ℕ). unwrap_or (slice_index_or c.args.bounds.now k None) 0) c.place.ensures
+    let value : slice_index_or c.args.bounds.now c.place.result 0 ≡ bound_at (least_certificate network) port class =
+    ap (λ (k : ℕ). slice_index_or c.args.bounds.now k 0) c.place.ensures
     ∙ hop_is network stream c.args.bounds.now hop port class c.topology-rules.ensures.rules
     c.path-port-items.ensures.rules c.requires.ports c.requires.least within
     (ap (λ (ports : List ℕ). slice_index_or ports hop 0) c.path-port-items.ensures.value)
@@ -49,9 +47,8 @@ loop-hop-preserved c =
     ap (λ (ports : List ℕ). slice_index_or ports hop 0) c.path-port-items.ensures.value in
     let class_is : class ≡ slice_index_or stream.classes hop 0 =
     ap (λ (classes : List ℕ). slice_index_or classes hop 0) c.classes-classes.ensures.value in
-    let value : c.unwrap_or-sum.result ≡ bound_at rows port class =
-    c.unwrap_or-sum.ensures
-    ∙ ap (λ (k : ℕ). unwrap_or (slice_index_or c.args.bounds.now k None) 0) c.place.ensures
+    let value : slice_index_or c.args.bounds.now c.place.result 0 ≡ bound_at rows port class =
+    ap (λ (k : ℕ). slice_index_or c.args.bounds.now k 0) c.place.ensures
     ∙ hop_is network stream c.args.bounds.now hop port class c.topology-rules.ensures.rules
     c.path-port-items.ensures.rules c.requires.ports c.requires.least within port_is class_is in
     let small : bound_at rows port class < 10 ^ 36 = bound_small network port class c.topology-rules.ensures.rules in
@@ -60,7 +57,7 @@ loop-hop-preserved c =
     let so_far : ℕ = sum_by (bound_of_hop rows (stream_sender stream)) (take hop stream.path) in
     let more = sum_by_more (bound_of_hop rows (stream_sender stream)) stream.path hop 0 within in
     record {
-      sum = ap (λ (n : ℕ). n + c.unwrap_or-sum.result) c.loop-hop.invariant.sum
+      sum = ap (λ (n : ℕ). n + slice_index_or c.args.bounds.now c.place.result 0) c.loop-hop.invariant.sum
           ∙ ap (λ (n : ℕ). so_far + n) (value ∙ here) ∙ sym more;
       most = omega (arith, value, small, c.loop-hop.invariant.most);
     }

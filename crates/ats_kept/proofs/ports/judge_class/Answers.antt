@@ -1,4 +1,4 @@
-use Rattle.std.proofs.Common.{◌≡◌, ℕ, ◌+◌, ◌*◌, Bool, true, false, cond, Option, Some, None, List, set, sym, ap, ◌∙◌}
+use Rattle.std.proofs.Common.{◌≡◌, ℕ, ◌+◌, ◌*◌, Bool, true, false, cond, None, List, set, sym, ap, ◌∙◌}
 use Rattle.std.specs.Prelude.{not}
 use Rattle.ats_certificate.specs.PortSums.{is_used}
 use Rattle.ats_certificate.specs.declared.row.Row.{Row}
@@ -31,13 +31,13 @@ pub returns-then-is_none-clause-set : goal.returns-then-is_none-clause-set
 returns-then-is_none-clause-set c =
     let network = c.args.network.now in
     let at : ℕ = 8 * c.args.port + c.args.class in
-    let items : List (Option ℕ) = c.args.bounds.now.items in
+    let items : List ℕ = c.args.bounds.now.items in
     let unused : is_used network c.args.port c.args.class ≡ false =
     sym (used_is network c.args.port c.args.class c.args.tally c.requires.class_least c.requires.tally)
     ∙ c.is_none.ensures ∙ ap not c.if-is_none.true in
-    ap (λ (k : ℕ). set items k None) c.place.ensures
+    ap (λ (k : ℕ). set items k 0) c.place.ensures
     ∙ sym (ap (λ (b : Bool).
-    set items at (cond b (Some (least_row network (c.args.port, c.args.class)).bound) None)) unused)
+    set items at (cond b (least_row network (c.args.port, c.args.class)).bound 0)) unused)
 
 pub row_of-requires-clause-used : goal.row_of-requires-clause-used
 row_of-requires-clause-used c =
@@ -59,15 +59,15 @@ pub returns-in-Ok-clause-set : goal.returns-in-Ok-clause-set
 returns-in-Ok-clause-set c =
     let network = c.args.network.now in
     let at : ℕ = 8 * c.args.port + c.args.class in
-    let items : List (Option ℕ) = c.args.bounds.now.items in
+    let items : List ℕ = c.args.bounds.now.items in
     let used : is_used network c.args.port c.args.class ≡ true =
     sym (used_is network c.args.port c.args.class c.args.tally c.requires.class_least c.requires.tally)
     ∙ c.is_none.ensures ∙ ap not c.if-is_none.false in
-    ap (λ (k : ℕ). set items k (Some c.in-Ok.row.bound)) c.place-in-Ok.ensures
-    ∙ ap (λ (r : Row). set items at (Some r.bound))
+    ap (λ (k : ℕ). set items k c.in-Ok.row.bound) c.place-in-Ok.ensures
+    ∙ ap (λ (r : Row). set items at r.bound)
     (row_ok network (c.args.port, c.args.class) c.in-Ok.row (sym c.in-Ok.ensures.row))
     ∙ sym (ap (λ (b : Bool).
-    set items at (cond b (Some (least_row network (c.args.port, c.args.class)).bound) None)) used)
+    set items at (cond b (least_row network (c.args.port, c.args.class)).bound 0)) used)
 
 pub returns-in-Err-clause-load : goal.returns-in-Err-clause-load
 returns-in-Err-clause-load c =

@@ -1,4 +1,4 @@
-use Rattle.std.proofs.Common.{ℕ, ◌+◌, ◌*◌, ◌<◌, ◌≤◌, List, Option, length, sym, subst, arith}
+use Rattle.std.proofs.Common.{ℕ, ◌+◌, ◌*◌, ◌<◌, ◌≤◌, List, length, sym, subst, arith}
 use Rattle.ats_bound.specs.Reason.{overload}
 use Rattle.ats_admission_law.specs.Near.{overstay_at}
 use Rattle.ats_kept.specs.Judging.{SetsBelow}
@@ -28,7 +28,7 @@ loop-class-preserved c =
           c.in-Ok.ensures.fits;
       stays = keep_class (overstay_at network) network port class c.loop-class.stay c.in-Ok.found
           c.or-stay.result some most c.loop-class.invariant.stays c.in-Ok.ensures.stay c.or-stay.ensures;
-      sets = subst (λ (bounds : List (Option ℕ)). SetsBelow network port (class + 1) c.args.bounds.now.items bounds)
+      sets = subst (λ (bounds : List ℕ). SetsBelow network port (class + 1) c.args.bounds.now.items bounds)
           (sym c.in-Ok.ensures.set)
           (sets_more network port class c.args.bounds.now.items c.loop-class.bounds.items some most within before);
     }

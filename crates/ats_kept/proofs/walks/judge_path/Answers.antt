@@ -45,7 +45,7 @@ pub returns-in-None-clause-none : goal.returns-in-None-clause-none
 returns-in-None-clause-none c =
     let network = c.args.network.now in
     let path : List ℕ = c.args.path.now in
-    let bounds : List (Option ℕ) = c.loop-port.bounds.items in
+    let bounds : List ℕ = c.loop-port.bounds.items in
     if_none c.map.result (AreLeast network bounds) (beside_none network bounds
     (subst (λ (left : List ℕ). AreLeastBeside network left bounds)
     (drop_all c.loop-port.port-index path c.loop-port-test.false) (c.loop-port.invariant.left c.in-None.is)))

@@ -1,4 +1,4 @@
-use Rattle.std.proofs.Common.{◌≡◌, ◌<◌, ℕ, List, length, get_or, None, Result, Ok, sym, ap, subst, ◌∙◌}
+use Rattle.std.proofs.Common.{◌≡◌, ◌<◌, ℕ, List, length, get_or, Result, Ok, sym, ap, subst, ◌∙◌}
 use Rattle.std.specs.List.{All}
 use Rattle.std.proofs.lemmas.List.{get_or_default}
 use Rattle.ats_streams.specs.Stream.{DeclaredStream}
@@ -6,8 +6,7 @@ use Rattle.ats_network.specs.Edits.{no_stream}
 use Rattle.ats_network.specs.Network.{DeclaredNetwork}
 use Rattle.ats_tally.specs.declared.reason.Reason.{Reason}
 use Rattle.ats_tally.proofs.Paths.{paths_inside}
-use Rattle.ats_admission_law.specs.Near.{found_there}
-use Rattle.ats_kept.specs.Judging.{found_on, lowest_late_of, numbers_on}
+use Rattle.ats_kept.specs.Judging.{found_on, late_on}
 use Rattle.ats_kept.proofs.Judgements.{found_err, late_err, sum_ok}
 use Rattle.ats_kept.proofs.walks.judge_stream.Goals as goal
 
@@ -54,7 +53,7 @@ returns-in-Some-first_late-clause-answer c =
     late_err network c.args.stream c.streams.ensures.rules c.requires.free c.in-Some-first_late.reason
     (c.in_default.ensures.found ∙ ap (found_on network) own)
     (c.in-Some-first_late.ensures
-    ∙ ap (λ (path : List ℕ). found_there (lowest_late_of network None (numbers_on network path))) own)
+    ∙ ap (late_on network) own)
 
 pub returns-clause-answer : goal.returns-clause-answer
 returns-clause-answer c =
@@ -65,4 +64,4 @@ returns-clause-answer c =
     ap (λ (n : ℕ). let r : Result ℕ Reason = Ok n in r) c.sum_at.ensures ∙ sum_ok network c.args.stream c.streams.ensures.rules c.requires.free
     (c.in_default.ensures.found ∙ ap (found_on network) own)
     (c.in_default-first_late.ensures
-    ∙ ap (λ (path : List ℕ). found_there (lowest_late_of network None (numbers_on network path))) own)
+    ∙ ap (late_on network) own)
