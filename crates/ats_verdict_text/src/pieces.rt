@@ -51,7 +51,8 @@ pub(crate) fn write_measure(
     n: u128,
 ) -> Result<(), AllocError>
     requires { port < length topology.now.ports }
-    ensures written { OnOk result (out.new.items ≡ out.old.items ++ (word.now ++ measure_text topology.now port class n)) }
+    ensures written { OnOk result
+        (out.new.items ≡ out.old.items ++ (word.now ++ measure_text topology.now port class n)) }
     ensures front { take (length out.old.items) out.new.items ≡ out.old.items }
 {
     write_place(out, word, topology, port, class)?;
