@@ -1,6 +1,5 @@
 use Rattle.std.proofs.Common.{◌≡◌, ℕ, zero, suc, ◌-◌, ◌<◌, ◌≤◌, List, [], ◌∷◌, ◌++◌, length, get_or, All, refl}
-use Rattle.std.proofs.Common.{Bool, true, false, cond, drop, ◌+◌, ◌∙◌, ap, sym, subst}
-use Rattle.std.proofs.lemmas.List.{drop-drop}
+use Rattle.std.proofs.Common.{Bool, true, false, cond, drop, ap, sym, subst}
 use Rattle.std.proofs.Common.{Option, Some, None, arith, inl, inr}
 use Rattle.std.specs.Prelude.{Any, Contains, IsPermutation, slice_get, IsNone, IfSome, IfNone, ◌↔◌}
 use Rattle.std.specs.Option.{option_to_list}
@@ -40,12 +39,6 @@ read_first (y ∷ ys) x e = cc
 pub read_nothing : {X : Type 0} (xs : List X) → slice_get xs 0 ≡ None → xs ≡ []
 read_nothing [] e = refl
 read_nothing (y ∷ ys) e = absurd (cc)
-
--- the same of what is left of a list, and of its rest
-pub left_first : {X : Type 0} (xs now : List X) (gone : ℕ) (x : X) → drop gone xs ≡ now → slice_get now 0 ≡ Some x
-    → now ≡ x ∷ drop (gone + 1) xs
-left_first {X} xs now gone x is e =
-    read_first now x e ∙ ap (λ (ys : List X). x ∷ drop 1 ys) (sym is) ∙ ap (λ (ys : List X). x ∷ ys) (drop-drop 1 gone xs)
 
 module _ {X : Type 0} (covers : X → Type 0) (before : X → X → Type 0) (order : IsWeakOrder covers before) where
   -- an item that the last of a line leads is led by all of it

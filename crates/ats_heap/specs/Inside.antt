@@ -1,4 +1,4 @@
-use Rattle.std.specs.Prelude.{◌≢◌, ℕ, ◌+◌, ◌*◌, ◌<◌, ◌≤◌, List, [], ◌∷◌, length, slice_index_or, All, AllPairs}
+use Rattle.std.specs.Prelude.{◌≡◌, ◌≢◌, ℕ, ◌+◌, ◌*◌, ◌<◌, ◌≤◌, Option, IfNone, List, [], ◌∷◌, length, slice_index_or, All, AllPairs}
 
 -- the order covers both items, and y does not go before x
 pub record Leads {T : Type 0} (covers : T → Type 0) (before : T → T → Type 0) (x y : T) : Type 0 where
@@ -64,3 +64,8 @@ pub record AreKept {T : Type 0} (covers : T → Type 0) (before : T → T → Ty
     : Type 0 where
   pub line : IsLine covers before waiting
   pub tree : All covers standing
+
+-- of a stored line the items from this place on wait behind the first, and where there is no first, none waits
+pub record IsStored {T : Type 0} (first : Option T) (gone : ℕ) (items : List T) : Type 0 where
+  pub within : gone ≤ length items
+  pub none : IfNone first (gone ≡ length items)

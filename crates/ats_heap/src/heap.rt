@@ -14,8 +14,8 @@ use std::marker::Model;
 /// heap was opened with. An item that comes in its order waits in a line, any other stands in a tree.
 #[derive(Drop)]
 pub struct Heap<T: Copy, O: Precedence<T>> {
-    line: Line<T>,
     tree: Tree<T, O>,
+    line: Line<T>,
 }
 
 impl<T: Copy, O: Precedence<T>> Model for Heap<T, O> {
@@ -37,12 +37,13 @@ impl<T: Copy, O: Precedence<T>> Heap<T, O> {
         ensures { IfOk result (λ heap. heap ≡ record { items = []; capacity = capacity; order = order }) }
     {
         Ok(Heap {
-            line: Line::open(alloc, capacity)?,
             tree: Tree::open(alloc, capacity, order)?,
+            line: Line::open(alloc, capacity)?,
         })
     }
 
     /// Adds an item that the order covers to a heap that has room. It takes no memory.
+    #[inline(always)]
     pub fn insert(&mut self, item: T)
         requires room { length self.old.items < self.old.capacity }
         requires covered { O.covers self.old.order item }

@@ -26,14 +26,14 @@ fn is_last<T: Copy, O: Precedence<T>>(order: O, line: &Line<T>, item: T) -> bool
     true
 }
 
-/// Whether none of a line goes before an item.
+/// Whether a line has items, none of which goes before this one.
 fn is_first<T: Copy, O: Precedence<T>>(order: O, line: &Line<T>, item: T) -> bool
     requires line { IsLine (O.covers order) (O.goes_before order) line.now }
     requires item { O.covers order item }
     ensures { OnTrue result (All (Leads (O.covers order) (O.goes_before order) item) line.now) }
 {
     let Some(first) = line.first() else {
-        return true;
+        return false;
     };
     if order.goes_before(&first, &item) {
         return false;
@@ -49,11 +49,11 @@ fn join<T: Copy, O: Precedence<T>>(order: O, line: &mut Line<T>, item: T) -> boo
     ensures same { OnFalse result (line.new ≡ line.old) }
     ensures line { IsLine (O.covers order) (O.goes_before order) line.new }
 {
-    if is_last(order, line, item) {
-        return line.push_last(item);
-    }
     if is_first(order, line, item) {
         return line.push_first(item);
+    }
+    if is_last(order, line, item) {
+        return line.push_last(item);
     }
     false
 }

@@ -6,22 +6,27 @@ ghost use Rattle.std.specs.Option.{option_to_list};
 use std::alloc::{AllocError, Global};
 use std::marker::Model;
 
-/// Items in a line, which is longer behind its last one and, once items were taken, before its first one. Contracts see
-/// them as a list, the first one first.
+/// Items in a line, with room behind the last one and, once items were taken, before the first one. Contracts see them
+/// as a list, the first one first. The first stands apart, so that a line of one item touches no place of the array.
 #[derive(Drop)]
 pub(crate) struct Line<T: Copy> {
-    items: Vec<T>,
+    first: Option<T>,
     gone: usize,
+    items: Vec<T>,
 }
 
 impl<T: Copy> Model for Line<T> {
-    ghost use Rattle.std.specs.Prelude.{◌≤◌, List, drop, length};
+    ghost use Rattle.std.specs.Prelude.{List, drop};
 
     ghost Value = { List T };
 
-    ghost view = { λ l. drop l.gone l.items.items };
+    ghost use Rattle.std.specs.Prelude.{◌++◌};
+    ghost use Rattle.std.specs.Option.{option_to_list};
+    ghost use Rattle.ats_heap.specs.Inside.{IsStored};
 
-    ghost invariant = { λ l. l.gone ≤ length l.items.items };
+    ghost view = { λ l. option_to_list l.first ++ drop l.gone l.items.items };
+
+    ghost invariant = { λ l. IsStored l.first l.gone l.items.items };
 }
 
 impl<T: Copy> Line<T> {
@@ -30,8 +35,9 @@ impl<T: Copy> Line<T> {
         ensures { IfOk result (λ line. line ≡ []) }
     {
         Ok(Line {
-            items: Vec::with_capacity(alloc, capacity as usize)?,
+            first: None,
             gone: 0,
+            items: Vec::with_capacity(alloc, capacity as usize)?,
         })
     }
 
@@ -39,10 +45,7 @@ impl<T: Copy> Line<T> {
     pub(crate) fn first(&self) -> Option<T>
         ensures { result ≡ slice_get self.now 0 }
     {
-        if self.gone == self.items.len() {
-            return None;
-        }
-        Some(self.items[self.gone])
+        self.first
     }
 
     /// The last item. `None` exactly where there is none.
@@ -50,7 +53,7 @@ impl<T: Copy> Line<T> {
         ensures { result ≡ slice_get self.now (length self.now - 1) }
     {
         if self.gone == self.items.len() {
-            return None;
+            return self.first;
         }
         Some(self.items[self.items.len() - 1])
     }
@@ -59,11 +62,19 @@ impl<T: Copy> Line<T> {
     pub(crate) fn push_first(&mut self, item: T) -> bool
         ensures { self.new ≡ (if result then item ∷ self.old else self.old) }
     {
+        let first = match self.first {
+            Some(first) => first,
+            None => {
+                self.first = Some(item);
+                return true;
+            }
+        };
         if self.gone == 0 {
             return false;
         }
         self.gone -= 1;
-        self.items[self.gone] = item;
+        self.items[self.gone] = first;
+        self.first = Some(item);
         true
     }
 
@@ -71,6 +82,10 @@ impl<T: Copy> Line<T> {
     pub(crate) fn push_last(&mut self, item: T) -> bool
         ensures { self.new ≡ (if result then self.old ++ item ∷ [] else self.old) }
     {
+        if self.first.is_none() {
+            self.first = Some(item);
+            return true;
+        }
         if self.items.len() >= self.items.capacity() {
             return false;
         }
@@ -84,15 +99,18 @@ impl<T: Copy> Line<T> {
         ensures items { self.old ≡ option_to_list result ++ self.new }
         ensures none { IfNone result (self.old ≡ []) }
     {
-        let first = match self.first() {
+        let first = match self.first {
             Some(first) => first,
             None => return None,
         };
-        self.gone += 1;
         if self.gone == self.items.len() {
             self.items.clear();
             self.gone = 0;
+            self.first = None;
+            return Some(first);
         }
+        self.first = Some(self.items[self.gone]);
+        self.gone += 1;
         Some(first)
     }
 }
