@@ -1,7 +1,7 @@
 use Rattle.std.proofs.Common.{◌≡◌}
 use Rattle.toml.specs.View.{members_view}
 use Rattle.ats_network_toml.specs.Walk.{has_unknown}
-use Rattle.ats_network_toml.proofs.section.has_unknown.Given as goal
+use Rattle.ats_network_toml.proofs.slots.has_unknown.Given as goal
 
 -- the members left have an unknown key where all members have one
 abbrev pub invariant-members : goal.invariant-members
