@@ -3,8 +3,8 @@
 ghost use Rattle.std.specs.Prelude.{◌≤◌, length};
 
 use crate::captures::LOW;
-use ats_fixtures::lines::line;
 use ats_capture::{JoinFault, RecordsFault, StationTraffic, capture_records, captured};
+use ats_fixtures::lines::line;
 use ats_io::MemFiles;
 use ats_num::{Failure, Ps};
 use ats_pcap::{CaptureFault, Record};

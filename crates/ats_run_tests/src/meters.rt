@@ -1,7 +1,7 @@
 //! Meters: which releases keep what a line declares, and by which frame others break it.
 
-use ats_fixtures::lines::line;
 use ats_conform::{Broken, conform};
+use ats_fixtures::lines::line;
 use ats_network::Network;
 use ats_num::Failure;
 use ats_schedule::read_schedule;

@@ -2,9 +2,9 @@
 
 ghost use Rattle.ats_trace.specs.Releases.{AreReleases};
 
-use ats_fixtures::lines::{long_line, pair};
 use ats_engine::Engine;
 use ats_events::{Down, Scrambled, TimeOrder, Up};
+use ats_fixtures::lines::{long_line, pair};
 use ats_gen::schedule;
 use ats_network::Network;
 use ats_num::{Drawn, Early, Greatest, Late, Least, Mixed, Pace, Ps, Tie};
