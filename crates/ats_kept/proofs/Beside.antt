@@ -27,12 +27,14 @@ bounds_stay_beside old new x bounds is =
     record {
       left = λ before. record {
         count = before.count ∙ ap (λ (n : ℕ). 8 * n) (sym same);
-        each = λ port class d within least most off. before.each port class d (omega (arith, same, within)) least most off
+        each = λ port class d within least most off.
+            before.each port class d (omega (arith, same, within)) least most off
             ∙ sym (same_beside old new x port class is off);
       };
       entered = λ before. record {
         count = before.count ∙ ap (λ (n : ℕ). 8 * n) same;
-        each = λ port class d within least most off. before.each port class d (omega (arith, same, within)) least most off
+        each = λ port class d within least most off.
+            before.each port class d (omega (arith, same, within)) least most off
             ∙ same_beside old new x port class is off;
       };
     }

@@ -133,13 +133,13 @@ lower_none (Some best) port None h = h
 lower_none (Some best) port (Some reason) h = absurd (lower_some (Some best) port reason h)
 
 -- a fold over what is left of a list, one step on
-pub fold_more : {A B : Type 0} (f : B → A → B) (b : B) (xs : List A) (i : ℕ) (d : A) → i < length xs
-    → fold f (f b (get_or xs i d)) (drop (i + 1) xs) ≡ fold f b (drop i xs)
+pub fold_more : {A B : Type 0} (f : B → A → B) (b : B) (xs : List A) (i : ℕ) (d : A)
+    → i < length xs → fold f (f b (get_or xs i d)) (drop (i + 1) xs) ≡ fold f b (drop i xs)
 fold_more f b xs i d within = sym (ap (fold f b) (drop_more xs i d within))
 
 -- over what is left of those that pass a test, of which the next counts where it passes
-pub fold_filtered : {A B : Type 0} (f : B → A → B) (test : A → Bool) (b : B) (xs : List A) (i : ℕ) (d : A) → i < length xs
-    → fold f (cond (test (get_or xs i d)) (f b (get_or xs i d)) b) (filter test (drop (i + 1) xs))
+pub fold_filtered : {A B : Type 0} (f : B → A → B) (test : A → Bool) (b : B) (xs : List A) (i : ℕ) (d : A)
+    → i < length xs → fold f (cond (test (get_or xs i d)) (f b (get_or xs i d)) b) (filter test (drop (i + 1) xs))
     ≡ fold f b (filter test (drop i xs))
 fold_filtered {A} {B} f test b xs i d within =
     by (test (get_or xs i d)) ∙ sym (ap (λ (left : List A). fold f b (filter test left)) (drop_more xs i d within))
@@ -156,6 +156,7 @@ pub fold_end : {A B : Type 0} (f : B → A → B) (b : B) (xs : List A) (i : ℕ
 fold_end f b xs i past = ap (fold f b) (drop_all i xs past)
 
 -- over two lists, one behind the other
-pub fold_append : {A B : Type 0} (f : B → A → B) (b : B) (xs ys : List A) → fold f b (xs ++ ys) ≡ fold f (fold f b xs) ys
+pub fold_append : {A B : Type 0} (f : B → A → B) (b : B) (xs ys : List A)
+    → fold f b (xs ++ ys) ≡ fold f (fold f b xs) ys
 fold_append f b [] ys = refl
 fold_append f b (x ∷ xs) ys = fold_append f (f b x) xs ys

@@ -42,7 +42,8 @@ module _ (network : DeclaredNetwork) (n : ℕ) (rules : IsNetwork network)
       ap by_reason late ∙ ap (λ (o : Option Reason). by_reason (option_or o (late_on network x.path))) none
       ∙ sym (ap by_reason reason_is)
 
-  pub sum_ok : None ≡ found_on network x.path → None ≡ (late_on network x.path) → Ok (sum_at network n) ≡ judged network n
+  pub sum_ok : None ≡ found_on network x.path → None ≡ (late_on network x.path)
+      → Ok (sum_at network n) ≡ judged network n
   sum_ok none early =
       ap by_reason early ∙ ap (λ (o : Option Reason). by_reason (option_or o (late_on network x.path))) none
       ∙ sym (ap by_reason reason_is)

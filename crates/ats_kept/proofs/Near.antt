@@ -3,7 +3,8 @@ use Rattle.std.proofs.Common.{◌≡◌, ℕ, ◌<◌, Bool, true, false, List, 
 use Rattle.std.proofs.Common.{inl, inr, ◌⊎◌, eqb, arith, Option, Some, None}
 use Rattle.std.specs.Prelude.{◌&&◌}
 use Rattle.std.specs.List.{All, list_any}
-use Rattle.std.proofs.lemmas.Bool.{and_from, and_parts, eq-eqb, eqb-true, or_cases, or_left, or_right, not-false, true≢false}
+use Rattle.std.proofs.lemmas.Bool.{and_from, and_parts, eq-eqb, eqb-true, or_cases, or_left, or_right, not-false}
+use Rattle.std.proofs.lemmas.Bool.{true≢false}
 use Rattle.std.proofs.lemmas.List.{get_or-map, length-map}
 use Rattle.std.proofs.lemmas.List.Elements.{All-nil, All-append, All-filter, All-head, All-tail, All-weaker}
 use Rattle.std.proofs.lemmas.List.Folds.{list_any-append, list_any_at}
@@ -41,7 +42,8 @@ led_on (Some before) port path new = leads_from before port path (not-false (lea
 
 -- each port of a path is one of the path's
 pub on_own : (path : List ℕ) → All (λ port. has_port port path ≡ true) path
-on_own path k d h = list_any_at (λ p. eqb p (get_or path k d)) path k d h (eq-eqb (get_or path k d) (get_or path k d) refl)
+on_own path k d h =
+    list_any_at (λ p. eqb p (get_or path k d)) path k d h (eq-eqb (get_or path k d) (get_or path k d) refl)
 
 -- a port that two paths have is one of the first's on the second
 both_have : (port : ℕ) (first second : List ℕ) → has_port port first ≡ true → has_port port second ≡ true
@@ -100,7 +102,8 @@ module _ (network : DeclaredNetwork) (x : DeclaredStream) where
 
     -- one that uses a port of a path is listed along it, or uses the port before the path
     abbrev Along : Option ℕ → List ℕ → Type 0
-    Along before path = (in_list (new_along network before path) ≡ true) ⊎ (has_before before (path_at network m) ≡ true)
+    Along before path =
+        (in_list (new_along network before path) ≡ true) ⊎ (has_before before (path_at network m) ≡ true)
 
     -- one that does not use the first port is listed behind it
     behind_first : (p : ℕ) (path : List ℕ) (port : ℕ) → has_port port (p ∷ path) ≡ true
@@ -142,7 +145,8 @@ module _ (network : DeclaredNetwork) (x : DeclaredStream) where
       any_gives (λ port. has_port port x.path) (list_any (λ q. eqb q m) (new_along network None x.path) ≡ true)
       (path_at network m)
       (λ k d h on. (
-      elim (listed_along m near.within None x.path (get_or (path_at network m) k d) on (on_own (path_at network m) k d h)) as (λ _.
+      elim (listed_along m near.within None x.path (get_or (path_at network m) k d) on
+      (on_own (path_at network m) k d h)) as (λ _.
       list_any (λ q. eqb q m) (new_along network None x.path) ≡ true) [
         | inl listed ↦ listed
         | inr used ↦ absurd (true≢false (sym used))

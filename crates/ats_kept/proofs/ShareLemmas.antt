@@ -1,7 +1,7 @@
 -- What the senders of each class make, and the tallies that follow.
 use Rattle.std.proofs.Common.{◌≡◌, ℕ, zero, suc, ◌+◌, ◌*◌, ◌<◌, ◌≤◌, max, Bool, true, false, cond, eqb, ltb, List, []}
-use Rattle.std.proofs.Common.{◌∷◌, ◌++◌, length, map, filter, get_or, set, take, drop, refl, sym, ap, subst, ◌∙◌, ◌⊎◌, inl}
-use Rattle.std.proofs.Common.{inr, arith, Some}
+use Rattle.std.proofs.Common.{◌∷◌, ◌++◌, length, map, filter, get_or, set, take, drop, refl, sym, ap, subst, ◌∙◌, ◌⊎◌}
+use Rattle.std.proofs.Common.{inl, inr, arith, Some}
 use Rattle.std.proofs.Math.Nat.{mul-le-mul_right}
 use Rattle.std.specs.Prelude.{fold, ◌||◌}
 use Rattle.std.specs.List.{All, sum_by}
@@ -54,7 +54,8 @@ shares_more senders shares s within are class d most = by (cases_eq s.class clas
     more : Share
     more = share_with s (get_or shares s.class no_share)
 
-    by : (s.class ≡ class) ⊎ (s.class ≡ class → ⊥) → IsShare class (senders ++ s ∷ []) (get_or (set shares s.class more) class d)
+    by : (s.class ≡ class) ⊎ (s.class ≡ class → ⊥)
+        → IsShare class (senders ++ s ∷ []) (get_or (set shares s.class more) class d)
     by (inl e) =
         let here : get_or (set shares s.class more) class d ≡ more =
         ap (λ (k : ℕ). get_or (set shares s.class more) k d) (sym e) ∙ get_or-set_same shares s.class more d within in

@@ -15,7 +15,8 @@ use Rattle.ats_topology.specs.declared.port.Port.{Port}
 use Rattle.ats_network.specs.Class.{PortSender}
 use Rattle.ats_network.specs.Network.{DeclaredNetwork, IsNetwork, senders_of}
 use Rattle.ats_certificate.specs.Certificate.{bound_at}
-use Rattle.ats_certificate.specs.PortSums.{PortSums, greatest_where, is_above, is_below, is_of, is_used, least_of, longest}
+use Rattle.ats_certificate.specs.PortSums.{PortSums, greatest_where, is_above, is_below, is_of, is_used, least_of}
+use Rattle.ats_certificate.specs.PortSums.{longest}
 use Rattle.ats_certificate.specs.PortSums.{port_sums, senders_at, shortest, sum_where}
 use Rattle.ats_tally.specs.Tally.{IsWithin, least_known}
 use Rattle.ats_tally.specs.declared.tally.Tally.{Tally}
@@ -55,7 +56,8 @@ hop_is network stream bounds hop port class rules is inside least within port_is
 ceiling-le : (n d : ℕ) → ceiling n d ≤ n
 ceiling-le n d = elim (cases_eq d 0) as (λ _. ceiling n d ≤ n) [
   | inl none ↦ omega (arith, ap (ceiling n) none, div-le_self (n + (0 - 1)) 0)
-  | inr some ↦ (ceiling-is n d (omega arith)).least n (omega (arith, mul-le-mul_left n (let h : 1 ≤ d = omega arith in h)))
+  | inr some ↦ (ceiling-is n d (omega arith)).least n
+      (omega (arith, mul-le-mul_left n (let h : 1 ≤ d = omega arith in h)))
 ]
 
 -- what all senders at a port make of a class
@@ -94,7 +96,8 @@ module _ (network : DeclaredNetwork) (port class : ℕ) (is : IsNetwork network)
       let bits : ℕ = sums.lower + sums.bursts - sums.least in
       let few : bits ≤ MAX_WIRE_BITS + MAX_SENDERS * 1000000000 = omega (arith, w.lower, w.bursts) in
       let sent : link.ps_per_bit * bits ≤ 100000 * bits = mul-le-mul_right bits at.is_port.rate.most in
-      let first : link.ps_per_bit * sums.least ≤ 100000 * sums.least = mul-le-mul_right sums.least at.is_port.rate.most in
+      let first : link.ps_per_bit * sums.least ≤ 100000 * sums.least =
+      mul-le-mul_right sums.least at.is_port.rate.most in
       let wait = ceiling-le (PS_PER_SECOND * (link.ps_per_bit * bits)) (PS_PER_SECOND - sums.higher) in
       omega (arith, wait, sent, few, first, least, at.is_port.latency)
 

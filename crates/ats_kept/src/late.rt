@@ -101,8 +101,8 @@ fn late_at(
     )
 }
 
-// Whether a path, which has no port twice, does not lead right to this hop from the port that comes before, where one is
-// given.
+// Whether a path, which has no port twice, does not lead right to this hop from the port that comes before, where one
+// is given.
 fn is_new(before: Option<u32>, path: &[u32], hop: usize) -> bool
     requires hop { hop < length path.now }
     requires apart { AllPairs (λ p q. p ≢ q) path.now }

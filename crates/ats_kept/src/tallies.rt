@@ -31,10 +31,10 @@ pub(crate) fn tallies_at(
     requires flows { ListsPaths (length network.now.topology.ports) (flow_paths network.now) flows.now }
     ensures { AreClassTallies (senders_at port (senders_of network.now)) result }
 {
-    let flow = network.streams().len() as u32;
+    let first_flow = network.streams().len() as u32;
     let mut shares = [Share::new(); 8];
     count_users(&mut shares, network, streams, 0, port);
-    count_users(&mut shares, network, flows, flow, port);
+    count_users(&mut shares, network, flows, first_flow, port);
     tallies_of(&shares)
 }
 

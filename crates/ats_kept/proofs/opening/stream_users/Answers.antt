@@ -9,7 +9,8 @@ push-requires-clause-ports c =
     let ports : ℕ = length c.args.network.now.topology.ports in
     (over_lists ports (length c.loop-stream.users.lists) c.stream-item.result.path c.path.result.now
     (read_is (λ (x : DeclaredStream). IsOver ports x.path) c.args.network.now.streams c.streams-stream-items.result.now
-    c.loop-stream.stream-index c.stream-item.result (streams_over c.args.network.now c.streams-stream-items.ensures.rules)
+    c.loop-stream.stream-index c.stream-item.result
+    (streams_over c.args.network.now c.streams-stream-items.ensures.rules)
     c.loop-stream-test.true c.streams-stream-items.ensures.value c.stream-item.is)
     c.loop-stream.invariant.ports_are c.path.ensures.value).inside
 
@@ -18,7 +19,8 @@ push-requires-clause-apart c =
     let ports : ℕ = length c.args.network.now.topology.ports in
     (over_lists ports (length c.loop-stream.users.lists) c.stream-item.result.path c.path.result.now
     (read_is (λ (x : DeclaredStream). IsOver ports x.path) c.args.network.now.streams c.streams-stream-items.result.now
-    c.loop-stream.stream-index c.stream-item.result (streams_over c.args.network.now c.streams-stream-items.ensures.rules)
+    c.loop-stream.stream-index c.stream-item.result
+    (streams_over c.args.network.now c.streams-stream-items.ensures.rules)
     c.loop-stream-test.true c.streams-stream-items.ensures.value c.stream-item.is)
     c.loop-stream.invariant.ports_are c.path.ensures.value).apart
 
@@ -28,6 +30,7 @@ loop-stream-preserved c =
     let streams : List DeclaredStream = c.args.network.now.streams in
     let path_of = λ (x : DeclaredStream). x.path in
     subst (λ (paths : List (List ℕ)). ListsPaths ports paths c.push.new.self)
-    (next_path path_of streams c.streams-stream-items.result.now c.loop-stream.stream-index c.stream-item.result c.path.result.now
-    c.loop-stream-test.true c.streams-stream-items.ensures.value c.stream-item.is c.path.ensures.value)
+    (next_path path_of streams c.streams-stream-items.result.now c.loop-stream.stream-index c.stream-item.result
+    c.path.result.now c.loop-stream-test.true c.streams-stream-items.ensures.value c.stream-item.is
+    c.path.ensures.value)
     (c.in_ok-push.ensures.ok ports (map path_of (take c.loop-stream.stream-index streams)) c.loop-stream.invariant)

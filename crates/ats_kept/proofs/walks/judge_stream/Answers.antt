@@ -61,7 +61,8 @@ returns-clause-answer c =
     let own = own_path network.streams c.streams.result.now c.args.stream c.index-streams-stream.result
     c.path-path.result.now c.requires.number c.streams.ensures.value c.index-streams-stream.is
     c.path-path.ensures.value in
-    ap (λ (n : ℕ). let r : Result ℕ Reason = Ok n in r) c.sum_at.ensures ∙ sum_ok network c.args.stream c.streams.ensures.rules c.requires.free
+    ap (λ (n : ℕ). let r : Result ℕ Reason = Ok n in r) c.sum_at.ensures
+    ∙ sum_ok network c.args.stream c.streams.ensures.rules c.requires.free
     (c.in_default.ensures.found ∙ ap (found_on network) own)
     (c.in_default-first_late.ensures
     ∙ ap (late_on network) own)

@@ -20,5 +20,5 @@ returns-clause-ok c ports paths listed =
     ∙ ap (λ (l : List ℕ). l ++ get_or slots used 0 ∷ []) c.in_ok-slot.ensures.first
     ∙ ap (λ (slot : ℕ). take used c.self.inside.slots.items ++ slot ∷ []) c.in_ok-slot.ensures.slot)
     (subst (λ (l : List (List Entry)).
-    Enters (λ port. entry_at port c.in_ok-slot.slot c.args.path.now) c.args.path.now l (items_of c.enter.new.lists.items))
-    c.make_room.ensures.items c.enter.ensures)
+    Enters (λ port. entry_at port c.in_ok-slot.slot c.args.path.now) c.args.path.now l
+    (items_of c.enter.new.lists.items)) c.make_room.ensures.items c.enter.ensures)
