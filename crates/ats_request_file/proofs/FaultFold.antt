@@ -1,5 +1,5 @@
 -- The fault that a text gives is its first one.
-use Rattle.std.proofs.Common.{◌≡◌, ◌⊎◌, ℕ, ◌+◌, Bool, true, false, not, cond, List, [], ◌∷◌, ◌++◌, length, filter}
+use Rattle.std.proofs.Common.{◌≡◌, ◌⊎◌, ℕ, ◌+◌, Bool, true, false, not, cond, List, [], ◌∷◌, ◌++◌, length}
 use Rattle.std.proofs.Common.{Result, Ok, Err, refl, sym, ap, ◌∙◌, subst, inl, inr, arith, append_assoc, length-append}
 use Rattle.std.proofs.lemmas.List.{append-nil}
 use Rattle.std.proofs.lemmas.List.Elements.{filter-append}
@@ -8,7 +8,7 @@ use Rattle.ats_io.specs.Text.{lines_of, words_of}
 use Rattle.ats_num.specs.Failure.{◌>>=◌}
 use Rattle.ats_topology.specs.Topology.{DeclaredTopology}
 use Rattle.ats_requests.specs.declared.request.Request.{Request}
-use Rattle.ats_request_file.specs.Words.{is_skipped}
+use Rattle.ats_words.specs.Words.{is_skipped}
 use Rattle.ats_request_file.specs.Reading.{asked_in, with_line, requests_from, requests_of}
 use Rattle.ats_request_file.specs.FaultLaw.{AreFaultless, AreRead, HasFault, IsFirstFault, asking}
 use Rattle.ats_request_file.specs.declared.fault.RequestFault.{RequestFault}

@@ -11,6 +11,7 @@ use ats_io::line_at;
 use ats_network::Network;
 use ats_num::Failure;
 use ats_requests::Request;
+use ats_topology::KeptWalks;
 use ats_words::WordLine;
 use std::alloc::Global;
 
@@ -26,6 +27,7 @@ pub fn read_requests(
     ensures allowed { IfOk result (λ requests. All (MayAsk network.now.topology) requests.items) }
 {
     let topology = network.topology();
+    let mut walks = KeptWalks::new(alloc, topology)?;
     let mut requests = Vec::new(alloc);
     let mut number = 1;
     let mut at = 0;
@@ -33,7 +35,7 @@ pub fn read_requests(
         let (end, next) = line_at(bytes, at);
         let line = WordLine::new(&bytes[at..end]);
         if !line.is_skipped() {
-            let request = asked_in(alloc, topology, requests.len(), number, &line)?;
+            let request = asked_in(alloc, topology, &mut walks, requests.len(), number, &line)?;
             requests.push(request)?;
         }
         number += 1;
