@@ -1,14 +1,14 @@
 -- Names compare as the arrays do that hold them, and arrays by eight bytes at a time.
-use Rattle.std.proofs.Common.{◌≡◌, ◌≢◌, ℕ, zero, suc, ◌+◌, ◌-◌, ◌*◌, ◌<◌, ◌≤◌, ◌^◌, ◌⊎◌, true, ◌&&◌, List, [], ◌∷◌, ◌++◌}
-use Rattle.std.proofs.Common.{length, get_or, take, drop, replicate, refl, sym, ap, subst, ◌∙◌, arith, inl, inr, drop-drop}
-use Rattle.std.proofs.Common.{ap₂, mul-le-mul_right, pow-suc, nat_le, length-drop, get_or-drop}
+use Rattle.std.proofs.Common.{◌≡◌, ◌≢◌, ℕ, zero, suc, ◌+◌, ◌-◌, ◌*◌, ◌<◌, ◌≤◌, ◌^◌, ◌⊎◌, true, ◌&&◌, List, [], ◌∷◌}
+use Rattle.std.proofs.Common.{◌++◌, length, get_or, take, drop, replicate, refl, sym, ap, subst, ◌∙◌, arith, inl, inr}
+use Rattle.std.proofs.Common.{drop-drop, ap₂, mul-le-mul_right, pow-suc, nat_le, length-drop, get_or-drop}
 use Rattle.std.specs.Int.{w64, from_be_bytes}
 use Rattle.std.specs.List.{list_all}
 use Rattle.std.specs.Ordering.{nat_cmp, ordering_then}
 use Rattle.std.specs.declared.cmp.Ordering.{Ordering}
 use Rattle.std.specs.declared.cmp.Ordering.TheVariants.{Less, Equal, Greater}
 use Rattle.std.specs.Cmp.Lexicographic.{slice_cmp}
-use Rattle.std.proofs.lemmas.Bool.{and_parts, cases_order, false≢true}
+use Rattle.std.proofs.lemmas.Bool.{and_parts, cases_order, false≢true, leb-true}
 use Rattle.std.proofs.lemmas.Bool.Decides.{nat_tests}
 use Rattle.ats_num.specs.Name.{is_name_byte, padded, IsPadded}
 
@@ -116,8 +116,7 @@ by_word : (xs ys : List ℕ) → 8 ≤ length xs → 8 ≤ length ys → AreByte
     ≡ ordering_then (nat_cmp (from_be_bytes w64 xs) (from_be_bytes w64 ys)) (slice_cmp nat_cmp (drop 8 xs) (drop 8 ys))
 by_word xs ys in_xs in_ys bytes other =
     by_worth 8 xs ys in_xs in_ys bytes other
-    ∙ ap (λ n. ordering_then (nat_cmp n (worth 8 ys)) (slice_cmp nat_cmp (drop 8 xs) (drop 8 ys))) (sym (eight xs in_xs))
-    ∙ ap (λ n. ordering_then (nat_cmp (from_be_bytes w64 xs) n) (slice_cmp nat_cmp (drop 8 xs) (drop 8 ys)))
+    ∙ ap₂ (λ m n. ordering_then (nat_cmp m n) (slice_cmp nat_cmp (drop 8 xs) (drop 8 ys))) (sym (eight xs in_xs))
     (sym (eight ys in_ys))
 
 some_byte : (c : ℕ) → is_name_byte c ≡ true → 0 < c
@@ -158,10 +157,13 @@ padded_cmp text other m n is it =
     let ys : List ℕ = take n other in
     let x = and_parts (nat_le 1 (length xs) && nat_le (length xs) 32) (list_all is_name_byte xs) is.name in
     let y = and_parts (nat_le 1 (length ys) && nat_le (length ys) 32) (list_all is_name_byte ys) it.name in
-    let in_x : length xs ≤ 32 = grind (arith, nat_tests, and_parts (nat_le 1 (length xs)) (nat_le (length xs) 32) x.0) in
-    let in_y : length ys ≤ 32 = grind (arith, nat_tests, and_parts (nat_le 1 (length ys)) (nat_le (length ys) 32) y.0) in
+    let in_x : length xs ≤ 32 = most xs x.0 in
+    let in_y : length ys ≤ 32 = most ys y.0 in
     ap (λ t. slice_cmp nat_cmp t other) is.whole ∙ ap (slice_cmp nat_cmp (padded xs)) it.whole
     ∙ with_zeros xs ys (32 - length xs) (32 - length ys) x.1 y.1 (omega arith)
+  where
+    most : (xs : List ℕ) → (nat_le 1 (length xs) && nat_le (length xs) 32) ≡ true → length xs ≤ 32
+    most xs h = leb-true (length xs) 32 (and_parts (nat_le 1 (length xs)) (nat_le (length xs) 32) h).1
 
 -- arrays whose words before a place are the same compare by the words at it, m and n, then by what is behind them
 pub words_first : (xs ys : List ℕ) (place m n : ℕ) → place < 4 → length xs ≡ 32 → length ys ≡ 32 → AreBytes xs

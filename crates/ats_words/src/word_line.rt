@@ -9,8 +9,8 @@ use std::marker::Model;
 /// How many words of a line are kept: one more than any line has that says something.
 pub const KEPT_WORDS: usize = 11;
 
-/// A line of a file, cut into its words once. Words are separated by one or more spaces; spaces at either end are passed
-/// over. Contracts see the bytes of the line.
+/// A line of a file, cut into its words once. Words are separated by one or more spaces; spaces at
+/// either end are passed over. Contracts see the bytes of the line.
 #[derive(Drop)]
 pub struct WordLine<'a> {
     text: &'a [u8],
