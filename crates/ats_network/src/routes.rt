@@ -46,7 +46,8 @@ pub fn shortest_kept(
     requires a { a < length topology.now.nodes }
     requires b { b < length topology.now.nodes }
     requires kept { AreKeptFor topology.now walks.old }
-    ensures value { IfOk result (λ found. option_map (λ (walk : Vec ℕ). walk.items) found ≡ shortest_of topology.now a b) }
+    ensures value { IfOk result
+        (λ found. option_map (λ (walk : Vec ℕ). walk.items) found ≡ shortest_of topology.now a b) }
     ensures kept { AreKeptFor topology.now walks.new }
 {
     let _nodes = topology.nodes(); // for what a topology keeps

@@ -15,7 +15,10 @@ Entries = List (String Global × Value)
 
 -- all keys, the more frequent ones first
 abbrev pub all_keys : List Key
-all_keys = key.Name ∷ key.Path ∷ key.Class ∷ key.RateBps ∷ key.BurstBits ∷ key.MinOctets ∷ key.MaxOctets ∷ key.From ∷ key.To ∷ key.DeadlineNs ∷ key.Address ∷ key.Vlan ∷ key.A ∷ key.B ∷ key.Mbps ∷ key.PropagationNs ∷ key.ProcessingNs ∷ key.ResidenceNs ∷ key.ProcessingMinNs ∷ key.ProcessingMaxNs ∷ key.Classes ∷ key.Format ∷ key.Station ∷ key.Bridge ∷ key.Link ∷ key.Stream ∷ key.Flow ∷ []
+all_keys = key.Name ∷ key.Path ∷ key.Class ∷ key.RateBps ∷ key.BurstBits ∷ key.MinOctets ∷ key.MaxOctets
+    ∷ key.From ∷ key.To ∷ key.DeadlineNs ∷ key.Address ∷ key.Vlan ∷ key.A ∷ key.B ∷ key.Mbps ∷ key.PropagationNs
+    ∷ key.ProcessingNs ∷ key.ResidenceNs ∷ key.ProcessingMinNs ∷ key.ProcessingMaxNs ∷ key.Classes ∷ key.Format
+    ∷ key.Station ∷ key.Bridge ∷ key.Link ∷ key.Stream ∷ key.Flow ∷ []
 
 -- the place of a key among all
 abbrev pub slot_of : Key → ℕ

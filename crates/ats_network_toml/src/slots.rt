@@ -13,11 +13,8 @@ use crate::key::Key;
 use std::marker::Model;
 use toml::Value;
 
-/// The number of keys.
-pub(crate) const KEYS: usize = 27;
-
-/// The keys of all tables, the more frequent ones first.
-pub(crate) const ALL_KEYS: [Key; 27] = [
+// The keys of all tables, the more frequent ones first.
+const ALL_KEYS: [Key; 27] = [
     Key::Name,
     Key::Path,
     Key::Class,
