@@ -12,6 +12,7 @@ pub data Command : Type 0 where
   Explain : List ℕ → Command
   Check : List ℕ → List ℕ → Command
   Conform : List ℕ → List ℕ → Command
+  Admit : List ℕ → List ℕ → Command
   Replay : List ℕ → List ℕ → Order → Command
   Capture : List ℕ → List ℕ → List ℕ → Order → Command
   Generate : List ℕ → ℕ → ℕ → Command
@@ -31,6 +32,7 @@ abbrev pub command_on_two : List ℕ → List ℕ → List ℕ → Command
 command_on_two verb file second =
     if bytes_eq verb (codes "check") then Check file second
     else if bytes_eq verb (codes "conform") then Conform file second
+    else if bytes_eq verb (codes "admit") then Admit file second
     else Unknown
 
 -- the replay of a schedule in an order, where there is one
@@ -79,6 +81,7 @@ file_words (Bound net) = net ∷ []
 file_words (Explain net) = net ∷ []
 file_words (Check net certificate) = net ∷ certificate ∷ []
 file_words (Conform net schedule) = net ∷ schedule ∷ []
+file_words (Admit net requests) = net ∷ requests ∷ []
 file_words (Replay net schedule order) = net ∷ schedule ∷ []
 file_words (Capture net station file order) = net ∷ file ∷ []
 file_words (Generate net seed count) = net ∷ []

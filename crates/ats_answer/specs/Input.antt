@@ -17,6 +17,9 @@ use Rattle.ats_capture.specs.Reading as capture
 use Rattle.ats_capture.specs.Traffic.{Traffic, traffic_of}
 use Rattle.ats_capture.specs.FaultText.{records_fault_text}
 use Rattle.ats_capture.specs.FaultText as traffic
+use Rattle.ats_requests.specs.declared.request.Request.{Request}
+use Rattle.ats_request_file.specs.Reading.{requests_of}
+use Rattle.ats_request_file.specs.FaultText as requests
 use Rattle.ats_num.specs.Failure.{◌>>=◌}
 use Rattle.ats_answer.specs.Answer.{Answer, input_answer}
 
@@ -52,6 +55,12 @@ unfoldable pub releases_in : DeclaredNetwork → List ℕ → List ℕ → Resul
 releases_in network file bytes = do
   text ← bytes_in 33554432 file bytes
   declared_in file schedule.fault_text (releases_of network text)
+
+-- the requests that a file of these bytes makes over a topology
+unfoldable pub requests_in : DeclaredTopology → List ℕ → List ℕ → Result (List Request) Answer
+requests_in topology file bytes = do
+  text ← bytes_in 16777216 file bytes
+  declared_in file requests.fault_text (requests_of topology text)
 
 -- the records that a capture's file of these bytes has
 unfoldable pub records_in : List ℕ → List ℕ → Result (List Record) Answer

@@ -3,7 +3,7 @@ use Rattle.std.specs.declared.alloc.Global.{Global}
 use Rattle.ats_answer.specs.Command as table
 use Rattle.ats_answer.specs.declared.command.Command.{Command}
 use Rattle.ats_answer.specs.declared.command.Command.TheVariants.{Shape, Show, Bound, Explain, Check, Replay, Capture}
-use Rattle.ats_answer.specs.declared.command.Command.TheVariants.{Conform, Generate}
+use Rattle.ats_answer.specs.declared.command.Command.TheVariants.{Conform, Admit, Generate}
 
 -- the bytes of words
 abbrev pub texts_of : List (String Global) → List (List ℕ)
@@ -17,6 +17,7 @@ view (Bound net) = table.Bound net.now
 view (Explain net) = table.Explain net.now
 view (Check net certificate) = table.Check net.now certificate.now
 view (Conform net schedule) = table.Conform net.now schedule.now
+view (Admit net requests) = table.Admit net.now requests.now
 view (Replay net schedule order) = table.Replay net.now schedule.now order
 view (Capture net station file order) = table.Capture net.now station.now file.now order
 view (Generate net seed count) = table.Generate net.now seed count

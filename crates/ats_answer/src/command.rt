@@ -25,6 +25,8 @@ pub enum Command<'a> {
     Check(&'a str, &'a str),
     /// `conform NET SCHEDULE`: judges the releases of a schedule by the declared buckets and sizes.
     Conform(&'a str, &'a str),
+    /// `admit NET REQUESTS`: answers requests to admit streams and to withdraw them, one after the other.
+    Admit(&'a str, &'a str),
     /// `replay NET SCHEDULE ORDER`: runs a schedule, and gives every journey.
     Replay(&'a str, &'a str, Order),
     /// `capture NET STATION FILE ORDER`: runs what a station sent by a capture, and gives every journey.
@@ -86,6 +88,8 @@ fn on_two<'a>(verb: &str, file: &'a str, second: &'a str) -> Option<Command<'a>>
         Some(Command::Check(file, second))
     } else if verb == "conform" {
         Some(Command::Conform(file, second))
+    } else if verb == "admit" {
+        Some(Command::Admit(file, second))
     } else {
         None
     }

@@ -7,10 +7,11 @@ ghost use Rattle.ats_io.specs.declared.files.TheConstants.{MAX_PLACE};
 ghost use Rattle.ats_io.specs.Outside.{Rose, IfTold, Continues};
 ghost use Rattle.ats_answer.specs.Answer.{input_text};
 ghost use Rattle.ats_answer.specs.Input.{bytes_in, shape_in, network_in, records_in, releases_in, rows_in};
-ghost use Rattle.ats_answer.specs.Input.{traffic_in};
+ghost use Rattle.ats_answer.specs.Input.{requests_in, traffic_in};
 ghost use Rattle.ats_capture.specs.Reading.{IsLongEnough};
 ghost use Rattle.ats_capture.specs.Seen.{seen};
 ghost use Rattle.ats_answer.specs.Outcome.{Gives, PassesOn};
+ghost use Rattle.ats_requests.specs.Requests.{MayAsk};
 ghost use Rattle.ats_trace.specs.Releases.{AreReleases};
 
 use crate::outcome::Stop;
@@ -22,6 +23,8 @@ use ats_network::Network;
 use ats_network_file::read_network;
 use ats_num::{Failure, Fault};
 use ats_pcap::Record;
+use ats_request_file::read_requests;
+use ats_requests::Request;
 use ats_schedule::read_schedule;
 use ats_shape::{Shape, read_shape};
 use ats_topology::Topology;
@@ -29,7 +32,7 @@ use ats_trace::Release;
 use std::alloc::{AllocError, Global};
 use std::fmt::Display;
 
-/// The most bytes of a file that declares a shape, a network or a certificate.
+/// The most bytes of a file that declares a shape, a network or a certificate, or makes requests.
 pub const MAX_BYTES: u64 = 16_777_216;
 
 /// The most bytes of a schedule's file.
@@ -94,6 +97,24 @@ pub fn schedule_in<F: Files>(
 {
     let bytes = bytes_in(alloc, file, MAX_SCHEDULE_BYTES, files)?;
     declared(alloc, file, read_schedule(alloc, &bytes, network))
+}
+
+/// The requests that a file makes over a network, in the order of its lines, each of which may be asked. `Input`
+/// exactly where the file is too long or has a fault, `ReadFailed` only where a fault came at it.
+pub fn requests_in<F: Files>(
+    alloc: Global,
+    file: &str,
+    network: &Network,
+    files: &mut F,
+) -> Result<Vec<Request>, Stop>
+    ensures due { IfTold (F.told files.old file.now)
+        (λ bytes. Gives (λ requests. requests.items) result (requests_in network.now.topology file.now bytes)) }
+    ensures allowed { IfOk result (λ requests. All (MayAsk network.now.topology) requests.items) }
+    ensures failed { IsErrOf result Stop.ReadFailed → Rose (F.faults files.old file.now) (F.faults files.new file.now) }
+    ensures continues { Continues F.told F.faults files.old files.new }
+{
+    let bytes = bytes_in(alloc, file, MAX_BYTES, files)?;
+    declared(alloc, file, read_requests(alloc, &bytes, network))
 }
 
 /// What a station sent, as the capture in a file tells of it; its releases may be run on the network.

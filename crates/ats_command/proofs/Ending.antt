@@ -5,7 +5,7 @@ use Rattle.std.specs.Global.{Vec}
 use Rattle.std.proofs.lemmas.Option.{same_Some, none-some}
 use Rattle.ats_io.specs.Outside.{Rose, TakesPrefix}
 use Rattle.ats_answer.specs.Command.{Command, Shape, Show, Bound, Explain, Check, Replay, Unknown, Capture, Conform}
-use Rattle.ats_answer.specs.Command.{Generate}
+use Rattle.ats_answer.specs.Command.{Admit, Generate}
 use Rattle.ats_answer.specs.Answer.{Answer, HasText, words_answer}
 use Rattle.ats_command.specs.Due.{IsAnswer, IsDueAnswer, IsTold, told_bytes}
 use Rattle.ats_command.specs.Calls.{Answers, Printed, PrintedPrefix, ReadRose, IsCalm, StatusIsDue}
@@ -87,6 +87,12 @@ calm_unread told (Check net certificate) before after calm = λ rose. let At : L
       | inr second ↦ calm 1 [] (lit< tt) (subst At second.0 rose.2)
     ]
 calm_unread told (Conform net schedule) before after calm = λ rose. let At : List ℕ → Type 0 =
+    λ name. Rose (before name) (after name) in
+    elim rose.1 [
+      | inl first ↦ calm 0 [] (lit< tt) (subst At first rose.2)
+      | inr second ↦ calm 1 [] (lit< tt) (subst At second.0 rose.2)
+    ]
+calm_unread told (Admit net requests) before after calm = λ rose. let At : List ℕ → Type 0 =
     λ name. Rose (before name) (after name) in
     elim rose.1 [
       | inl first ↦ calm 0 [] (lit< tt) (subst At first rose.2)

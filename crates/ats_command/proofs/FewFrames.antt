@@ -5,7 +5,7 @@ use Rattle.std.specs.Option.{option_and_then}
 use Rattle.std.specs.Str.{bytes_eq}
 use Rattle.ats_num.specs.Number.{number_of}
 use Rattle.ats_trace.specs.declared.run.TheConstants.{MAX_FRAMES}
-use Rattle.ats_answer.specs.Command.{Command, Shape, Show, Bound, Explain, Check, Conform, Unknown, command_of}
+use Rattle.ats_answer.specs.Command.{Command, Shape, Show, Bound, Explain, Check, Conform, Admit, Unknown, command_of}
 use Rattle.ats_answer.specs.Command.{capture_in, command_on, command_on_two, generate_in, replay_in}
 use Rattle.ats_answer.specs.Making.{count_by, count_named, seed_named}
 use Rattle.ats_answer.specs.Order.{order_named}
@@ -52,7 +52,8 @@ on_one verb file =
 on_two : (verb file second : List ℕ) → HasFewFrames (command_on_two verb file second)
 on_two verb file second =
     either (bytes_eq verb (codes "check")) (Check file second) _ tt
-    (either (bytes_eq verb (codes "conform")) (Conform file second) Unknown tt tt)
+    (either (bytes_eq verb (codes "conform")) (Conform file second) _ tt
+    (either (bytes_eq verb (codes "admit")) (Admit file second) Unknown tt tt))
 
 -- of the command that words name
 pub few_frames : (words : List (List ℕ)) → HasFewFrames (command_of words)

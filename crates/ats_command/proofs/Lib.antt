@@ -1,5 +1,6 @@
 pub mod RowOrder
 pub mod Judging
+pub mod Admitting
 pub mod Steps
 pub mod Replays
 pub mod Conforms
@@ -12,5 +13,6 @@ pub mod Ending
 pub mod Surely
 pub mod Explaining
 pub mod ConformMeanings
+pub mod AdmitMeanings
 pub mod FewFrames
 pub mod Generated

@@ -1,9 +1,9 @@
 use Rattle.std.proofs.Common.{◌≡◌, ℕ, List, Option, refl, sym, ap, ◌∙◌}
 use Rattle.ats_answer.specs.Command.{Command, Shape, Show, Bound, Explain, Check, Replay, Unknown, command_of}
-use Rattle.ats_answer.specs.Command.{Capture, Conform, Generate}
+use Rattle.ats_answer.specs.Command.{Capture, Conform, Admit, Generate}
 use Rattle.ats_answer.specs.Answer.{Answer, words_answer}
 use Rattle.ats_command.specs.Due.{IsDueAnswer, IsTold, told_bytes}
-use Rattle.ats_command.specs.Due.{shape_answer, show_answer, bound_answer, explain_answer, check_answer}
+use Rattle.ats_command.specs.Due.{admit_answer, bound_answer, check_answer, explain_answer, shape_answer, show_answer}
 use Rattle.ats_command.specs.Laws.{HasOneAnswer, OneAnswerIsDue, OneStatusIsDue}
 use Rattle.ats_command.specs.Captured.{IsCaptured, captured_in}
 use Rattle.ats_command.specs.Generated.{IsGenerated, generated_in}
@@ -32,6 +32,11 @@ only_due told (Conform net schedule) is_told one =
     let alone = one_judgement (scheduled_in net schedule (told_bytes told net) (told_bytes told schedule))
     (scheduled_may net schedule (told_bytes told net) (told_bytes told schedule)) in
     (alone.0, record { is_told = is_told; answers = alone.1 }, λ other due. alone.2 other due.answers)
+only_due told (Admit net requests) is_told one = (
+  admit_answer net requests (told_bytes told net) (told_bytes told requests),
+  record { is_told = is_told; answers = refl },
+  λ other due. due.answers,
+)
 only_due told (Replay net schedule order) is_told one =
     let alone = one_without_texts (IsReplayed order)
     (scheduled_in net schedule (told_bytes told net) (told_bytes told schedule)) one in
@@ -71,6 +76,9 @@ same_due told (Conform net schedule) one other h k =
     ap (λ (a : Answer). a.status)
     (same_judgement (scheduled_in net schedule (told_bytes told net) (told_bytes told schedule)) one other h.answers
     k.answers)
+same_due told (Admit net requests) one other h k =
+    same_status one other (admit_answer net requests (told_bytes told net) (told_bytes told requests)) h.answers
+    k.answers
 same_due told (Replay net schedule order) one other h k =
     one_status (IsReplayed order) (scheduled_in net schedule (told_bytes told net) (told_bytes told schedule)) one other
     h.answers k.answers

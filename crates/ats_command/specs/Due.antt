@@ -3,12 +3,12 @@ use Rattle.ats_io.specs.Outside.{IfTold}
 use Rattle.ats_shape.specs.Text.{text_of}
 use Rattle.ats_network_text.specs.Text.{show_text}
 use Rattle.ats_answer.specs.Command.{Command, Shape, Show, Bound, Explain, Check, Replay, Unknown, file_words}
-use Rattle.ats_answer.specs.Command.{Capture, Conform, Generate}
+use Rattle.ats_answer.specs.Command.{Capture, Conform, Admit, Generate}
 use Rattle.ats_num.specs.Failure.{◌>>=◌}
 use Rattle.ats_answer.specs.declared.order.Order.{Order}
 use Rattle.ats_answer.specs.Answer.{Answer, words_answer, settled}
 use Rattle.ats_answer.specs.Input.{shape_in, network_in}
-use Rattle.ats_command.specs.Judged.{bound_judged, certificate_judged, explain_judged}
+use Rattle.ats_command.specs.Judged.{bound_judged, certificate_judged, explain_judged, requests_judged}
 use Rattle.ats_answer.specs.Station.{station_in}
 use Rattle.ats_command.specs.Captured.{IsCaptured, captured_in}
 use Rattle.ats_command.specs.Conformed.{IsAnswerTo, JudgesScheduled}
@@ -60,6 +60,12 @@ abbrev pub IsConformAnswer : List ℕ → List ℕ → List ℕ → List ℕ →
 IsConformAnswer net schedule net_bytes schedule_bytes answer =
     IsAnswerTo JudgesScheduled (scheduled_in net schedule net_bytes schedule_bytes) answer
 
+-- to `admit NET REQUESTS`, by the bytes of both files; the network's form is judged first, then that of the requests
+unfoldable pub admit_answer : List ℕ → List ℕ → List ℕ → List ℕ → Answer
+admit_answer net requests net_bytes requests_bytes = settled (do
+  network ← network_in net net_bytes
+  requests_judged network requests requests_bytes)
+
 -- an answer to `generate NET SEED COUNT`, by the bytes of the file: it says what came of some run in the order `early`
 abbrev pub IsGenerateAnswer : List ℕ → ℕ → ℕ → List ℕ → Answer → Type 0
 IsGenerateAnswer net seed count bytes answer =
@@ -73,6 +79,7 @@ IsAnswer bytes (Bound net) answer = answer ≡ bound_answer net (bytes net)
 IsAnswer bytes (Explain net) answer = answer ≡ explain_answer net (bytes net)
 IsAnswer bytes (Check net certificate) answer = answer ≡ check_answer net certificate (bytes net) (bytes certificate)
 IsAnswer bytes (Conform net schedule) answer = IsConformAnswer net schedule (bytes net) (bytes schedule) answer
+IsAnswer bytes (Admit net requests) answer = answer ≡ admit_answer net requests (bytes net) (bytes requests)
 IsAnswer bytes (Replay net schedule order) answer =
     IsReplayAnswer net schedule order (bytes net) (bytes schedule) answer
 IsAnswer bytes (Capture net station file order) answer =
@@ -110,6 +117,7 @@ Reaches told (Bound net) name = name ≡ net
 Reaches told (Explain net) name = name ≡ net
 Reaches told (Check net certificate) name = (name ≡ net) ⊎ ((name ≡ certificate) × Declares told net)
 Reaches told (Conform net schedule) name = (name ≡ net) ⊎ ((name ≡ schedule) × Declares told net)
+Reaches told (Admit net requests) name = (name ≡ net) ⊎ ((name ≡ requests) × Declares told net)
 Reaches told (Replay net schedule order) name = (name ≡ net) ⊎ ((name ≡ schedule) × Declares told net)
 Reaches told (Capture net station file order) name =
     (name ≡ net) ⊎ ((name ≡ file) × DeclaresStation told net station)

@@ -15,7 +15,7 @@ use Rattle.ats_verdict_text.specs.Text.{refused_text}
 use Rattle.ats_num.specs.Failure.{◌>>=◌}
 use Rattle.ats_answer.specs.Answer.{Answer}
 use Rattle.ats_answer.specs.Command.{Command, Shape, Show, Bound, Explain, Check, Conform, Replay, Capture, Generate}
-use Rattle.ats_answer.specs.Command.{Unknown}
+use Rattle.ats_answer.specs.Command.{Admit, Unknown}
 use Rattle.ats_answer.specs.Input.{network_in}
 use Rattle.ats_answer.specs.declared.order.Order.TheVariants.{Early}
 use Rattle.ats_answer.specs.declared.status.Status.TheVariants.{Refused}
@@ -76,6 +76,7 @@ HasFewFrames (Bound net) = Unit {0}
 HasFewFrames (Explain net) = Unit {0}
 HasFewFrames (Check net certificate) = Unit {0}
 HasFewFrames (Conform net schedule) = Unit {0}
+HasFewFrames (Admit net requests) = Unit {0}
 HasFewFrames (Replay net schedule order) = Unit {0}
 HasFewFrames (Capture net station file order) = Unit {0}
 HasFewFrames Unknown = Unit {0}

@@ -8,11 +8,13 @@ use Rattle.ats_bound.specs.Reason.{overload, reason_of}
 use Rattle.ats_certificate.specs.Used.{places_of}
 use Rattle.ats_tally.specs.Reason.{first_some}
 use Rattle.ats_explain_text.specs.Text.{explain_text}
+use Rattle.ats_requests.specs.declared.request.Request.{Request}
+use Rattle.ats_admission_text.specs.Text.{admission_text}
 use Rattle.ats_checker.specs.Refusal.{refusal_of}
 use Rattle.ats_verdict_text.specs.Text.{accepted_text, reason_text, refusal_text, refused_text}
 use Rattle.ats_num.specs.Failure.{◌>>=◌}
 use Rattle.ats_answer.specs.Answer.{Answer}
-use Rattle.ats_answer.specs.Input.{rows_in}
+use Rattle.ats_answer.specs.Input.{requests_in, rows_in}
 use Rattle.ats_answer.specs.declared.status.Status.TheVariants.{Refused}
 
 -- a text, unless something is refused
@@ -40,3 +42,14 @@ abbrev pub certificate_judged : DeclaredNetwork → List ℕ → List ℕ → Re
 certificate_judged network certificate bytes = do
   rows ← rows_in network.topology certificate bytes
   check_judged network rows
+
+-- the answers to requests, one after the other, unless no certificate of the network holds
+unfoldable pub admission_judged : DeclaredNetwork → List Request → Result (List ℕ) Answer
+admission_judged network asked =
+    judged (admission_text network asked) (option_map (reason_text network.topology) (reason_of network))
+
+-- the same of the requests that a file of these bytes makes, unless it has a fault
+abbrev pub requests_judged : DeclaredNetwork → List ℕ → List ℕ → Result (List ℕ) Answer
+requests_judged network requests bytes = do
+  asked ← requests_in network.topology requests bytes
+  admission_judged network asked

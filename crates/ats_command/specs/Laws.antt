@@ -10,7 +10,7 @@ use Rattle.ats_certificate.specs.declared.row.Row.{Row}
 use Rattle.ats_soundness_law.specs.Sound.{bounds_of}
 use Rattle.ats_verdict_text.specs.Text.{stream_lines}
 use Rattle.ats_answer.specs.Command.{Command, Shape, Show, Bound, Explain, Check, Replay, Unknown, command_of}
-use Rattle.ats_answer.specs.Command.{Capture, Conform, Generate}
+use Rattle.ats_answer.specs.Command.{Capture, Conform, Admit, Generate}
 use Rattle.ats_answer.specs.Answer.{Answer}
 use Rattle.ats_command.specs.Due.{IsDueAnswer, IsTold, told_bytes}
 use Rattle.ats_command.specs.Captured.{captured_in}
@@ -31,6 +31,7 @@ HasOneAnswer told (Bound net) = Unit {0}
 HasOneAnswer told (Explain net) = Unit {0}
 HasOneAnswer told (Check net certificate) = Unit {0}
 HasOneAnswer told (Conform net schedule) = Unit {0}
+HasOneAnswer told (Admit net requests) = Unit {0}
 HasOneAnswer told (Replay net schedule order) =
     IsErr (scheduled_in net schedule (told_bytes told net) (told_bytes told schedule))
 HasOneAnswer told (Capture net station file order) =

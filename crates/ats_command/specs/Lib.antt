@@ -10,3 +10,4 @@ pub mod Laws
 pub mod Meaning
 pub mod ReplayMeaning
 pub mod ConformMeaning
+pub mod AdmitMeaning

@@ -6,7 +6,7 @@ use Rattle.ats_checker.specs.InTime.{FramesAreInTime}
 use Rattle.ats_verdict_text.specs.Text.{accepted_text}
 use Rattle.ats_io.specs.Outside.{appended}
 use Rattle.ats_answer.specs.Command.{Command, Shape, Show, Bound, Explain, Check, Replay, Unknown, Capture, Conform}
-use Rattle.ats_answer.specs.Command.{Generate}
+use Rattle.ats_answer.specs.Command.{Admit, Generate}
 use Rattle.ats_command.specs.Due.{IsTold, told_bytes}
 use Rattle.ats_answer.specs.Input.{network_in, rows_in}
 
@@ -40,6 +40,7 @@ IsSoundCheck told (Show net) text = Unit {0}
 IsSoundCheck told (Bound net) text = Unit {0}
 IsSoundCheck told (Explain net) text = Unit {0}
 IsSoundCheck told (Conform net schedule) text = Unit {0}
+IsSoundCheck told (Admit net requests) text = Unit {0}
 IsSoundCheck told (Replay net schedule order) text = Unit {0}
 IsSoundCheck told (Capture net station file order) text = Unit {0}
 IsSoundCheck told (Generate net seed count) text = Unit {0}

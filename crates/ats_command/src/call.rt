@@ -11,6 +11,7 @@ ghost use Rattle.ats_command.specs.Generated.{HasFewFrames};
 ghost use Rattle.ats_command.specs.Soundness.{IsSoundCheck, PrintsSoundly};
 ghost use Rattle.ats_command.specs.Calls.{Answers, Printed, PrintedPrefix, ReadRose, IsCalm, StatusIsDue};
 
+use crate::admit_command::admit;
 use crate::bound_command::bound;
 use crate::capture_command::capture;
 use crate::check_command::check;
@@ -109,6 +110,7 @@ fn outcome_of<F: Files>(alloc: Global, command: Command, files: &mut F) -> Resul
         Command::Explain(net) => explain(alloc, net, files),
         Command::Check(net, certificate) => check(alloc, net, certificate, files),
         Command::Conform(net, schedule) => conform(alloc, net, schedule, files),
+        Command::Admit(net, requests) => admit(alloc, net, requests, files),
         Command::Replay(net, schedule, order) => replay(alloc, net, schedule, order, files),
         Command::Capture(net, station, file, order) => {
             capture(alloc, net, station, file, order, files)

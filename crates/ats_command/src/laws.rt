@@ -3,6 +3,7 @@
 ghost use Rattle.std.specs.Prelude.{◌≡◌, ◌⊎◌};
 ghost use Rattle.ats_answer.specs.Command.{command_of};
 ghost use Rattle.ats_answer.specs.Named.{texts_of};
+ghost use Rattle.ats_command.specs.AdmitMeaning.{AdmitMeans};
 ghost use Rattle.ats_command.specs.Calls.{StatusIsDue};
 ghost use Rattle.ats_command.specs.ConformMeaning.{ConformKeepsBounds};
 ghost use Rattle.ats_command.specs.Laws.{OneAnswerIsDue, OneStatusIsDue, PrintedBoundsAreSound};
@@ -46,6 +47,16 @@ pub fn what_check_answers()
 /// releases. `Input`: one of them does not declare what it should. No other status comes.
 pub fn what_replay_answers()
     ensures { ReplayMeans }
+{}
+
+/// What each answer to `admit` means, by its status. `Done`: the files declare a network and make requests; for the
+/// network as it is, and after each request, the least certificate holds and is sound, and by it each frame of a talker
+/// that keeps its buckets arrives within its stream's sum and deadline; and the text gives the answers that the
+/// definition of admission gives, one after the other, each with the sum of the stream that came in, and the number of
+/// streams at the end. `Refused`: they declare a network, for which no certificate holds, and make requests. `Input`:
+/// one of them does not declare what it should. No other status comes.
+pub fn what_admit_answers()
+    ensures { AdmitMeans }
 {}
 
 /// Where `Done` is due to `check` of a certificate and to `replay` of a schedule for one network: each frame of a

@@ -2,6 +2,7 @@
 //! answers are due, with laws about them, and the one call that the program makes.
 #![tactic(auto)]
 
+pub mod admit_command;
 pub mod bound_command;
 pub mod call;
 pub mod capture_command;
@@ -14,6 +15,7 @@ pub mod replay_command;
 pub mod shape_command;
 pub mod show_command;
 
+pub use admit_command::admit;
 pub use bound_command::bound;
 pub use call::ats;
 pub use capture_command::capture;

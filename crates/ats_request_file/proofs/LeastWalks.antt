@@ -65,7 +65,7 @@ fewest_apart ports a (p ∷ walk) b is fewest =
         AllPairs-cons (λ m n. m ≢ n) a (nodes_to ports (p ∷ walk)) (away ports a (p ∷ walk) e) apart
 
 -- the least walk from one station to another one is a valid path
-least_valid : (topology : DeclaredTopology) (a b : ℕ) (walk : List ℕ) → IsLeastWalk topology.ports a b walk
+pub least_valid : (topology : DeclaredTopology) (a b : ℕ) (walk : List ℕ) → IsLeastWalk topology.ports a b walk
     → IsStationAt topology a → IsStationAt topology b → a ≢ b → IsValidPath topology walk
 least_valid topology a b [] least begins ends differ = absurd (differ least.walk_is)
 least_valid topology a b (p ∷ walk) least begins ends differ = record {

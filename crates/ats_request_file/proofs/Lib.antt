@@ -1,2 +1,3 @@
 pub mod LeastWalks
 pub mod Allowed
+pub mod FaultFold
