@@ -1,0 +1,34 @@
+//! Serial numbers of the elements of a list. A number stays with its element for good: an element that comes gets one
+//! above all others, and one that goes takes its number with it, so that the numbers rise along the list.
+
+ghost use Rattle.std.specs.Prelude.{◌≡◌, ◌<◌, ◌≤◌, ◌^◌, ℕ, length, slice_index_or, All, Some, IfSome, IfOk};
+ghost use Rattle.ats_serials.specs.Serials.{AreRising};
+
+use std::alloc::AllocError;
+
+/// The place of a serial number among numbers that rise, found by halving; `None` exactly where it does not stand
+/// there. There are at most 2^32 of them.
+pub fn place_in(serials: &[u64], serial: u64) -> Option<u32>
+    requires rising { AreRising serials.now }
+    requires few { length serials.now ≤ 2 ^ 32 }
+    ensures place { (n : ℕ) → n < length serials.now → slice_index_or serials.now n 0 ≡ serial → result ≡ Some n }
+    ensures within { IfSome result (λ place. place < length serials.now) }
+    ensures stands { IfSome result (λ place. slice_index_or serials.now place 0 ≡ serial) }
+{
+    match serials.binary_search(&serial) {
+        Ok(place) => Some(place as u32),
+        Err(_) => None,
+    }
+}
+
+/// The least serial number above these, which rise. There is none above the greatest number of all, which no list of
+/// pushes reaches; the answer is then `AllocError`.
+pub fn serial_after(serials: &[u64]) -> Result<u64, AllocError>
+    requires { AreRising serials.now }
+    ensures { IfOk result (λ next. All (λ serial. serial < next) serials.now) }
+{
+    match serials.last() {
+        Some(last) => last.checked_add(1).ok_or(AllocError),
+        None => Ok(0),
+    }
+}
