@@ -1,4 +1,4 @@
-use Rattle.std.specs.Prelude.{List, All}
+use Rattle.std.specs.Prelude.{All}
 use Rattle.ats_topology.specs.Topology.{DeclaredTopology}
 use Rattle.ats_tally.specs.Reason.{ReasonInside}
 use Rattle.ats_requests.specs.declared.answer.Answer.{Answer}

@@ -1,7 +1,7 @@
 -- The requests that a text makes may be asked.
-use Rattle.std.proofs.Common.{◌≡◌, ◌≢◌, ℕ, ◌+◌, ◌<◌, Bool, true, false, cond, List, [], ◌∷◌, ◌++◌, length, map, Option}
-use Rattle.std.proofs.Common.{Some, None, Result, Ok, Err, refl, sym, ap, subst, arith, ◌∙◌}
-use Rattle.std.specs.Prelude.{◌==◌, nat_lt, codes, IsTrue}
+use Rattle.std.proofs.Common.{◌≡◌, ℕ, ◌+◌, ◌<◌, Bool, true, false, cond, List, [], ◌∷◌, ◌++◌, length, Option}
+use Rattle.std.proofs.Common.{Some, None, Ok, Err, refl, sym, subst, arith, ◌∙◌}
+use Rattle.std.specs.Prelude.{◌==◌, nat_lt, codes}
 use Rattle.std.specs.List.{All}
 use Rattle.std.specs.Option.{option_and_then}
 use Rattle.std.proofs.lemmas.Bool.{eqb-false}
@@ -30,7 +30,6 @@ use Rattle.ats_request_file.specs.Reading.{admit_line, asked, asked_in, if_stati
 use Rattle.ats_request_file.specs.Reading.{request_in, requests_from, requests_of, station_of, stream_made}
 use Rattle.ats_request_file.specs.Reading.{stream_over, withdraw_line, with_line}
 use Rattle.ats_request_file.specs.Words.{admit_in, is_skipped, named, word}
-use Rattle.ats_request_file.specs.declared.fault.RequestFault.{RequestFault}
 use Rattle.ats_request_file.specs.declared.fault.RequestFault.TheVariants.{BadLine, UnknownNode, NoPath, Limit}
 use Rattle.ats_request_file.specs.declared.fault.RequestFault.TheVariants as faults
 use Rattle.ats_request_file.proofs.LeastWalks.{least_valid}

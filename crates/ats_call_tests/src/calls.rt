@@ -18,6 +18,8 @@ const NETWORK: &[u8] =
 const CERTIFICATE: &[u8] =
     b"port,class,higher,equal,bursts,lower,least,wait,bound\ns1>s2,6,0,100000000000,12336,0,672,11664000,12836000\n";
 
+const REQUESTS: &[u8] = b"admit c s1 s2 7 10000000 672 64 64 1000000\nwithdraw a\n";
+
 const SCHEDULE: &[u8] = b"at_ps,sender,octets\n0,a,1522\n";
 
 // A record of a frame of stream `a`, with its time in microseconds and the lowest byte of each number first.
@@ -76,6 +78,12 @@ const COMMANDS: &[(&[&str], u32, &[u8])] = &[
         2,
         b"stream a frames 1 sunk 1 late 0 size 0 worst 3812000 bound 12836000\ntotal frames 1 sunk 1 late 0 size 0\n",
     ),
+    // c waits for a frame of a, of 12336000 picoseconds; its own takes 672000, and the link 500000.
+    (
+        &["admit", "n", "q"],
+        4,
+        b"admitted c 7 13508000\nwithdrawn a\nstreams 1\n",
+    ),
 ];
 
 // The words, owned.
@@ -100,8 +108,8 @@ fn file(rt: &(impl Abort + AllocGlobal), name: &str, text: &[u8]) -> (String, Ve
 fn files(rt: &(impl Abort + AllocGlobal)) -> Vec<(String, Vec<u8>)> {
     let (shape, network) = (file(rt, "s", SHAPE), file(rt, "n", NETWORK));
     let (certificate, schedule) = (file(rt, "c", CERTIFICATE), file(rt, "r", SCHEDULE));
-    let capture = file(rt, "p", CAPTURE);
-    vec![in rt.alloc(); shape, network, certificate, schedule, capture].expect(rt, "room")
+    let (capture, requests) = (file(rt, "p", CAPTURE), file(rt, "q", REQUESTS));
+    vec![in rt.alloc(); shape, network, certificate, schedule, capture, requests].expect(rt, "room")
 }
 
 // The end of a call with these words over these files and a sink with so much room, and the sink after it. The read and

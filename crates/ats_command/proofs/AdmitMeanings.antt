@@ -1,7 +1,7 @@
 -- What the answers to `admit` mean.
-use Rattle.std.proofs.Common.{◌≡◌, ℕ, zero, suc, ◌+◌, Bool, true, false, cond, List, [], ◌∷◌, ◌++◌, take, drop, Option}
+use Rattle.std.proofs.Common.{◌≡◌, ℕ, zero, suc, ◌+◌, cond, List, [], ◌∷◌, take, drop, Option}
 use Rattle.std.proofs.Common.{Some, None, Result, Ok, Err, refl, sym, subst, inl, inr, arith}
-use Rattle.std.specs.Prelude.{MatchResult, is_some, slice_get}
+use Rattle.std.specs.Prelude.{MatchResult, is_some}
 use Rattle.std.specs.List.{All}
 use Rattle.std.specs.Option.{option_map}
 use Rattle.std.proofs.lemmas.List.{take-append-drop}
@@ -21,9 +21,8 @@ use Rattle.ats_checker.proofs.InTime.{holding_is_in_time}
 use Rattle.ats_verdict_text.specs.Text.{reason_text}
 use Rattle.ats_requests.specs.Admission.{added_given, admit_fault, lowest_class, sum_given, sum_with, withdraw_fault}
 use Rattle.ats_requests.specs.Laws.{IsCertified}
-use Rattle.ats_requests.specs.Requests.{MayAsk, after, after_all, admit_answer, answer, answers, first_class_of}
+use Rattle.ats_requests.specs.Requests.{MayAsk, after, admit_answer, answer, first_class_of}
 use Rattle.ats_requests.specs.Requests.{lowest_answer, withdraw_answer}
-use Rattle.ats_requests.specs.declared.answer.Answer as requests
 use Rattle.ats_requests.specs.declared.answer.Answer.TheVariants as answers
 use Rattle.ats_requests.specs.declared.denied.Denied.{Denied}
 use Rattle.ats_requests.specs.declared.request.Request.{Request}

@@ -1,7 +1,6 @@
 use Rattle.std.proofs.Common.{ℕ, List, Result, sym, subst}
 use Rattle.std.specs.Global.{Vec}
 use Rattle.ats_network.specs.Network.{DeclaredNetwork}
-use Rattle.ats_requests.specs.declared.request.Request.{Request}
 use Rattle.ats_answer.specs.Input.{requests_in}
 use Rattle.ats_answer.specs.Outcome.{Gives}
 use Rattle.ats_answer.specs.declared.outcome.Stop.{Stop}
