@@ -43,7 +43,6 @@ impl<T: Copy, O: Precedence<T>> Heap<T, O> {
     }
 
     /// Adds an item that the order covers to a heap that has room. It takes no memory.
-    #[inline(always)]
     pub fn insert(&mut self, item: T)
         requires room { length self.old.items < self.old.capacity }
         requires covered { O.covers self.old.order item }
