@@ -1,7 +1,7 @@
-mod Streams
+pub mod Streams
 mod Schedulers
 mod Keeps
 mod MadeParts
-mod Sorted
+pub mod Sorted
 mod Faults
 mod Steps

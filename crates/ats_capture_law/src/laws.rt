@@ -1,0 +1,11 @@
+//! What is proved of the definitions themselves.
+
+ghost use Rattle.ats_capture_law.specs.Laws.{TrafficIsCounted};
+
+/// A law: the records of a capture at a station come to the releases of those that belong to a stream of the station
+/// and are no longer than a frame, in their order, each at the greatest time of the records up to it, less the time of
+/// the first record; and to three counts: of all records, of those that belong to no stream of the station, and of
+/// those that belong to one and are longer. The fault names the first record whose release no run may have, if any.
+pub fn traffic_is_counted()
+    ensures { TrafficIsCounted }
+{}

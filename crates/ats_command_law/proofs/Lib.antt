@@ -1,0 +1,4 @@
+pub mod ConformMeanings
+pub mod CaptureMeanings
+pub mod ExplainMeanings
+pub mod GenerateMeanings

@@ -1,0 +1,51 @@
+use Rattle.std.specs.Prelude.{◌≡◌, ◌↔◌, ℕ, List, All, Some, Ok, IsErr}
+use Rattle.ats_network.specs.Network.{DeclaredNetwork, IsNetwork}
+use Rattle.ats_certificate.specs.Certificate.{Holds}
+use Rattle.ats_certificate.specs.Used.{places_of}
+use Rattle.ats_certificate.specs.declared.row.Row.{Row}
+use Rattle.ats_tally.specs.Reason.{first_some}
+use Rattle.ats_tally.specs.declared.reason.Reason.{Reason}
+use Rattle.ats_bound.specs.Reason.{overload}
+use Rattle.ats_explain.specs.Laws.{Carries, IsClear, StreamAddsUp}
+use Rattle.ats_explain_text.specs.Text.{explain_text}
+use Rattle.ats_verdict_text.specs.Text.{reason_text, refused_text}
+use Rattle.ats_answer.specs.Input.{network_in}
+use Rattle.ats_command.specs.Due.{explain_answer}
+use Rattle.ats_answer.specs.declared.status.Status.{Status}
+use Rattle.ats_answer.specs.declared.status.Status.TheVariants.{Done, Words, Input, Refused, ReadFailed, WriteFailed}
+use Rattle.ats_answer.specs.declared.status.Status.TheVariants.{NoMemory}
+
+-- a file of these bytes declares this network, of which no port and class is overloaded, and the text gives the parts
+-- of the least bounds: they add up at each hop to the bound, and along each path to the sum; and no stream is late and
+-- no frame may have to stay too long exactly where some certificate holds
+pub record IsExplained (net bytes text : List ℕ) (network : DeclaredNetwork) : Type 0 where
+  pub declared : network_in net bytes ≡ Ok network
+  pub rules : IsNetwork network
+  pub carries : Carries network
+  pub adds_up : All (StreamAddsUp network) network.streams
+  pub clear : IsClear network ↔ ((rows : List Row) × Holds network rows)
+  pub written : text ≡ explain_text network
+
+-- it declares this network, of which a port and class is overloaded: the text gives the first, and no certificate holds
+pub record IsOverloaded (net bytes text : List ℕ) (network : DeclaredNetwork) (reason : Reason) : Type 0 where
+  pub declared : network_in net bytes ≡ Ok network
+  pub rules : IsNetwork network
+  pub first : first_some (overload network) (places_of network) ≡ Some reason
+  pub none_holds : (rows : List Row) → ¬ Holds network rows
+  pub written : text ≡ refused_text (reason_text network.topology reason)
+
+-- what an answer to `explain NET` says of the bytes of the file, by its text and status; four statuses never come
+abbrev pub ExplainSays : List ℕ → List ℕ → List ℕ → Status → Type 0
+ExplainSays net bytes text Done = (network : DeclaredNetwork) × IsExplained net bytes text network
+ExplainSays net bytes text Input = IsErr (network_in net bytes)
+ExplainSays net bytes text Refused =
+    (network : DeclaredNetwork) × (reason : Reason) × IsOverloaded net bytes text network reason
+ExplainSays net bytes text Words = ⊥
+ExplainSays net bytes text ReadFailed = ⊥
+ExplainSays net bytes text WriteFailed = ⊥
+ExplainSays net bytes text NoMemory = ⊥
+
+-- so for each file word and all bytes
+abbrev pub ExplainMeans : Type 0
+ExplainMeans = (net bytes : List ℕ)
+    → ExplainSays net bytes (explain_answer net bytes).text (explain_answer net bytes).status

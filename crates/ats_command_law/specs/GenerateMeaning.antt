@@ -1,0 +1,62 @@
+use Rattle.std.specs.Prelude.{◌≡◌, ℕ, List, Some, Ok, IsErr}
+use Rattle.ats_network.specs.Network.{DeclaredNetwork, IsNetwork}
+use Rattle.ats_certificate.specs.Certificate.{Holds}
+use Rattle.ats_certificate.specs.declared.row.Row.{Row}
+use Rattle.ats_bound.specs.Least.{least_certificate}
+use Rattle.ats_trace.specs.Journey.{Travel}
+use Rattle.ats_trace.specs.declared.journey.Release.{Release}
+use Rattle.ats_conform.specs.Releases.{AllKeepBuckets}
+use Rattle.ats_gen.specs.Made.{AreMade, gen_fault}
+use Rattle.ats_gen.specs.declared.fault.GenFault.{GenFault}
+use Rattle.ats_verdict_text.specs.Text.{refused_text}
+use Rattle.ats_answer.specs.Answer.{Answer}
+use Rattle.ats_answer.specs.Input.{network_in}
+use Rattle.ats_command.specs.ConformMeaning.{AllDelaysAreWithin}
+use Rattle.ats_command.specs.Due.{IsGenerateAnswer}
+use Rattle.ats_command.specs.Generated.{IsReport, gen_fault_text}
+use Rattle.ats_answer.specs.declared.status.Status.{Status}
+use Rattle.ats_answer.specs.declared.status.Status.TheVariants.{Done, Words, Input, Refused, ReadFailed, WriteFailed}
+use Rattle.ats_answer.specs.declared.status.Status.TheVariants.{NoMemory}
+
+-- where some certificate of the network holds, each frame of each stream is within the least bounds
+abbrev pub AreWithinLeast : DeclaredNetwork → List Travel → Type 0
+AreWithinLeast network run = ((rows : List Row) × Holds network rows)
+    → AllDelaysAreWithin network (least_certificate network) run
+
+-- a file of these bytes declares this network; these are the releases of so many frames that are made for it from the
+-- seed, by which every station keeps its buckets; and the text sums up this run of them
+pub record IsMadeRun (net bytes : List ℕ) (seed count : ℕ) (text : List ℕ) (network : DeclaredNetwork)
+    (releases : List Release) (run : List Travel) : Type 0 where
+  pub declared : network_in net bytes ≡ Ok network
+  pub rules : IsNetwork network
+  pub made : AreMade network seed count releases
+  pub keeps : AllKeepBuckets network releases
+  pub report : IsReport network releases text run
+  pub within : AreWithinLeast network run
+
+-- it declares this network, for which none are made, and the text says why
+pub record HasNoneMade (net bytes : List ℕ) (seed count : ℕ) (text : List ℕ) (network : DeclaredNetwork)
+    (fault : GenFault) : Type 0 where
+  pub declared : network_in net bytes ≡ Ok network
+  pub rules : IsNetwork network
+  pub none_made : gen_fault network seed count ≡ Some fault
+  pub written : text ≡ refused_text (gen_fault_text fault)
+
+-- what an answer to `generate NET SEED COUNT` says of the bytes of the file, by its text and status; four statuses
+-- never come
+abbrev pub GenerateSays : List ℕ → List ℕ → ℕ → ℕ → List ℕ → Status → Type 0
+GenerateSays net bytes seed count text Done =
+    (network : DeclaredNetwork) × (releases : List Release) × (run : List Travel)
+    × IsMadeRun net bytes seed count text network releases run
+GenerateSays net bytes seed count text Input = IsErr (network_in net bytes)
+GenerateSays net bytes seed count text Refused =
+    (network : DeclaredNetwork) × (fault : GenFault) × HasNoneMade net bytes seed count text network fault
+GenerateSays net bytes seed count text Words = ⊥
+GenerateSays net bytes seed count text ReadFailed = ⊥
+GenerateSays net bytes seed count text WriteFailed = ⊥
+GenerateSays net bytes seed count text NoMemory = ⊥
+
+-- so for all file words and bytes, seeds and counts, and each answer
+abbrev pub GenerateMeans : Type 0
+GenerateMeans = (net bytes : List ℕ) (seed count : ℕ) (answer : Answer)
+    → IsGenerateAnswer net seed count bytes answer → GenerateSays net bytes seed count answer.text answer.status

@@ -1,0 +1,4 @@
+pub mod ConformMeaning
+pub mod CaptureMeaning
+pub mod ExplainMeaning
+pub mod GenerateMeaning
