@@ -6,8 +6,8 @@ ghost use Rattle.ats_serials.specs.Serials.{AreRising};
 
 use std::alloc::AllocError;
 
-/// The place of a serial number among numbers that rise, found by halving; `None` exactly where it does not stand
-/// there. There are at most 2^32 of them.
+/// The place of a serial number among numbers that rise, found at once where no element before it ever went, else by
+/// halving; `None` exactly where it does not stand there. There are at most 2^32 of them.
 pub fn place_in(serials: &[u64], serial: u64) -> Option<u32>
     requires rising { AreRising serials.now }
     requires few { length serials.now ≤ 2 ^ 32 }
@@ -15,9 +15,25 @@ pub fn place_in(serials: &[u64], serial: u64) -> Option<u32>
     ensures within { IfSome result (λ place. place < length serials.now) }
     ensures stands { IfSome result (λ place. slice_index_or serials.now place 0 ≡ serial) }
 {
+    if let Some(place) = place_named(serials, serial) {
+        return Some(place);
+    }
     match serials.binary_search(&serial) {
         Ok(place) => Some(place as u32),
         Err(_) => None,
+    }
+}
+
+// The place that a serial number is itself, if it stands there: so it is while no element before it went.
+fn place_named(serials: &[u64], serial: u64) -> Option<u32>
+    requires { length serials.now ≤ 2 ^ 32 }
+    ensures within { IfSome result (λ place. place < length serials.now) }
+    ensures stands { IfSome result (λ place. slice_index_or serials.now place 0 ≡ serial) }
+{
+    if serial < serials.len() as u64 && serials[serial as usize] == serial {
+        Some(serial as u32)
+    } else {
+        None
     }
 }
 
