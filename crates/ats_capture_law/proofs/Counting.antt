@@ -171,7 +171,8 @@ pushed_front network station records front r =
         ++ listed (release_of network station records (length front, r))
     releases =
         ap (filter_map (release_of network station records)) (numbered_push 0 front r
-        ∙ ap (λ (k : ℕ). enumerate_from 0 front ++ (k, r) ∷ []) (let e : 0 + length front ≡ length front = omega arith in e))
+        ∙ ap (λ (k : ℕ). enumerate_from 0 front ++ (k, r) ∷ [])
+        (let e : 0 + length front ≡ length front = omega arith in e))
         ∙ map_one (release_of network station records) (enumerate_from 0 front) (length front, r)
 
 -- the record behind a front comes to that

@@ -1,12 +1,17 @@
 -- What the answers to `capture` mean.
-use Rattle.std.proofs.Common.{◌≡◌, ℕ, List, Option, Some, None, Result, Ok, Err, refl, sym, ap, subst, inl, inr, ◌∙◌}
+use Rattle.std.proofs.Common.{◌≡◌, ℕ, ◌+◌, List, Option, Some, None, Result, Ok, Err, refl, sym, ap, subst, inl, inr}
+use Rattle.std.proofs.Common.{◌∙◌}
 use Rattle.std.specs.Prelude.{MatchResult}
 use Rattle.ats_topology.specs.Topology.{DeclaredTopology}
 use Rattle.ats_network.specs.Network.{DeclaredNetwork, IsNetwork}
+use Rattle.ats_pcap.specs.declared.record.Record.{Record}
 use Rattle.ats_capture.specs.FaultText.{fault_text, records_fault_text}
 use Rattle.ats_capture.specs.Reading as capture
 use Rattle.ats_capture.specs.Traffic.{Traffic, traffic_of}
-use Rattle.ats_num.specs.Failure.{◌>>=◌, or_fault}
+use Rattle.ats_capture.specs.declared.fault.JoinFault.TheVariants.{Limit}
+use Rattle.ats_capture_law.specs.Counted.{counted, first_over}
+use Rattle.ats_capture_law.proofs.Counting.{traffic_is_counted}
+use Rattle.ats_num.specs.Failure.{◌>>=◌, or_fault, unless}
 use Rattle.ats_answer.specs.Answer.{Answer}
 use Rattle.ats_answer.specs.Input.{declared_in, network_in, records_in, traffic_in}
 use Rattle.ats_answer.specs.Station.{station_answer, station_in, station_named}
@@ -14,7 +19,7 @@ use Rattle.ats_answer.specs.declared.order.Order.{Order}
 use Rattle.ats_command.specs.Captured.{IsCaptured, captured_in}
 use Rattle.ats_command.specs.Replayed.{IsOneOf}
 use Rattle.ats_command.proofs.Meanings.{IsInput, network_gives, none_declared}
-use Rattle.ats_command_law.specs.CaptureMeaning.{CaptureMeans, CaptureSays}
+use Rattle.ats_command_law.specs.CaptureMeaning.{CaptureMeans, CaptureSays, IsCounted}
 
 -- a fault of a file is answered as one of the input
 input_gives : {A F : Type 0} (file : List ℕ) (words : F → List ℕ) (read : Result A F)
@@ -40,6 +45,36 @@ traffic_gives network place file bytes =
     (input_gives file records_fault_text (capture.records_in bytes))
     (λ records. input_gives file fault_text (traffic_of network place records))
 
+-- a file declares what its bytes are read as
+read_as : {A F : Type 0} (file : List ℕ) (words : F → List ℕ) (read : Result A F) (value : A)
+    → declared_in file words read ≡ Ok value → read ≡ Ok value
+read_as file words (Ok one) value h = cc
+read_as file words (Err fault) value h = cc
+
+-- what no fault stands against
+none_against : {A F G : Type 0} (fault : F → G) (against : Option F) (x value : A)
+    → unless fault against x ≡ Ok value → (against ≡ None) × (value ≡ x)
+none_against fault None x value h = (refl, cc)
+none_against fault (Some f) x value h = cc
+
+-- the traffic of a capture's file is that of all its records
+traffic_counted : (network : DeclaredNetwork) (place : ℕ) (file bytes : List ℕ) (traffic : Traffic)
+    → traffic_in network place file bytes ≡ Ok traffic
+    → (records : List Record) × IsCounted file bytes network place traffic records
+unfolding traffic_in
+traffic_counted network place file bytes traffic h = by (records_in file bytes) refl h
+  where
+    by : (read : Result (List Record) Answer) → records_in file bytes ≡ read
+        → (read >>= λ records. declared_in file fault_text (traffic_of network place records)) ≡ Ok traffic
+        → (records : List Record) × IsCounted file bytes network place traffic records
+    by (Ok records) is g =
+        let none = none_against (λ (numbered : ℕ × Record). Limit (numbered.0 + 1))
+        (first_over network place records) (counted network place records) traffic
+        (sym (traffic_is_counted network place records)
+        ∙ read_as file fault_text (traffic_of network place records) traffic g) in
+        (records, record { read = is; none_over = none.0; counts = none.1 })
+    by (Err answer) is g = cc
+
 -- a word that is the name of no station is answered so
 abbrev IsNoStation : List ℕ → Answer → Type 0
 IsNoStation station answer = answer ≡ station_answer station
@@ -64,12 +99,14 @@ traffic_says : (net station file net_bytes file_bytes : List ℕ) (order : Order
     → CaptureSays net station file net_bytes file_bytes order answer.text answer.status
 traffic_says net station file net_bytes file_bytes order network place (Ok traffic) answer
     declared rules named is input one =
+    let all = traffic_counted network place file file_bytes traffic is in
     subst (CaptureSays net station file net_bytes file_bytes order answer.text) (sym one.0) (
       network,
       place,
+      all.0,
       traffic,
       one.1.0,
-      record { network_declared = declared; named = named; captured = is; rules = rules; replay = one.1.1 },
+      record { network_declared = declared; named = named; captured = all.1; rules = rules; replay = one.1.1 },
     )
 traffic_says net station file net_bytes file_bytes order network place (Err due) answer
     declared rules named is input one =

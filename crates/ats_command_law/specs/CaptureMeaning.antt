@@ -1,9 +1,11 @@
-use Rattle.std.specs.Prelude.{◌≡◌, ℕ, ◌⊎◌, List, ◌++◌, codes, Ok, IsErr}
+use Rattle.std.specs.Prelude.{◌≡◌, ℕ, ◌⊎◌, List, ◌++◌, codes, None, Ok, IsErr}
 use Rattle.ats_network.specs.Network.{DeclaredNetwork, IsNetwork}
 use Rattle.ats_trace.specs.Journey.{Travel}
+use Rattle.ats_pcap.specs.declared.record.Record.{Record}
 use Rattle.ats_capture.specs.Traffic.{Traffic}
+use Rattle.ats_capture_law.specs.Counted.{counted, first_over}
 use Rattle.ats_answer.specs.Answer.{Answer}
-use Rattle.ats_answer.specs.Input.{network_in, traffic_in}
+use Rattle.ats_answer.specs.Input.{network_in, records_in, traffic_in}
 use Rattle.ats_answer.specs.Station.{station_in}
 use Rattle.ats_answer.specs.declared.order.Order.{Order}
 use Rattle.ats_command.specs.Captured.{IsCaptureReplay}
@@ -12,13 +14,21 @@ use Rattle.ats_answer.specs.declared.status.Status.{Status}
 use Rattle.ats_answer.specs.declared.status.Status.TheVariants.{Done, Words, Input, Refused, ReadFailed, WriteFailed}
 use Rattle.ats_answer.specs.declared.status.Status.TheVariants.{NoMemory}
 
--- two files of these bytes declare this network and this traffic, captured at the station with this name, and the text
--- is that of this run, in this order
+-- a file of these bytes has these records, none of them over a limit, and all of them come to this traffic at a station
+pub record IsCounted (file bytes : List ℕ) (network : DeclaredNetwork) (place : ℕ) (traffic : Traffic)
+    (records : List Record) : Type 0 where
+  pub read : records_in file bytes ≡ Ok records
+  pub none_over : first_over network place records ≡ None
+  pub counts : traffic ≡ counted network place records
+
+-- two files of these bytes declare this network and these records, captured at the station with this name, which come
+-- to this traffic, and the text is that of this run, in this order
 pub record IsCapturedRun (net station file net_bytes file_bytes : List ℕ) (order : Order) (text : List ℕ)
-    (network : DeclaredNetwork) (place : ℕ) (traffic : Traffic) (run : List Travel) : Type 0 where
+    (network : DeclaredNetwork) (place : ℕ) (records : List Record) (traffic : Traffic) (run : List Travel)
+    : Type 0 where
   pub network_declared : network_in net net_bytes ≡ Ok network
   pub named : station_in network.topology station ≡ Ok place
-  pub captured : traffic_in network place file file_bytes ≡ Ok traffic
+  pub captured : IsCounted file file_bytes network place traffic records
   pub rules : IsNetwork network
   pub replay : IsCaptureReplay order network traffic text run
 
@@ -39,8 +49,8 @@ pub record HasNoTraffic (net station file net_bytes file_bytes : List ℕ) (netw
 -- statuses never come
 abbrev pub CaptureSays : List ℕ → List ℕ → List ℕ → List ℕ → List ℕ → Order → List ℕ → Status → Type 0
 CaptureSays net station file net_bytes file_bytes order text Done =
-    (network : DeclaredNetwork) × (place : ℕ) × (traffic : Traffic) × (run : List Travel)
-    × IsCapturedRun net station file net_bytes file_bytes order text network place traffic run
+    (network : DeclaredNetwork) × (place : ℕ) × (records : List Record) × (traffic : Traffic) × (run : List Travel)
+    × IsCapturedRun net station file net_bytes file_bytes order text network place records traffic run
 CaptureSays net station file net_bytes file_bytes order text Refused =
     (network : DeclaredNetwork) × HasNoStation net station net_bytes text network
 CaptureSays net station file net_bytes file_bytes order text Input =
