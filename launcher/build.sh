@@ -81,11 +81,10 @@ lanes() {
     ' /proc/meminfo
 }
 
-# Passes on what rt prints of each crate that it has checked, and says which are proved.
+# Says which crates are proved, from what rt prints of each that it has checked.
 tell_progress() {
     name='a crate'
     while IFS= read -r line; do
-        printf '%s\n' "$line"
         case $line in
             '== '*) name=${line#== } ;;
             'logic=proved '*) say "proved $name, after $(($(date +%s) - began)) s" ;;
@@ -107,19 +106,24 @@ set_apart() {
     done
 }
 
-# Puts what is left of each crate back to its sources, and removes that folder.
+# Puts what is left of each crate back to its sources, and removes that folder. What cannot be put back stays in it.
 put_back() {
+    left=
     for name in $needed; do
         if [ -d "$notes/crates/$name/out" ] && [ ! -d "$top/crates/$name/out" ]; then
-            mv "$notes/crates/$name/out" "$top/crates/$name/"
+            mv "$notes/crates/$name/out" "$top/crates/$name/" || { left=$name && rm -rf "$top/crates/$name/out"; }
         fi
     done
-    rm -rf "$notes"
+    if [ -n "$left" ]; then
+        say "what is proved could not be put back into $top; it is left in $notes"
+    else
+        rm -rf "$notes"
+    fi
 }
 
 # Proves the crates, several side by side. What fails is told by the build that follows.
 prove_crates() {
-    (cd "$notes" && rt all check --jobs "$(lanes)" </dev/null 2>&1 | tell_progress >"$notes/told") 9<&- &
+    (cd "$notes" && rt all check --jobs "$(lanes)" </dev/null 2>&1 | tell_progress) 9<&- &
     working=$!
     wait "$working"
     working=
