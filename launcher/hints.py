@@ -481,7 +481,7 @@ def capture_hint(raw, fault):
         return f"its link type is {int.from_bytes(raw[20:24], 'big' if raw[0] == 0xa1 else 'little')}, and that of Ethernet is 1"
     if raw[:2] == b"\x1f\x8b":
         return "gzip compressed it: editcap -F pcap FILE NEW unpacks it"
-    return f"it begins with {shown(raw[:16])}" if fault == "bad-magic" else None
+    return f"it begins with {shown(raw[:16].decode('latin-1'))}, which is no capture" if fault == "bad-magic" else None
 
 
 def line_hint(kind, raw, fault, number, net):
