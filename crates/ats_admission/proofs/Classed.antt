@@ -7,22 +7,27 @@ use Rattle.std.proofs.lemmas.List.{append-nil, get_or-map, get_or-set_same, leng
 use Rattle.std.proofs.lemmas.List.Edits.{remove-append_right}
 use Rattle.ats_num.specs.Places.{place_of}
 use Rattle.ats_streams.specs.Stream.{DeclaredStream, with_class}
+use Rattle.ats_topology.specs.Topology.{DeclaredTopology}
 use Rattle.ats_network.specs.Edits.{classed, less_at, no_stream, with_class_at, without_named}
 use Rattle.ats_network.specs.Network.{DeclaredNetwork, IsNetwork, declared_network}
 use Rattle.ats_network.specs.Pushes.{with_stream}
 use Rattle.ats_network.specs.Tables.{stream_names}
 use Rattle.ats_network.proofs.Edited.{streams_apart}
 use Rattle.ats_admission.specs.Judged.{AreSameBut}
+use Rattle.ats_admission.specs.Sessions.{without_at}
 
 abbrev name : DeclaredStream → List ℕ
 name s = s.name
 
+abbrev pub path : DeclaredStream → List ℕ
+path s = s.path
+
 -- a network with other streams
-abbrev over : DeclaredNetwork → List DeclaredStream → DeclaredNetwork
+abbrev pub over : DeclaredNetwork → List DeclaredStream → DeclaredNetwork
 over network streams = record network { streams = streams }
 
 -- the others are the same, whatever stands at a place
-remove-set : {X : Type 0} (xs : List X) (n : ℕ) (x : X) → remove (set xs n x) n ≡ remove xs n
+pub remove-set : {X : Type 0} (xs : List X) (n : ℕ) (x : X) → remove (set xs n x) n ≡ remove xs n
 remove-set [] n x = refl
 remove-set (y ∷ xs) zero x = refl
 remove-set (y ∷ xs) (suc n) x = ap (λ (t : List _). y ∷ t) (remove-set xs n x)
@@ -34,6 +39,7 @@ same_at_first n network = record {
   flows = refl;
   many = refl;
   names = refl;
+  paths = refl;
   others = refl;
   classed = λ class. refl;
 }
@@ -56,6 +62,7 @@ same_classed n class old between new within same is =
       flows = same.flows;
       many = length-set between.streams n _ ∙ same.many;
       names = map-set_same name between.streams n _ no_stream refl ∙ same.names;
+      paths = map-set_same path between.streams n _ no_stream refl ∙ same.paths;
       others = remove-set between.streams n _ ∙ same.others;
       classed = λ next. ap (over between) (classed_twice between.streams n class next
           (omega (arith, within, same.many))) ∙ same.classed next;
@@ -84,20 +91,49 @@ last_found network stream is =
     ∙ streams_apart (with_stream network stream) is (length network.streams)
     (omega (arith, within, length-map streams name))
 
--- where it is taken out again, whatever its classes, the network is what it was
-pub undone : (network : DeclaredNetwork) (stream : DeclaredStream) (between new : DeclaredNetwork)
+-- a stream that was added last is found at its place, whatever its classes
+pub still_found : (network : DeclaredNetwork) (stream : DeclaredStream) (between : DeclaredNetwork)
     → IsNetwork (with_stream network stream)
     → AreSameBut (length network.streams) (with_stream network stream) between
-    → new ≡ without_named between stream.name → new ≡ network
-undone network stream between new is same taken =
-    taken
-    ∙ ap (λ (o : Option ℕ). over between (less_at o between.streams))
-    (ap (place_of stream.name) same.names ∙ last_found network stream is)
-    ∙ ap (over between) (same.others
-    ∙ remove-append_right network.streams (stream ∷ []) (length network.streams) (length network.streams) refl
+    → place_of stream.name (stream_names between.streams) ≡ Some (length network.streams)
+still_found network stream between is same =
+    ap (place_of stream.name) same.names ∙ last_found network stream is
+
+-- the others are the same networks
+same_less : (n : ℕ) (old new : DeclaredNetwork) → AreSameBut n old new → without_at new n ≡ without_at old n
+same_less n old new same =
+    ap (over new) same.others
+    ∙ ap (λ (t : DeclaredTopology). declared_network t (remove old.streams n) new.flows) same.topology
+    ∙ ap (declared_network old.topology (remove old.streams n)) same.flows
+
+-- without the last stream, the network is what it was
+pub without_last : (network : DeclaredNetwork) (stream : DeclaredStream)
+    → without_at (with_stream network stream) (length network.streams) ≡ network
+without_last network stream =
+    ap (over network)
+    (remove-append_right network.streams (stream ∷ []) (length network.streams) (length network.streams) refl
     (omega arith)
     ∙ ap (λ (k : ℕ). network.streams ++ remove (stream ∷ []) k)
     (let e : length network.streams - length network.streams ≡ 0 = omega arith in e)
     ∙ append-nil network.streams)
-    ∙ ap (λ (t : _). declared_network t network.streams between.flows) same.topology
-    ∙ ap (declared_network network.topology network.streams) same.flows
+
+-- so it is where that stream is taken out again, whatever its classes
+pub undone : (network : DeclaredNetwork) (stream : DeclaredStream) (between new : DeclaredNetwork)
+    → AreSameBut (length network.streams) (with_stream network stream) between
+    → new ≡ without_at between (length network.streams) → new ≡ network
+undone network stream between new same taken =
+    taken ∙ same_less (length network.streams) (with_stream network stream) between same ∙ without_last network stream
+
+-- without the stream of a name, a network is without the one of its number
+pub named_at : (network : DeclaredNetwork) (q : List ℕ) (n : ℕ) → place_of q (stream_names network.streams) ≡ Some n
+    → without_named network q ≡ without_at network n
+named_at network q n found = ap (λ (o : Option ℕ). over network (less_at o network.streams)) found
+
+-- so it is what it was where a stream that was added last is taken out by its name
+pub taken_again : (network : DeclaredNetwork) (stream : DeclaredStream) (new : DeclaredNetwork)
+    → IsNetwork (with_stream network stream) → new ≡ without_named (with_stream network stream) stream.name
+    → new ≡ network
+taken_again network stream new is taken =
+    undone network stream (with_stream network stream) new
+    (same_at_first (length network.streams) (with_stream network stream))
+    (taken ∙ named_at (with_stream network stream) stream.name (length network.streams) (last_found network stream is))

@@ -2,13 +2,12 @@
 use Rattle.std.proofs.Common.{◌≡◌, ℕ, List, [], ◌∷◌, length, Option, Some, None, Result, Ok, Err}
 use Rattle.std.proofs.Common.{refl, sym, ap, subst, ◌∙◌}
 use Rattle.std.proofs.Math.Seq.{get_or-append_seam}
-use Rattle.ats_num.specs.Failure.{Fails, IsDue}
-use Rattle.ats_num.specs.declared.failure.Failure.{Failure}
-use Rattle.ats_num.specs.declared.failure.Failure.TheVariants.{Fault, NoMemory}
+use Rattle.ats_num.specs.Places.{place_of}
 use Rattle.ats_streams.specs.Stream.{DeclaredStream, with_class}
-use Rattle.ats_network.specs.Edits.{no_stream, with_class_at, without_named}
+use Rattle.ats_network.specs.Edits.{no_stream, with_class_at}
 use Rattle.ats_network.specs.Network.{DeclaredNetwork}
 use Rattle.ats_network.specs.Pushes.{with_stream}
+use Rattle.ats_network.specs.Tables.{stream_names}
 use Rattle.ats_certificate.specs.Certificate.{bound_along}
 use Rattle.ats_certificate.specs.Used.{stream_classes}
 use Rattle.ats_tally.specs.declared.reason.Reason.{Reason}
@@ -21,8 +20,10 @@ use Rattle.ats_requests.specs.Laws.{IsCertified}
 use Rattle.ats_requests.specs.Requests.{MayEnter}
 use Rattle.ats_requests.specs.declared.denied.Denied.{Denied}
 use Rattle.ats_requests.specs.declared.denied.Denied.TheVariants.{NoClass}
-use Rattle.ats_admission.specs.Judged.{AreSameBut, IsGiven, judged, lowest_at, no_class, sum_at}
-use Rattle.ats_admission.proofs.Classed.{classed_last, undone}
+use Rattle.ats_kept.specs.Judged.{judged, sum_at}
+use Rattle.ats_admission.specs.Judged.{AreSameBut, IsGiven, lowest_at, no_class}
+use Rattle.ats_admission.specs.Sessions.{without_at}
+use Rattle.ats_admission.proofs.Classed.{classed_last, still_found, undone}
 use Rattle.ats_admission.proofs.Judgements.{judged_ok}
 
 -- a stream came in: nothing stands against its entry, and it is the last, with this number
@@ -41,15 +42,29 @@ in_certified network stream n between sum in' given =
     (admitted_keeps network stream in'.certified in'.may in'.free
     (ap reason_of (sym in'.is) ∙ (judged_ok between n sum given).free)).certified
 
+in_same : (network : DeclaredNetwork) (stream : DeclaredStream) (n : ℕ) (between after : DeclaredNetwork)
+    → IsIn network stream n between → AreSameBut n between after
+    → AreSameBut (length network.streams) (with_stream network stream) after
+in_same network stream n between after in' same =
+    subst (λ (m : ℕ). AreSameBut m (with_stream network stream) after) in'.number
+    (subst (λ (t : DeclaredNetwork). AreSameBut n t after) in'.is same)
+
+-- it is found by its name, whatever its classes
+pub in_named : (network : DeclaredNetwork) (stream : DeclaredStream) (n : ℕ) (between after : DeclaredNetwork)
+    (name : List ℕ) → IsIn network stream n between → AreSameBut n between after → name ≡ stream.name
+    → place_of name (stream_names after.streams) ≡ Some n
+in_named network stream n between after name in' same named =
+    ap (λ (q : List ℕ). place_of q (stream_names after.streams)) named
+    ∙ still_found network stream after (entered network stream in'.certified.rules in'.may in'.free)
+    (in_same network stream n between after in' same)
+    ∙ ap (λ (m : ℕ). Some m) (sym in'.number)
+
 -- where it is taken out again, the network is what it was
 pub out_again : (network : DeclaredNetwork) (stream : DeclaredStream) (n : ℕ) (between after new : DeclaredNetwork)
-    (name : List ℕ) → IsIn network stream n between → AreSameBut n between after → name ≡ stream.name
-    → new ≡ without_named after name → new ≡ network
-out_again network stream n between after new name in' same named taken =
-    undone network stream after new (entered network stream in'.certified.rules in'.may in'.free)
-    (subst (λ (m : ℕ). AreSameBut m (with_stream network stream) after) in'.number
-    (subst (λ (t : DeclaredNetwork). AreSameBut n t after) in'.is same))
-    (taken ∙ ap (without_named after) named)
+    → IsIn network stream n between → AreSameBut n between after → new ≡ without_at after n → new ≡ network
+out_again network stream n between after new in' same taken =
+    undone network stream after new (in_same network stream n between after in' same)
+    (taken ∙ ap (without_at after) in'.number)
 
 -- the search among the classes of the last stream is the one of admission
 lowest_same : (network : DeclaredNetwork) (stream : DeclaredStream) (classes : List ℕ)
@@ -111,10 +126,9 @@ given_certified network stream n between new class sum in' given is =
 
 -- what is answered without one
 pub none_answer : (network : DeclaredNetwork) (stream : DeclaredStream) (n : ℕ) (between : DeclaredNetwork)
-    (failure : Failure Denied) → IsIn network stream n between
-    → IsDue failure (no_class (lowest_at between n stream_classes)) → Fails failure (admit_lowest network stream)
-none_answer network stream n between NoMemory in' due = tt
-none_answer network stream n between (Fault denied) in' due =
+    (denied : Denied) → IsIn network stream n between
+    → no_class (lowest_at between n stream_classes) ≡ Some denied → admit_lowest network stream ≡ Err denied
+none_answer network stream n between denied in' due =
     ap (λ (o : Option Denied). sum_given network stream (class_given o (lowest_of network stream stream_classes)))
     in'.free
     ∙ by (lowest_of network stream stream_classes)

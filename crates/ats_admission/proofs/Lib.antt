@@ -3,3 +3,5 @@ pub mod Classed
 pub mod Entered
 pub mod Judgements
 pub mod Lowest
+pub mod Pending
+pub mod Named

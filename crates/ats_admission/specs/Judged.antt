@@ -1,26 +1,17 @@
-use Rattle.std.specs.Prelude.{◌≡◌, ℕ, List, [], ◌∷◌, length, slice_index_or, Option, Some, None, Result, Ok, Err}
+use Rattle.std.specs.Prelude.{◌≡◌, ℕ, List, [], ◌∷◌, length, Option, Some, None, Result, Ok, Err}
 use Rattle.std.specs.List.{remove}
-use Rattle.ats_num.specs.Failure.{unless}
 use Rattle.ats_streams.specs.Stream.{IsClass}
-use Rattle.ats_network.specs.Edits.{no_stream, with_class_at}
+use Rattle.ats_network.specs.Edits.{with_class_at}
 use Rattle.ats_network.specs.Network.{DeclaredNetwork}
 use Rattle.ats_network.specs.Tables.{stream_names}
-use Rattle.ats_certificate.specs.Certificate.{bound_along}
 use Rattle.ats_certificate.specs.Used.{stream_classes}
 use Rattle.ats_tally.specs.declared.reason.Reason.{Reason}
-use Rattle.ats_bound.specs.Least.{least_certificate}
 use Rattle.ats_bound.specs.Reason.{reason_of}
+use Rattle.ats_kept.specs.Judged.{sum_at}
+use Rattle.ats_kept.specs.Kept.{stream_paths}
 use Rattle.ats_requests.specs.Admission.{first_class}
 use Rattle.ats_requests.specs.declared.denied.Denied.{Denied}
 use Rattle.ats_requests.specs.declared.denied.Denied.TheVariants.{NoClass}
-
--- the sum of the least bounds of the stream with this number
-abbrev pub sum_at : DeclaredNetwork → ℕ → ℕ
-sum_at network n = bound_along (least_certificate network) (slice_index_or network.streams n no_stream)
-
--- the same, or the reason against the network where there is one
-abbrev pub judged : DeclaredNetwork → ℕ → Result ℕ Reason
-judged network n = unless (λ reason. reason) (reason_of network) (sum_at network n)
 
 -- the first of these classes with which the stream of this number brings no reason against the network, or the reason
 -- that comes with each
@@ -47,5 +38,6 @@ pub record AreSameBut (n : ℕ) (old new : DeclaredNetwork) : Type 0 where
   pub flows : new.flows ≡ old.flows
   pub many : length new.streams ≡ length old.streams
   pub names : stream_names new.streams ≡ stream_names old.streams
+  pub paths : stream_paths new ≡ stream_paths old
   pub others : remove new.streams n ≡ remove old.streams n
   pub classed : (class : ℕ) → with_class_at new n class ≡ with_class_at old n class

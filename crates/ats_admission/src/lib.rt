@@ -2,6 +2,7 @@
 #![tactic(auto)]
 
 mod admitting;
+mod entering;
 mod judging;
 pub mod session;
 

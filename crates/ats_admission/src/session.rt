@@ -13,10 +13,13 @@ ghost use Rattle.ats_requests.specs.Admission.{admit, admit_lowest, withdraw_fau
 ghost use Rattle.ats_requests.specs.Laws.{IsCertified};
 ghost use Rattle.ats_requests.specs.Requests.{MayAsk, MayEnter, after, answer};
 ghost use Rattle.ats_requests.specs.declared.request.Request.TheVariants.{Admit, Lowest, Withdraw};
+ghost use Rattle.ats_admission.specs.Sessions.{IsSession};
 
 use crate::admitting::{admit_stream, admit_with_lowest};
+use crate::entering::{leave, stream_named};
 use ats_bound::make;
 use ats_certificate::Certificate;
+use ats_kept::Kept;
 use ats_network::Network;
 use ats_num::{Failure, Name};
 use ats_requests::{Answer, Denied, Request};
@@ -26,22 +29,22 @@ use std::alloc::{AllocError, Global};
 use std::marker::Model;
 
 /// A network for which a certificate holds, that streams enter and leave so that one holds still. Contracts see the
-/// network.
+/// network. Beside it stands what a request needs of it, so that a request is judged along the path of its stream.
 #[derive(Drop)]
 pub struct Session {
-    alloc: Global,
     network: Network,
+    kept: Kept,
 }
 
 impl Model for Session {
     ghost use Rattle.ats_network.specs.Network.{DeclaredNetwork};
-    ghost use Rattle.ats_requests.specs.Laws.{IsCertified};
+    ghost use Rattle.ats_admission.specs.Sessions.{IsSession};
 
     ghost Value = { DeclaredNetwork };
 
     ghost view = { λ s. s.network };
 
-    ghost invariant = { λ s. IsCertified s.network };
+    ghost invariant = { λ s. IsSession s.network s.kept };
 }
 
 impl Session {
@@ -58,7 +61,7 @@ impl Session {
         ensures reason { IfErr result (λ refusal. IsDue refusal.1 (reason_of network)) }
     {
         match certify(alloc, &network) {
-            Ok(()) => Ok(Session { alloc, network }),
+            Ok(kept) => Ok(Session { network, kept }),
             Err(failure) => Err((network, failure)),
         }
     }
@@ -85,7 +88,7 @@ impl Session {
         ensures ok { OnOk result (self.new ≡ with_stream self.old stream) }
         ensures err { OnErr result (self.new ≡ self.old) }
     {
-        admit_stream(self.alloc, &mut self.network, stream)
+        admit_stream(&mut self.network, &mut self.kept, stream)
     }
 
     /// Adds a stream, which has a valid path and declares no identity, as the last of the streams, and gives it the
@@ -102,7 +105,7 @@ impl Session {
         ensures ok { IfOk result (λ given. self.new ≡ with_stream self.old (with_class stream given.0)) }
         ensures err { OnErr result (self.new ≡ self.old) }
     {
-        admit_with_lowest(self.alloc, &mut self.network, stream)
+        admit_with_lowest(&mut self.network, &mut self.kept, stream)
     }
 
     /// Takes out the stream with this name. The others keep their order. It takes no memory.
@@ -115,8 +118,11 @@ impl Session {
         ensures network { self.new ≡ without_named self.old name.now }
         ensures err { OnErr result (self.new ≡ self.old) }
     {
-        match self.network.take_stream(name) {
-            Some(_) => Ok(()),
+        match stream_named(&self.network, name) {
+            Some(number) => {
+                leave(&mut self.network, &mut self.kept, number, name);
+                Ok(())
+            }
             None => Err(Denied::NameUnknown),
         }
     }
@@ -192,12 +198,17 @@ impl Session {
     }
 }
 
-// Whether a certificate holds for a network: the reason against it, if there is one.
-fn certify(alloc: Global, network: &Network) -> Result<(), Failure<Reason>>
-    ensures ok { OnOk result (IsCertified network.now) }
+// What is kept of a network for which a certificate holds.
+//
+// # Errors
+//
+// The reason against the network exactly where there is one. `Failure::NoMemory` where memory runs out.
+fn certify(alloc: Global, network: &Network) -> Result<Kept, Failure<Reason>>
+    ensures ok { IfOk result (λ kept. IsSession network.now kept) }
     ensures reason { IfErr result (λ failure. IsDue failure (reason_of network.now)) }
 {
     let _rules = network.streams(); // for what a network keeps
     let _certificate = make(alloc, network)?;
-    Ok(())
+    let kept = Kept::new(alloc, network)?;
+    Ok(kept)
 }

@@ -29,7 +29,8 @@ use Rattle.ats_requests.specs.declared.request.Request.TheVariants.{Withdraw}
 use Rattle.ats_request_file.specs.Reading.{admit_line, asked, asked_in, if_station, made_class, path_between, path_in}
 use Rattle.ats_request_file.specs.Reading.{request_in, requests_from, requests_of, station_of, stream_made}
 use Rattle.ats_request_file.specs.Reading.{stream_over, withdraw_line, with_line}
-use Rattle.ats_request_file.specs.Words.{admit_in, is_skipped, named, word}
+use Rattle.ats_request_file.specs.Words.{admit_in, named}
+use Rattle.ats_words.specs.Words.{is_skipped, word}
 use Rattle.ats_request_file.specs.declared.fault.RequestFault.TheVariants.{BadLine, UnknownNode, NoPath, Limit}
 use Rattle.ats_request_file.specs.declared.fault.RequestFault.TheVariants as faults
 use Rattle.ats_request_file.proofs.LeastWalks.{least_valid}

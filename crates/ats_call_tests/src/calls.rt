@@ -18,6 +18,8 @@ const NETWORK: &[u8] =
 const CERTIFICATE: &[u8] =
     b"port,class,higher,equal,bursts,lower,least,wait,bound\ns1>s2,6,0,100000000000,12336,0,672,11664000,12836000\n";
 
+const REQUESTS: &[u8] = b"admit c s1 s2 7 10000000 672 64 64 1000000\nwithdraw a\n";
+
 const SCHEDULE: &[u8] = b"at_ps,sender,octets\n0,a,1522\n";
 
 // A record of a frame of stream `a`, with its time in microseconds and the lowest byte of each number first.
@@ -28,6 +30,9 @@ const CAPTURE: &[u8] = b"\xd4\xc3\xb2\xa1\x02\x00\x04\x00\x00\x00\x00\x00\x00\x0
 
 // The most bytes that a write takes.
 const MOST: usize = 16;
+
+// One more than the writes of the longest text.
+const WRITES: u32 = 20;
 
 // Each command with the number of its reads and the text that is due.
 const COMMANDS: &[(&[&str], u32, &[u8])] = &[
@@ -67,6 +72,18 @@ const COMMANDS: &[(&[&str], u32, &[u8])] = &[
         b"frame 0 a 64 0\nhop s1>s2 0 eligible 0 start 0 end 672000\nsink 1172000\n\
         total frames 1 sunk 1 late 0 size 0\nrecords 1 unidentified 0 oversize 0\n",
     ),
+    // The first draw from the seed 1 is 908834774, so the frame has 394 octets.
+    (
+        &["generate", "n", "1", "1"],
+        2,
+        b"stream a frames 1 sunk 1 late 0 size 0 worst 3812000 bound 12836000\ntotal frames 1 sunk 1 late 0 size 0\n",
+    ),
+    // c waits for a frame of a, of 12336000 picoseconds; its own takes 672000, and the link 500000.
+    (
+        &["admit", "n", "q"],
+        4,
+        b"admitted c 7 13508000\nwithdrawn a\nstreams 1\n",
+    ),
 ];
 
 // The words, owned.
@@ -91,8 +108,8 @@ fn file(rt: &(impl Abort + AllocGlobal), name: &str, text: &[u8]) -> (String, Ve
 fn files(rt: &(impl Abort + AllocGlobal)) -> Vec<(String, Vec<u8>)> {
     let (shape, network) = (file(rt, "s", SHAPE), file(rt, "n", NETWORK));
     let (certificate, schedule) = (file(rt, "c", CERTIFICATE), file(rt, "r", SCHEDULE));
-    let capture = file(rt, "p", CAPTURE);
-    vec![in rt.alloc(); shape, network, certificate, schedule, capture].expect(rt, "room")
+    let (capture, requests) = (file(rt, "p", CAPTURE), file(rt, "q", REQUESTS));
+    vec![in rt.alloc(); shape, network, certificate, schedule, capture, requests].expect(rt, "room")
 }
 
 // The end of a call with these words over these files and a sink with so much room, and the sink after it. The read and
@@ -132,7 +149,8 @@ fn each_read_fails(rt: HostRuntime) {
 #[test]
 fn each_write_fails(rt: HostRuntime) {
     for (words, _, text) in COMMANDS {
-        for taken in 0..8u32 {
+        assert!(rt; text.len() < WRITES as usize * MOST);
+        for taken in 0..WRITES {
             let front = text.len().min(taken as usize * MOST);
             let is_whole = front == text.len();
             let (status, out) = call(&rt, words, 0, taken + 1, 4096);

@@ -1,6 +1,6 @@
 //! The plain text of records.
 
-ghost use Rattle.std.specs.Prelude.{◌≡◌, ◌++◌, map, OnOk};
+ghost use Rattle.std.specs.Prelude.{◌≡◌, ◌++◌, length, map, take, OnOk};
 ghost use Rattle.std.specs.List.{join_with_byte};
 ghost use Rattle.ats_csv.specs.Plain.{bytes_of, further, record_text};
 
@@ -17,9 +17,11 @@ pub enum Field<'a> {
 }
 
 /// Appends the plain text of a record: its fields as they stand, a comma between each two, and LF.
-/// It reads back where the record is plain. After `AllocError` nothing is said of `out`.
+/// It reads back where the record is plain. What stood in `out` stays in front; after `AllocError`
+/// nothing is said of what is behind it.
 pub fn push_record(out: &mut Vec<u8>, fields: &[Field]) -> Result<(), AllocError>
-    ensures { OnOk result (out.new.items ≡ out.old.items ++ record_text (map bytes_of fields.now)) }
+    ensures written { OnOk result (out.new.items ≡ out.old.items ++ record_text (map bytes_of fields.now)) }
+    ensures front { take (length out.old.items) out.new.items ≡ out.old.items }
 {
     push_fields(out, fields)?;
     out.push(b'\n')?;
@@ -29,7 +31,8 @@ pub fn push_record(out: &mut Vec<u8>, fields: &[Field]) -> Result<(), AllocError
 // Appends fields with a comma between each two.
 #[tactic(auto, using(crate::proofs::Plain::joined))]
 fn push_fields(out: &mut Vec<u8>, fields: &[Field]) -> Result<(), AllocError>
-    ensures { OnOk result (out.new.items ≡ out.old.items ++ join_with_byte 44 (map bytes_of fields.now)) }
+    ensures written { OnOk result (out.new.items ≡ out.old.items ++ join_with_byte 44 (map bytes_of fields.now)) }
+    ensures front { take (length out.old.items) out.new.items ≡ out.old.items }
 {
     match fields.split_first() {
         None => Ok(()),
@@ -44,7 +47,8 @@ fn push_fields(out: &mut Vec<u8>, fields: &[Field]) -> Result<(), AllocError>
 // Appends each field with a comma before it.
 #[tactic(auto, using(crate::proofs::Plain::further_more))]
 fn push_further(out: &mut Vec<u8>, fields: &[Field]) -> Result<(), AllocError>
-    ensures { OnOk result (out.new.items ≡ out.old.items ++ further (map bytes_of fields.now)) }
+    ensures written { OnOk result (out.new.items ≡ out.old.items ++ further (map bytes_of fields.now)) }
+    ensures front { take (length out.old.items) out.new.items ≡ out.old.items }
 {
     for field in fields {
         out.push(b',')?;
@@ -55,7 +59,8 @@ fn push_further(out: &mut Vec<u8>, fields: &[Field]) -> Result<(), AllocError>
 
 // Appends the bytes of a field.
 fn push_field(out: &mut Vec<u8>, field: &Field) -> Result<(), AllocError>
-    ensures { OnOk result (out.new.items ≡ out.old.items ++ bytes_of field.now) }
+    ensures written { OnOk result (out.new.items ≡ out.old.items ++ bytes_of field.now) }
+    ensures front { take (length out.old.items) out.new.items ≡ out.old.items }
 {
     match field {
         Field::Text(text) => out.extend_from_slice(text)?,

@@ -1,4 +1,5 @@
-use Rattle.std.specs.Prelude.{◌≢◌, ℕ, ◌+◌, ◌*◌, ◌<◌, ◌≤◌, List, length, slice_index_or, All}
+use Rattle.std.specs.Prelude.{◌≡◌, ◌≢◌, ℕ, ◌+◌, ◌*◌, ◌<◌, ◌≤◌, Option, IfNone, List, [], ◌∷◌, length, slice_index_or}
+use Rattle.std.specs.Prelude.{All, AllPairs}
 
 -- the order covers both items, and y does not go before x
 pub record Leads {T : Type 0} (covers : T → Type 0) (before : T → T → Type 0) (x y : T) : Type 0 where
@@ -48,3 +49,24 @@ pub record IsKept {T : Type 0} (covers : T → Type 0) (before : T → T → Typ
   pub within : length items ≤ capacity
   pub covered : All covers items
   pub heap : IsHeap (Leads covers before) items
+
+-- the order covers each item, and each leads all behind it
+pub record IsLine {T : Type 0} (covers : T → Type 0) (before : T → T → Type 0) (line : List T) : Type 0 where
+  pub covered : All covers line
+  pub ascends : AllPairs (Leads covers before) line
+
+-- the line has a first item, and this leads all in the tree
+abbrev pub IsAhead : {T : Type 0} → (T → T → Type 0) → List T → List T → Type 0
+IsAhead leads [] tree = ⊥
+IsAhead leads (x ∷ xs) tree = All (leads x) tree
+
+-- what a heap keeps of the items in its line and in its tree
+pub record AreKept {T : Type 0} (covers : T → Type 0) (before : T → T → Type 0) (waiting standing : List T)
+    : Type 0 where
+  pub line : IsLine covers before waiting
+  pub tree : All covers standing
+
+-- of a stored line the items from this place on wait behind the first, and where there is no first, none waits
+pub record IsStored {T : Type 0} (first : Option T) (gone : ℕ) (items : List T) : Type 0 where
+  pub within : gone ≤ length items
+  pub none : IfNone first (gone ≡ length items)

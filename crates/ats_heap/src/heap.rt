@@ -3,18 +3,19 @@
 ghost use Rattle.std.specs.Prelude.{◌≡◌, ◌↔◌, ◌+◌, ◌<◌, [], ◌∷◌, length, IsNone, IfNone, IfSome, IfOk, IsPermutation};
 ghost use Rattle.ats_heap.specs.Steps.{Pops, IsFirst};
 
+use crate::joining::{first_of, put, take_first};
+use crate::line::Line;
 use crate::precedence::Precedence;
-use crate::sift::{rise, settle};
+use crate::tree::Tree;
 use std::alloc::{AllocError, Global};
 use std::marker::Model;
 
 /// Items in an order. Contracts see them as a list, whose order means nothing, and the capacity and the order that the
-/// heap was opened with.
+/// heap was opened with. An item that comes in its order waits in a line, any other stands in a tree.
 #[derive(Drop)]
 pub struct Heap<T: Copy, O: Precedence<T>> {
-    items: Vec<T>,
-    capacity: u32,
-    order: O,
+    tree: Tree<T, O>,
+    line: Line<T>,
 }
 
 impl<T: Copy, O: Precedence<T>> Model for Heap<T, O> {
@@ -22,13 +23,12 @@ impl<T: Copy, O: Precedence<T>> Model for Heap<T, O> {
 
     ghost Value = { Contents T O };
 
-    ghost use Rattle.std.specs.Prelude.{vec_capacity};
-    ghost use Rattle.ats_heap.specs.Inside.{IsKept};
+    ghost use Rattle.ats_heap.specs.Contents.{joined};
+    ghost use Rattle.ats_heap.specs.Inside.{AreKept};
 
-    ghost view = { λ h. record { items = h.items.items; capacity = h.capacity; order = h.order } };
+    ghost view = { λ h. joined h.line h.tree };
 
-    ghost invariant = { λ h. IsKept (O.covers h.order) (O.goes_before h.order) h.items.items h.capacity
-        (vec_capacity h.items) };
+    ghost invariant = { λ h. AreKept (O.covers h.tree.order) (O.goes_before h.tree.order) h.line h.tree.items };
 }
 
 impl<T: Copy, O: Precedence<T>> Heap<T, O> {
@@ -37,9 +37,8 @@ impl<T: Copy, O: Precedence<T>> Heap<T, O> {
         ensures { IfOk result (λ heap. heap ≡ record { items = []; capacity = capacity; order = order }) }
     {
         Ok(Heap {
-            items: Vec::with_capacity(alloc, capacity as usize)?,
-            capacity,
-            order,
+            tree: Tree::open(alloc, capacity, order)?,
+            line: Line::open(alloc, capacity)?,
         })
     }
 
@@ -51,9 +50,7 @@ impl<T: Copy, O: Precedence<T>> Heap<T, O> {
         ensures count { length self.new.items ≡ length self.old.items + 1 }
         ensures rest { self.new ≡ record self.old { items = self.new.items } }
     {
-        let place = self.items.len();
-        self.items.push(item).unwrap();
-        rise(self.order, &mut self.items, place, item);
+        put(&mut self.line, &mut self.tree, item);
     }
 
     /// Takes out an item that no other goes before. `None` exactly where there is none, and then nothing changes. It
@@ -65,8 +62,7 @@ impl<T: Copy, O: Precedence<T>> Heap<T, O> {
         ensures unchanged { IfNone result (self.new ≡ self.old) }
         ensures rest { self.new ≡ record self.old { items = self.new.items } }
     {
-        let last = self.items.pop()?;
-        Some(settle(self.order, &mut self.items, last))
+        take_first(&mut self.line, &mut self.tree)
     }
 
     /// An item that no other goes before. `None` exactly where there is none.
@@ -74,9 +70,6 @@ impl<T: Copy, O: Precedence<T>> Heap<T, O> {
         ensures first { IfSome result (IsFirst (O.goes_before self.now.order) self.now.items) }
         ensures none { IsNone result ↔ (self.now.items ≡ []) }
     {
-        if self.items.is_empty() {
-            return None;
-        }
-        Some(self.items[0])
+        first_of(&self.line, &self.tree)
     }
 }

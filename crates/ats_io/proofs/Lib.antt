@@ -3,4 +3,3 @@ pub mod Fronts
 mod Held
 mod Lines
 mod Pairs
-mod Words

@@ -1,5 +1,5 @@
 //! The outside of the simulator: files that are read by name and a sink that takes text, each with a count of faults;
-//! whole reads and writes over them; lines and words of a text.
+//! whole reads and writes over them; lines of a text.
 #![tactic(auto)]
 
 pub mod fault;
@@ -18,5 +18,5 @@ pub use mem_files::MemFiles;
 pub use mem_sink::MemSink;
 pub use sink::Sink;
 pub use sure::{SureFiles, SureSink};
-pub use text::{line_at, word_at};
+pub use text::line_at;
 pub use whole::{read_whole, write_all};

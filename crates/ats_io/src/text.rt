@@ -1,8 +1,8 @@
-//! Lines and words of a text.
+//! Lines of a text.
 
-ghost use Rattle.std.specs.Prelude.{◌≡◌, ◌==◌, ◌<◌, ◌≤◌, ◌∷◌, length, drop, position, IfSome, IsSome, ◌↔◌, slice_get};
-ghost use Rattle.std.specs.Prelude.{slice_range, option_copied, slice_index, ◌-◌};
-ghost use Rattle.ats_io.specs.Text.{lines_of, words_of};
+ghost use Rattle.std.specs.Prelude.{◌≡◌, ◌==◌, ◌<◌, ◌≤◌, ◌∷◌, length, drop, position, IfSome};
+ghost use Rattle.std.specs.Prelude.{slice_range, slice_index, ◌-◌};
+ghost use Rattle.ats_io.specs.Text.{lines_of};
 
 /// The line that begins at place `at` of the text: the place where it ends, and the place where the next line begins. A
 /// line ends before its LF, and before a CR directly before that LF; the last line may have no LF, and keeps its CR.
@@ -36,15 +36,4 @@ fn feed_at(text: &[u8]) -> Option<usize>
     ensures feed { IfSome result (λ place. slice_index text.now place ≡ 10) }
 {
     text.iter().position(|b| *b == b'\n')
-}
-
-/// The word of a line with this number, counted from 0, or `None` exactly where the line has no more words. Words are
-/// separated by one or more spaces; spaces at either end are passed over.
-pub fn word_at(line: &[u8], number: usize) -> Option<&[u8]>
-    ensures word { option_copied result ≡ slice_get (words_of line.now) number }
-    ensures some { IsSome result ↔ (number < length (words_of line.now)) }
-{
-    line.split(|b| *b == b' ')
-        .filter(|piece| !piece.is_empty())
-        .nth(number)
 }

@@ -1,5 +1,5 @@
 use Rattle.std.proofs.Common.{◌≡◌, ◌≢◌, ℕ, zero, suc, ◌<◌, ◌≤◌, Bool, true, false, cond, ◌||◌, List, [], ◌∷◌, length}
-use Rattle.std.proofs.Common.{get_or, map, refl, ap, ◌∙◌, arith, eqb}
+use Rattle.std.proofs.Common.{get_or, map, refl, sym, ap, ◌∙◌, arith, eqb}
 use Rattle.std.specs.List.{All, AllPairs, list_any}
 use Rattle.std.proofs.lemmas.Bool.{eq-eqb, ne_eqb, or_parts, false≢true}
 use Rattle.std.proofs.lemmas.List.Elements.{All-head, All-tail}
@@ -102,3 +102,13 @@ class_along-at (p ∷ path) (class ∷ classes) (suc hop) apart many within =
 
 pub class_is_by_hop : ClassIsByHop
 class_is_by_hop topology s hop is within = class_along-at s.path s.classes hop is.apart is.each_port within
+
+-- so it is where the ports of a stream's path and its classes are given under other names
+pub class_listed : (s : DeclaredStream) (ports classes : List ℕ) (hop : ℕ) → ports ≡ s.path → classes ≡ s.classes
+    → AllPairs (λ p q. p ≢ q) s.path → length s.classes ≡ length s.path → hop < length ports
+    → get_or classes hop 0 ≡ class_at (stream_sender s) (get_or ports hop 0)
+class_listed s ports classes hop path_is classes_are apart many within =
+    let long : length ports ≡ length s.path = ap (λ (l : List ℕ). length l) path_is in
+    ap (λ (l : List ℕ). get_or l hop 0) classes_are
+    ∙ sym (class_along-at s.path s.classes hop apart many (omega (arith, long)))
+    ∙ ap (λ (l : List ℕ). class_at (stream_sender s) (get_or l hop 0)) (sym path_is)

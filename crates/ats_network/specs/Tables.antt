@@ -1,9 +1,10 @@
-use Rattle.std.specs.Prelude.{◌≡◌, ℕ, ◌<◌, ◌≤◌, Bool, List, ◌∷◌, map, length, AllPairs, Option, Some, None, IsTrue}
+use Rattle.std.specs.Prelude.{◌≡◌, ℕ, ◌≤◌, Bool, List, ◌∷◌, map, length, Option, Some, None, IsTrue}
 use Rattle.std.specs.Prelude.{if◌then◌else◌}
 use Rattle.std.specs.Ordering.{nat_cmp, ordering_then}
 use Rattle.std.specs.Cmp.Lexicographic.{slice_cmp}
 use Rattle.std.specs.Str.{bytes_eq}
 use Rattle.std.specs.BTreeMap.{BTreeMap, get}
+use Rattle.ats_serials.specs.Serials.{AreRising}
 use Rattle.ats_streams.specs.Stream.{DeclaredStream}
 use Rattle.ats_streams.specs.Flow.{DeclaredFlow}
 use Rattle.ats_network.specs.Pushes.{is_identity}
@@ -25,10 +26,6 @@ stream_identities streams = map (λ (s : DeclaredStream). s.identity) streams
 abbrev pub serial_of : {X : Type 0} → (X → Bool) → List X → List ℕ → Option ℕ
 serial_of test (x ∷ xs) (serial ∷ serials) = if test x then Some serial else serial_of test xs serials
 serial_of test xs serials = None
-
--- each of the serial numbers is below those behind it
-abbrev pub AreRising : List ℕ → Type 0
-AreRising serials = AllPairs (λ a b. a < b) serials
 
 -- the serial number that a map has for a name
 abbrev pub serial_at : BTreeMap (List ℕ) ℕ → List ℕ → Option ℕ

@@ -13,4 +13,4 @@ mod stream_table;
 pub use fault::PushFault;
 pub use network::Network;
 pub use paths::is_valid_path;
-pub use routes::shortest;
+pub use routes::{shortest, shortest_kept};

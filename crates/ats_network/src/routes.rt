@@ -3,9 +3,10 @@
 ghost use Rattle.std.specs.Prelude.{◌≡◌, ◌<◌, ℕ, IfOk, length};
 ghost use Rattle.std.specs.Global.{Vec};
 ghost use Rattle.std.specs.Option.{option_map};
+ghost use Rattle.ats_topology.specs.KeptWalks.{AreKeptFor};
 ghost use Rattle.ats_network.specs.Shortest.{shortest_of};
 
-use ats_topology::Topology;
+use ats_topology::{KeptWalks, Topology};
 use std::alloc::{AllocError, Global};
 
 /// The ports of the walk from node `a` to node `b`, which are node numbers: of the walks of fewest ports the first in
@@ -27,4 +28,28 @@ pub fn shortest(
 {
     let _nodes = topology.nodes(); // for what a topology keeps
     topology.shortest(alloc, a, b)
+}
+
+/// The same by walks that are kept for this topology: there is a search only at the first call for
+/// a node `b`.
+///
+/// # Errors
+///
+/// `AllocError` where memory runs out; the searches that were made stay.
+pub fn shortest_kept(
+    alloc: Global,
+    topology: &Topology,
+    walks: &mut KeptWalks,
+    a: u32,
+    b: u32,
+) -> Result<Option<Vec<u32>>, AllocError>
+    requires a { a < length topology.now.nodes }
+    requires b { b < length topology.now.nodes }
+    requires kept { AreKeptFor topology.now walks.old }
+    ensures value { IfOk result
+        (λ found. option_map (λ (walk : Vec ℕ). walk.items) found ≡ shortest_of topology.now a b) }
+    ensures kept { AreKeptFor topology.now walks.new }
+{
+    let _nodes = topology.nodes(); // for what a topology keeps
+    walks.shortest(alloc, topology, a, b)
 }

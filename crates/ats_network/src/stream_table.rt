@@ -1,7 +1,6 @@
 //! Streams, found by their names and by the addresses of their frames.
 
-ghost use Rattle.std.specs.Prelude.{◌≡◌, ℕ, ◌<◌, ◌≤◌, [], ◌∷◌, ◌++◌, length, slice_index_or, All, Some, None, false};
-ghost use Rattle.std.specs.Prelude.{IfOk};
+ghost use Rattle.std.specs.Prelude.{◌≡◌, ◌<◌, [], ◌∷◌, ◌++◌, length, Some, None, false};
 ghost use Rattle.std.specs.Prelude.{IfSome, OnOk, OnErr};
 ghost use Rattle.ats_num.specs.Places.{place_of};
 ghost use Rattle.ats_streams.specs.Stream.{IsClass};
@@ -9,11 +8,12 @@ ghost use Rattle.ats_topology.specs.Node.{AreApart};
 ghost use Rattle.ats_network.specs.Edits.{IsLess, classed, stream_named, less_named};
 ghost use Rattle.ats_network.specs.Network.{AreIdentified};
 ghost use Rattle.ats_network.specs.Pushes.{place_identified, is_identity_taken};
-ghost use Rattle.ats_network.specs.Tables.{AreRising, stream_names, serial_at, IsUnidentified, Identifies, FindsSame};
+ghost use Rattle.ats_network.specs.Tables.{stream_names, serial_at, IsUnidentified, Identifies, FindsSame};
 ghost use Rattle.ats_network.specs.Tables.{Names, NamesSame};
 
 use crate::network::MAX_STREAMS;
 use ats_num::Name;
+use ats_serials::{place_in, serial_after};
 use ats_streams::Stream;
 use std::alloc::{AllocError, Global};
 use std::collections::BTreeMap;
@@ -119,30 +119,6 @@ impl StreamTable {
         self.serials.remove(place);
         forget(&mut self.names, &mut self.identities, &stream);
         Some(stream)
-    }
-}
-
-// The place of a serial number among numbers that rise, where it stands there.
-fn place_in(serials: &[u64], serial: u64) -> Option<u32>
-    requires rising { AreRising serials.now }
-    requires few { length serials.now ≤ MAX_STREAMS }
-    ensures { (n : ℕ) → n < length serials.now → slice_index_or serials.now n 0 ≡ serial → result ≡ Some n }
-{
-    match serials.binary_search(&serial) {
-        Ok(place) => Some(place as u32),
-        Err(_) => None,
-    }
-}
-
-// The least serial number above these, which rise. There is none above the greatest number of all, which no list of
-// pushes reaches; the answer is then `AllocError`.
-fn serial_after(serials: &[u64]) -> Result<u64, AllocError>
-    requires { AreRising serials.now }
-    ensures { IfOk result (λ next. All (λ serial. serial < next) serials.now) }
-{
-    match serials.last() {
-        Some(last) => last.checked_add(1).ok_or(AllocError),
-        None => Ok(0),
     }
 }
 

@@ -10,6 +10,7 @@ use ats_network::Network;
 use ats_network_toml::FlowEntry;
 use ats_num::Failure;
 use ats_streams::Flow;
+use ats_topology::KeptWalks;
 use std::alloc::Global;
 
 impl SenderEntry for FlowEntry {
@@ -21,11 +22,13 @@ impl SenderEntry for FlowEntry {
         &self,
         alloc: Global,
         network: &mut Network,
+        walks: &mut KeptWalks,
         number: u32,
     ) -> Result<(), Failure<NetFault>> {
         let path = path_in(
             alloc,
             network.topology(),
+            walks,
             SenderTable::Flow,
             number,
             &self.route,

@@ -3,6 +3,7 @@
 ghost use Rattle.std.specs.Prelude.{◌≡◌, ◌↔◌, ℕ, IsTrue, IfOk};
 ghost use Rattle.std.specs.Global.{Vec};
 ghost use Rattle.std.specs.Option.{option_map};
+ghost use Rattle.ats_topology.specs.KeptWalks.{AreKeptFor};
 ghost use Rattle.ats_network.specs.Path.{IsValidPath};
 ghost use Rattle.ats_network_toml.specs.Views.{route_view};
 ghost use Rattle.ats_network_toml.specs.Document as file;
@@ -12,25 +13,28 @@ ghost use Rattle.ats_network_file.specs.Senders.{path_in};
 
 use crate::fault::NetFault;
 use crate::senders::SenderTable;
-use ats_network::{is_valid_path, shortest};
+use ats_network::{is_valid_path, shortest_kept};
 use ats_network_toml::Route;
 use ats_num::{Failure, Name};
-use ats_topology::Topology;
+use ats_topology::{KeptWalks, Topology};
 use std::alloc::{AllocError, Global};
 
 /// The ports of the route of an entry of a table, or `BadPath` where they make no valid path.
 pub(crate) fn path_in(
     alloc: Global,
     topology: &Topology,
+    walks: &mut KeptWalks,
     table: SenderTable,
     entry: u32,
     route: &Route,
 ) -> Result<Vec<u32>, Failure<NetFault>>
+    requires kept { AreKeptFor topology.now walks.old }
     ensures value { GivesSeen (λ path. path.items) result (path_in topology.now table entry (route_view route.now)) }
     ensures valid { IfOk result (λ path. IsValidPath topology.now path.items) }
+    ensures kept { AreKeptFor topology.now walks.new }
 {
     let fault = NetFault::BadPath { table, entry };
-    let Some(path) = ports_of(alloc, topology, route)? else {
+    let Some(path) = ports_of(alloc, topology, walks, route)? else {
         return Err(Failure::Fault(fault));
     };
     if !is_valid(topology, &path) {
@@ -55,14 +59,17 @@ fn is_valid(topology: &Topology, path: &[u32]) -> bool
 fn ports_of(
     alloc: Global,
     topology: &Topology,
+    walks: &mut KeptWalks,
     route: &Route,
 ) -> Result<Option<Vec<u32>>, AllocError>
-    ensures { IfOk result
+    requires kept { AreKeptFor topology.now walks.old }
+    ensures value { IfOk result
         (λ found. option_map (λ (path : Vec ℕ). path.items) found ≡ ports_of topology.now (route_view route.now)) }
+    ensures kept { AreKeptFor topology.now walks.new }
 {
     match route {
         Route::Path(names) => ports_through(alloc, topology, names),
-        Route::Ends(from, to) => ports_between(alloc, topology, from, to),
+        Route::Ends(from, to) => ports_between(alloc, topology, walks, from, to),
     }
 }
 
@@ -85,11 +92,14 @@ fn ports_through(
 fn ports_between(
     alloc: Global,
     topology: &Topology,
+    walks: &mut KeptWalks,
     from: &Name,
     to: &Name,
 ) -> Result<Option<Vec<u32>>, AllocError>
-    ensures { IfOk result
+    requires kept { AreKeptFor topology.now walks.old }
+    ensures value { IfOk result
         (λ found. option_map (λ (path : Vec ℕ). path.items) found ≡ ports_of topology.now (file.ends from.now to.now)) }
+    ensures kept { AreKeptFor topology.now walks.new }
 {
     let Some(a) = topology.node_named(from) else {
         return Ok(None);
@@ -97,7 +107,7 @@ fn ports_between(
     let Some(b) = topology.node_named(to) else {
         return Ok(None);
     };
-    shortest(alloc, topology, a, b)
+    shortest_kept(alloc, topology, walks, a, b)
 }
 
 // The numbers of the nodes with these names, where each is known.
@@ -109,7 +119,7 @@ fn nodes_named(
     ensures { IfOk result
         (λ found. option_map (λ (nodes : Vec ℕ). nodes.items) found ≡ nodes_named topology.now names.now) }
 {
-    let mut nodes = Vec::new(alloc);
+    let mut nodes = Vec::with_capacity(alloc, names.len())?;
     for name in names {
         let Some(node) = topology.node_named(name) else {
             return Ok(None);
@@ -132,7 +142,7 @@ fn ports_along(
         return Ok(None);
     };
     let mut at = *first;
-    let mut path = Vec::new(alloc);
+    let mut path = Vec::with_capacity(alloc, rest.len())?;
     for node in rest {
         let Some(port) = topology.port_between(at, *node) else {
             return Ok(None);

@@ -1,7 +1,8 @@
 //! The entries of a file that declare senders: its streams and its flows.
 
-ghost use Rattle.std.specs.Prelude.{◌≡◌, ◌<◌, ◌^◌, ℕ, length, Option, Result};
+ghost use Rattle.std.specs.Prelude.{◌≡◌, ◌<◌, ◌^◌, ℕ, length, OnOk, Option, Result};
 ghost use Rattle.ats_num.specs.Failure.{IsDue, Fails, GivesSeen, unless};
+ghost use Rattle.ats_topology.specs.KeptWalks.{AreKeptFor};
 ghost use Rattle.ats_network.specs.Network.{DeclaredNetwork};
 ghost use Rattle.ats_network_file.specs.Senders.{table_of, refusal_of, all_added};
 ghost use Rattle.ats_network_file.specs.declared.fault.NetFault.{NetFault};
@@ -13,6 +14,7 @@ use ats_network::{Network, PushFault};
 use ats_network_toml::{DocumentFault, Table};
 use ats_num::Failure;
 use ats_streams::StreamFault;
+use ats_topology::KeptWalks;
 use std::alloc::Global;
 
 /// A table of a file that declares senders.
@@ -80,27 +82,34 @@ pub(crate) trait SenderEntry: Drop {
     // The network with the sender of an entry, which has this number, or the first fault of that entry.
     ghost added: { DeclaredNetwork → ℕ → Self → Result DeclaredNetwork NetFault };
 
-    /// Adds the sender of an entry, which has this number, or gives the entry's first fault.
+    /// Adds the sender of an entry, which has this number, or gives the entry's first fault. The
+    /// walks are kept for the network's topology.
     fn add(
         &self,
         alloc: Global,
         network: &mut Network,
+        walks: &mut KeptWalks,
         number: u32,
     ) -> Result<(), Failure<NetFault>>
-        ensures { GivesSeen (λ _. network.new) result (added network.old number self.now) };
+        requires kept { AreKeptFor network.old.topology walks.old }
+        ensures value { GivesSeen (λ _. network.new) result (added network.old number self.now) }
+        ensures kept { OnOk result (AreKeptFor network.new.topology walks.new) };
 }
 
 /// Adds the senders of these entries, one after another, as far as the first fault.
 pub(crate) fn add_all<E: SenderEntry>(
     alloc: Global,
     network: &mut Network,
+    walks: &mut KeptWalks,
     entries: &[E],
 ) -> Result<(), Failure<NetFault>>
-    requires { length entries.now < 2 ^ 31 }
-    ensures { GivesSeen (λ _. network.new) result (all_added E.added network.old 1 entries.now) }
+    requires few { length entries.now < 2 ^ 31 }
+    requires kept { AreKeptFor network.old.topology walks.old }
+    ensures value { GivesSeen (λ _. network.new) result (all_added E.added network.old 1 entries.now) }
+    ensures kept { OnOk result (AreKeptFor network.new.topology walks.new) }
 {
     for (place, entry) in entries.iter().enumerate() {
-        entry.add(alloc, network, place as u32 + 1)?;
+        entry.add(alloc, network, walks, place as u32 + 1)?;
     }
     Ok(())
 }

@@ -10,6 +10,7 @@ use ats_network::Network;
 use ats_network_toml::StreamEntry;
 use ats_num::Failure;
 use ats_streams::Stream;
+use ats_topology::KeptWalks;
 use std::alloc::Global;
 
 impl SenderEntry for StreamEntry {
@@ -21,11 +22,13 @@ impl SenderEntry for StreamEntry {
         &self,
         alloc: Global,
         network: &mut Network,
+        walks: &mut KeptWalks,
         number: u32,
     ) -> Result<(), Failure<NetFault>> {
         let path = path_in(
             alloc,
             network.topology(),
+            walks,
             SenderTable::Stream,
             number,
             &self.route,

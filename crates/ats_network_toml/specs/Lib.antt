@@ -8,3 +8,4 @@ pub mod Reading
 pub mod ArraysView
 pub mod PartsView
 pub mod FaultText
+pub mod Slots

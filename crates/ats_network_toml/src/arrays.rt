@@ -31,7 +31,7 @@ pub(crate) fn read_entries<E: FromSection>(
     if tables.len() > most {
         return Err(Failure::Fault(DocumentFault::Limit { table }));
     }
-    let mut entries = Vec::new(alloc);
+    let mut entries = Vec::with_capacity(alloc, tables.len())?;
     for place in 0..tables.len() {
         let section = Section::new(format, table, place as u32 + 1, tables.at(place));
         let entry = E::read(alloc, &section)?;

@@ -10,6 +10,7 @@ pub mod key;
 mod kinds;
 pub mod reading;
 mod section;
+mod slots;
 pub mod table;
 mod tables;
 

@@ -5,7 +5,7 @@ ghost use Rattle.std.specs.Option.{ForSome};
 ghost use Rattle.toml.specs.Data.{get_member};
 ghost use Rattle.toml.specs.View.{view, items_view, table_view};
 ghost use Rattle.ats_network_toml.specs.Words.{key_text};
-ghost use Rattle.ats_network_toml.specs.Walk.{has, is_due, is_missing, missing_key, is_known, has_unknown, formed, at};
+ghost use Rattle.ats_network_toml.specs.Walk.{has, is_due, is_missing, missing_key, formed, at};
 ghost use Rattle.ats_network_toml.specs.Walk.{name_at, whole_at, tables_at, path_at, identity_at, deadline_at};
 ghost use Rattle.ats_network_toml.specs.Walk.{format_at, classes_at};
 ghost use Rattle.ats_num.specs.Failure.{or_fault, GivesSeen};
@@ -19,6 +19,7 @@ use crate::fault::DocumentFault;
 use crate::format::Format;
 use crate::key::Key;
 use crate::kinds::{FromValue, MAX_WHOLE, address_in, name_in, whole_in};
+use crate::slots::Slots;
 use crate::table::Table;
 use crate::tables::Tables;
 use ats_num::{Failure, Name};
@@ -30,12 +31,12 @@ pub(crate) const DEFAULT_DEADLINE_NS: u64 = 1_000_000_000;
 
 /// One table of a file: the file's format, which table it is, its number among those of its array,
 /// counted from 1 (0 for the top table), and what stands in it.
-#[derive(Clone, Copy)]
+#[derive(Drop)]
 pub(crate) struct Section<'a> {
     format: Format,
     table: Table,
     number: u32,
-    members: &'a toml::Table,
+    slots: Slots<'a>,
 }
 
 impl<'a> Section<'a> {
@@ -50,7 +51,7 @@ impl<'a> Section<'a> {
             format,
             table,
             number,
-            members,
+            slots: Slots::of(members),
         }
     }
 
@@ -65,7 +66,7 @@ impl<'a> Section<'a> {
     pub(crate) fn value(&self, key: Key) -> Option<&'a Value>
         ensures { option_map (λ v. view v.now) result ≡ get_member (key_text key) (entry_of self.now).members }
     {
-        member(self.members, key.text())
+        self.slots.value(key)
     }
 
     /// Whether a key stands in the table.
@@ -127,7 +128,7 @@ impl<'a> Section<'a> {
                 key,
             });
         }
-        if has_unknown(self.table.keys(self.format), self.members) {
+        if self.slots.has_unknown(self.table.keys(self.format)) {
             return Err(DocumentFault::Unknown {
                 table: self.table,
                 entry: self.number,
@@ -242,9 +243,7 @@ impl<'a> Section<'a> {
         if self.has(Key::Classes) {
             return Err(Failure::Fault(self.wrong_kind(Key::Classes)));
         }
-        let mut classes = Vec::new(alloc);
-        classes.push(class)?;
-        Ok(classes)
+        Ok(vec![in alloc; class]?)
     }
 
     // The items of the array that stands with a key.
@@ -297,12 +296,6 @@ impl<'a> Section<'a> {
     }
 }
 
-fn member<'a>(members: &'a toml::Table, key: &str) -> Option<&'a Value>
-    ensures { option_map (λ v. view v.now) result ≡ get_member key.now (table_view members.now) }
-{
-    members.get(key)
-}
-
 // What the items of an array are, or this fault where one is of another kind.
 fn items_in<T: FromValue>(
     alloc: Global,
@@ -311,7 +304,7 @@ fn items_in<T: FromValue>(
 ) -> Result<Vec<T>, Failure<DocumentFault>>
     ensures { GivesSeen (λ items. items.items) result (or_fault fault (all_in T.kind (items_view values.now))) }
 {
-    let mut items = Vec::new(alloc);
+    let mut items = Vec::with_capacity(alloc, values.len())?;
     for value in values {
         let item = match T::from_value(value) {
             Some(item) => item,
@@ -330,22 +323,4 @@ fn tables_in(value: &Value) -> Option<Tables<'_>>
         Some(values) => Tables::of(values.as_slice()),
         None => None,
     }
-}
-
-fn has_unknown(keys: &[Key], members: &toml::Table) -> bool
-    ensures { result ≡ has_unknown keys.now (table_view members.now) }
-{
-    'members: for (text, _value) in members.iter() {
-        if !is_known(keys, text.as_str()) {
-            return true;
-        }
-    }
-    false
-}
-
-fn is_known(keys: &[Key], text: &str) -> bool
-    ensures { result ≡ is_known keys.now text.now }
-{
-    keys.iter()
-        .any(|key| text.as_bytes() == key.text().as_bytes())
 }

@@ -2,6 +2,7 @@ pub mod Division
 pub mod Rate
 pub mod Wire
 pub mod Number
+pub mod Digits
 pub mod Name
 pub mod NameInside
 pub mod Tie

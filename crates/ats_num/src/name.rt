@@ -1,6 +1,6 @@
 //! Names of nodes, streams and flows.
 
-ghost use Rattle.std.specs.Prelude.{◌≡◌, ◌↔◌, ℕ, List, IsTrue, IsSome, IfSome, length, ◌≤◌};
+ghost use Rattle.std.specs.Prelude.{◌≡◌, ◌↔◌, ℕ, List, IsTrue, IsSome, IfSome, length, ◌≤◌, ◌<◌, ◌*◌, drop};
 ghost use Rattle.std.proofs.Common.{rules};
 ghost use Rattle.std.specs.Cmp.{partial_order_from_own_ties};
 ghost use Rattle.std.specs.Cmp.Rules.{comparing};
@@ -8,6 +8,7 @@ ghost use Rattle.std.specs.Cmp.Lexicographic.{slice_cmp, pointwise};
 ghost use Rattle.std.specs.Ordering.{nat_cmp, as_partial_cmp};
 ghost use Rattle.std.specs.Prelude.{nat_eq};
 ghost use Rattle.std.specs.List.{list_all};
+ghost use Rattle.std.specs.Int.{w64, from_be_bytes};
 ghost use Rattle.ats_num.specs.Name.{name_of, is_name, is_name_byte, padded};
 
 use std::cmp::Ordering;
@@ -98,13 +99,45 @@ fn padded(text: &[u8]) -> [u8; 32]
     array
 }
 
+// The order of two arrays by their bytes. Eight bytes are compared at a time, as one number.
+fn order(text: &[u8; 32], other: &[u8; 32]) -> Ordering
+    ensures { result ≡ slice_cmp nat_cmp text.now other.now }
+{
+    for place in 0..4 {
+        let mine = word(text, place);
+        let theirs = word(other, place);
+        if mine != theirs {
+            return mine.cmp(&theirs);
+        }
+    }
+    Ordering::Equal
+}
+
+// Eight bytes of an array as a number, the first of them the most significant.
+fn word(text: &[u8; 32], place: usize) -> u64
+    requires { place < 4 }
+    ensures { result ≡ from_be_bytes w64 (drop (8 * place) text.now) }
+{
+    let at = 8 * place;
+    u64::from_be_bytes([
+        text[at],
+        text[at + 1],
+        text[at + 2],
+        text[at + 3],
+        text[at + 4],
+        text[at + 5],
+        text[at + 6],
+        text[at + 7],
+    ])
+}
+
 impl PartialEq for Name {
     ghost eq = { pointwise nat_eq };
 
     ghost laws = { Prim.search (comparing, rules) };
 
     fn eq(&self, other: &Name) -> bool {
-        self.bytes() == other.bytes()
+        order(&self.text, &other.text).is_eq()
     }
 }
 
@@ -122,7 +155,7 @@ impl Ord for Name {
     ghost matches_eq = { Prim.search (comparing, rules) };
 
     fn cmp(&self, other: &Name) -> Ordering {
-        self.bytes().cmp(other.bytes())
+        order(&self.text, &other.text)
     }
 }
 

@@ -3,33 +3,48 @@
 ghost use Rattle.std.specs.Prelude.{◌≡◌, ◌≤◌, length, IsTrue};
 ghost use Rattle.std.specs.List.{list_all};
 ghost use Rattle.std.specs.Char.{is_ascii_digit};
-ghost use Rattle.ats_num.specs.Number.{number_of, is_number, value_of};
+ghost use Rattle.ats_num.specs.Digits.{digits_value};
+ghost use Rattle.ats_num.specs.Number.{number_of, value_of};
 
 /// The most digits of a number in a file.
 pub const MAX_DIGITS: usize = 36;
+
+// The most digits of which each number is below 2^64.
+const SHORT_DIGITS: usize = 19;
 
 /// The number that a text writes: 1 to 36 decimal digits, without sign and without a needless leading 0. `None` exactly
 /// for any other text.
 pub fn number(text: &[u8]) -> Option<u128>
     ensures { result ≡ number_of text.now }
 {
-    if is_number(text) {
-        Some(value(text))
-    } else {
-        None
-    }
-}
-
-fn is_number(text: &[u8]) -> bool
-    ensures { result ≡ is_number text.now }
-{
     if text.is_empty() || text.len() > MAX_DIGITS {
-        return false;
+        return None;
     }
     if text[0] == b'0' && text.len() != 1 {
-        return false;
+        return None;
     }
-    are_digits(text)
+    if text.len() <= SHORT_DIGITS {
+        return short_number(text);
+    }
+    if !are_digits(text) {
+        return None;
+    }
+    Some(value(text))
+}
+
+// The number that digits write, or `None` where a byte is none.
+fn short_number(text: &[u8]) -> Option<u128>
+    requires { length text.now ≤ SHORT_DIGITS }
+    ensures { result ≡ digits_value text.now }
+{
+    let mut value: u64 = 0;
+    for c in text {
+        if !c.is_ascii_digit() {
+            return None;
+        }
+        value = value * 10 + u64::from(*c - b'0');
+    }
+    Some(value.into())
 }
 
 fn are_digits(text: &[u8]) -> bool

@@ -6,6 +6,7 @@ use itoa::{Buffer, Integer};
 use std::alloc::AllocError;
 
 // A word, and a number behind it.
+#[inline(always)]
 pub(crate) fn write_number<I: Integer + Drop>(
     out: &mut Vec<u8>,
     word: &[u8],

@@ -8,7 +8,7 @@ use Rattle.ats_io.specs.Text.{lines_of, words_of}
 use Rattle.ats_num.specs.Failure.{◌>>=◌}
 use Rattle.ats_topology.specs.Topology.{DeclaredTopology}
 use Rattle.ats_requests.specs.declared.request.Request.{Request}
-use Rattle.ats_request_file.specs.Words.{is_skipped}
+use Rattle.ats_words.specs.Words.{is_skipped}
 use Rattle.ats_request_file.specs.Reading.{asked_in, with_line, requests_from, requests_of}
 use Rattle.ats_request_file.specs.FaultLaw.{AreFaultless, AreRead, HasFault, IsFirstFault, asking}
 use Rattle.ats_request_file.specs.declared.fault.RequestFault.{RequestFault}

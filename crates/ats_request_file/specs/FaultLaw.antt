@@ -2,7 +2,7 @@ use Rattle.std.specs.Prelude.{◌≡◌, ◌↔◌, ℕ, ◌+◌, false, not, Li
 use Rattle.ats_io.specs.Text.{lines_of, words_of}
 use Rattle.ats_topology.specs.Topology.{DeclaredTopology}
 use Rattle.ats_requests.specs.declared.request.Request.{Request}
-use Rattle.ats_request_file.specs.Words.{is_skipped}
+use Rattle.ats_words.specs.Words.{is_skipped}
 use Rattle.ats_request_file.specs.Reading.{asked_in, requests_of}
 use Rattle.ats_request_file.specs.declared.fault.RequestFault.{RequestFault}
 

@@ -11,7 +11,8 @@ use Rattle.ats_streams.specs.Stream.{DeclaredStream, declared_stream, classes_fo
 use Rattle.ats_network.specs.Shortest.{shortest_of}
 use Rattle.ats_requests.specs.declared.request.Request.{Request}
 use Rattle.ats_requests.specs.declared.request.Request.TheVariants.{Admit, Lowest, Withdraw}
-use Rattle.ats_request_file.specs.Words.{word, is_skipped, named, admit_in}
+use Rattle.ats_words.specs.Words.{word, is_skipped}
+use Rattle.ats_request_file.specs.Words.{named, admit_in}
 use Rattle.ats_request_file.specs.declared.fault.RequestFault.{RequestFault}
 use Rattle.ats_request_file.specs.declared.fault.RequestFault.TheVariants.{BadLine, UnknownNode, NoPath, Limit}
 use Rattle.ats_request_file.specs.declared.fault.RequestFault.TheVariants as faults

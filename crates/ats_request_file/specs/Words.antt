@@ -1,22 +1,12 @@
-use Rattle.std.specs.Prelude.{ℕ, Bool, ◌||◌, ◌==◌, nat_lt, List, [], length, slice_index, codes, Option, Some, None}
-use Rattle.std.specs.Prelude.{Result, Ok, unwrap_or, if◌then◌else◌}
-use Rattle.std.specs.List.{slice_get}
+use Rattle.std.specs.Prelude.{ℕ, ◌==◌, nat_lt, List, length, codes, Option, Some, None, Result, Ok, if◌then◌else◌}
 use Rattle.std.specs.Str.{bytes_eq}
 use Rattle.ats_num.specs.Failure.{◌>>=◌, or_fault, ok_where}
 use Rattle.ats_num.specs.Name.{name_of}
 use Rattle.ats_num.specs.Number.{number_of}
-use Rattle.ats_io.specs.Text.{words_of}
+use Rattle.ats_words.specs.Words.{word}
 use Rattle.ats_request_file.specs.declared.fault.RequestFault.{RequestFault}
 use Rattle.ats_request_file.specs.declared.fault.RequestFault.TheVariants.{BadLine}
 use Rattle.ats_request_file.specs.declared.line.AdmitWords.{AdmitWords}
-
--- the word at a place, counted from 0; no bytes where there is none
-abbrev pub word : List (List ℕ) → ℕ → List ℕ
-word words k = unwrap_or (slice_get words k) []
-
--- a line with a comment, or without words
-abbrev pub is_skipped : List ℕ → Bool
-is_skipped line = slice_index line 0 == 35 || length (words_of line) == 0
 
 -- the word at a place is a name
 abbrev pub named : ℕ → List (List ℕ) → ℕ → Result (List ℕ) RequestFault

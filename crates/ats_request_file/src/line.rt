@@ -6,6 +6,7 @@ ghost use Rattle.std.specs.Option.{option_map};
 ghost use Rattle.ats_num.specs.Failure.{Gives, GivesSeen};
 ghost use Rattle.ats_io.specs.Text.{words_of};
 ghost use Rattle.ats_streams.specs.Stream.{IsStream};
+ghost use Rattle.ats_topology.specs.KeptWalks.{AreKeptFor};
 ghost use Rattle.ats_network.specs.Path.{IsValidPath, IsStationAt};
 ghost use Rattle.ats_requests.specs.Requests.{MayAsk};
 ghost use Rattle.ats_request_file.specs.Words.{class_in, admit_in};
@@ -13,12 +14,13 @@ ghost use Rattle.ats_request_file.specs.Reading.{station_of, path_between, path_
 ghost use Rattle.ats_request_file.specs.Reading.{stream_made, admit_line, withdraw_line, request_in, asked_in};
 
 use crate::fault::RequestFault;
-use crate::words::{has_words, named, numbered, word};
-use ats_network::shortest;
+use crate::words::{named, numbered};
+use ats_network::shortest_kept;
 use ats_num::{Failure, Name};
 use ats_requests::Request;
 use ats_streams::Stream;
-use ats_topology::Topology;
+use ats_topology::{KeptWalks, Topology};
+use ats_words::WordLine;
 use std::alloc::{AllocError, Global};
 
 /// An `admit` line as it stands: its ends are not looked up and its numbers are not judged yet.
@@ -41,15 +43,18 @@ pub const MAX_REQUESTS: usize = 10_000;
 pub(crate) fn asked_in(
     alloc: Global,
     topology: &Topology,
+    walks: &mut KeptWalks,
     before: usize,
     n: u32,
-    line: &[u8],
+    line: &WordLine,
 ) -> Result<Request, Failure<RequestFault>>
+    requires kept { AreKeptFor topology.now walks.old }
     ensures value { Gives result (asked_in topology.now before n (words_of line.now)) }
     ensures allowed { IfOk result (MayAsk topology.now) }
     ensures room { OnOk result (before < MAX_REQUESTS) }
+    ensures kept { AreKeptFor topology.now walks.new }
 {
-    let request = request_in(alloc, topology, n, line)?;
+    let request = request_in(alloc, topology, walks, n, line)?;
     if before >= MAX_REQUESTS {
         return Err(Failure::Fault(RequestFault::Limit(n)));
     }
@@ -59,26 +64,29 @@ pub(crate) fn asked_in(
 fn request_in(
     alloc: Global,
     topology: &Topology,
+    walks: &mut KeptWalks,
     n: u32,
-    line: &[u8],
+    line: &WordLine,
 ) -> Result<Request, Failure<RequestFault>>
+    requires kept { AreKeptFor topology.now walks.old }
     ensures value { Gives result (request_in topology.now n (words_of line.now)) }
     ensures allowed { IfOk result (MayAsk topology.now) }
+    ensures kept { AreKeptFor topology.now walks.new }
 {
-    if word(line, 0) == b"admit".as_slice() {
-        return admit_line(alloc, topology, n, line);
+    if line.word(0) == b"admit".as_slice() {
+        return admit_line(alloc, topology, walks, n, line);
     }
-    if word(line, 0) == b"withdraw".as_slice() {
+    if line.word(0) == b"withdraw".as_slice() {
         return Ok(withdraw_line(n, line)?);
     }
     Err(Failure::Fault(RequestFault::BadLine(n)))
 }
 
-fn withdraw_line(n: u32, line: &[u8]) -> Result<Request, RequestFault>
+fn withdraw_line(n: u32, line: &WordLine) -> Result<Request, RequestFault>
     ensures { result ≡ withdraw_line n (words_of line.now) }
 {
     let name = named(n, line, 1)?;
-    if has_words(line, 2) {
+    if line.has_words(2) {
         Ok(Request::Withdraw(name))
     } else {
         Err(RequestFault::BadLine(n))
@@ -88,14 +96,17 @@ fn withdraw_line(n: u32, line: &[u8]) -> Result<Request, RequestFault>
 fn admit_line(
     alloc: Global,
     topology: &Topology,
+    walks: &mut KeptWalks,
     n: u32,
-    line: &[u8],
+    line: &WordLine,
 ) -> Result<Request, Failure<RequestFault>>
+    requires kept { AreKeptFor topology.now walks.old }
     ensures value { Gives result (admit_line topology.now n (words_of line.now)) }
     ensures allowed { IfOk result (MayAsk topology.now) }
+    ensures kept { AreKeptFor topology.now walks.new }
 {
     let said = admit_in(n, line)?;
-    let path = path_in(alloc, topology, n, line)?;
+    let path = path_in(alloc, topology, walks, n, line)?;
     let stream = stream_over(path, n, &said)?;
     match said.class {
         None => Ok(Request::Lowest(stream)),
@@ -104,7 +115,7 @@ fn admit_line(
 }
 
 // What the words of an `admit` line say.
-fn admit_in(n: u32, line: &[u8]) -> Result<AdmitWords, RequestFault>
+fn admit_in(n: u32, line: &WordLine) -> Result<AdmitWords, RequestFault>
     ensures { result ≡ admit_in n (words_of line.now) }
 {
     let name = named(n, line, 1)?;
@@ -114,7 +125,7 @@ fn admit_in(n: u32, line: &[u8]) -> Result<AdmitWords, RequestFault>
     let min_octets = numbered(n, line, 7)?;
     let max_octets = numbered(n, line, 8)?;
     let deadline_ns = numbered(n, line, 9)?;
-    if !has_words(line, 10) {
+    if !line.has_words(10) {
         return Err(RequestFault::BadLine(n));
     }
     Ok(AdmitWords {
@@ -128,10 +139,10 @@ fn admit_in(n: u32, line: &[u8]) -> Result<AdmitWords, RequestFault>
     })
 }
 
-fn class_in(n: u32, line: &[u8]) -> Result<Option<u64>, RequestFault>
+fn class_in(n: u32, line: &WordLine) -> Result<Option<u64>, RequestFault>
     ensures { result ≡ class_in n (words_of line.now) }
 {
-    if word(line, 4) == b"lowest".as_slice() {
+    if line.word(4) == b"lowest".as_slice() {
         return Ok(None);
     }
     Ok(Some(numbered(n, line, 4)?))
@@ -141,15 +152,18 @@ fn class_in(n: u32, line: &[u8]) -> Result<Option<u64>, RequestFault>
 fn path_in(
     alloc: Global,
     topology: &Topology,
+    walks: &mut KeptWalks,
     n: u32,
-    line: &[u8],
+    line: &WordLine,
 ) -> Result<Vec<u32>, Failure<RequestFault>>
+    requires kept { AreKeptFor topology.now walks.old }
     ensures value { GivesSeen (λ path. path.items) result (path_in topology.now n (words_of line.now)) }
     ensures valid { IfOk result (λ path. IsValidPath topology.now path.items) }
+    ensures kept { AreKeptFor topology.now walks.new }
 {
-    let from = station_of(topology, word(line, 2)).ok_or(RequestFault::UnknownNode(n))?;
-    let to = station_of(topology, word(line, 3)).ok_or(RequestFault::UnknownNode(n))?;
-    match path_between(alloc, topology, from, to)? {
+    let from = station_of(topology, line.word(2)).ok_or(RequestFault::UnknownNode(n))?;
+    let to = station_of(topology, line.word(3)).ok_or(RequestFault::UnknownNode(n))?;
+    match path_between(alloc, topology, walks, from, to)? {
         Some(path) => Ok(path),
         None => Err(Failure::Fault(RequestFault::NoPath(n))),
     }
@@ -169,24 +183,27 @@ fn station_of(topology: &Topology, word: &[u8]) -> Option<u32>
     }
 }
 
-// The ports of the least walk from one station to another one.
+// The ports of the least walk from one station to another one. Walks to it that were searched for before are kept.
 fn path_between(
     alloc: Global,
     topology: &Topology,
+    walks: &mut KeptWalks,
     from: u32,
     to: u32,
 ) -> Result<Option<Vec<u32>>, AllocError>
     requires from { IsStationAt topology.now from }
     requires to { IsStationAt topology.now to }
+    requires kept { AreKeptFor topology.now walks.old }
     ensures value { IfOk result
         (λ found. option_map (λ (path : Vec ℕ). path.items) found ≡ path_between topology.now from to) }
     ensures valid { IfOk result (λ found. IfSome found (λ path. IsValidPath topology.now path.items)) }
+    ensures kept { AreKeptFor topology.now walks.new }
 {
     let _nodes = topology.nodes(); // for what a topology keeps
     if from == to {
         return Ok(None);
     }
-    shortest(alloc, topology, from, to)
+    shortest_kept(alloc, topology, walks, from, to)
 }
 
 // The stream that an `admit` line declares over a path.

@@ -7,11 +7,12 @@ ghost use Rattle.ats_request_file.specs.Reading.{requests_of};
 
 use crate::fault::RequestFault;
 use crate::line::{MAX_REQUESTS, asked_in};
-use crate::words::is_skipped;
 use ats_io::line_at;
 use ats_network::Network;
 use ats_num::Failure;
 use ats_requests::Request;
+use ats_topology::KeptWalks;
+use ats_words::WordLine;
 use std::alloc::Global;
 
 /// The requests that a text makes over a network, in order, or its first fault with its line, counted from 1.
@@ -26,14 +27,15 @@ pub fn read_requests(
     ensures allowed { IfOk result (λ requests. All (MayAsk network.now.topology) requests.items) }
 {
     let topology = network.topology();
+    let mut walks = KeptWalks::new(alloc, topology)?;
     let mut requests = Vec::new(alloc);
     let mut number = 1;
     let mut at = 0;
     while at < bytes.len() {
         let (end, next) = line_at(bytes, at);
-        let line = &bytes[at..end];
-        if !is_skipped(line) {
-            let request = asked_in(alloc, topology, requests.len(), number, line)?;
+        let line = WordLine::new(&bytes[at..end]);
+        if !line.is_skipped() {
+            let request = asked_in(alloc, topology, &mut walks, requests.len(), number, &line)?;
             requests.push(request)?;
         }
         number += 1;

@@ -11,7 +11,8 @@ use Rattle.std.proofs.lemmas.Bool.{and_parts}
 use Rattle.ats_io.specs.Text.{lines_of, words_of}
 use Rattle.ats_num.specs.Failure.{◌>>=◌, or_fault}
 use Rattle.ats_shape.specs.Shape.{DeclaredShape}
-use Rattle.ats_shape.specs.Reading.{DraftShape, blank, word, is_skipped, names_of, last_time, line_in, with_line}
+use Rattle.ats_words.specs.Words.{word, is_skipped}
+use Rattle.ats_shape.specs.Reading.{DraftShape, blank, names_of, last_time, line_in, with_line}
 use Rattle.ats_shape.specs.Reading.{finished, shape_from, shape_of}
 use Rattle.ats_shape.specs.FaultLaw.{is_stream_line, is_frame_line, number_in, names_on, arrivals_on, last_of, HasFault}
 use Rattle.ats_shape.specs.FaultLaw.{AreFaultless, IsFirstFault, IsWithoutResidence, IsDeclared}

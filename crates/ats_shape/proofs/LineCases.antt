@@ -9,7 +9,8 @@ use Rattle.ats_io.specs.Text.{words_of}
 use Rattle.ats_streams.specs.Fault.{rules_fault}
 use Rattle.ats_streams.specs.declared.fault.StreamFault.{StreamFault}
 use Rattle.ats_num.specs.Failure.{◌>>=◌, or_fault, ok_where}
-use Rattle.ats_shape.specs.Reading.{word, is_skipped, residence_in, residence_line, stream_in, frame_in}
+use Rattle.ats_words.specs.Words.{word, is_skipped}
+use Rattle.ats_shape.specs.Reading.{residence_in, residence_line, stream_in, frame_in}
 use Rattle.ats_shape.specs.Reading.{stream_or_fault, stream_of, frame_of}
 use Rattle.ats_shape.specs.FaultLaw.{line_number, is_stream_line, is_frame_line, number_in, names_on, arrivals_on}
 use Rattle.ats_shape.specs.FaultLaw.{last_of, has_form, broken_by, IsNew, IsKnown, Cause}

@@ -5,7 +5,8 @@ use Rattle.std.proofs.lemmas.Slice.Eq.{bytes_eq-Decides}
 use Rattle.ats_num.specs.Name.{is_name}
 use Rattle.ats_num.specs.Number.{number_of}
 use Rattle.ats_num.specs.Failure.{◌>>=◌, or_fault, ok_where}
-use Rattle.ats_shape.specs.Reading.{word, residence_in, stream_in, frame_in}
+use Rattle.ats_words.specs.Words.{word}
+use Rattle.ats_shape.specs.Reading.{residence_in, stream_in, frame_in}
 use Rattle.ats_shape.specs.FaultLaw.{number_in}
 use Rattle.ats_shape.specs.declared.fault.ShapeFault.{ShapeFault}
 use Rattle.ats_shape.specs.declared.fault.ShapeFault.TheVariants.{BadLine}

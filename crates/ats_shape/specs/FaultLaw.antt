@@ -9,7 +9,8 @@ use Rattle.ats_io.specs.Text.{lines_of, words_of}
 use Rattle.ats_streams.specs.Fault.{rules_fault}
 use Rattle.ats_streams.specs.declared.fault.StreamFault.{StreamFault}
 use Rattle.ats_shape.specs.Shape.{DeclaredShape}
-use Rattle.ats_shape.specs.Reading.{word, is_skipped, residence_in, stream_in, frame_in, names_of, shape_of}
+use Rattle.ats_words.specs.Words.{word, is_skipped}
+use Rattle.ats_shape.specs.Reading.{residence_in, stream_in, frame_in, names_of, shape_of}
 use Rattle.ats_shape.specs.declared.shape.ShapeFrame.{ShapeFrame}
 use Rattle.ats_shape.specs.declared.fault.ShapeFault.{ShapeFault}
 use Rattle.ats_shape.specs.declared.fault.ShapeFault.TheVariants.{BadLine, NameTwice, Stream, UnknownName, TimeBack}

@@ -1,12 +1,12 @@
-use Rattle.std.specs.Prelude.{ℕ, ◌+◌, ◌-◌, Bool, ◌&&◌, ◌||◌, ◌==◌, nat_le, nat_lt, List, [], ◌∷◌, ◌++◌, length, map}
-use Rattle.std.specs.Prelude.{slice_index, slice_index_or, codes, Option, Some, None, Result, Ok, Err, if◌then◌else◌}
-use Rattle.std.specs.Prelude.{unwrap_or, is_none}
-use Rattle.std.specs.List.{slice_get}
+use Rattle.std.specs.Prelude.{ℕ, ◌+◌, ◌-◌, ◌&&◌, ◌==◌, nat_le, nat_lt, List, [], ◌∷◌, ◌++◌, length, map}
+use Rattle.std.specs.Prelude.{slice_index_or, codes, Option, Some, None, Result, Ok, Err, if◌then◌else◌}
+use Rattle.std.specs.Prelude.{is_none}
 use Rattle.std.specs.Str.{bytes_eq}
 use Rattle.ats_num.specs.Name.{name_of}
 use Rattle.ats_num.specs.Number.{number_of}
 use Rattle.ats_num.specs.Places.{place_of}
 use Rattle.ats_io.specs.Text.{lines_of, words_of}
+use Rattle.ats_words.specs.Words.{word, is_skipped}
 use Rattle.ats_streams.specs.Fault.{rules_fault}
 use Rattle.ats_streams.specs.declared.fault.StreamFault.{StreamFault}
 use Rattle.ats_num.specs.Failure.{◌>>=◌, or_fault, ok_where}
@@ -30,14 +30,6 @@ pub record DraftShape : Type 0 where
 -- before the first line
 abbrev pub blank : DraftShape
 blank = record { residence = None; streams = []; frames = [] }
-
--- the word at a place, counted from 0; no bytes where there is none
-abbrev pub word : List (List ℕ) → ℕ → List ℕ
-word words k = unwrap_or (slice_get words k) []
-
--- a line with a comment, or without words
-abbrev pub is_skipped : List ℕ → Bool
-is_skipped line = slice_index line 0 == 35 || length (words_of line) == 0
 
 -- the words of a line `residence NS`, NS at most 1,000,000,000, give NS
 abbrev pub residence_in : ℕ → List (List ℕ) → Result ℕ ShapeFault

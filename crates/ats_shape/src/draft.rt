@@ -2,16 +2,15 @@
 
 ghost use Rattle.std.specs.Prelude.{◌≡◌, IfOk, OnOk, OnErr};
 ghost use Rattle.ats_io.specs.Text.{words_of};
-ghost use Rattle.ats_shape.specs.Reading.{blank, is_skipped, line_in, declared_line, stream_line, frame_line};
+ghost use Rattle.ats_shape.specs.Reading.{blank, line_in, declared_line, stream_line, frame_line};
 ghost use Rattle.ats_shape.specs.Reading.{with_line, finished, last_time};
 ghost use Rattle.ats_shape.specs.Draft.{Fits};
 
 use crate::fault::ShapeFault;
 use crate::line::{Line, frame_in, residence_line, ruled, stream_in};
 use crate::shape::{Shape, ShapeFrame, ShapeStream};
-use crate::words::word;
-use ats_io::word_at;
 use ats_num::{NameTable, Ps};
+use ats_words::WordLine;
 use std::alloc::{AllocError, Global};
 use std::marker::Model;
 
@@ -61,29 +60,30 @@ impl Draft {
         ensures said { result ≡ line_in self.now n line.now }
         ensures fits { IfOk result (Fits self.now) }
     {
-        if is_skipped(line) {
+        let line = WordLine::new(line);
+        if line.is_skipped() {
             return Ok(Line::Skipped);
         }
         if self.residence_ns.is_none() {
-            return residence_line(n, line);
+            return residence_line(n, &line);
         }
-        self.declared_line(n, line)
+        self.declared_line(n, &line)
     }
 
-    fn declared_line(&self, n: u32, line: &[u8]) -> Result<Line, ShapeFault>
+    fn declared_line(&self, n: u32, line: &WordLine) -> Result<Line, ShapeFault>
         ensures said { result ≡ declared_line self.now n (words_of line.now) }
         ensures fits { IfOk result (Fits self.now) }
     {
-        if word(line, 0) == b"stream".as_slice() {
+        if line.word(0) == b"stream".as_slice() {
             return self.stream_line(n, line);
         }
-        if word(line, 0) == b"frame".as_slice() {
+        if line.word(0) == b"frame".as_slice() {
             return self.frame_line(n, line);
         }
         Err(ShapeFault::BadLine(n))
     }
 
-    fn stream_line(&self, n: u32, line: &[u8]) -> Result<Line, ShapeFault>
+    fn stream_line(&self, n: u32, line: &WordLine) -> Result<Line, ShapeFault>
         ensures said { result ≡ stream_line self.now n (words_of line.now) }
         ensures fits { IfOk result (Fits self.now) }
     {
@@ -101,7 +101,7 @@ impl Draft {
         Ok(Line::Stream(stream))
     }
 
-    fn frame_line(&self, n: u32, line: &[u8]) -> Result<Line, ShapeFault>
+    fn frame_line(&self, n: u32, line: &WordLine) -> Result<Line, ShapeFault>
         ensures said { result ≡ frame_line self.now n (words_of line.now) }
         ensures fits { IfOk result (Fits self.now) }
     {
@@ -159,12 +159,6 @@ impl Draft {
             frame_list,
         })
     }
-}
-
-fn is_skipped(line: &[u8]) -> bool
-    ensures { result ≡ is_skipped line.now }
-{
-    line.first() == Some(&b'#') || word_at(line, 0).is_none()
 }
 
 fn last_time(frames: &[ShapeFrame]) -> u64

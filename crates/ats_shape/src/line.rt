@@ -8,11 +8,12 @@ ghost use Rattle.ats_shape.specs.Reading.{residence_line, stream_in, frame_in, r
 
 use crate::fault::ShapeFault;
 use crate::shape::{ShapeFrame, ShapeStream};
-use crate::words::{has_words, named, numbered, word};
+use crate::words::{named, numbered};
 use ats_group::Declared;
 use ats_num::wire::{MAX_OCTETS, MIN_OCTETS};
 use ats_num::{Name, Rate};
 use ats_streams::declared_fault;
+use ats_words::WordLine;
 
 /// The greatest residence, in nanoseconds.
 pub const MAX_RESIDENCE_NS: u128 = 1_000_000_000;
@@ -52,11 +53,11 @@ pub(crate) struct FrameWords {
 }
 
 /// What line `n` declares where it is `residence NS`.
-pub(crate) fn residence_line(n: u32, line: &[u8]) -> Result<Line, ShapeFault>
+pub(crate) fn residence_line(n: u32, line: &WordLine) -> Result<Line, ShapeFault>
     ensures { result ≡ residence_line n (words_of line.now) }
 {
     let ns = numbered(n, line, 1)?;
-    if has_words(line, 2) && word(line, 0) == b"residence".as_slice() && ns <= MAX_RESIDENCE_NS {
+    if line.has_words(2) && line.word(0) == b"residence".as_slice() && ns <= MAX_RESIDENCE_NS {
         Ok(Line::Residence(ns as u32))
     } else {
         Err(ShapeFault::BadLine(n))
@@ -64,7 +65,7 @@ pub(crate) fn residence_line(n: u32, line: &[u8]) -> Result<Line, ShapeFault>
 }
 
 /// What the words of line `n` say where it is `stream NAME RATE BURST MIN MAX`.
-pub(crate) fn stream_in(n: u32, line: &[u8]) -> Result<StreamWords, ShapeFault>
+pub(crate) fn stream_in(n: u32, line: &WordLine) -> Result<StreamWords, ShapeFault>
     ensures { result ≡ stream_in n (words_of line.now) }
 {
     let name = named(n, line, 1)?;
@@ -72,7 +73,7 @@ pub(crate) fn stream_in(n: u32, line: &[u8]) -> Result<StreamWords, ShapeFault>
     let burst_bits = numbered(n, line, 3)?;
     let min_octets = numbered(n, line, 4)?;
     let max_octets = numbered(n, line, 5)?;
-    if !has_words(line, 6) {
+    if !line.has_words(6) {
         return Err(ShapeFault::BadLine(n));
     }
     Ok(StreamWords {
@@ -85,14 +86,14 @@ pub(crate) fn stream_in(n: u32, line: &[u8]) -> Result<StreamWords, ShapeFault>
 }
 
 /// What the words of line `n` say where it is `frame AT NAME OCTETS`.
-pub(crate) fn frame_in(n: u32, line: &[u8]) -> Result<FrameWords, ShapeFault>
+pub(crate) fn frame_in(n: u32, line: &WordLine) -> Result<FrameWords, ShapeFault>
     ensures said { result ≡ frame_in n (words_of line.now) }
     ensures bounds { IfOk result (λ words. IsFrameSize words.octets × (words.at ≤ 100000000000000000)) }
 {
     let at = numbered(n, line, 1)?;
     let name = named(n, line, 2)?;
     let octets = numbered(n, line, 3)?;
-    if has_words(line, 4)
+    if line.has_words(4)
         && at <= MAX_ARRIVAL_PS
         && octets >= u128::from(MIN_OCTETS)
         && octets <= u128::from(MAX_OCTETS)

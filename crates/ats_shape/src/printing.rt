@@ -83,13 +83,20 @@ fn write_totals(out: &mut Vec<u8>, verdicts: &[Verdict]) -> Result<(), AllocErro
 }
 
 // A word, and a number behind it.
+#[inline(always)]
 fn write_word<I: Integer + Drop>(out: &mut Vec<u8>, word: &[u8], n: I) -> Result<(), AllocError>
     ensures { OnOk result (out.new.items ≡ out.old.items ++ (word.now ++ I.text n)) }
 {
-    let mut buffer = Buffer::new();
     out.extend_from_slice(word)?;
-    out.extend_from_slice(buffer.format(n).as_bytes())?;
-    Ok(())
+    write_number(out, n)
+}
+
+#[inline(never)]
+fn write_number<I: Integer + Drop>(out: &mut Vec<u8>, n: I) -> Result<(), AllocError>
+    ensures { OnOk result (out.new.items ≡ out.old.items ++ I.text n) }
+{
+    let mut buffer = Buffer::new();
+    Ok(out.extend_from_slice(buffer.format(n).as_bytes())?)
 }
 
 fn count_eligible(verdicts: &[Verdict]) -> usize

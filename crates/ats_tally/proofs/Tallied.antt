@@ -25,8 +25,9 @@ where_push : {X : Type 0} (test : X → Bool) (xs : List X) (x : X)
     → filter test (xs ++ x ∷ []) ≡ filter test xs ++ cond (test x) (x ∷ []) []
 where_push test xs x = filter-append test xs (x ∷ [])
 
-sum_more : (test : PortSender → Bool) (amount : PortSender → ℕ) (senders : List PortSender) (s : PortSender) (b : Bool)
-    → test s ≡ b
+-- so a sum has its amount more or not, and so it is with the greatest
+pub sum_more : (test : PortSender → Bool) (amount : PortSender → ℕ) (senders : List PortSender) (s : PortSender)
+    (b : Bool) → test s ≡ b
     → sum_where test amount (senders ++ s ∷ []) ≡ sum_where test amount senders + cond b (amount s) 0
 sum_more test amount senders s b e =
     ap (sum_by amount) (where_push test senders s ∙ ap (λ (t : Bool). filter test senders ++ cond t (s ∷ []) []) e)
@@ -37,7 +38,7 @@ sum_more test amount senders s b e =
     by true = omega (arith, sum_by-cons amount s [])
     by false = omega arith
 
-greatest_more : (test : PortSender → Bool) (amount : PortSender → ℕ) (senders : List PortSender) (s : PortSender)
+pub greatest_more : (test : PortSender → Bool) (amount : PortSender → ℕ) (senders : List PortSender) (s : PortSender)
     (b : Bool) → test s ≡ b → greatest_where test amount (senders ++ s ∷ [])
     ≡ cond b (max (greatest_where test amount senders) (amount s)) (greatest_where test amount senders)
 greatest_more test amount senders s b e =
@@ -57,7 +58,7 @@ least_push : (ns : List ℕ) (n : ℕ) → least_known (ns ++ n ∷ []) ≡ Some
 least_push [] n = refl
 least_push (m ∷ ns) n = ap Some (fold-append min m ns (n ∷ []))
 
-least_more : (test : PortSender → Bool) (amount : PortSender → ℕ) (senders : List PortSender) (s : PortSender)
+pub least_more : (test : PortSender → Bool) (amount : PortSender → ℕ) (senders : List PortSender) (s : PortSender)
     (b : Bool) → test s ≡ b
     → least_known (map amount (filter test (senders ++ s ∷ [])))
     ≡ cond b (Some (least_with (least_known (map amount (filter test senders))) (amount s)))

@@ -10,6 +10,7 @@ pub mod Numbered
 pub mod Due
 pub mod Leaving
 pub mod Spreading
+pub mod Searches
 pub mod Searching
 pub mod LeastWalks
 pub mod Rules

@@ -24,7 +24,6 @@ use Rattle.ats_topology.specs.Faults.{has_bad_processing, limit}
 use Rattle.ats_topology.specs.Topology.{no_node, node_at, node_number, link_at, port_of, ports_of, topology_of, IsNode}
 use Rattle.ats_topology.specs.Topology.{IsLink, IsPort, HasOnePort, DeclaredTopology, IsTopology, HasOneLink}
 use Rattle.ats_topology.specs.Topology.{HasLawfulPorts}
-use Rattle.ats_topology.specs.declared.fault.TopologyFault.{TopologyFault}
 use Rattle.ats_topology.specs.declared.fault.TopologyFault.TheVariants.{StationLinks, SelfLink, Limit, BadProcessing}
 use Rattle.ats_topology.specs.declared.node.Node.{Node}
 use Rattle.ats_topology.specs.declared.link.Link.{Link}

@@ -9,4 +9,5 @@ pub mod Topology
 pub mod Kept
 pub mod Walks
 pub mod Search
+pub mod KeptWalks
 pub mod Laws

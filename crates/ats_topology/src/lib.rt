@@ -3,6 +3,7 @@
 
 mod checks;
 pub mod fault;
+pub mod kept_walks;
 pub mod laws;
 pub mod link;
 pub mod node;
@@ -15,6 +16,7 @@ pub mod topology;
 mod walks;
 
 pub use fault::TopologyFault;
+pub use kept_walks::KeptWalks;
 pub use link::Link;
 pub use node::{Kind, Node};
 pub use port::Port;

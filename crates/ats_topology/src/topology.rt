@@ -8,6 +8,7 @@ ghost use Rattle.ats_topology.specs.Port.{port_between, GoesBetween};
 ghost use Rattle.ats_topology.specs.Faults.{topology_fault};
 ghost use Rattle.ats_topology.specs.Topology.{topology_of, IsTopology, HasLawfulPorts};
 ghost use Rattle.ats_topology.specs.Walks.{IsLeastWalk, NoWalk, ArePorts};
+ghost use Rattle.ats_topology.specs.KeptWalks.{AreDistancesTo};
 
 use crate::checks::check;
 use crate::fault::TopologyFault;
@@ -16,7 +17,7 @@ use crate::node::Node;
 use crate::numbering::ports_of;
 use crate::port::Port;
 use crate::port_table::PortTable;
-use crate::walks::least_walk;
+use crate::walks::{distances, least_walk, least_walk_by};
 use ats_num::{Failure, Name, NameTable};
 use std::alloc::{AllocError, Global};
 use std::marker::Model;
@@ -129,5 +130,30 @@ impl Topology {
         ensures none { IfOk result (λ found. IfNone found (NoWalk self.now.ports a b)) }
     {
         least_walk(alloc, &self.table, a, b)
+    }
+
+    /// For each node the number of ports of the shortest walks from it to one node, by one search.
+    pub(crate) fn distances(&self, alloc: Global, to: u32) -> Result<Vec<Option<u32>>, AllocError>
+        requires { to < length self.now.nodes }
+        ensures { IfOk result (λ distances. AreDistancesTo self.now to distances.items) }
+    {
+        distances(alloc, &self.table, to)
+    }
+
+    /// What `shortest` gives, by the distances to the node where the walk ends.
+    pub(crate) fn shortest_by(
+        &self,
+        alloc: Global,
+        distances: &[Option<u32>],
+        a: u32,
+        b: u32,
+    ) -> Result<Option<Vec<u32>>, AllocError>
+        requires a { a < length self.now.nodes }
+        requires exact { AreDistancesTo self.now b distances.now }
+        ensures walk { IfOk result (λ found. IfSome found (λ walk. IsLeastWalk self.now.ports a b walk.items)) }
+        ensures ports { IfOk result (λ found. IfSome found (λ walk. ArePorts self.now.ports walk.items)) }
+        ensures none { IfOk result (λ found. IfNone found (NoWalk self.now.ports a b)) }
+    {
+        least_walk_by(alloc, &self.table, distances, a, b)
     }
 }

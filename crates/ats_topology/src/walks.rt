@@ -28,16 +28,39 @@ pub(crate) fn least_walk(
     ensures none { IfOk result (λ found. IfNone found (NoWalk table.now.ports from to)) }
 {
     let distances = distances(alloc, table, to)?;
+    least_walk_by(alloc, table, &distances, from, to)
+}
+
+/// The same by the distances to the node where the walk ends.
+pub(crate) fn least_walk_by(
+    alloc: Global,
+    table: &PortTable,
+    distances: &[Option<u32>],
+    from: u32,
+    to: u32,
+) -> Result<Option<Vec<u32>>, AllocError>
+    requires from { from < table.now.nodes }
+    requires long { length distances.now ≡ table.now.nodes }
+    requires inside { All (IsBetween table.now.nodes) table.now.ports }
+    requires exact { AreDistances table.now.ports to distances.now }
+    ensures walk { IfOk result (λ found. IfSome found (λ walk. IsLeastWalk table.now.ports from to walk.items)) }
+    ensures ports { IfOk result (λ found. IfSome found (λ walk. ArePorts table.now.ports walk.items)) }
+    ensures none { IfOk result (λ found. IfNone found (NoWalk table.now.ports from to)) }
+{
     if distances[from as usize].is_none() {
         return Ok(None);
     }
-    let walk = descend(alloc, table, &distances, from, to)?;
+    let walk = descend(alloc, table, distances, from, to)?;
     Ok(Some(walk))
 }
 
-// For each node the number of ports of the shortest walks from it to one node. Each port that leads to a node that was
-// reached is looked at once.
-fn distances(alloc: Global, table: &PortTable, to: u32) -> Result<Vec<Option<u32>>, AllocError>
+/// For each node the number of ports of the shortest walks from it to one node. Each port that leads to a node that was
+/// reached is looked at once.
+pub(crate) fn distances(
+    alloc: Global,
+    table: &PortTable,
+    to: u32,
+) -> Result<Vec<Option<u32>>, AllocError>
     requires to { to < table.now.nodes }
     requires few { table.now.nodes < 2 ^ 32 }
     requires inside { All (IsBetween table.now.nodes) table.now.ports }

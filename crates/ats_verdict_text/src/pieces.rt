@@ -1,6 +1,6 @@
 //! Pieces of lines.
 
-ghost use Rattle.std.specs.Prelude.{◌≡◌, ◌++◌, ◌<◌, codes, decimal, length, OnOk};
+ghost use Rattle.std.specs.Prelude.{◌≡◌, ◌++◌, ◌<◌, codes, decimal, length, take, OnOk};
 ghost use Rattle.ats_verdict_text.specs.Text.{measure_text, place_text};
 
 use ats_num::Name;
@@ -15,7 +15,8 @@ pub(crate) fn write_number<I: Integer + Drop>(
     word: &[u8],
     n: I,
 ) -> Result<(), AllocError>
-    ensures { OnOk result (out.new.items ≡ out.old.items ++ (word.now ++ I.text n)) }
+    ensures written { OnOk result (out.new.items ≡ out.old.items ++ (word.now ++ I.text n)) }
+    ensures front { take (length out.old.items) out.new.items ≡ out.old.items }
 {
     let mut buffer = Buffer::new();
     out.extend_from_slice(word)?;
@@ -32,7 +33,8 @@ pub(crate) fn write_place(
     class: u8,
 ) -> Result<(), AllocError>
     requires { port < length topology.now.ports }
-    ensures { OnOk result (out.new.items ≡ out.old.items ++ (word.now ++ place_text topology.now port class)) }
+    ensures written { OnOk result (out.new.items ≡ out.old.items ++ (word.now ++ place_text topology.now port class)) }
+    ensures front { take (length out.old.items) out.new.items ≡ out.old.items }
 {
     out.extend_from_slice(word)?;
     write_port(out, topology, port)?;
@@ -49,7 +51,9 @@ pub(crate) fn write_measure(
     n: u128,
 ) -> Result<(), AllocError>
     requires { port < length topology.now.ports }
-    ensures { OnOk result (out.new.items ≡ out.old.items ++ (word.now ++ measure_text topology.now port class n)) }
+    ensures written { OnOk result
+        (out.new.items ≡ out.old.items ++ (word.now ++ measure_text topology.now port class n)) }
+    ensures front { take (length out.old.items) out.new.items ≡ out.old.items }
 {
     write_place(out, word, topology, port, class)?;
     write_number(out, b" ", n)
@@ -62,7 +66,8 @@ pub(crate) fn write_named(
     name: &Name,
     n: u128,
 ) -> Result<(), AllocError>
-    ensures { OnOk result (out.new.items ≡ out.old.items ++ (word.now ++ name.now ++ codes " " ++ decimal n)) }
+    ensures written { OnOk result (out.new.items ≡ out.old.items ++ (word.now ++ name.now ++ codes " " ++ decimal n)) }
+    ensures front { take (length out.old.items) out.new.items ≡ out.old.items }
 {
     out.extend_from_slice(word)?;
     out.extend_from_slice(name.bytes())?;

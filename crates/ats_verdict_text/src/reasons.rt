@@ -1,6 +1,6 @@
 //! Why no certificate holds for a network, written.
 
-ghost use Rattle.std.specs.Prelude.{◌≡◌, ◌++◌, OnOk};
+ghost use Rattle.std.specs.Prelude.{◌≡◌, ◌++◌, length, take, OnOk};
 ghost use Rattle.ats_tally.specs.Reason.{ReasonInside};
 ghost use Rattle.ats_verdict_text.specs.Text.{reason_text};
 
@@ -10,14 +10,16 @@ use ats_topology::Topology;
 use std::alloc::AllocError;
 
 /// Appends why no certificate holds for a network: a word for what fails, the port and the class,
-/// or the stream, and the number that is too great. After `AllocError` nothing is said of `out`.
+/// or the stream, and the number that is too great. What stood in `out` stays in front; after
+/// `AllocError` nothing is said of what is behind it.
 pub fn write_reason(
     out: &mut Vec<u8>,
     topology: &Topology,
     reason: &Reason,
 ) -> Result<(), AllocError>
     requires { ReasonInside topology.now reason.now }
-    ensures { OnOk result (out.new.items ≡ out.old.items ++ reason_text topology.now reason.now) }
+    ensures written { OnOk result (out.new.items ≡ out.old.items ++ reason_text topology.now reason.now) }
+    ensures front { take (length out.old.items) out.new.items ≡ out.old.items }
 {
     match reason {
         Reason::Overloaded { port, class, load } => {

@@ -1,13 +1,22 @@
-use Rattle.std.proofs.Common.{subst, sym}
-use Rattle.ats_network.specs.Network.{DeclaredNetwork}
-use Rattle.ats_requests.specs.Laws.{IsCertified}
-use Rattle.ats_admission.proofs.Entered.{IsIn, given_answer, given_certified, none_answer, out_again}
+use Rattle.ats_admission.proofs.Entered.{IsIn, given_answer, given_certified, in_named, none_answer, out_again}
 use Rattle.ats_admission.proofs.admitting.admit_with_lowest.Goals as goal
+
+pub leave-requires-clause-named : goal.leave-requires-clause-named
+leave-requires-clause-named c =
+    let in' : IsIn c.args.network.now c.args.stream c.in_ok-number.number c.enter.new.network = record {
+      certified = c.requires.session.certified;
+      may = c.requires.enters;
+      free = c.in_ok-number.ensures.free;
+      number = c.in_ok-number.ensures.number;
+      is = c.in_ok-number.ensures.ok;
+    } in
+    in_named c.args.network.now c.args.stream c.in_ok-number.number c.enter.new.network c.lowest.new.network
+    c.name-name.result in' c.in-Err.ensures.others c.name-name.ensures
 
 pub returns-in-Ok-clause-answer : goal.returns-in-Ok-clause-answer
 returns-in-Ok-clause-answer c =
     let in' : IsIn c.args.network.now c.args.stream c.in_ok-number.number c.enter.new.network = record {
-      certified = c.requires.certified;
+      certified = c.requires.session.certified;
       may = c.requires.enters;
       free = c.in_ok-number.ensures.free;
       number = c.in_ok-number.ensures.number;
@@ -16,43 +25,41 @@ returns-in-Ok-clause-answer c =
     given_answer c.args.network.now c.args.stream c.in_ok-number.number c.enter.new.network c.in-Ok.given.0
     c.in-Ok.given.1 in' c.in-Ok.ensures.given
 
-pub returns-in-Ok-clause-certified : goal.returns-in-Ok-clause-certified
-returns-in-Ok-clause-certified c =
+pub returns-in-Ok-clause-session : goal.returns-in-Ok-clause-session
+returns-in-Ok-clause-session c =
     let in' : IsIn c.args.network.now c.args.stream c.in_ok-number.number c.enter.new.network = record {
-      certified = c.requires.certified;
+      certified = c.requires.session.certified;
       may = c.requires.enters;
       free = c.in_ok-number.ensures.free;
       number = c.in_ok-number.ensures.number;
       is = c.in_ok-number.ensures.ok;
     } in
-    given_certified c.args.network.now c.args.stream c.in_ok-number.number c.enter.new.network c.lowest.new.network
-    c.in-Ok.given.0 c.in-Ok.given.1 in' c.in-Ok.ensures.given c.in-Ok.ensures.network
+    record {
+      certified = given_certified c.args.network.now c.args.stream c.in_ok-number.number c.enter.new.network
+          c.lowest.new.network c.in-Ok.given.0 c.in-Ok.given.1 in' c.in-Ok.ensures.given c.in-Ok.ensures.network;
+      kept = c.in-Ok.ensures.kept;
+    }
 
 pub returns-in-Err-clause-answer : goal.returns-in-Err-clause-answer
 returns-in-Err-clause-answer c =
     let in' : IsIn c.args.network.now c.args.stream c.in_ok-number.number c.enter.new.network = record {
-      certified = c.requires.certified;
+      certified = c.requires.session.certified;
       may = c.requires.enters;
       free = c.in_ok-number.ensures.free;
       number = c.in_ok-number.ensures.number;
       is = c.in_ok-number.ensures.ok;
     } in
-    none_answer c.args.network.now c.args.stream c.in_ok-number.number c.enter.new.network c.in-Err.failure in'
+    none_answer c.args.network.now c.args.stream c.in_ok-number.number c.enter.new.network c.in-Err.denied in'
     c.in-Err.ensures.none
 
 pub returns-in-Err-clause-err : goal.returns-in-Err-clause-err
 returns-in-Err-clause-err c =
     let in' : IsIn c.args.network.now c.args.stream c.in_ok-number.number c.enter.new.network = record {
-      certified = c.requires.certified;
+      certified = c.requires.session.certified;
       may = c.requires.enters;
       free = c.in_ok-number.ensures.free;
       number = c.in_ok-number.ensures.number;
       is = c.in_ok-number.ensures.ok;
     } in
     out_again c.args.network.now c.args.stream c.in_ok-number.number c.enter.new.network c.lowest.new.network
-    c.take_stream.new.self c.name-name.result in' c.in-Err.ensures.others c.name-name.ensures
-    c.take_stream.ensures.network
-
-pub returns-in-Err-clause-certified : goal.returns-in-Err-clause-certified
-returns-in-Err-clause-certified c =
-    subst (λ (t : DeclaredNetwork). IsCertified t) (sym (returns-in-Err-clause-err c)) c.requires.certified
+    c.leave.new.network in' c.in-Err.ensures.others c.leave.ensures.network

@@ -3,11 +3,25 @@ use Rattle.std.proofs.lemmas.List.{length-set}
 use Rattle.ats_network.specs.Edits.{with_class_at}
 use Rattle.ats_network.specs.Network.{DeclaredNetwork}
 use Rattle.ats_bound.specs.Reason.{reason_of}
-use Rattle.ats_admission.specs.Judged.{no_class, sum_at}
+use Rattle.ats_kept.specs.Judged.{sum_at}
+use Rattle.ats_admission.specs.Judged.{no_class}
+use Rattle.ats_admission.specs.Sessions.{IsPending}
 use Rattle.ats_admission.proofs.Classed.{same_classed}
 use Rattle.ats_admission.proofs.Judgements.{IsFree, judged_err, judged_ok}
 use Rattle.ats_admission.proofs.Lowest.{first_given, none_given, refused_more}
+use Rattle.ats_admission.proofs.Pending.{is_free_without, set_waits}
 use Rattle.ats_admission.proofs.judging.lowest.Goals as goal
+
+pub judge-requires-clause-free : goal.judge-requires-clause-free
+judge-requires-clause-free c =
+    is_free_without c.set_class.new.self c.args.stream c.loop-class.kept
+    (set_waits c.args.stream c.loop-class.class c.loop-class.network c.set_class.new.self c.loop-class.kept
+    c.loop-class.invariant.pending c.set_class.ensures)
+
+pub judge-requires-clause-beside : goal.judge-requires-clause-beside
+judge-requires-clause-beside c =
+    (set_waits c.args.stream c.loop-class.class c.loop-class.network c.set_class.new.self c.loop-class.kept
+    c.loop-class.invariant.pending c.set_class.ensures).beside
 
 pub returns-in-Ok-clause-given : goal.returns-in-Ok-clause-given
 returns-in-Ok-clause-given c =
@@ -15,7 +29,8 @@ returns-in-Ok-clause-given c =
     let class = c.loop-class.class in
     let at : c.set_class.new.self ≡ with_class_at c.args.network.now n class =
     c.set_class.ensures ∙ c.loop-class.invariant.same.classed class in
-    let is : IsFree c.set_class.new.self n c.in-Ok.sum = judged_ok c.set_class.new.self n c.in-Ok.sum c.in-Ok.ensures in
+    let is : IsFree c.set_class.new.self n c.in-Ok.sum =
+    judged_ok c.set_class.new.self n c.in-Ok.sum (sym c.in-Ok.ensures.answer) in
     let free : reason_of (with_class_at c.args.network.now n class) ≡ _ = ap reason_of (sym at) ∙ is.free in
     record {
       lowest = first_given c.args.network.now n class c.loop-class.reasons c.loop-class.invariant.refused
@@ -28,31 +43,25 @@ returns-in-Ok-clause-given c =
       sum_is = is.sum_is ∙ ap (λ (t : DeclaredNetwork). sum_at t n) at;
     }
 
-pub returns-in-Ok-clause-others : goal.returns-in-Ok-clause-others
-returns-in-Ok-clause-others c = same_classed c.args.stream c.loop-class.class c.args.network.now c.loop-class.network
-    c.set_class.new.self c.requires c.loop-class.invariant.same c.set_class.ensures
-
-pub returns-in-Err-NoMemory-clause-others : goal.returns-in-Err-NoMemory-clause-others
-returns-in-Err-NoMemory-clause-others c =
-    same_classed c.args.stream c.loop-class.class c.args.network.now c.loop-class.network
-    c.set_class.new.self c.requires c.loop-class.invariant.same c.set_class.ensures
-
 pub loop-class-preserved : goal.loop-class-preserved
 loop-class-preserved c =
     let n = c.args.stream in
     let class = c.loop-class.class in
     let at : c.set_class.new.self ≡ with_class_at c.args.network.now n class =
     c.set_class.ensures ∙ c.loop-class.invariant.same.classed class in
-    let due = rw c.in-Err-Fault.field-0-is at c.in-Err-Fault.ensures in
+    let waits : IsPending c.set_class.new.self n c.loop-class.kept =
+    set_waits n class c.loop-class.network c.set_class.new.self c.loop-class.kept c.loop-class.invariant.pending
+    c.set_class.ensures in
     record {
-      same = same_classed n class c.args.network.now c.loop-class.network c.set_class.new.self c.requires
+      same = same_classed n class c.args.network.now c.loop-class.network c.set_class.new.self c.requires.within
           c.loop-class.invariant.same c.set_class.ensures;
-      refused = refused_more c.args.network.now n class c.in-Err-Fault.reason c.loop-class.reasons
+      pending = record { within = waits.within; free = waits.free; beside = c.in-Err.ensures.err };
+      refused = refused_more c.args.network.now n class c.in-Err.reason c.loop-class.reasons
           c.loop-class.auto.class
           (omega (arith, c.loop-class.auto.class, c.loop-class-test.true, c.loop-class.invariant.long))
           c.loop-class.invariant.refused
-          (ap reason_of (sym at) ∙ judged_err c.set_class.new.self n c.in-Err-Fault.reason due);
-      long = length-set c.loop-class.reasons (class - 1) c.in-Err-Fault.reason ∙ c.loop-class.invariant.long;
+          (ap reason_of (sym at) ∙ judged_err c.set_class.new.self n c.in-Err.reason (sym c.in-Err.ensures.answer));
+      long = length-set c.loop-class.reasons (class - 1) c.in-Err.reason ∙ c.loop-class.invariant.long;
     }
 
 pub returns-clause-none : goal.returns-clause-none

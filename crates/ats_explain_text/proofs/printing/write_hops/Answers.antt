@@ -1,8 +1,6 @@
-use Rattle.std.proofs.Common.{◌≡◌, ◌<◌, ℕ, List, length, slice_index_or, ap, sym, subst, ◌∙◌, arith}
+use Rattle.std.proofs.Common.{◌≡◌, ◌<◌, ℕ, List, length, slice_index_or, ap, sym, subst, arith}
 use Rattle.ats_streams.specs.Stream.{DeclaredStream}
-use Rattle.ats_network.specs.Class.{class_at}
-use Rattle.ats_network.specs.Sender.{stream_sender}
-use Rattle.ats_network.proofs.ClassLemmas.{class_along-at}
+use Rattle.ats_network.proofs.ClassLemmas.{class_listed}
 use Rattle.ats_explain.specs.Parts.{HopIsUsed}
 use Rattle.ats_explain_text.proofs.printing.write_hops.Goals as goal
 
@@ -17,13 +15,6 @@ write_hop-requires-clause-used c =
 
 pub write_hop-requires-clause-class : goal.write_hop-requires-clause-class
 write_hop-requires-clause-class c =
-    let stream : DeclaredStream = c.args.stream.now in
-    let hop : ℕ = c.loop-hop.hop in
-    let long : length c.path-port-items.result.now ≡ length stream.path =
-    ap (λ (ports : List ℕ). length ports) c.path-port-items.ensures.value in
-    let within : hop < length stream.path = omega (arith, long) in
-    ap (λ (classes : List ℕ). slice_index_or classes hop 0) c.classes-classes.ensures.value
-    ∙ sym (class_along-at stream.path stream.classes hop c.requires.apart c.classes-classes.ensures.rules.each_port
-    within)
-    ∙ ap (λ (ports : List ℕ). class_at (stream_sender stream) (slice_index_or ports hop 0))
-    (sym c.path-port-items.ensures.value)
+    class_listed c.args.stream.now c.path-port-items.result.now c.classes-classes.result.now c.loop-hop.hop
+    c.path-port-items.ensures.value c.classes-classes.ensures.value c.requires.apart
+    c.classes-classes.ensures.rules.each_port (omega arith)

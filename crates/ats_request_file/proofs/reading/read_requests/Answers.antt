@@ -1,6 +1,7 @@
 use Rattle.std.proofs.Common.{rules, ap, sym, subst, ◌∙◌}
 use Rattle.std.specs.Global.{Vec}
 use Rattle.std.specs.List.{All}
+use Rattle.ats_topology.specs.KeptWalks.{AreKeptFor}
 use Rattle.ats_requests.specs.Requests.{MayAsk}
 use Rattle.ats_requests.specs.declared.request.Request.{Request}
 use Rattle.ats_request_file.proofs.Allowed.{more_allowed}
@@ -22,6 +23,12 @@ loop-at-preserved c = record {
         c.loop-at.invariant.allowed
   ];
   some = search rules;
+  kept = elim c.if-not-is_skipped.branch [
+    | then-not-is_skipped+in_ok-request+in_ok-push w ↦
+        subst (AreKeptFor c.topology-topology.result.now) (sym w.walks-is) w.in_ok-request.ensures.kept
+    | else-not-is_skipped w ↦
+        subst (AreKeptFor c.topology-topology.result.now) (sym w.walks-is) c.loop-at.invariant.kept
+  ];
   within = search rules;
   few = search rules;
 }

@@ -1,6 +1,7 @@
 use Rattle.std.proofs.Common.{◌≡◌, ◌+◌, ◌-◌, ◌≤◌, length, drop}
 use Rattle.std.specs.List.{All}
 use Rattle.ats_io.specs.Text.{lines_of}
+use Rattle.ats_topology.specs.KeptWalks.{AreKeptFor}
 use Rattle.ats_requests.specs.Requests.{MayAsk}
 use Rattle.ats_request_file.specs.Reading.{requests_from, requests_of}
 use Rattle.ats_request_file.proofs.reading.read_requests.Given as goal
@@ -12,6 +13,7 @@ invariant-loop-at l = record {
       ≡ requests_of l.network.topology l.bytes;
   allowed : All (MayAsk l.network.topology) l.requests.items;
   some : length l.requests.items ≤ 10000;
+  kept : AreKeptFor l.topology l.walks;
   within : l.at ≤ length l.bytes;
   few : l.number ≤ l.at + 1;
 }

@@ -14,5 +14,5 @@ pub returns : goal.returns
 returns c =
     identity_some c.self.inside.streams.items c.self.inside.serials.items c.self.inside.names c.self.inside.identities
     c.args.address c.args.vlan c.in_ok-serial.serial c.deref.result.now c.place_in.result c.self.invariant
-    c.deref.ensures.value (c.in_ok-serial.ensures ∙ c.get.ensures.value) c.place_in.ensures
+    c.deref.ensures.value (c.in_ok-serial.ensures ∙ c.get.ensures.value) c.place_in.ensures.place
     ∙ ap (place_identified (c.args.address, c.args.vlan)) c.self.view_is

@@ -17,7 +17,7 @@ pub returns-clause-place : goal.returns-clause-place
 returns-clause-place c =
     (place_some c.self.inside.streams.items c.self.inside.serials.items c.self.inside.names c.self.inside.identities
     c.args.name.now c.in_ok-serial.serial c.deref.result.now c.place_in.result c.self.invariant c.deref.ensures.value
-    (c.in_ok-serial.ensures ∙ c.get.ensures.value) c.place_in.ensures).1
+    (c.in_ok-serial.ensures ∙ c.get.ensures.value) c.place_in.ensures.place).1
     ∙ ap (λ (s : List DeclaredStream). place_of c.args.name.now (stream_names s)) c.self.view_is
 
 pub returns-clause-within : goal.returns-clause-within
@@ -25,4 +25,4 @@ returns-clause-within c =
     subst (λ (s : List DeclaredStream). IfSome c.place_in.result (λ place. place < length s)) c.self.view_is
     (place_within c.self.inside.streams.items c.self.inside.serials.items c.self.inside.names c.self.inside.identities
     c.args.name.now c.in_ok-serial.serial c.deref.result.now c.place_in.result c.self.invariant c.deref.ensures.value
-    (c.in_ok-serial.ensures ∙ c.get.ensures.value) c.place_in.ensures)
+    (c.in_ok-serial.ensures ∙ c.get.ensures.value) c.place_in.ensures.place)

@@ -1,0 +1,4 @@
+//! Networks that tests are written over.
+#![tactic(auto)]
+
+pub mod lines;

@@ -1,0 +1,11 @@
+pub mod Beside
+pub mod Placed
+pub mod Found
+pub mod Users
+pub mod Near
+pub mod Hops
+pub mod Sums
+pub mod Judgements
+pub mod Opened
+pub mod ShareLemmas
+pub mod UserTallies

@@ -1,0 +1,14 @@
+use Rattle.std.proofs.Common.{◌≡◌, length}
+use Rattle.toml.specs.Data.{get_member}
+use Rattle.toml.specs.View.{members_view}
+use Rattle.ats_network_toml.specs.Words.{key_text}
+use Rattle.ats_network_toml.specs.declared.key.Key.{Key}
+use Rattle.ats_network_toml.proofs.Places.{has_so_far}
+use Rattle.ats_network_toml.proofs.slots.values_of.Given as goal
+
+-- what is at the places so far, and else what the members left have, is what all members have
+abbrev pub invariant-members : goal.invariant-members
+invariant-members l =
+    (goal.iterator-members).can_next l.text-iterator × (goal.iterator-members).is_finite l.text-iterator
+    × (length l.values ≡ 27) × ((k : Key) → has_so_far l.values (members_view l.text-iterator) k
+    ≡ get_member (key_text k) (members_view l.members.entries))

@@ -1,0 +1,175 @@
+//! The values of a table by their keys.
+
+ghost use Rattle.std.specs.Prelude.{◌≡◌, ◌<◌, length, slice_index_or, option_map, IfSome, None};
+ghost use Rattle.std.specs.List.{position_from};
+ghost use Rattle.std.specs.Str.{bytes_eq};
+ghost use Rattle.toml.specs.Data.{get_member};
+ghost use Rattle.toml.specs.View.{view, members_view, table_view};
+ghost use Rattle.ats_network_toml.specs.Words.{key_text};
+ghost use Rattle.ats_network_toml.specs.Walk.{is_known, has_unknown};
+ghost use Rattle.ats_network_toml.specs.Slots.{AreSlots, all_keys, slot_of};
+
+use crate::key::Key;
+use std::marker::Model;
+use toml::Value;
+
+// The keys of all tables, the more frequent ones first.
+const ALL_KEYS: [Key; 27] = [
+    Key::Name,
+    Key::Path,
+    Key::Class,
+    Key::RateBps,
+    Key::BurstBits,
+    Key::MinOctets,
+    Key::MaxOctets,
+    Key::From,
+    Key::To,
+    Key::DeadlineNs,
+    Key::Address,
+    Key::Vlan,
+    Key::A,
+    Key::B,
+    Key::Mbps,
+    Key::PropagationNs,
+    Key::ProcessingNs,
+    Key::ResidenceNs,
+    Key::ProcessingMinNs,
+    Key::ProcessingMaxNs,
+    Key::Classes,
+    Key::Format,
+    Key::Station,
+    Key::Bridge,
+    Key::Link,
+    Key::Stream,
+    Key::Flow,
+];
+
+/// The values of a table, each found at once by its key. Contracts see the table's entries.
+#[derive(Drop)]
+pub(crate) struct Slots<'a> {
+    members: &'a toml::Table,
+    values: [Option<&'a Value>; 27],
+}
+
+impl<'a> Model for Slots<'a> {
+    ghost use Rattle.std.specs.Coded.{codes};
+    ghost use Rattle.toml.specs.contracts.value.Value as value;
+    ghost use Rattle.ats_network_toml.specs.Slots.{Entries, AreSlots};
+
+    ghost Value = { Entries };
+
+    ghost coded = { Prim.hlevel (codes, value.the_row.coded) };
+
+    ghost view = { λ s. s.members.now.entries };
+
+    ghost invariant = { λ s. AreSlots s.members.now.entries s.values };
+}
+
+impl<'a> Slots<'a> {
+    /// The values of a table.
+    pub(crate) fn of(members: &'a toml::Table) -> Self
+        ensures { result ≡ members.now.entries }
+    {
+        let values = values_of(members);
+        Slots { members, values }
+    }
+
+    /// Whether a key stands in the table that is none of these.
+    pub(crate) fn has_unknown(&self, keys: &[Key]) -> bool
+        ensures { result ≡ has_unknown keys.now (members_view self.now) }
+    {
+        has_unknown(keys, self.members)
+    }
+
+    /// What stands with a key.
+    pub(crate) fn value(&self, key: Key) -> Option<&'a Value>
+        ensures { option_map (λ v. view v.now) result ≡ get_member (key_text key) (members_view self.now) }
+    {
+        at(self.values.as_slice(), slot_of(key))
+    }
+}
+
+// The values of a table at the places of their keys.
+fn values_of<'a>(members: &'a toml::Table) -> [Option<&'a Value>; 27]
+    ensures { AreSlots members.now.entries result }
+{
+    let mut values = [None; 27];
+    'members: for (text, value) in members.iter() {
+        if let Some(slot) = slot_named(text.as_str()) {
+            values[slot] = at(values.as_slice(), slot).or(Some(value));
+        }
+    }
+    values
+}
+
+// What stands at a place.
+fn at<'a>(values: &[Option<&'a Value>], place: usize) -> Option<&'a Value>
+    requires { place < length values.now }
+    ensures { result ≡ slice_index_or values.now place None }
+{
+    values[place]
+}
+
+// The place of a key among all keys.
+fn slot_of(key: Key) -> usize
+    ensures place { result ≡ slot_of key }
+    ensures within { result < 27 }
+{
+    match key {
+        Key::Name => 0,
+        Key::Path => 1,
+        Key::Class => 2,
+        Key::RateBps => 3,
+        Key::BurstBits => 4,
+        Key::MinOctets => 5,
+        Key::MaxOctets => 6,
+        Key::From => 7,
+        Key::To => 8,
+        Key::DeadlineNs => 9,
+        Key::Address => 10,
+        Key::Vlan => 11,
+        Key::A => 12,
+        Key::B => 13,
+        Key::Mbps => 14,
+        Key::PropagationNs => 15,
+        Key::ProcessingNs => 16,
+        Key::ResidenceNs => 17,
+        Key::ProcessingMinNs => 18,
+        Key::ProcessingMaxNs => 19,
+        Key::Classes => 20,
+        Key::Format => 21,
+        Key::Station => 22,
+        Key::Bridge => 23,
+        Key::Link => 24,
+        Key::Stream => 25,
+        Key::Flow => 26,
+    }
+}
+
+// The place of the key that is written so among all keys.
+fn slot_named(text: &str) -> Option<usize>
+    ensures place { result ≡ position_from (λ key. bytes_eq text.now (key_text key)) 0 all_keys }
+    ensures within { IfSome result (λ i. i < 27) }
+{
+    ALL_KEYS
+        .iter()
+        .position(|key| text.as_bytes() == key.text().as_bytes())
+}
+
+fn has_unknown(keys: &[Key], members: &toml::Table) -> bool
+    ensures { result ≡ has_unknown keys.now (table_view members.now) }
+{
+    'members: for (text, _value) in members.iter() {
+        if !is_known(keys, text.as_str()) {
+            return true;
+        }
+    }
+    false
+}
+
+fn is_known(keys: &[Key], text: &str) -> bool
+    ensures { result ≡ is_known keys.now text.now }
+{
+    keys.iter()
+        .any(|key| text.as_bytes() == key.text().as_bytes())
+}

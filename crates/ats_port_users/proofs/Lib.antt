@@ -1,0 +1,5 @@
+pub mod UserLemmas
+pub mod Slots
+pub mod Places
+pub mod ListLemmas
+pub mod StateLemmas

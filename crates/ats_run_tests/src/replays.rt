@@ -1,0 +1,154 @@
+//! Runs of a line, written by hand and printed, and its schedulers.
+
+ghost use Rattle.std.specs.Prelude.{◌≡◌, ◌<◌, length, All};
+ghost use Rattle.ats_network.specs.Network.{senders_of};
+ghost use Rattle.ats_network.specs.Senders.{sender_at};
+ghost use Rattle.ats_trace.specs.Journey.{IsJourney};
+
+use ats_fixtures::lines::line;
+use ats_group::Verdict;
+use ats_network::Network;
+use ats_num::Ps;
+use ats_replay::{departures, report};
+use ats_schedulers::Schedulers;
+use ats_trace::{Ending, HopRecord, Journey, Release, Run, Span};
+use std::alloc::AllocGlobal;
+use std::process::Abort;
+
+const SENT: &[u8] = b"frame 0 a 1522 0\n\
+    hop s1>b1 0 eligible 0 start 0 end 12336000\n\
+    hop b1>s2 13836000 eligible 13836000 start 13836000 end 26172000\n\
+    sink 26672000\n\
+    total frames 1 sunk 1 late 0 size 0\n";
+
+const SENT_REPORT: &[u8] = b"stream a frames 1 sunk 1 late 0 size 0 worst 26672000 bound 26672000\n\
+    flow f frames 0 sunk 0 late 0 size 0 worst 0 bound -\n\
+    total frames 1 sunk 1 late 0 size 0\n";
+
+const DISCARDED: &[u8] = b"frame 0 a 1523 0\n\
+    hop s1>b1 0 eligible 0 start 0 end 12344000\n\
+    hop b1>s2 13844000 size\n\
+    discard\n\
+    frame 1 a 64 0\n\
+    hop s1>b1 0 eligible 0 start 12344000 end 13016000\n\
+    hop b1>s2 14516000 late 33372000\n\
+    discard\n\
+    total frames 2 sunk 0 late 1 size 1\n";
+
+const DISCARDED_REPORT: &[u8] = b"stream a frames 2 sunk 0 late 1 size 1 worst 0 bound -\n\
+    flow f frames 0 sunk 0 late 0 size 0 worst 0 bound -\n\
+    total frames 2 sunk 0 late 1 size 1\n";
+
+// A frame of stream a that is released at 0.
+fn journey(octets: u32, ending: Ending) -> Journey
+    ensures { result ≡ record {
+      release = record { at = record { 0 = 0 }; sender = 0; octets = octets };
+      ending = ending;
+    } }
+{
+    Journey {
+        release: Release {
+            at: Ps(0),
+            sender: 0,
+            octets,
+        },
+        ending,
+    }
+}
+
+// The record of a frame that came at this time.
+fn hop(arrival: u64, verdict: Verdict, sent: Option<(Ps, Ps)>) -> HopRecord
+    ensures { result ≡ record { arrival = record { 0 = arrival }; verdict = verdict; sent = sent } }
+{
+    HopRecord {
+        arrival: Ps(arrival),
+        verdict,
+        sent,
+    }
+}
+
+// The run of a frame that reaches its listener.
+fn sent(rt: &(impl Abort + AllocGlobal), network: &Network) -> Run
+    requires sender { 0 < length (senders_of network.now) }
+    requires path { length (sender_at network.now 0).path ≡ 2 }
+    ensures { All (IsJourney network.now) result }
+{
+    let rows = vec![in rt.alloc(); journey(1522, Ending::Sink(Ps(26_672_000)))].expect(rt, "room");
+    let spans = vec![in rt.alloc(); Span { first: 0, count: 2 }].expect(rt, "room");
+    let hops = vec![in rt.alloc();
+        hop(0, Verdict::Eligible(Ps(0)), Some((Ps(0), Ps(12_336_000)))),
+        hop(
+            13_836_000,
+            Verdict::Eligible(Ps(13_836_000)),
+            Some((Ps(13_836_000), Ps(26_172_000))),
+        ),
+    ]
+    .expect(rt, "room");
+    Run::new(rows, spans, hops)
+}
+
+// The run of a frame that is too long, and one that would be eligible too late.
+fn discarded(rt: &(impl Abort + AllocGlobal), network: &Network) -> Run
+    requires sender { 0 < length (senders_of network.now) }
+    requires path { length (sender_at network.now 0).path ≡ 2 }
+    ensures { All (IsJourney network.now) result }
+{
+    let rows = vec![in rt.alloc();
+        journey(1523, Ending::Discard),
+        journey(64, Ending::Discard),
+    ]
+    .expect(rt, "room");
+    let spans = vec![in rt.alloc();
+        Span { first: 0, count: 2 },
+        Span { first: 2, count: 2 },
+    ].expect(rt, "room");
+    let hops = vec![in rt.alloc();
+        hop(0, Verdict::Eligible(Ps(0)), Some((Ps(0), Ps(12_344_000)))),
+        hop(13_844_000, Verdict::Size, None),
+        hop(
+            0,
+            Verdict::Eligible(Ps(0)),
+            Some((Ps(12_344_000), Ps(13_016_000)))
+        ),
+        hop(14_516_000, Verdict::Late(Ps(33_372_000)), None),
+    ]
+    .expect(rt, "room");
+    Run::new(rows, spans, hops)
+}
+
+#[test]
+fn prints_a_frame_that_arrives(rt: HostRuntime) {
+    let network = line(&rt);
+    assert!(rt; network.senders() == 2);
+    assert!(rt; network.sender_path(0).len() == 2);
+    let run = sent(&rt, &network);
+    let text = departures(rt.alloc(), &network, &run).expect(&rt, "room");
+    assert!(rt; text.as_slice() == SENT);
+    let sums = [26_672_000u128];
+    let text = report(rt.alloc(), &network, &run, Some(sums.as_slice())).expect(&rt, "room");
+    assert!(rt; text.as_slice() == SENT_REPORT);
+}
+
+#[test]
+fn prints_frames_that_are_discarded(rt: HostRuntime) {
+    let network = line(&rt);
+    assert!(rt; network.senders() == 2);
+    assert!(rt; network.sender_path(0).len() == 2);
+    let run = discarded(&rt, &network);
+    let text = departures(rt.alloc(), &network, &run).expect(&rt, "room");
+    assert!(rt; text.as_slice() == DISCARDED);
+    let text = report(rt.alloc(), &network, &run, None).expect(&rt, "room");
+    assert!(rt; text.as_slice() == DISCARDED_REPORT);
+}
+
+#[test]
+fn has_a_scheduler_at_the_bridge(rt: HostRuntime) {
+    let network = line(&rt);
+    let schedulers = Schedulers::new(rt.alloc(), &network).expect(&rt, "room");
+    assert!(rt; schedulers.residences().len() == 32);
+    assert!(rt; schedulers.residences()[..8] == [1_000_000; 8]);
+    assert!(rt; schedulers.residences()[8..24] == [0; 16]);
+    assert!(rt; schedulers.residences()[24..] == [1_000_000; 8]);
+    assert!(rt; schedulers.members().len() == 1);
+    assert!(rt; schedulers.members()[0].group == 6);
+}

@@ -1,9 +1,0 @@
-use Rattle.std.proofs.Common.{rules, arith}
-use Rattle.std.proofs.lemmas.Grind.{common_steps}
-use Rattle.ats_tests.proofs.Replayed.{discarded_go}
-use Rattle.ats_tests.proofs.replays.discarded.Goals as goal
-
-pub returns : goal.returns
-returns g c = discarded_go c.args.network.now c.new.result c.expect-rows.result.items c.expect-spans.result.items
-    c.expect-hops.result.items c.new.ensures (grind (arith, common_steps)) (search rules)
-    (grind (arith, common_steps)) c.requires.sender c.requires.path
