@@ -6,22 +6,32 @@ Usage: ats show NET | python3 bridge_settings.py NET       (Python 3.11 or later
 import sys
 import tomllib
 
-with open(sys.argv[1], "rb") as file:
-    network = tomllib.load(file)
-bridges = {bridge["name"]: bridge for bridge in network.get("bridge", [])}
-streams = {stream["name"]: stream for stream in network.get("stream", [])}
 
-rows = []
-for words in map(str.split, sys.stdin):
-    if words[0] != "stream":
-        continue
-    name, classes, ports = words[1], words[2].split(","), words[3:]
-    for port, traffic_class in zip(ports, classes if len(classes) > 1 else classes * len(ports)):
-        bridge = port.split(">")[1]
-        if bridge in bridges:
-            stream = streams[name]
-            rows.append((bridge, port, traffic_class, name, stream["rate_bps"], stream["burst_bits"], bridges[bridge]["residence_ns"]))
+def settings(network, lines):
+    """The rows for each stream at each bridge of its path, from the lines of `ats show`."""
+    bridges = {bridge["name"]: bridge for bridge in network.get("bridge", [])}
+    streams = {stream["name"]: stream for stream in network.get("stream", [])}
+    shown = [line.split() for line in lines if line.startswith("stream ")]
+    if [words[1] for words in shown] != list(streams):
+        sys.exit("the streams on standard input are not those of the file: ats show NET | python3 bridge_settings.py NET")
+    for _, name, classes, *ports in shown:
+        classes = classes.split(",")
+        for port, traffic_class in zip(ports, classes if len(classes) > 1 else classes * len(ports)):
+            bridge = port.split(">")[1]
+            if bridge in bridges:
+                stream, residence = streams[name], bridges[bridge]["residence_ns"]
+                yield bridge, port, traffic_class, name, stream["rate_bps"], stream["burst_bits"], residence
 
-print("bridge,received_from,class,stream,rate_bps,burst_bits,residence_ns")
-for row in sorted(rows):
-    print(",".join(map(str, row)))
+
+def main():
+    if len(sys.argv) != 2:
+        sys.exit(__doc__)
+    with open(sys.argv[1], "rb") as file:
+        network = tomllib.load(file)
+    rows = sorted(settings(network, sys.stdin))
+    print("bridge,received_from,class,stream,rate_bps,burst_bits,residence_ns")
+    for row in rows:
+        print(",".join(map(str, row)))
+
+
+main()

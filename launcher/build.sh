@@ -81,11 +81,10 @@ lanes() {
     ' /proc/meminfo
 }
 
-# Passes on what rt prints of each crate that it has checked, and says which are proved.
+# Says which crates are proved, from what rt prints of each that it has checked.
 tell_progress() {
     name='a crate'
     while IFS= read -r line; do
-        printf '%s\n' "$line"
         case $line in
             '== '*) name=${line#== } ;;
             'logic=proved '*) say "proved $name, after $(($(date +%s) - began)) s" ;;
@@ -107,19 +106,29 @@ set_apart() {
     done
 }
 
-# Puts what is left of each crate back to its sources, and removes that folder.
+# Puts what is left of each crate back to its sources, and removes that folder. It fails where some cannot be put back,
+# which then stays where it is. What moves from another file system has another name until it is whole.
 put_back() {
+    left=
     for name in $needed; do
         if [ -d "$notes/crates/$name/out" ] && [ ! -d "$top/crates/$name/out" ]; then
-            mv "$notes/crates/$name/out" "$top/crates/$name/"
+            new=$top/crates/$name/out.new
+            rm -rf "$new"
+            if ! mv "$notes/crates/$name/out" "$new" || ! mv "$new" "$top/crates/$name/out"; then
+                left=$notes
+            fi
         fi
     done
+    if [ -n "$left" ]; then
+        say "what was built could not be put back into $top, and is left in $left"
+        return 1
+    fi
     rm -rf "$notes"
 }
 
 # Proves the crates, several side by side. What fails is told by the build that follows.
 prove_crates() {
-    (cd "$notes" && rt all check --jobs "$(lanes)" </dev/null 2>&1 | tell_progress >"$notes/told") 9<&- &
+    (cd "$notes" && rt all check --jobs "$(lanes)" </dev/null 2>&1 | tell_progress) 9<&- &
     working=$!
     wait "$working"
     working=
@@ -194,6 +203,6 @@ build_alone() {
     # The sources that count are those which were set apart; what was edited since is built at the next call.
     note_origin "$notes" || say 'what the program was built from could not be noted; the next call builds it again'
     say "built in $seconds s"
-    put_back
+    put_back || { trap - EXIT && exit 8; }
     trap - EXIT HUP INT TERM
 }

@@ -1,8 +1,9 @@
 """Names the culprit of a fault that `ats` names by its kind and a number alone.
 
-Usage: hints.py KIND FILE FAULT. KIND is what the file is to the command (NET, CERT, SCHEDULE, REQUESTS or FILE), FAULT what
-the program prints behind `input FILE`. Prints one line, or nothing where no culprit is found. It reads the file by Python's
-own readers (of TOML from Python 3.11 on), so what it prints is a help for people and nothing that is proved."""
+Usage: hints.py KIND FILE FAULT NET. KIND is what the file is to the command (NET, CERT, SCHEDULE, REQUESTS or FILE), FAULT
+what the program prints behind `input FILE`, or of a schedule the line `refused`, NET the network file. Prints one line, or
+nothing where no culprit is found. It reads the files by Python's own readers (of TOML from Python 3.11 on), so what it prints
+is a help for people and nothing that is proved."""
 
 import csv
 import difflib
@@ -23,9 +24,28 @@ BRIDGE_KEYS = {
     1: ["name", "processing_ns", "residence_ns"],
     2: ["name", "processing_min_ns", "processing_max_ns", "residence_ns"],
 }
-MOST = {"propagation_ns": 1000000, "processing_ns": 1000000, "processing_max_ns": 1000000, "residence_ns": 1000000000}
+# The least and the greatest that a number may be.
+RANGES = {
+    "format": (1, 2),
+    "propagation_ns": (0, 1000000),
+    "processing_ns": (0, 1000000),
+    "processing_min_ns": (0, 1000000),
+    "processing_max_ns": (0, 1000000),
+    "residence_ns": (0, 1000000000),
+    "class": (1, 7),
+    "rate_bps": (1, 100000000000),
+    "burst_bits": (1, 1000000000),
+    "min_octets": (64, 2000),
+    "max_octets": (64, 2000),
+    "deadline_ns": (1, 1000000000),
+    "vlan": (1, 4094),
+}
 RATES = "10, 100, 1000, 2500, 5000, 10000, 25000, 40000, 50000 or 100000"
 MOST_NESTED = 80
+MOST_LINKS = 16
+HEADERS = {"CERT": "port,class,higher,equal,bursts,lower,least,wait,bound", "SCHEDULE": "at_ps,sender,octets"}
+REQUEST_FORMS = "a line is admit NAME FROM TO CLASS RATE BURST MIN MAX DEADLINE_NS, or withdraw NAME"
+SHAPE_FORMS = "a line is residence NS (the first), stream NAME RATE BURST MIN MAX, or frame AT NAME OCTETS"
 
 
 def shown(value):
@@ -44,9 +64,11 @@ def text_of(raw):
     return raw.decode("utf-8").removeprefix("\ufeff")
 
 
-def line_of(text, number):
+def line_of(text, number, column=1):
+    """A line, from a little before a column on."""
     lines = text.split("\n")
-    return lines[number - 1].rstrip("\r") if 0 < number <= len(lines) else ""
+    line = lines[number - 1].rstrip("\r") if 0 < number <= len(lines) else ""
+    return line if column <= 60 else "..." + line[column - 40:]
 
 
 # What is no TOML
@@ -70,6 +92,13 @@ def outside_64_bits(value, key):
     return None
 
 
+TOML_SIGNS = {
+    "twice": "; tables of which there are several have two pairs of brackets",
+    "Unclosed": "; a comma may be missing before it",
+    "immutable": "; tables of one kind are written in one way, all in double brackets or all in one array",
+}
+
+
 def not_toml(raw):
     try:
         text = text_of(raw)
@@ -84,12 +113,12 @@ def not_toml(raw):
     try:
         return outside_64_bits(tomllib.loads(text), "")
     except tomllib.TOMLDecodeError as error:
-        place = re.search(r"\(at line (\d+)", str(error))
+        place = re.search(r"\(at line (\d+), column (\d+)", str(error))
         if not place:
             return f"Python's reader of TOML says: {error}"
-        number = int(place[1])
-        more = "; tables of which there are several have two pairs of brackets" if "twice" in str(error) else ""
-        return f"Python's reader of TOML says: {error}; line {number} is {shown(line_of(text, number))}{more}"
+        number, column = int(place[1]), int(place[2])
+        more = next((more for sign, more in TOML_SIGNS.items() if sign in str(error)), "")
+        return f"Python's reader of TOML says: {error}; line {number} is {shown(line_of(text, number, column))}{more}"
     except RecursionError:
         return f"arrays are nested deeper than {MOST_NESTED}"
 
@@ -105,22 +134,54 @@ def keys_of(document, table):
     return BRIDGE_KEYS.get(document.get("format"), []) if table == "bridge" else KEYS[table]
 
 
+def who_is(document, table, number):
+    """An entry with its name, or with its ends where it is a link."""
+    if table == "top":
+        return "the top"
+    entry = entry_of(document, table, number)
+    told = joined(entry) if table == "link" else shown(entry.get("name"))
+    return f"{table} {number} is {told}"
+
+
 def unknown_key(document, table, number):
     keys = keys_of(document, table)
     for key in entry_of(document, table, number):
         if key not in keys:
             if table == "bridge" and any(key in others for others in BRIDGE_KEYS.values()):
                 return f"the key {key} is not one of format {document.get('format')}; its keys are {', '.join(keys)}"
-            return f"the key {shown(key)} is not known there{near(key, keys)}"
+            if table != "top" and key in KEYS["top"]:
+                return f"{key} stands behind [[{table}]] and so belongs to it: put it before the first table in double brackets"
+            return f"the key {shown(key)} is not known there{near(key, keys) or '; its keys are ' + ', '.join(keys)}"
     return None
 
 
-def missing_key(document, table, number):
+def unknown(document, table, number):
+    found = unknown_key(document, table, number)
+    return f"{who_is(document, table, number)}; {found}" if found and table != "top" else found
+
+
+def missing_format(document):
+    for table in KEYS["top"][1:]:
+        for number, entry in enumerate(document.get(table, []), 1):
+            if isinstance(entry, dict) and "format" in entry:
+                return f"format stands behind [[{table}]] and so belongs to {table} {number}: put it before the first table"
+    return unknown_key(document, "top", 0) or "the file begins with format = 1, or 2 where bridges have two processing times"
+
+
+DUE = {
+    "path": "path stands there, or from and to",
+    "class": "class or classes stands there",
+    "address": "address and vlan stand together",
+    "vlan": "address and vlan stand together",
+}
+
+
+def missing_key(document, table, number, key):
     """Which entry lacks the key: its name, and the key there that may have been meant for it."""
-    entry = entry_of(document, table, number)
-    name = entry.get("name") if table != "top" else None
-    told = [f"{table} {number} is {shown(name)}" if name else None, unknown_key(document, table, number)]
-    return "; ".join(part for part in told if part)
+    if table == "top":
+        return missing_format(document)
+    due = unknown_key(document, table, number) or DUE.get(key)
+    return who_is(document, table, number) + (f"; {due}" if due else "")
 
 
 def letters(name):
@@ -132,6 +193,28 @@ def letters(name):
     return f"{shown(name)} has {len(name)} letters: a name has 1 to 32"
 
 
+def wrong_path(entry, path):
+    if "from" in entry or "to" in entry:
+        return "path stands beside from or to"
+    if not isinstance(path, list):
+        return f'path is {shown(path)}: it is an array of names, as ["s1", "b1", "s2"]'
+    for name in path:
+        if not isinstance(name, str) or not NAME.fullmatch(name):
+            return letters(name)
+    return f"path has {len(path)} names: it has at least two"
+
+
+def wrong_number(key, value):
+    if key == "mbps":
+        due = f"it is {RATES}"
+    elif key in RANGES:
+        due = "it is 1 or 2" if key == "format" else "it is {} to {}".format(*RANGES[key])
+    else:
+        return f"{key} is {shown(value)}"
+    whole = isinstance(value, int) and not isinstance(value, bool)
+    return f"{key} is {shown(value)}; {due}" + ("" if whole else ", a whole number without point, exponent, quotes and unit")
+
+
 def wrong_kind(document, table, number, key):
     entry = entry_of(document, table, number)
     if not isinstance(entry, dict):
@@ -141,13 +224,15 @@ def wrong_kind(document, table, number, key):
         return f"[{key}] has to be [[{key}]], with two pairs of brackets"
     if key in ("name", "a", "b", "from", "to"):
         return letters(value)
-    if key == "path" and ("from" in entry or "to" in entry):
-        return "path stands beside from or to"
-    if key == "path" and isinstance(value, list):
-        return next((letters(name) for name in value if not isinstance(name, str) or not NAME.fullmatch(name)), None)
-    if key in ("class", "classes") and "class" in entry and "classes" in entry:
-        return "classes stands beside class"
-    return f"{key} is {shown(value)}"
+    if key == "path":
+        told = wrong_path(entry, value)
+    elif key in ("class", "classes") and "class" in entry and "classes" in entry:
+        told = "classes stands beside class"
+    elif key == "address":
+        told = f"address is {shown(value)}: it is six pairs of digits joined by colons, as '02:00:00:00:00:01'"
+    else:
+        told = wrong_number(key, value)
+    return told if table == "top" else f"{who_is(document, table, number)}; {told}"
 
 
 # Nodes and links
@@ -164,28 +249,33 @@ def joined(link):
 def over_a_limit(document):
     for table in ("link", "bridge"):
         for number, entry in enumerate(document.get(table, []), 1):
-            for key, most in MOST.items():
-                if isinstance(entry.get(key), int) and entry[key] > most:
+            for key, value in entry.items():
+                if key in RANGES and value > RANGES[key][1]:
                     who = joined(entry) if table == "link" else entry.get("name")
-                    return f"{key} of {table} {number} ({who}) is {entry[key]}; the most is {most}"
+                    return f"{key} of {table} {number} ({who}) is {value}; the most is {RANGES[key][1]}"
     return None
 
 
 def link_fault(document, fault, number):
     link, nodes = document["link"][number - 1], nodes_of(document)
     if fault == "unknown-node":
-        return next((f"no node is called {shown(end)}{near(end, nodes)}" for end in (link["a"], link["b"]) if end not in nodes), None)
+        unknown_end = link["a"] if link["a"] not in nodes else link["b"]
+        return f"no node is called {shown(unknown_end)}{near(unknown_end, nodes)}"
     if fault == "bad-rate":
         return f"mbps of {joined(link)} is {link['mbps']}; it is {RATES}"
-    return f"link {number} is {joined(link)}"
+    return f"link {number} is {joined(link)}" + ("; an earlier one joins them too" if fault == "link-twice" else "")
 
 
 def node_fault(document, fault, number):
     name = nodes_of(document)[number - 1]
     if fault == "station-links":
         links = sum(name in (link["a"], link["b"]) for link in document.get("link", []))
-        return f"the station {shown(name)} has {links} links"
-    return f"node {number} is {shown(name)}"
+        return f"the station {shown(name)} has {links} links; it has to have one"
+    if fault == "bad-processing":
+        bridge = document["bridge"][number - 1 - len(document.get("station", []))]
+        least, greatest = bridge["processing_min_ns"], bridge["processing_max_ns"]
+        return f"{shown(name)} has processing_min_ns {least}, above processing_max_ns {greatest}"
+    return f"node {number} is {shown(name)}; an earlier one is called so too"
 
 
 # Streams and flows
@@ -194,21 +284,63 @@ def node_fault(document, fault, number):
 def bad_path(document, table, number):
     entry, nodes = entry_of(document, table, number), nodes_of(document)
     path = entry.get("path") or [entry.get("from"), entry.get("to")]
-    who = f"{table} {number} is {shown(entry.get('name'))}"
+    who = who_is(document, table, number)
     for name in path:
         if name not in nodes:
             return f"{who}; no node is called {shown(name)}{near(name, nodes)}"
     stations = [node.get("name") for node in document.get("station", [])]
     for place, name in enumerate(path):
         if path.index(name) < place:
-            return f"{who}; its path visits {name} twice"
+            return f"{who}; " + (f"its path visits {name} twice" if "path" in entry else "from and to are the same")
         if (name in stations) != (place in (0, len(path) - 1)):
-            return f"{who}; {name} is a {'station' if name in stations else 'bridge'}: stations stand at both ends and nowhere else"
-    links = {frozenset((link["a"], link["b"])) for link in document.get("link", [])}
+            kind = "station" if name in stations else "bridge"
+            return f"{who}; {name} is a {kind}: stations stand at both ends and nowhere else"
+    links = links_of(document)
     for before, after in zip(path, path[1:]):
         if "path" in entry and frozenset((before, after)) not in links:
             return f"{who}; no link joins {before} and {after}"
+    if "path" not in entry and path[1] not in distances(path[0], links):
+        return f"{who}; no links lead from {path[0]} to {path[1]}"
     return who
+
+
+def links_of(document):
+    return {frozenset((link["a"], link["b"])) for link in document.get("link", [])}
+
+
+def distances(start, links):
+    """How many links lead from a node to each node that it reaches."""
+    found, ahead = {start: 0}, [start]
+    for here in ahead:
+        for link in links:
+            for new in link - found.keys() if here in link else ():
+                found[new] = found[here] + 1
+                ahead.append(new)
+    return found
+
+
+RULES = {
+    "bad-class": "a class is 1 to 7",
+    "bad-rate": "a rate is 1 to 100000000000 b/s",
+    "bad-sizes": "octets are 64 to 2000, and the least not above the greatest",
+    "limit": f"the most are {MOST_LINKS} links, {RANGES['burst_bits'][1]} bits and {RANGES['deadline_ns'][1]} ns",
+}
+
+
+def due_of(document, entry, fault):
+    """What an entry has to keep that breaks a rule."""
+    if fault == "burst-below-frame":
+        return f"the burst is at least {8 * (entry['max_octets'] + 20)}"
+    if fault == "bad-class" and "classes" in entry:
+        ports = len(entry["path"]) - 1 if "path" in entry else distances(entry["from"], links_of(document))[entry["to"]]
+        return f"{RULES[fault]}, and of the path's {ports} ports each has one, or all the same"
+    return RULES[fault]
+
+
+def breaks_limit(entry, key):
+    if key == "path":
+        return len(entry[key]) > MOST_LINKS + 1
+    return not RANGES[key][0] <= entry[key] <= RANGES[key][1]
 
 
 def sender_fault(document, table, number, fault):
@@ -220,12 +352,9 @@ def sender_fault(document, table, number, fault):
         "burst-below-frame": ["burst_bits", "max_octets"],
         "limit": ["path", "burst_bits", "deadline_ns"],
     }[fault]
-    has = ", ".join(f"{key} {shown(entry[key])}" for key in keys if key in entry)
-    if fault == "burst-below-frame":
-        has += f"; the burst is at least {8 * (entry['max_octets'] + 20)}"
-    if fault == "limit":
-        has += "; the most are 16 links, 1000000000 bits and 1000000000 ns"
-    return f"{table} {number} is {shown(entry.get('name'))}, with {has}"
+    keys = [key for key in keys if key in entry and (fault != "limit" or breaks_limit(entry, key))]
+    has = ", ".join(f"{key} {shown(entry[key])}" for key in keys)
+    return f"{who_is(document, table, number)}{', with ' + has if has else ''}; {due_of(document, entry, fault)}"
 
 
 def identity(stream):
@@ -244,7 +373,7 @@ def network_hint(raw, words):
         case ["limit", table]:
             return f"there are {len(document[table])} tables [[{table}]]"
         case ["unknown", table, number]:
-            return unknown_key(document, table, int(number))
+            return unknown(document, table, int(number))
         case ["kind", table, number, key]:
             return wrong_kind(document, table, int(number), key)
         case [("unknown-node" | "bad-rate" | "link-twice" | "self-link") as fault, number]:
@@ -260,8 +389,8 @@ def network_hint(raw, words):
             last = identity(streams[-1])
             first = next(stream["name"] for stream in streams if identity(stream) == last)
             return f"{shown(streams[-1]['name'])} has the address and vlan of {shown(first)}"
-        case ["missing", table, number, _]:
-            return missing_key(document, table, int(number))
+        case ["missing", table, number, key]:
+            return missing_key(document, table, int(number), key)
         case [table, number, fault]:
             return sender_fault(document, table, int(number), fault)
     return None
@@ -270,28 +399,118 @@ def network_hint(raw, words):
 # Files of lines and of records
 
 
-def record_hint(raw, number):
+def network_of(path):
+    """The network of a file that the program has found lawful."""
+    import tomllib
+    with open(path, "rb") as file:
+        return tomllib.loads(text_of(file.read()))
+
+
+def no_sender(name, document):
+    """What stands in the place of a stream or flow in a schedule."""
+    if name in nodes_of(document):
+        return f"; {shown(name)} is a node: a stream or flow is due there"
+    senders = [sender["name"] for table in ("stream", "flow") for sender in document.get(table, [])]
+    return f"; no stream or flow is called {shown(name)}{near(name, senders)}"
+
+
+def no_port(port, document):
+    """What stands in the place of a port in a certificate."""
+    ports = [f"{a}>{b}" for link in document.get("link", []) for a, b in ((link["a"], link["b"]), (link["b"], link["a"]))]
+    return f"; no port is called {shown(port)}{near(port, ports)}"
+
+
+def due_of_record(kind, fault, record, number, net):
+    """What a record has to keep that has a fault."""
+    if fault == "bad-row":
+        due = "the header is" if number == 1 else f"there are {HEADERS[kind].count(',') + 1} fields, joined by commas, as in"
+        return f"; {due} {HEADERS[kind]}"
+    if fault == "bad-number":
+        return "; numbers are whole, without signs, points, exponents and blanks"
+    if fault == "bad-size":
+        return "; octets are 64 to 2000"
+    if fault == "unknown-name":
+        return no_sender(record[1], network_of(net))
+    if fault == "unknown-port":
+        return no_port(record[0], network_of(net))
+    return ""
+
+
+def records_of(text):
+    return [record for record in csv.reader(io.StringIO(text, newline="")) if record]
+
+
+def record_hint(kind, raw, fault, number, net):
     text = text_of(raw)
     if number == 1 and re.match(r"(refused|input) ", text):
         return f"the file has what ats said in place of a certificate: {shown(line_of(text, 1))}"
-    records = [record for record in csv.reader(io.StringIO(text, newline="")) if record]
-    return f"record {number} is {shown(','.join(records[number - 1]))}"
+    records = records_of(text)
+    if not records:
+        return f"the file is empty; the header is {HEADERS[kind]}"
+    record = records[number - 1]
+    return f"record {number} is {shown(','.join(record))}{due_of_record(kind, fault, record, number, net)}"
 
 
-def hint(kind, raw, words):
+def refused_frames(raw, words):
+    """The records of the frames that a refusal of `conform` names; frame 0 is record 2."""
+    records = records_of(text_of(raw))
+    frames = dict.fromkeys(int(word) for word in words)
+    return "; ".join(f"frame {frame} is record {frame + 2}: {shown(','.join(records[frame + 1]))}" for frame in frames)
+
+
+def request_hint(line, fault, net):
+    """What a line of a request file has to keep that has a fault."""
+    words = line.split()
+    if fault == "bad-line":
+        return f"; {REQUEST_FORMS}"
+    if fault in ("unknown-node", "no-path"):
+        document = network_of(net)
+        stations = [node["name"] for node in document.get("station", [])]
+        strange = [end for end in words[2:4] if end not in stations]
+        return f"; no station is called {shown(strange[0])}{near(strange[0], stations)}" if strange else ""
+    if fault == "burst-below-frame":
+        return f"; the burst is at least {8 * (int(words[8]) + 20)}"
+    return f"; {RULES[fault]}" if fault in ("bad-class", "bad-rate", "bad-sizes") else ""
+
+
+def capture_hint(raw, fault):
+    """What a capture is that cannot be read."""
+    if fault == "pcapng":
+        return "editcap -F pcap FILE NEW makes a pcap of it"
+    if fault == "bad-link":
+        return f"its link type is {int.from_bytes(raw[20:24], 'big' if raw[0] == 0xa1 else 'little')}, and that of Ethernet is 1"
+    if raw[:2] == b"\x1f\x8b":
+        return "gzip compressed it: editcap -F pcap FILE NEW unpacks it"
+    return f"it begins with {shown(raw[:16].decode('latin-1'))}, which is no capture" if fault == "bad-magic" else None
+
+
+def line_hint(kind, raw, fault, number, net):
+    line = line_of(raw.decode("utf-8"), number)
+    if kind == "REQUESTS":
+        due = request_hint(line, fault, net)
+    else:
+        due = f"; {SHAPE_FORMS}" if fault == "bad-line" else ""
+    return f"line {number} is {shown(line)}{due}"
+
+
+def hint(kind, raw, words, net):
     if kind == "NET":
         return network_hint(raw, words)
+    if words[0] == "refused":
+        return refused_frames(raw, words[2:])
+    if words[0] in ("pcapng", "bad-link", "bad-magic"):
+        return capture_hint(raw, words[0])
     number = int(words[-1])
-    if kind in ("CERT", "SCHEDULE"):
-        return record_hint(raw, number)
-    return f"line {number} is {shown(line_of(raw.decode('utf-8'), number))}"
+    if kind in HEADERS:
+        return record_hint(kind, raw, words[0], number, net)
+    return line_hint(kind, raw, words[0], number, net)
 
 
 def main():
-    kind, path, fault = sys.argv[1:]
+    kind, path, fault, net = sys.argv[1:]
     with open(path, "rb") as file:
         raw = file.read()
-    found = hint(kind, raw, fault.split())
+    found = hint(kind, raw, fault.split(), net)
     if found:
         print(found)
 

@@ -1,14 +1,14 @@
-use Rattle.std.proofs.Common.{◌≡◌, ℕ, zero, suc, ◌-◌, ◌<◌, ◌≤◌, List, [], ◌∷◌, ◌++◌, length, get_or, All, refl}
-use Rattle.std.proofs.Common.{Bool, true, false, cond, drop, ap, sym, subst}
+use Rattle.std.proofs.Common.{◌≡◌, ℕ, zero, suc, ◌-◌, ◌<◌, List, [], ◌∷◌, ◌++◌, length, get_or, All, refl}
+use Rattle.std.proofs.Common.{Bool, true, false, cond, ap, sym, subst}
 use Rattle.std.proofs.Common.{Option, Some, None, arith, inl, inr}
 use Rattle.std.specs.Prelude.{Any, Contains, IsPermutation, slice_get, IsNone, IfSome, IfNone, ◌↔◌}
 use Rattle.std.specs.Option.{option_to_list}
 use Rattle.ats_heap.specs.Contents.{Contents}
 use Rattle.std.specs.Bool.{OnTrue}
 use Rattle.std.proofs.lemmas.Bool.{cases_eq}
-use Rattle.std.proofs.lemmas.List.Elements.{All-append, All-cons, All-contains, All-head, All-push, All-tail, All-weaker}
+use Rattle.std.proofs.lemmas.List.Elements.{All-append, All-cons, All-contains, All-head, All-push, All-tail}
+use Rattle.std.proofs.lemmas.List.Elements.{All-weaker}
 use Rattle.std.proofs.lemmas.List.Elements.{Contains-append_right}
-use Rattle.std.proofs.lemmas.List.Kept.{AllPairs-cons}
 use Rattle.std.proofs.lemmas.List.Quantifiers.{all_pairs_push}
 use Rattle.std.proofs.lemmas.List.Sorted.{All-permutation, IsPermutation-append_right, IsPermutation-middle}
 use Rattle.std.proofs.lemmas.List.Sorted.{IsPermutation-refl, IsPermutation-sym, IsPermutation-to_front}
@@ -24,21 +24,6 @@ pub read_at : {X : Type 0} (xs : List X) (i : ℕ) (x : X) → slice_get xs i �
 read_at [] i x e = absurd (cc)
 read_at (y ∷ ys) zero x e = (omega arith, λ d. cc)
 read_at {X} (y ∷ ys) (suc i) x e = let rest = read_at ys i x e in (omega (arith, rest.0), rest.1)
-
--- nothing is read at the last place of a list only where there is none
-pub read_none : {X : Type 0} (xs : List X) (i : ℕ) → slice_get xs i ≡ None → length xs ≤ i
-read_none [] i e = omega arith
-read_none (y ∷ ys) zero e = absurd (cc)
-read_none (y ∷ ys) (suc i) e = omega (arith, read_none ys i e)
-
--- a list begins with what is read first
-pub read_first : {X : Type 0} (xs : List X) (x : X) → slice_get xs 0 ≡ Some x → xs ≡ x ∷ drop 1 xs
-read_first [] x e = absurd (cc)
-read_first (y ∷ ys) x e = cc
-
-pub read_nothing : {X : Type 0} (xs : List X) → slice_get xs 0 ≡ None → xs ≡ []
-read_nothing [] e = refl
-read_nothing (y ∷ ys) e = absurd (cc)
 
 module _ {X : Type 0} (covers : X → Type 0) (before : X → X → Type 0) (order : IsWeakOrder covers before) where
   -- an item that the last of a line leads is led by all of it
@@ -74,21 +59,13 @@ module _ {X : Type 0} (covers : X → Type 0) (before : X → X → Type 0) (ord
             (rw (← read.1 d) (kept.ascends 0 k d (omega arith) h))
       ]
 
-  -- a line is one with an item more behind it, or before it
+  -- a line is one with an item more behind it
   pub line-last : (line : List X) (item : X) → covers item → IsLine covers before line
       → All (λ x. Leads covers before x item) line → IsLine covers before (line ++ item ∷ [])
   line-last line item covered kept led =
       record {
         covered = All-push covers line item kept.covered covered;
         ascends = all_pairs_push (Leads covers before) line item kept.ascends led;
-      }
-
-  pub line-first : (line : List X) (item : X) → covers item → IsLine covers before line
-      → All (Leads covers before item) line → IsLine covers before (item ∷ line)
-  line-first line item covered kept leads =
-      record {
-        covered = All-cons covers item line covered kept.covered;
-        ascends = AllPairs-cons (Leads covers before) item line leads kept.ascends;
       }
 
   -- where there is room for it
@@ -100,15 +77,6 @@ module _ {X : Type 0} (covers : X → Type 0) (before : X → X → Type 0) (ord
     subst (IsPermutation (item ∷ line)) (sym is) (IsPermutation-sym _ _ (IsPermutation-to_front line item)),
   )
   joins_last false line new item covered kept led is = (subst (IsLine covers before) (sym is) kept, tt)
-
-  pub joins_first : (room : Bool) (line new : List X) (item : X) → covers item → IsLine covers before line
-      → All (Leads covers before item) line → new ≡ cond room (item ∷ line) line
-      → IsLine covers before new × OnTrue room (IsPermutation (item ∷ line) new)
-  joins_first true line new item covered kept leads is = (
-    subst (IsLine covers before) (sym is) (line-first line item covered kept leads),
-    subst (IsPermutation (item ∷ line)) (sym is) (IsPermutation-refl (item ∷ line)),
-  )
-  joins_first false line new item covered kept leads is = (subst (IsLine covers before) (sym is) kept, tt)
 
   -- a line without its first item
   pub line-rest : (x : X) (line : List X) → IsLine covers before (x ∷ line) → IsLine covers before line

@@ -1,4 +1,5 @@
-use Rattle.std.specs.Prelude.{◌≡◌, ◌≢◌, ℕ, ◌+◌, ◌*◌, ◌<◌, ◌≤◌, Option, IfNone, List, [], ◌∷◌, length, slice_index_or, All, AllPairs}
+use Rattle.std.specs.Prelude.{◌≡◌, ◌≢◌, ℕ, ◌+◌, ◌*◌, ◌<◌, ◌≤◌, Option, IfNone, List, [], ◌∷◌, length, slice_index_or}
+use Rattle.std.specs.Prelude.{All, AllPairs}
 
 -- the order covers both items, and y does not go before x
 pub record Leads {T : Type 0} (covers : T → Type 0) (before : T → T → Type 0) (x y : T) : Type 0 where
