@@ -264,6 +264,11 @@ def long_line(streams, length=0, flows=0, rate=1_000_000, octets=2000):
     return make
 
 
+def late_requests(count):
+    """A maker of so many requests to enter the line from end to end, with a deadline that is met in no class."""
+    return repeated("r.txt", "", count, lambda k: f"admit new_{k} t u lowest 1000 672 64 64 1\n")
+
+
 # What a rate of 1 Mb/s gives to a frame of 64 octets, of 672 wire bits.
 PAUSE_PS = 672_000_000
 
