@@ -68,7 +68,7 @@ fn new_buffer(alloc: Global) -> Result<Vec<u8>, AllocError>
     Ok(buffer)
 }
 
-// Reads bytes of a file into the front of a buffer, as `Files::read` does.
+// Reads bytes of a file, those of one piece at most, into the front of a buffer, as `Files::read` does.
 fn read<F: Files>(
     files: &mut F,
     name: &str,
@@ -76,6 +76,7 @@ fn read<F: Files>(
     buf: &mut [u8],
 ) -> Result<usize, Failure<RecordsFault>>
     requires room { 0 < length buf.old }
+    requires piece { length buf.old ≤ PIECE }
     requires place { at ≤ MAX_PLACE }
     ensures within { IfOk result (λ count. count ≤ length buf.new) }
     ensures piece { IfOk result
@@ -104,6 +105,7 @@ fn room_at(at: u64) -> usize
 
 // Feeds a reader the next piece.
 fn feed(reader: &mut Reader, piece: &[u8]) -> Result<(), Failure<RecordsFault>>
+    requires piece { length piece.now ≤ PIECE }
     ensures answer { Refuses result reader.new.failure }
     ensures stands { (bytes : List ℕ) → StandsFor reader.old bytes →
         UnlessMemory reader.new.failure (StandsFor reader.new (bytes ++ piece.now)) }

@@ -1,4 +1,4 @@
-//! Captures, record by record: in one piece, byte by byte, and cut in two at each place.
+//! Captures, record by record: byte by byte, cut in two at each place, and in random pieces.
 
 ghost use Rattle.std.specs.Prelude.{◌+◌, ◌<◌, ◌≤◌};
 
@@ -54,6 +54,29 @@ fn in_two(alloc: Global, front: &[u8], back: &[u8]) -> Result<Vec<Record>, Failu
     reader.finish()
 }
 
+// The next of the numbers that are drawn.
+fn next(drawn: u32) -> u32 {
+    (drawn % 65_537 * 75 + 74) % 65_537
+}
+
+// The same of pieces whose ends are drawn, each with an empty one behind it.
+fn in_random(alloc: Global, bytes: &[u8], seed: u32) -> Result<Vec<Record>, Failure<CaptureFault>> {
+    let mut reader = Reader::new(alloc);
+    let mut piece = Vec::new(alloc);
+    let mut drawn = seed;
+    for byte in bytes {
+        piece.push(*byte)?;
+        drawn = next(drawn);
+        if drawn % 8 == 0 {
+            reader.feed(piece.as_slice())?;
+            reader.feed(&[])?;
+            piece.clear();
+        }
+    }
+    reader.feed(piece.as_slice())?;
+    reader.finish()
+}
+
 fn are(records: Result<Vec<Record>, Failure<CaptureFault>>, due: &[Record]) -> bool {
     match records {
         Ok(records) => records.as_slice() == due,
@@ -78,6 +101,20 @@ fn cut_anywhere(rt: HostRuntime) {
     }
     assert!(rt; are(in_pieces(rt.alloc(), &LOW, 1), &[FIRST, SECOND]));
     assert!(rt; are(in_pieces(rt.alloc(), &HIGH, 1), &[FIRST]));
+}
+
+#[test]
+fn random_pieces(rt: HostRuntime) {
+    let mut wrong = LOW;
+    wrong[32..36].copy_from_slice(&[1, 0, 4, 0]);
+    for seed in 0..200 {
+        assert!(rt; are(in_random(rt.alloc(), &LOW, seed), &[FIRST, SECOND]));
+        assert!(rt; are(in_random(rt.alloc(), &HIGH, seed), &[FIRST]));
+        let cut = in_random(rt.alloc(), &LOW[..109], seed);
+        assert!(rt; cut.err() == Some(Failure::Fault(CaptureFault::CutShort(2))));
+        let answer = in_random(rt.alloc(), &wrong, seed);
+        assert!(rt; answer.err() == Some(Failure::Fault(CaptureFault::RecordTooLong(1))));
+    }
 }
 
 #[test]
