@@ -63,7 +63,9 @@ fn arrive_at(run: &Run, first: u64, second: u64) -> bool {
 // Each frame takes 672,000 ps on each link, 500,000 ps of propagation, and 200,000 to 1,000,000 ps in the bridge.
 #[test]
 fn runs_two_frames_in_three_orders(rt: HostRuntime) {
-    let network = pair(&rt);
+    let Some(network) = pair(rt.alloc()) else {
+        panic!(rt; "no network");
+    };
     let releases = released(&rt, &network);
     let run = run_by(&rt, &network, &releases, Early, Up, Least);
     assert!(rt; arrive_at(&run, 2_544_000, 3_216_000));
@@ -89,7 +91,9 @@ fn are_all_there(run: &Run, frames: usize) -> bool {
 
 #[test]
 fn runs_a_thousand_frames_over_eight_bridges(rt: HostRuntime) {
-    let network = long_line(&rt);
+    let Some(network) = long_line(rt.alloc()) else {
+        panic!(rt; "no network");
+    };
     let releases = made(&rt, &network);
     let run = run_by(&rt, &network, &releases, Mixed(7), Scrambled(7), Drawn(7));
     assert!(rt; are_all_there(&run, 1000));

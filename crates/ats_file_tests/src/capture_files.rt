@@ -127,7 +127,9 @@ fn judged(
 ) -> Result<StationTraffic, JoinFault>
     requires { length records.now ≤ 1_000_000 }
 {
-    let network = line(rt);
+    let Some(network) = line(rt.alloc()) else {
+        panic!(rt; "no network");
+    };
     match captured(rt.alloc(), &network, station, records) {
         Ok(traffic) => Ok(traffic),
         Err(Failure::Fault(fault)) => Err(fault),

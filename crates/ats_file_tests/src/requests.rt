@@ -159,7 +159,9 @@ fn answer(rt: &(impl Abort + AllocGlobal), network: &Network, file: &[u8]) -> Ve
 
 #[test]
 fn reads_each_form(rt: HostRuntime) {
-    let network = line(&rt);
+    let Some(network) = line(rt.alloc()) else {
+        panic!(rt; "no network");
+    };
     for (file, text) in READ {
         assert!(rt; answer(&rt, &network, file).as_slice() == text);
     }
@@ -167,7 +169,9 @@ fn reads_each_form(rt: HostRuntime) {
 
 #[test]
 fn names_the_first_fault_of_a_request(rt: HostRuntime) {
-    let network = line(&rt);
+    let Some(network) = line(rt.alloc()) else {
+        panic!(rt; "no network");
+    };
     for (file, words) in REFUSED {
         assert!(rt; answer(&rt, &network, file).as_slice() == words);
     }
@@ -175,7 +179,9 @@ fn names_the_first_fault_of_a_request(rt: HostRuntime) {
 
 #[test]
 fn takes_ten_thousand_requests(rt: HostRuntime) {
-    let network = line(&rt);
+    let Some(network) = line(rt.alloc()) else {
+        panic!(rt; "no network");
+    };
     let mut file = Vec::new(rt.alloc());
     for _ in 0..10_000 {
         file.extend_from_slice(b"withdraw a\n").expect(&rt, "room");

@@ -98,7 +98,9 @@ fn answer(rt: &(impl Abort + AllocGlobal), network: &Network, file: &[u8]) -> Ve
 
 #[test]
 fn reads_each_spelling(rt: HostRuntime) {
-    let network = line(&rt);
+    let Some(network) = line(rt.alloc()) else {
+        panic!(rt; "no network");
+    };
     for (file, text) in READ {
         assert!(rt; answer(&rt, &network, file).as_slice() == text);
     }
@@ -106,7 +108,9 @@ fn reads_each_spelling(rt: HostRuntime) {
 
 #[test]
 fn names_the_first_fault(rt: HostRuntime) {
-    let network = line(&rt);
+    let Some(network) = line(rt.alloc()) else {
+        panic!(rt; "no network");
+    };
     for (file, words) in REFUSED {
         assert!(rt; answer(&rt, &network, file).as_slice() == words);
     }
@@ -114,7 +118,9 @@ fn names_the_first_fault(rt: HostRuntime) {
 
 #[test]
 fn takes_as_many_releases_as_a_run_may_have(rt: HostRuntime) {
-    let network = line(&rt);
+    let Some(network) = line(rt.alloc()) else {
+        panic!(rt; "no network");
+    };
     let mut file = Vec::from_slice(rt.alloc(), b"at_ps,sender,octets\n").expect(&rt, "room");
     for _ in 0..200_000 {
         file.extend_from_slice(b"7,a,64\n").expect(&rt, "room");

@@ -2,8 +2,7 @@
 
 use ats_network::Network;
 use ats_network_file::read_network;
-use std::alloc::AllocGlobal;
-use std::process::Abort;
+use std::alloc::Global;
 
 const LINE: &[u8] = b"format = 1\n[[station]]\nname = \"s1\"\n[[station]]\nname = \"s2\"\n\
     [[bridge]]\nname = \"b1\"\nprocessing_ns = 1000\nresidence_ns = 1000000\n\
@@ -46,25 +45,18 @@ const LONG_LINE: &[u8] = b"format = 1\n[[station]]\nname = \"s1\"\n[[station]]\n
     [[stream]]\nname = \"b\"\nfrom = \"s1\"\nto = \"s2\"\nclass = 5\nrate_bps = 100000000\n\
     burst_bits = 12336\nmin_octets = 64\nmax_octets = 1522\n";
 
-/// s1 - b1 - s2 with a stream `a` of class 6 and a flow `f` from s1 to s2.
-pub fn line(rt: &(impl Abort + AllocGlobal)) -> Network {
-    declared(rt, LINE)
+/// s1 - b1 - s2 with a stream `a` of class 6 and a flow `f` from s1 to s2. `None` where memory runs out.
+pub fn line(alloc: Global) -> Option<Network> {
+    read_network(alloc, LINE).ok()
 }
 
 /// s1 - b1 - s2 with streams `a` and `b` of class 6 from s1 to s2, and a bridge that takes 200 to 1000 ns for a frame.
-pub fn pair(rt: &(impl Abort + AllocGlobal)) -> Network {
-    declared(rt, PAIR)
+/// `None` where memory runs out.
+pub fn pair(alloc: Global) -> Option<Network> {
+    read_network(alloc, PAIR).ok()
 }
 
-/// s1 - b1 - b2 - .. - b8 - s2 with streams `a` and `b` from s1 to s2.
-pub fn long_line(rt: &(impl Abort + AllocGlobal)) -> Network {
-    declared(rt, LONG_LINE)
-}
-
-// The network that a file declares.
-fn declared(rt: &(impl Abort + AllocGlobal), file: &[u8]) -> Network {
-    match read_network(rt.alloc(), file) {
-        Ok(network) => network,
-        Err(_) => panic!(rt; "no network"),
-    }
+/// s1 - b1 - b2 - .. - b8 - s2 with streams `a` and `b` from s1 to s2. `None` where memory runs out.
+pub fn long_line(alloc: Global) -> Option<Network> {
+    read_network(alloc, LONG_LINE).ok()
 }

@@ -35,7 +35,9 @@ fn network_of(rt: &(impl Abort + AllocGlobal), text: &[u8]) -> Network {
 
 #[test]
 fn the_first_releases_of_two_seeds(rt: HostRuntime) {
-    let network = line(&rt);
+    let Some(network) = line(rt.alloc()) else {
+        panic!(rt; "no network");
+    };
     for (seed, made) in MADE {
         match schedule(rt.alloc(), &network, seed, 3) {
             Ok(releases) => {

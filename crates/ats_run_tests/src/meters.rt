@@ -53,7 +53,9 @@ fn judged(rt: &(impl Abort + AllocGlobal), network: &Network, file: &[u8]) -> Op
 
 #[test]
 fn releases_that_keep_their_buckets(rt: HostRuntime) {
-    let network = line(&rt);
+    let Some(network) = line(rt.alloc()) else {
+        panic!(rt; "no network");
+    };
     for file in KEPT {
         assert!(rt; judged(&rt, &network, file) == None);
     }
@@ -61,7 +63,9 @@ fn releases_that_keep_their_buckets(rt: HostRuntime) {
 
 #[test]
 fn the_first_release_that_does_not(rt: HostRuntime) {
-    let network = line(&rt);
+    let Some(network) = line(rt.alloc()) else {
+        panic!(rt; "no network");
+    };
     for (file, broken) in BROKEN {
         assert!(rt; judged(&rt, &network, file) == Some(broken));
     }

@@ -118,7 +118,9 @@ fn discarded(rt: &(impl Abort + AllocGlobal), network: &Network) -> Run
 
 #[test]
 fn prints_a_frame_that_arrives(rt: HostRuntime) {
-    let network = line(&rt);
+    let Some(network) = line(rt.alloc()) else {
+        panic!(rt; "no network");
+    };
     assert!(rt; network.senders() == 2);
     assert!(rt; network.sender_path(0).len() == 2);
     let run = sent(&rt, &network);
@@ -131,7 +133,9 @@ fn prints_a_frame_that_arrives(rt: HostRuntime) {
 
 #[test]
 fn prints_frames_that_are_discarded(rt: HostRuntime) {
-    let network = line(&rt);
+    let Some(network) = line(rt.alloc()) else {
+        panic!(rt; "no network");
+    };
     assert!(rt; network.senders() == 2);
     assert!(rt; network.sender_path(0).len() == 2);
     let run = discarded(&rt, &network);
@@ -143,7 +147,9 @@ fn prints_frames_that_are_discarded(rt: HostRuntime) {
 
 #[test]
 fn has_a_scheduler_at_the_bridge(rt: HostRuntime) {
-    let network = line(&rt);
+    let Some(network) = line(rt.alloc()) else {
+        panic!(rt; "no network");
+    };
     let schedulers = Schedulers::new(rt.alloc(), &network).expect(&rt, "room");
     assert!(rt; schedulers.residences().len() == 32);
     assert!(rt; schedulers.residences()[..8] == [1_000_000; 8]);
