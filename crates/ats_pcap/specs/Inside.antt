@@ -1,5 +1,5 @@
-use Rattle.std.specs.Prelude.{◌≡◌, ℕ, ◌+◌, ◌-◌, ◌<◌, ◌≤◌, Bool, true, false, nat_lt, min, List, [], ◌∷◌, ◌++◌, length, take}
-use Rattle.std.specs.Prelude.{Option, Some, None, Result, Ok, if◌then◌else◌}
+use Rattle.std.specs.Prelude.{◌≡◌, ℕ, ◌+◌, ◌-◌, ◌<◌, ◌≤◌, nat_lt, min, List, [], ◌∷◌, ◌++◌, length, take}
+use Rattle.std.specs.Prelude.{Bool, true, false, Option, Some, None, Result, Ok, if◌then◌else◌}
 use Rattle.ats_pcap.specs.Capture.{Position, captured_of, form_of, header_fault, is_whole, record_fault, record_of}
 use Rattle.ats_pcap.specs.Capture.{without}
 use Rattle.ats_pcap.specs.declared.fault.CaptureFault.{CaptureFault}
