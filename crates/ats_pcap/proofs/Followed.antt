@@ -9,6 +9,7 @@ use Rattle.ats_pcap.specs.Inside.{IsOpen, room_at, taken}
 use Rattle.ats_pcap.specs.Seen.{Follows}
 use Rattle.ats_pcap.specs.declared.fault.CaptureFault.{CaptureFault}
 use Rattle.ats_pcap.proofs.Taken.{position_of-fault, position_of-taken, taken-open}
+use Rattle.ats_pcap.proofs.Whole.{Passes, passed, passed-open, position_of-passed}
 
 -- nothing of a piece was read
 pub follows_start : (old : Position) (piece : List ℕ) → IsOpen old → Follows old old piece piece
@@ -29,6 +30,28 @@ follows_further old p q piece rest part after f some fits split h = record {
   whole = append_assoc f.done part after ∙ ap (λ (r : List ℕ). f.done ++ r) split ∙ f.whole;
   reads = λ bytes g. ap position_of (sym (append_assoc bytes f.done part))
       ∙ position_of-taken (bytes ++ f.done) part p (f.reads bytes g) f.between some fits ∙ h;
+}
+
+-- a whole record was read
+pub follows_passed : (old p : Position) (piece rest part after : List ℕ) → Follows old p piece rest → Passes p part
+    → part ++ after ≡ rest → Follows old (passed p part) piece after
+follows_passed old p piece rest part after f s split = record {
+  between = passed-open p part s;
+  done = f.done ++ part;
+  whole = append_assoc f.done part after ∙ ap (λ (r : List ℕ). f.done ++ r) split ∙ f.whole;
+  reads = λ bytes g. ap position_of (sym (append_assoc bytes f.done part))
+      ∙ position_of-passed (bytes ++ f.done) part p (f.reads bytes g) s;
+}
+
+-- a part was read, and then more of it
+pub follows_on : (old p q : Position) (piece rest after : List ℕ) → Follows old p piece rest → Follows p q rest after
+    → Follows old q piece after
+follows_on old p q piece rest after f g = record {
+  between = g.between;
+  done = f.done ++ g.done;
+  whole = append_assoc f.done g.done after ∙ ap (λ (r : List ℕ). f.done ++ r) g.whole ∙ f.whole;
+  reads = λ bytes h. ap position_of (sym (append_assoc bytes f.done g.done))
+      ∙ g.reads (bytes ++ f.done) (f.reads bytes h);
 }
 
 -- all of it was read

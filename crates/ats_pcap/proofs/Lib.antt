@@ -8,3 +8,4 @@ pub mod Settled
 pub mod Stands
 pub mod Taken
 pub mod Tests
+pub mod Whole

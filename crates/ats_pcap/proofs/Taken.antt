@@ -197,7 +197,7 @@ room_bound p count is_open h some fits = by (cases_lt (p.there + count) 16)
     by (inr enough) = more (within_room p count h some fits enough)
 
 -- one turn of reading, and what is made of it by what is kept of the bytes
-abbrev judged : Position → Option CaptureFault → Bool → Result Position CaptureFault
+abbrev pub judged : Position → Option CaptureFault → Bool → Result Position CaptureFault
 judged p fault whole = without fault (Ok (if whole then record {
   header = p.header;
   records = p.records ++ record_of (form_of p.header) p.front ∷ [];
@@ -205,7 +205,7 @@ judged p fault whole = without fault (Ok (if whole then record {
   front = [];
 } else p))
 
-by_judgement : (p : Position) → settled p
+pub by_judgement : (p : Position) → settled p
     ≡ judged p (record_fault (form_of p.header) (length p.records) p.there p.front)
     (is_whole (form_of p.header) p.there p.front)
 unfolding settled
@@ -292,9 +292,9 @@ in_header bytes part p h short fits =
     ∙ sym (taken_in_header here part few) ∙ ap (λ q. taken q part) is_here
 
 -- and behind it
-in_record : (bytes part : List ℕ) (p : Position) → position_of bytes ≡ Ok p → IsOpen p → 24 ≤ length p.header
-    → 0 < length part → length part ≤ room_at p → position_of (bytes ++ part) ≡ taken p part
-in_record bytes part p h is_open long some fits = at (opened bytes p h)
+pub in_record : (bytes part : List ℕ) (p : Position) → position_of bytes ≡ Ok p → 24 ≤ length p.header
+    → MayEnd (longer p part) → position_of (bytes ++ part) ≡ taken p part
+in_record bytes part p h long may_end = at (opened bytes p h)
   where
     at : Opened bytes p → position_of (bytes ++ part) ≡ taken p part
     at o =
@@ -308,12 +308,10 @@ in_record bytes part p h is_open long some fits = at (opened bytes p h)
         let form : form_of bytes ≡ form_of header =
         sym (by_front form_of 4 form_of-append 24 bytes (omega arith) (omega (arith, enough))) in
         let k : ℕ = length bytes + length part in
-        let open_here : IsOpen here = subst IsOpen (sym o.place) is_open in
-        let fits_here : length part ≤ room_at here =
-        subst (λ (q : Position). length part ≤ room_at q) (sym o.place) fits in
         let on : Reach = further reach part in
         let both : length (reach.rest ++ part) ≡ length reach.rest + length part = length-append reach.rest part in
-        let may : MayEnd (longer here part) = longer-may_end here part open_here header_long some fits_here in
+        let may : MayEnd (longer here part) =
+        subst (λ (q : Position). MayEnd (longer q part)) (sym o.place) may_end in
         let front : take 32 (take 32 reach.rest ++ part) ≡ take 32 (reach.rest ++ part) =
         front-append 32 reach.rest part in
         let most : 16 ≤ length on.rest → length on.rest ≤ 16 + captured_of (form_of header) on.rest = λ there.
@@ -351,10 +349,10 @@ position_of-taken bytes part p h is_open some fits = by (cases_lt (length p.head
   where
     by : (length p.header < 24) ⊎ (24 ≤ length p.header) → position_of (bytes ++ part) ≡ taken p part
     by (inl short) = in_header bytes part p h short fits
-    by (inr long) = in_record bytes part p h is_open long some fits
+    by (inr long) = in_record bytes part p h long (longer-may_end p part is_open long some fits)
 
 -- what is taken without a fault leaves the position between two bytes
-settled_open : (p q : Position) → MayEnd p → (fault : Option CaptureFault)
+pub settled_open : (p q : Position) → MayEnd p → (fault : Option CaptureFault)
     → record_fault (form_of p.header) (length p.records) p.there p.front ≡ fault
     → (whole : Bool) → is_whole (form_of p.header) p.there p.front ≡ whole
     → judged p fault whole ≡ Ok q → length p.header ≤ 24 → IsOpen q

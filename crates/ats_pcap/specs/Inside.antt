@@ -1,8 +1,9 @@
 use Rattle.std.specs.Prelude.{◌≡◌, ℕ, ◌+◌, ◌-◌, ◌<◌, ◌≤◌, nat_lt, min, List, [], ◌∷◌, ◌++◌, length, take}
-use Rattle.std.specs.Prelude.{Result, Ok, if◌then◌else◌}
+use Rattle.std.specs.Prelude.{Bool, true, false, Option, Some, None, Result, Ok, if◌then◌else◌}
 use Rattle.ats_pcap.specs.Capture.{Position, captured_of, form_of, header_fault, is_whole, record_fault, record_of}
 use Rattle.ats_pcap.specs.Capture.{without}
 use Rattle.ats_pcap.specs.declared.fault.CaptureFault.{CaptureFault}
+use Rattle.ats_pcap.specs.declared.form.Form.{Form}
 
 -- how many of the bytes to come belong to the header, to the next record's header, or to its captured bytes
 unfoldable pub room_at : Position → ℕ
@@ -49,3 +50,15 @@ taken p part =
     if nat_lt (length p.header) 24
     then without (header_fault (p.header ++ part)) (Ok (record p { header = p.header ++ part }))
     else settled (record p { there = p.there + length part; front = take 32 (p.front ++ part) })
+
+-- a size, where there is no fault and all the bytes are there
+abbrev pub size_where : Option CaptureFault → Bool → ℕ → Option ℕ
+size_where None true size = Some size
+size_where None false size = None
+size_where (Some fault) whole size = None
+
+-- how many bytes the record has that these begin with, behind so many others, where it is whole and has no fault
+unfoldable pub whole_size : Form → ℕ → List ℕ → Option ℕ
+whole_size form before bytes =
+    size_where (record_fault form before (length bytes) bytes) (is_whole form (length bytes) bytes)
+    (16 + captured_of form bytes)

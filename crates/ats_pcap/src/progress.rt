@@ -1,15 +1,18 @@
 //! How far a capture was read, as long as it has no fault.
 
-ghost use Rattle.std.specs.Prelude.{◌≡◌, ◌+◌, ◌<◌, ◌≤◌, ◌++◌, ℕ, List, [], Ok, Err, length, MatchResult, OnOk};
+ghost use Rattle.std.specs.Prelude.{◌≡◌, ◌+◌, ◌<◌, ◌≤◌, ◌++◌, ℕ, List, [], Ok, Err, None, length, MatchResult};
+ghost use Rattle.std.specs.Prelude.{IfOk, OnOk};
 ghost use Rattle.ats_num.specs.Failure.{Fails};
 ghost use Rattle.ats_pcap.specs.Capture.{form_of, position_of, records_at};
-ghost use Rattle.ats_pcap.specs.Inside.{IsOpen, MayEnd, behind_whole, room_at, settled, taken};
-ghost use Rattle.ats_pcap.specs.Seen.{seen};
+ghost use Rattle.ats_pcap.specs.Inside.{IsOpen, MayEnd, behind_whole, room_at, settled, taken, whole_size};
+ghost use Rattle.ats_pcap.specs.Seen.{Follows, seen};
 
 use crate::fault::CaptureFault;
 use crate::form::{Form, HEADER_BYTES, header_fault};
 use crate::front::Front;
-use crate::record::{RECORD_HEADER_BYTES, Record, captured_of, is_whole, record_fault, record_of};
+use crate::record::{
+    RECORD_HEADER_BYTES, Record, captured_of, is_whole, record_fault, record_of, whole_size,
+};
 use ats_num::Failure;
 use std::alloc::{AllocError, Global};
 
@@ -114,6 +117,40 @@ impl Progress {
         self.settle()
     }
 
+    // Takes the whole records that a piece begins with, up to the first that shows a fault, and gives
+    // what is left of the piece.
+    fn take_whole<'a>(&mut self, form: Form, piece: &'a [u8]) -> Result<&'a [u8], AllocError>
+        requires between { IsOpen (seen self.old) }
+        requires header { 24 ≤ length self.old.header }
+        requires form { form ≡ form_of self.old.header }
+        requires none { self.old.there ≡ 0 }
+        ensures reads { IfOk result (λ rest. Follows (seen self.old) (seen self.new) piece.now rest.now) }
+        ensures shorter { IfOk result (λ rest. length rest.now ≤ length piece.now) }
+        ensures all { IfOk result (λ rest. whole_size form (length self.new.records.items) rest.now ≡ None) }
+    {
+        let mut rest = piece;
+        while let Some(size) = whole_size(form, self.records.len(), rest) {
+            let (part, after) = rest.split_at(size);
+            self.records.push(record_of(form, part))?;
+            rest = after;
+        }
+        Ok(rest)
+    }
+
+    // Where the next byte is the first of a record, takes the whole records that a piece begins with.
+    // Gives what is left of the piece.
+    fn take_records<'a>(&mut self, piece: &'a [u8]) -> Result<&'a [u8], AllocError>
+        requires { IsOpen (seen self.old) }
+        ensures reads { IfOk result (λ rest. Follows (seen self.old) (seen self.new) piece.now rest.now) }
+        ensures shorter { IfOk result (λ rest. length rest.now ≤ length piece.now) }
+    {
+        if self.header.len() < HEADER_BYTES || self.there > 0 {
+            return Ok(piece);
+        }
+        let form = Form::of(self.header.bytes());
+        self.take_whole(form, piece)
+    }
+
     // Takes a piece of the capture.
     pub(crate) fn read(&mut self, piece: &[u8]) -> Result<(), Failure<CaptureFault>>
         requires { IsOpen (seen self.old) }
@@ -127,7 +164,7 @@ impl Progress {
             let count = self.room().min(rest.len());
             let (part, after) = rest.split_at(count);
             self.take(part)?;
-            rest = after;
+            rest = self.take_records(after)?;
         }
         Ok(())
     }

@@ -3,6 +3,7 @@
 ghost use Rattle.std.specs.Prelude.{◌≡◌, ◌+◌, ◌<◌, ◌≤◌, None, length};
 ghost use Rattle.ats_pcap.specs.Capture.{captured_of, is_whole, record_fault, record_of};
 ghost use Rattle.ats_pcap.specs.Identity.{address_of, identity_of};
+ghost use Rattle.ats_pcap.specs.Inside.{whole_size};
 
 use crate::fault::CaptureFault;
 use crate::form::{ByteOrder, Form};
@@ -100,6 +101,22 @@ pub(crate) fn is_whole(form: Form, there: usize, front: &[u8]) -> bool
         return false;
     }
     RECORD_HEADER_BYTES + captured_of(form, front) as usize <= there
+}
+
+// How many bytes the record has that these begin with, behind so many others, where all of them are
+// there and it has no fault.
+#[tactic(auto, unfolding(crate::specs::Inside::whole_size))]
+pub(crate) fn whole_size(form: Form, before: usize, bytes: &[u8]) -> Option<usize>
+    requires few { before ≤ 1_000_000 }
+    ensures { result ≡ whole_size form before bytes.now }
+{
+    if record_fault(form, before, bytes.len(), bytes).is_some() {
+        return None;
+    }
+    if !is_whole(form, bytes.len(), bytes) {
+        return None;
+    }
+    Some(RECORD_HEADER_BYTES + captured_of(form, bytes) as usize)
 }
 
 // The record whose first bytes these are: its header, and of its captured bytes 16 or all.

@@ -1,3 +1,4 @@
+pub mod Named
 pub mod PlainRecords
 pub mod ReadsBack
 pub mod Releases

@@ -1,10 +1,9 @@
 -- What is read from the text of releases are these releases.
 use Rattle.std.proofs.Common.{◌≡◌, ◌∙◌, ℕ, suc, ◌+◌, ◌-◌, ◌<◌, ◌≤◌, ◌^◌, Bool, true, cond, ◌&&◌, List, [], ◌∷◌}
 use Rattle.std.proofs.Common.{◌++◌, get_or}
-use Rattle.std.proofs.Common.{length, map, Option, None, Some, Ok, Err, Result, refl, sym, ap, subst, append_assoc}
+use Rattle.std.proofs.Common.{length, map, Ok, Err, Result, refl, sym, ap, subst, append_assoc}
 use Rattle.std.proofs.Common.{append-nil, length-append, arith}
 use Rattle.std.specs.Prelude.{decimal, nat_le, nat_lt}
-use Rattle.std.specs.Option.{option_and_then}
 use Rattle.std.specs.List.{All}
 use Rattle.std.proofs.lemmas.Bool.Decides.{nat_tests}
 use Rattle.std.proofs.lemmas.List.{get_or_append_left, get_or-map, length-map}
@@ -12,12 +11,9 @@ use Rattle.std.proofs.Math.Seq.{get_or-append_seam}
 use Rattle.std.proofs.lemmas.List.Elements.{All-cons, All-head, All-nil, All-tail}
 use Rattle.ats_facts.proofs.Lists.{all_right}
 use Rattle.ats_num.specs.Failure.{◌>>=◌, ok_where, or_fault}
-use Rattle.ats_num.specs.Name.{name_of}
-use Rattle.ats_num.specs.Places.{place_of}
 use Rattle.ats_num.specs.declared.wire.TheConstants.{MIN_OCTETS, MAX_OCTETS}
 use Rattle.ats_num.proofs.Decimal.{reads_back}
-use Rattle.ats_network.specs.Network.{DeclaredNetwork, IsNetwork, names_of, senders_of}
-use Rattle.ats_network.specs.Sender.{Sender}
+use Rattle.ats_network.specs.Network.{DeclaredNetwork, IsNetwork, senders_of}
 use Rattle.ats_network.specs.Senders.{no_sender, sender_at}
 use Rattle.ats_trace.specs.declared.journey.Release.{Release}
 use Rattle.ats_trace.specs.declared.run.TheConstants.{MAX_FRAMES, MAX_RELEASE_PS}
@@ -33,6 +29,7 @@ use Rattle.ats_schedule.specs.Text.{fields_of}
 use Rattle.ats_schedule.specs.declared.fault.ScheduleFault.{ScheduleFault}
 use Rattle.ats_schedule.specs.declared.fault.ScheduleFault.TheVariants.{BadNumber, BadRow, BadSize, Limit, TimeBack}
 use Rattle.ats_schedule.specs.declared.fault.ScheduleFault.TheVariants.{UnknownName}
+use Rattle.ats_schedule.proofs.Named.{named_itself}
 use Rattle.ats_schedule.proofs.PlainRecords.{plain_header, plain_release}
 use Rattle.ats_schedule.proofs.Releases.{last_time_is}
 
@@ -40,16 +37,7 @@ use Rattle.ats_schedule.proofs.Releases.{last_time_is}
 sender_read : (network : DeclaredNetwork) → IsNetwork network → AreNamed (senders_of network) → (n k : ℕ)
     → k < length (senders_of network) → sender_in network n (sender_at network k).name ≡ Ok k
 sender_read network is named n k within =
-    let senders : List Sender = senders_of network in
-    let names : List (List ℕ) = names_of senders in
-    let name : List ℕ = (sender_at network k).name in
-    let here : get_or names k [] ≡ name = get_or-map (λ (s : Sender). s.name) senders k no_sender [] within in
-    let long : length names ≡ length senders = simp length-map in
-    let found : place_of name names ≡ Some k =
-    ap (λ text. place_of text names) (sym here) ∙ is.names k (omega arith) in
-    let read : name_of name ≡ Some name = ap (λ (b : Bool). cond b (Some name) None) (named k no_sender within) in
-    ap (λ (o : Option (List ℕ)). or_fault (UnknownName n) (option_and_then (λ text. place_of text names) o)) read
-    ∙ ap (or_fault (UnknownName n)) found
+    ap (or_fault (UnknownName n)) (named_itself network is k within (named k no_sender within))
 
 -- a number that was written is read
 number_read : (n x : ℕ) → x < 10 ^ 36 → number_in n (decimal x) ≡ Ok x

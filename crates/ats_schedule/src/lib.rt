@@ -4,6 +4,7 @@
 pub mod fault;
 pub mod laws;
 pub mod reading;
+mod recent;
 mod release;
 pub mod writing;
 

@@ -8,6 +8,7 @@ ghost use Rattle.ats_schedule.specs.Reading.{header, releases_from, releases_of,
 ghost use Rattle.ats_trace.specs.Releases.{AreReleases};
 
 use crate::fault::ScheduleFault;
+use crate::recent::Recent;
 use crate::release::{record_after, release_after};
 use ats_csv::{Records, Taken};
 use ats_network::Network;
@@ -70,11 +71,14 @@ fn releases_from(
     ensures due { GivesSeen (λ v. v.items) result (releases_from network.now [] records.old.left) }
     ensures releases { IfOk result (λ v. AreReleases network.now v.items) }
 {
+    let mut recent = Recent::new(alloc)?;
     let mut releases = Vec::new(alloc);
     loop {
         let n = record_after(&releases);
         match records.advance()? {
-            Taken::Record => releases.push(release_after(&releases, network, records)?)?,
+            Taken::Record => {
+                releases.push(release_after(&mut recent, &releases, network, records)?)?;
+            }
             Taken::OtherWidth => return Err(Failure::Fault(ScheduleFault::BadRow(n))),
             Taken::End => return Ok(releases),
         }

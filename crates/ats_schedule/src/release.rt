@@ -11,10 +11,11 @@ ghost use Rattle.ats_schedule.specs.Releases.{Follows, last_time};
 ghost use Rattle.ats_trace.specs.declared.run.TheConstants.{MAX_FRAMES, MAX_RELEASE_PS};
 
 use crate::fault::ScheduleFault;
+use crate::recent::Recent;
 use ats_csv::Records;
 use ats_network::Network;
 use ats_num::wire::{MAX_OCTETS, MIN_OCTETS};
-use ats_num::{Name, Ps, number};
+use ats_num::{Ps, number};
 use ats_trace::Release;
 use ats_trace::run::{MAX_FRAMES, MAX_RELEASE_PS};
 
@@ -29,6 +30,7 @@ pub(crate) fn record_after(releases: &[Release]) -> u32
 // The release that the record with these three fields writes, behind the releases before it.
 #[tactic(auto, unfolding(crate::specs::Reading::release_after))]
 pub(crate) fn release_after(
+    recent: &mut Recent,
     releases: &[Release],
     network: &Network,
     records: &Records,
@@ -39,7 +41,7 @@ pub(crate) fn release_after(
     ensures follows { IfOk result (Follows network.now releases.now) }
 {
     let n = record_after(releases);
-    let sender = sender_in(network, n, records.field(1))?;
+    let sender = sender_in(recent, network, n, records.field(1))?;
     let at = number_in(n, records.field(0))?;
     let octets = number_in(n, records.field(2))?;
     let octets = in_size(n, octets)?;
@@ -53,13 +55,17 @@ pub(crate) fn release_after(
 }
 
 // The sender that a text in record n names.
-fn sender_in(network: &Network, n: u32, text: &[u8]) -> Result<u32, ScheduleFault>
+fn sender_in(
+    recent: &mut Recent,
+    network: &Network,
+    n: u32,
+    text: &[u8],
+) -> Result<u32, ScheduleFault>
     ensures due { result ≡ sender_in network.now n text.now }
     ensures within { IfOk result (λ sender. sender < length (senders_of network.now)) }
 {
-    let name = Name::new(text).ok_or(ScheduleFault::UnknownName(n))?;
-    network
-        .sender_named(&name)
+    recent
+        .sender_named(network, text)
         .ok_or(ScheduleFault::UnknownName(n))
 }
 
