@@ -1,0 +1,7 @@
+pub mod ShareLemmas
+pub mod Inserted
+pub mod Limits
+pub mod Changed
+pub mod Entries
+pub mod Eight
+pub mod Entered

@@ -1,0 +1,4 @@
+pub mod Shares
+pub mod ClassTallies
+pub mod PortShares
+pub mod Changes
