@@ -1,12 +1,11 @@
 -- A sender at a hop of its path.
 use Rattle.std.proofs.Common.{◌≡◌, ℕ, ◌+◌, ◌*◌, ◌<◌, ◌≤◌, List, length, get_or, set, take, sym, ap, subst, ◌∙◌, arith}
 use Rattle.std.specs.List.{All}
-use Rattle.ats_network.specs.Class.{PortSender, class_at, seen_at}
-use Rattle.ats_network.specs.Network.{DeclaredNetwork, IsNetwork, senders_of}
+use Rattle.ats_network.specs.Class.{PortSender, seen_at}
+use Rattle.ats_network.specs.Network.{DeclaredNetwork}
 use Rattle.ats_network.specs.Sender.{Sender}
-use Rattle.ats_network.specs.Senders.{IsSender, sender_at}
+use Rattle.ats_network.specs.Senders.{IsSender}
 use Rattle.ats_network.proofs.ClassLemmas.{class_at-le}
-use Rattle.ats_network.proofs.SenderLemmas.{sender_keeps}
 use Rattle.ats_port_shares.specs.Changes.{ChangesAlong, IsEntered}
 use Rattle.ats_port_shares.specs.Shares.{no_share, share_with, IsLimited}
 use Rattle.ats_port_shares.specs.declared.share.Share.{Share}

@@ -5,3 +5,4 @@ pub mod Changed
 pub mod Entries
 pub mod Eight
 pub mod Entered
+pub mod CountedAt

@@ -5,8 +5,7 @@ use Rattle.ats_network.proofs.SenderLemmas.{sender_keeps}
 use Rattle.ats_tally.specs.SenderAtPort.{port_sender}
 use Rattle.ats_tally.specs.declared.tally.TheConstants.{MAX_SENDERS}
 use Rattle.ats_port_shares.specs.Changes.{ChangesAlong, IsEntered}
-use Rattle.ats_port_shares.specs.declared.share.Share.{Share}
-use Rattle.ats_port_shares.proofs.Entries.{IsEntry, entry_counted, entry_inside, entry_is, entry_room}
+use Rattle.ats_port_shares.proofs.Entries.{entry_counted, entry_inside, entry_is, entry_room}
 use Rattle.ats_port_shares.proofs.entering.enter_along.Goals as goal
 
 pub overflow_cast-hop : goal.overflow_cast-hop

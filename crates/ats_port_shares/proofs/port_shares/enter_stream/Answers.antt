@@ -1,4 +1,4 @@
-use Rattle.std.proofs.Common.{◌*◌, length, get_or, subst, arith}
+use Rattle.std.proofs.Common.{subst}
 use Rattle.ats_network.specs.Network.{IsNetwork}
 use Rattle.ats_network.specs.Sender.{Sender}
 use Rattle.ats_admission_law.proofs.Networks.{less_is_network}
