@@ -36,12 +36,12 @@ entry_is network s listed hop seen keeps same within is =
     }
 
 module _ (network : DeclaredNetwork) (s : Sender) (port hop place : ℕ) (seen : PortSender) (old now : List Share) where
-  -- its share is there, and has room until then
+  -- its share is there, as it was until then, and has room
   pub entry_inside : IsEntry network s port hop seen → place ≡ 8 * port + seen.class
       → length old ≡ 8 * length network.topology.ports → place < length old
   entry_inside entry place_is long = omega (arith, entry.inside, entry.most, place_is, long)
 
-  same_until : (Is : ℕ → ℕ → Share → Type 0) → IsEntry network s port hop seen → place ≡ 8 * port + seen.class
+  pub same_until : (Is : ℕ → ℕ → Share → Type 0) → IsEntry network s port hop seen → place ≡ 8 * port + seen.class
       → ChangesAlong Is s (take hop s.path) old now → get_or now place no_share ≡ get_or old place no_share
   same_until Is entry place_is before =
       ap (λ (k : ℕ). get_or now k no_share) place_is
@@ -55,11 +55,6 @@ module _ (network : DeclaredNetwork) (s : Sender) (port hop place : ℕ) (seen :
   entry_room Is most entry place_is long before room =
       subst (IsLimited most) (sym (same_until Is entry place_is before))
       (room place no_share (entry_inside entry place_is long))
-
-  -- what its share was before
-  pub entry_same : (Is : ℕ → ℕ → Share → Type 0) → IsEntry network s port hop seen → place ≡ 8 * port + seen.class
-      → ChangesAlong Is s (take hop s.path) old now → get_or now place no_share ≡ get_or old place no_share
-  entry_same Is entry place_is before = same_until Is entry place_is before
 
   -- its share changes
   pub entry_changed : (Is : ℕ → ℕ → Share → Type 0) (value : Share) → IsEntry network s port hop seen

@@ -34,7 +34,7 @@ known_in x [] (n ∷ ns) =
 known_in x (m ∷ ms) ns = ap Some (least_in m x ms ns)
 
 -- what senders make together
-abbrev made : List PortSender → Share
+abbrev pub made : List PortSender → Share
 made senders = record {
   rate = sum_by (λ (s : PortSender). s.rate) senders;
   bursts = sum_by (λ (s : PortSender). s.burst_bits) senders;

@@ -6,3 +6,6 @@ pub mod Entries
 pub mod Eight
 pub mod Entered
 pub mod CountedAt
+pub mod SeenUsers
+pub mod FrameLemmas
+pub mod Left

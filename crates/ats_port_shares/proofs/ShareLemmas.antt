@@ -180,7 +180,7 @@ greatest_parts t u v amount parts a b (s ∷ senders) =
         (greatest_cons b v amount s senders false p.1.1))
 
 -- where no sender passes, none is kept
-none_kept : (test : PortSender → Bool) (senders : List PortSender)
+pub none_kept : (test : PortSender → Bool) (senders : List PortSender)
     → All (λ (s : PortSender). test s ≡ false) senders → filter test senders ≡ []
 none_kept test [] all = refl
 none_kept test (s ∷ senders) all =

@@ -2,3 +2,4 @@ pub mod Shares
 pub mod ClassTallies
 pub mod PortShares
 pub mod Changes
+pub mod Frames

@@ -4,6 +4,8 @@
 mod at_port;
 mod class_tallies;
 mod entering;
+mod frames;
+mod leaving;
 pub mod port_shares;
 pub mod share;
 

@@ -4,12 +4,17 @@ ghost use Rattle.std.specs.Prelude.{◌≡◌, ◌+◌, ◌*◌, ◌<◌, [], le
 ghost use Rattle.ats_network.specs.Network.{senders_of};
 ghost use Rattle.ats_certificate.specs.PortSums.{senders_at};
 ghost use Rattle.ats_port_shares.specs.ClassTallies.{AreClassTallies};
-ghost use Rattle.ats_port_shares.specs.PortShares.{AreSharesAt, AreSharesOf, stream_at, without_at};
+ghost use Rattle.ats_port_users.specs.Users.{ListsPaths};
+ghost use Rattle.ats_port_shares.specs.PortShares.{AreSharesAt, AreSharesBefore, AreSharesOf, stream_at, stream_paths};
+ghost use Rattle.ats_port_shares.specs.PortShares.{without_at};
 
 use crate::at_port::{tallies_at, tallies_entered};
 use crate::entering::enter_along;
+use crate::leaving::leave_along;
 use crate::share::Share;
 use ats_network::Network;
+use ats_port_users::PortUsers;
+use ats_streams::Stream;
 use ats_tally::Tally;
 use std::alloc::{AllocError, Global};
 use std::marker::Model;
@@ -69,6 +74,19 @@ impl PortShares {
         ensures { AreSharesOf network.now self.new }
     {
         enter_stream(&mut self.shares, network, stream);
+    }
+
+    /// Takes out a stream that has left the network; `streams` lists the users of the network's ports by the paths of
+    /// its streams since. It takes no memory.
+    ///
+    /// At each port of the path only the share of the stream's class there changes. Its frames are counted anew, over
+    /// the users of the port, only where the stream had the longest or the shortest of them.
+    pub fn leave(&mut self, network: &Network, stream: &Stream, streams: &PortUsers)
+        requires users { ListsPaths (length network.now.topology.ports) (stream_paths network.now) streams.now }
+        requires before { AreSharesBefore network.now stream.now self.old }
+        ensures { AreSharesOf network.now self.new }
+    {
+        leave_along(&mut self.shares, network, stream, streams);
     }
 }
 
