@@ -26,9 +26,9 @@ pub record IsCountedAt (network : DeclaredNetwork) (port : ℕ) (seen : PortSend
       (set eight seen.class (share_with seen (get_or eight seen.class no_share)))
 
 pub counted_is : (network : DeclaredNetwork) (n port hop : ℕ) (seen : PortSender) (shares eight : List Share)
-    → IsNetwork network → n < length network.streams → IsEntry network (stream_sender (stream_at network n)) port hop seen
-    → AreSharesOf (without_at network n) shares → eight ≡ take 8 (drop (8 * port) shares)
-    → IsCountedAt network port seen eight
+    → IsNetwork network → n < length network.streams
+    → IsEntry network (stream_sender (stream_at network n)) port hop seen → AreSharesOf (without_at network n) shares
+    → eight ≡ take 8 (drop (8 * port) shares) → IsCountedAt network port seen eight
 counted_is network n port hop seen shares eight rules within entry are same =
     record { place = place; room = room; limits = limits; counted = counted }
   where
@@ -37,11 +37,13 @@ counted_is network n port hop seen shares eight rules within entry are same =
 
     long : length eight ≡ 8
     long = ap (λ (l : List Share). length l) same
-        ∙ eight_long (length network.topology.ports) (senders_of (without_at network n)) shares port 8 are entry.inside refl
+        ∙ eight_long (length network.topology.ports) (senders_of (without_at network n)) shares port 8 are entry.inside
+        refl
 
     before : AreShares (senders_at port (senders_of (without_at network n))) eight
     before = subst (AreShares (senders_at port (senders_of (without_at network n)))) (sym same)
-        (eight_are (length network.topology.ports) (senders_of (without_at network n)) shares port 8 are entry.inside refl)
+        (eight_are (length network.topology.ports) (senders_of (without_at network n)) shares port 8 are entry.inside
+        refl)
 
     place : seen.class < length eight
     place = omega (arith, entry.most, long)
@@ -53,8 +55,8 @@ counted_is network n port hop seen shares eight rules within entry are same =
 
     counted : AreShares (senders_at port (senders_of network))
         (set eight seen.class (share_with seen (get_or eight seen.class no_share)))
-    counted = eight_entered network (without_at network n) (stream_at network n) (less_by network n within) port seen eight
-        (entry_used network (stream_sender (stream_at network n)) port hop seen entry) entry.is place before
+    counted = eight_entered network (without_at network n) (stream_at network n) (less_by network n within) port seen
+        eight (entry_used network (stream_sender (stream_at network n)) port hop seen entry) entry.is place before
 
     limits : All (IsLimited MAX_SENDERS) (set eight seen.class (share_with seen (get_or eight seen.class no_share)))
     limits = limited_eight port MAX_SENDERS (senders_of network)

@@ -61,4 +61,5 @@ module _ (network : DeclaredNetwork) (x : DeclaredStream) (shares : List Share)
       ∙ ap (λ (k : ℕ). get_or shares k no_share) place_is
       ∙ share_left b.old network x b.is_less shares now b.counted port seen.class no_share entry.inside entry.most
       (entry_used b.old (stream_sender x) port hop seen entry) (sym (ap (λ (t : PortSender). t.class) entry.is))
-      ∙ ap (λ (t : PortSender). share_with t (share_of seen.class (senders_at port (senders_of network)))) (sym entry.is)
+      ∙ ap (λ (t : PortSender). share_with t (share_of seen.class (senders_at port (senders_of network))))
+      (sym entry.is)
