@@ -1,0 +1,11 @@
+pub mod ShareLemmas
+pub mod Inserted
+pub mod Limits
+pub mod Changed
+pub mod Entries
+pub mod Eight
+pub mod Entered
+pub mod CountedAt
+pub mod SeenUsers
+pub mod FrameLemmas
+pub mod Left

@@ -1,0 +1,5 @@
+pub mod Shares
+pub mod ClassTallies
+pub mod PortShares
+pub mod Changes
+pub mod Frames
