@@ -31,6 +31,18 @@ abbrev pub ports_along : List Port → List ℕ → Option (List ℕ)
 ports_along ports [] = None
 ports_along ports (a ∷ nodes) = ports_through ports a nodes
 
+-- the port from a node to the one with this name, where a link joins them
+abbrev pub port_to : DeclaredTopology → ℕ → List ℕ → Option ℕ
+port_to topology a name =
+    option_and_then (λ b. port_between a b topology.ports) (place_of name (names_of topology.nodes))
+
+-- the ports that lead from a node through the nodes with these names, one after another, where links join them
+abbrev pub ports_onward : DeclaredTopology → ℕ → List (List ℕ) → Option (List ℕ)
+ports_onward topology a [] = Some []
+ports_onward topology a (name ∷ names) =
+    option_and_then (λ p. in_front (Some p) (ports_onward topology (port_at topology.ports p).to names))
+    (port_to topology a name)
+
 -- the ports of a route: through the nodes that it names, or by the least walk between its ends
 abbrev pub ports_of : DeclaredTopology → file.DeclaredRoute → Option (List ℕ)
 ports_of topology (file.path names) = option_and_then (ports_along topology.ports) (nodes_named topology names)

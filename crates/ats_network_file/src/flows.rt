@@ -4,13 +4,13 @@ ghost use Rattle.std.specs.Prelude.{◌≡◌, IfOk};
 ghost use Rattle.ats_network_file.specs.Senders.{flow_over, flow_made};
 
 use crate::fault::NetFault;
+use crate::kept_routes::KeptRoutes;
 use crate::routes::path_in;
 use crate::senders::{SenderEntry, SenderTable, broken, refused};
 use ats_network::Network;
 use ats_network_toml::FlowEntry;
 use ats_num::Failure;
 use ats_streams::Flow;
-use ats_topology::KeptWalks;
 use std::alloc::Global;
 
 impl SenderEntry for FlowEntry {
@@ -22,13 +22,13 @@ impl SenderEntry for FlowEntry {
         &self,
         alloc: Global,
         network: &mut Network,
-        walks: &mut KeptWalks,
+        kept: &mut KeptRoutes,
         number: u32,
     ) -> Result<(), Failure<NetFault>> {
         let path = path_in(
             alloc,
             network.topology(),
-            walks,
+            kept,
             SenderTable::Flow,
             number,
             &self.route,

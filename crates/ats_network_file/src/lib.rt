@@ -3,6 +3,8 @@
 
 pub mod fault;
 mod flows;
+mod kept_routes;
+mod kept_steps;
 pub mod laws;
 mod nodes;
 pub mod reading;

@@ -4,12 +4,12 @@ ghost use Rattle.ats_num.specs.Failure.{Gives};
 ghost use Rattle.ats_network_file.specs.Reading.{network_in, network_of};
 
 use crate::fault::NetFault;
+use crate::kept_routes::KeptRoutes;
 use crate::nodes::topology_in;
 use crate::senders::add_all;
 use ats_network::Network;
 use ats_network_toml::{Document, read_document};
 use ats_num::Failure;
-use ats_topology::KeptWalks;
 use std::alloc::Global;
 
 /// The network that a text declares, or its first fault.
@@ -33,9 +33,9 @@ fn network_in(alloc: Global, document: &Document) -> Result<Network, Failure<Net
     ensures { Gives result (network_in document.now) }
 {
     let topology = topology_in(alloc, document)?;
-    let mut walks = KeptWalks::new(alloc, &topology)?;
+    let mut kept = KeptRoutes::new(alloc, &topology)?;
     let mut network = Network::new(alloc, topology);
-    add_all(alloc, &mut network, &mut walks, document.streams())?;
-    add_all(alloc, &mut network, &mut walks, document.flows())?;
+    add_all(alloc, &mut network, &mut kept, document.streams())?;
+    add_all(alloc, &mut network, &mut kept, document.flows())?;
     Ok(network)
 }

@@ -4,14 +4,18 @@ ghost use Rattle.std.specs.Prelude.{◌≡◌, ◌↔◌, ℕ, IsTrue, IfOk};
 ghost use Rattle.std.specs.Global.{Vec};
 ghost use Rattle.std.specs.Option.{option_map};
 ghost use Rattle.ats_topology.specs.KeptWalks.{AreKeptFor};
+ghost use Rattle.ats_network_file.specs.KeptRoutes.{IsKeptFor};
 ghost use Rattle.ats_network.specs.Path.{IsValidPath};
 ghost use Rattle.ats_network_toml.specs.Views.{route_view};
 ghost use Rattle.ats_network_toml.specs.Document as file;
 ghost use Rattle.ats_num.specs.Failure.{GivesSeen};
-ghost use Rattle.ats_network_file.specs.Routes.{nodes_named, ports_along, ports_of, is_valid};
+ghost use Rattle.ats_network_file.specs.Routes.{ports_of, ports_onward, is_valid};
+ghost use Rattle.ats_network_file.specs.KeptSteps.{AreSteps};
 ghost use Rattle.ats_network_file.specs.Senders.{path_in};
 
 use crate::fault::NetFault;
+use crate::kept_routes::KeptRoutes;
+use crate::kept_steps::KeptSteps;
 use crate::senders::SenderTable;
 use ats_network::{is_valid_path, shortest_kept};
 use ats_network_toml::Route;
@@ -23,18 +27,18 @@ use std::alloc::{AllocError, Global};
 pub(crate) fn path_in(
     alloc: Global,
     topology: &Topology,
-    walks: &mut KeptWalks,
+    kept: &mut KeptRoutes,
     table: SenderTable,
     entry: u32,
     route: &Route,
 ) -> Result<Vec<u32>, Failure<NetFault>>
-    requires kept { AreKeptFor topology.now walks.old }
+    requires kept { IsKeptFor topology.now kept.old }
     ensures value { GivesSeen (λ path. path.items) result (path_in topology.now table entry (route_view route.now)) }
     ensures valid { IfOk result (λ path. IsValidPath topology.now path.items) }
-    ensures kept { AreKeptFor topology.now walks.new }
+    ensures kept { IsKeptFor topology.now kept.new }
 {
     let fault = NetFault::BadPath { table, entry };
-    let Some(path) = ports_of(alloc, topology, walks, route)? else {
+    let Some(path) = ports_of(alloc, topology, kept, route)? else {
         return Err(Failure::Fault(fault));
     };
     if !is_valid(topology, &path) {
@@ -59,17 +63,17 @@ fn is_valid(topology: &Topology, path: &[u32]) -> bool
 fn ports_of(
     alloc: Global,
     topology: &Topology,
-    walks: &mut KeptWalks,
+    kept: &mut KeptRoutes,
     route: &Route,
 ) -> Result<Option<Vec<u32>>, AllocError>
-    requires kept { AreKeptFor topology.now walks.old }
+    requires kept { IsKeptFor topology.now kept.old }
     ensures value { IfOk result
         (λ found. option_map (λ (path : Vec ℕ). path.items) found ≡ ports_of topology.now (route_view route.now)) }
-    ensures kept { AreKeptFor topology.now walks.new }
+    ensures kept { IsKeptFor topology.now kept.new }
 {
     match route {
-        Route::Path(names) => ports_through(alloc, topology, names),
-        Route::Ends(from, to) => ports_between(alloc, topology, walks, from, to),
+        Route::Path(names) => ports_through(alloc, topology, &mut kept.steps, names),
+        Route::Ends(from, to) => ports_between(alloc, topology, &mut kept.walks, from, to),
     }
 }
 
@@ -77,15 +81,46 @@ fn ports_of(
 fn ports_through(
     alloc: Global,
     topology: &Topology,
+    steps: &mut KeptSteps,
     names: &[Name],
 ) -> Result<Option<Vec<u32>>, AllocError>
-    ensures { IfOk result
+    requires kept { AreSteps topology.now steps.old }
+    ensures value { IfOk result
         (λ found. option_map (λ (path : Vec ℕ). path.items) found ≡ ports_of topology.now (file.path names.now)) }
+    ensures kept { AreSteps topology.now steps.new }
 {
-    match nodes_named(alloc, topology, names)? {
-        Some(nodes) => ports_along(alloc, topology, &nodes),
-        None => Ok(None),
+    let Some((first, rest)) = names.split_first() else {
+        return Ok(None);
+    };
+    let Some(from) = topology.node_named(first) else {
+        return Ok(None);
+    };
+    ports_onward(alloc, topology, steps, from, rest)
+}
+
+// The ports from a node through the nodes with these names, one after another.
+fn ports_onward(
+    alloc: Global,
+    topology: &Topology,
+    steps: &mut KeptSteps,
+    from: u32,
+    names: &[Name],
+) -> Result<Option<Vec<u32>>, AllocError>
+    requires kept { AreSteps topology.now steps.old }
+    ensures value { IfOk result
+        (λ found. option_map (λ (path : Vec ℕ). path.items) found ≡ ports_onward topology.now from names.now) }
+    ensures kept { AreSteps topology.now steps.new }
+{
+    let mut at = from;
+    let mut path = Vec::with_capacity(alloc, names.len())?;
+    for name in names {
+        let Some(port) = steps.port_to(topology, at, name) else {
+            return Ok(None);
+        };
+        path.push(port)?;
+        at = topology.ports()[port as usize].to;
     }
+    Ok(Some(path))
 }
 
 // The ports of the least walk between two named nodes.
@@ -108,47 +143,4 @@ fn ports_between(
         return Ok(None);
     };
     shortest_kept(alloc, topology, walks, a, b)
-}
-
-// The numbers of the nodes with these names, where each is known.
-fn nodes_named(
-    alloc: Global,
-    topology: &Topology,
-    names: &[Name],
-) -> Result<Option<Vec<u32>>, AllocError>
-    ensures { IfOk result
-        (λ found. option_map (λ (nodes : Vec ℕ). nodes.items) found ≡ nodes_named topology.now names.now) }
-{
-    let mut nodes = Vec::with_capacity(alloc, names.len())?;
-    for name in names {
-        let Some(node) = topology.node_named(name) else {
-            return Ok(None);
-        };
-        nodes.push(node)?;
-    }
-    Ok(Some(nodes))
-}
-
-// The ports from one of these nodes to the next, where links join them.
-fn ports_along(
-    alloc: Global,
-    topology: &Topology,
-    nodes: &[u32],
-) -> Result<Option<Vec<u32>>, AllocError>
-    ensures { IfOk result
-        (λ found. option_map (λ (path : Vec ℕ). path.items) found ≡ ports_along topology.now.ports nodes.now) }
-{
-    let Some((first, rest)) = nodes.split_first() else {
-        return Ok(None);
-    };
-    let mut at = *first;
-    let mut path = Vec::with_capacity(alloc, rest.len())?;
-    for node in rest {
-        let Some(port) = topology.port_between(at, *node) else {
-            return Ok(None);
-        };
-        path.push(port)?;
-        at = *node;
-    }
-    Ok(Some(path))
 }

@@ -2,7 +2,7 @@
 
 ghost use Rattle.std.specs.Prelude.{◌≡◌, ◌<◌, ◌^◌, ℕ, length, OnOk, Option, Result};
 ghost use Rattle.ats_num.specs.Failure.{IsDue, Fails, GivesSeen, unless};
-ghost use Rattle.ats_topology.specs.KeptWalks.{AreKeptFor};
+ghost use Rattle.ats_network_file.specs.KeptRoutes.{IsKeptFor};
 ghost use Rattle.ats_network.specs.Network.{DeclaredNetwork};
 ghost use Rattle.ats_network_file.specs.Senders.{table_of, refusal_of, all_added};
 ghost use Rattle.ats_network_file.specs.declared.fault.NetFault.{NetFault};
@@ -10,11 +10,11 @@ ghost use Rattle.ats_network_file.specs.declared.fault.NetFault.TheVariants.{Sen
 ghost use Rattle.ats_network.specs.declared.fault.PushFault.{PushFault};
 
 use crate::fault::NetFault;
+use crate::kept_routes::KeptRoutes;
 use ats_network::{Network, PushFault};
 use ats_network_toml::{DocumentFault, Table};
 use ats_num::Failure;
 use ats_streams::StreamFault;
-use ats_topology::KeptWalks;
 use std::alloc::Global;
 
 /// A table of a file that declares senders.
@@ -82,34 +82,34 @@ pub(crate) trait SenderEntry: Drop {
     // The network with the sender of an entry, which has this number, or the first fault of that entry.
     ghost added: { DeclaredNetwork → ℕ → Self → Result DeclaredNetwork NetFault };
 
-    /// Adds the sender of an entry, which has this number, or gives the entry's first fault. The
-    /// walks are kept for the network's topology.
+    /// Adds the sender of an entry, which has this number, or gives the entry's first fault. What
+    /// is kept is of the network's topology.
     fn add(
         &self,
         alloc: Global,
         network: &mut Network,
-        walks: &mut KeptWalks,
+        kept: &mut KeptRoutes,
         number: u32,
     ) -> Result<(), Failure<NetFault>>
-        requires kept { AreKeptFor network.old.topology walks.old }
+        requires kept { IsKeptFor network.old.topology kept.old }
         ensures value { GivesSeen (λ _. network.new) result (added network.old number self.now) }
-        ensures kept { OnOk result (AreKeptFor network.new.topology walks.new) };
+        ensures kept { OnOk result (IsKeptFor network.new.topology kept.new) };
 }
 
 /// Adds the senders of these entries, one after another, as far as the first fault.
 pub(crate) fn add_all<E: SenderEntry>(
     alloc: Global,
     network: &mut Network,
-    walks: &mut KeptWalks,
+    kept: &mut KeptRoutes,
     entries: &[E],
 ) -> Result<(), Failure<NetFault>>
     requires few { length entries.now < 2 ^ 31 }
-    requires kept { AreKeptFor network.old.topology walks.old }
+    requires kept { IsKeptFor network.old.topology kept.old }
     ensures value { GivesSeen (λ _. network.new) result (all_added E.added network.old 1 entries.now) }
-    ensures kept { OnOk result (AreKeptFor network.new.topology walks.new) }
+    ensures kept { OnOk result (IsKeptFor network.new.topology kept.new) }
 {
     for (place, entry) in entries.iter().enumerate() {
-        entry.add(alloc, network, walks, place as u32 + 1)?;
+        entry.add(alloc, network, kept, place as u32 + 1)?;
     }
     Ok(())
 }

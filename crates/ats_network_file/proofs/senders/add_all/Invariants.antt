@@ -1,12 +1,12 @@
 use Rattle.std.proofs.Common.{◌≡◌, ◌+◌, drop}
-use Rattle.ats_topology.specs.KeptWalks.{AreKeptFor}
+use Rattle.ats_network_file.specs.KeptRoutes.{IsKeptFor}
 use Rattle.ats_network_file.specs.Senders.{all_added}
 use Rattle.ats_network_file.proofs.senders.add_all.Given as goal
 
--- from here the entries left make what all make, and the walks are kept for the topology
+-- from here the entries left make what all make, and what is kept is of the topology
 abbrev pub invariant-loop-place : goal.invariant-loop-place
 invariant-loop-place g l = record {
   made : all_added g.E.SenderEntry.added l.network (l.place + 1) (drop l.place l.entries)
       ≡ all_added g.E.SenderEntry.added l.fn.network 1 l.entries;
-  kept : AreKeptFor l.network.topology l.walks;
+  kept : IsKeptFor l.network.topology l.kept;
 }
