@@ -36,9 +36,21 @@ impl<T: Copy, O: Precedence<T>> Heap<T, O> {
     pub fn open(alloc: Global, capacity: u32, order: O) -> Result<Heap<T, O>, AllocError>
         ensures { IfOk result (λ heap. heap ≡ record { items = []; capacity = capacity; order = order }) }
     {
+        Heap::open_short(alloc, capacity, capacity, order)
+    }
+
+    /// As `open`, where at most one item more than `waiting` waits in the line. `AllocError` where memory runs out.
+    pub fn open_short(
+        alloc: Global,
+        capacity: u32,
+        waiting: u32,
+        order: O,
+    ) -> Result<Heap<T, O>, AllocError>
+        ensures { IfOk result (λ heap. heap ≡ record { items = []; capacity = capacity; order = order }) }
+    {
         Ok(Heap {
             tree: Tree::open(alloc, capacity, order)?,
-            line: Line::open(alloc, capacity)?,
+            line: Line::open(alloc, waiting)?,
         })
     }
 

@@ -10,6 +10,9 @@ use ats_num::{Ps, Tie};
 use std::alloc::{AllocError, Global};
 use std::marker::Model;
 
+/// How many frames wait in their order. Few ever wait at once.
+const SHORT: u32 = 15;
+
 /// The frames that wait at a port in one class. Contracts see them with sender and eligibility time as a list, whose
 /// order means nothing, and the capacity and the tie that the queue was opened with.
 #[derive(Drop)]
@@ -35,7 +38,7 @@ impl<T: Tie> ClassQueue<T> {
         ensures { IfOk result (λ queue. queue ≡ record { held = []; capacity = capacity; tie = tie }) }
     {
         Ok(ClassQueue {
-            held: Heap::open(alloc, capacity, ByEligibility { tie })?,
+            held: Heap::open_short(alloc, capacity, capacity.min(SHORT), ByEligibility { tie })?,
         })
     }
 

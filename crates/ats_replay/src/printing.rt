@@ -1,6 +1,6 @@
 //! The text of a run, frame by frame.
 
-ghost use Rattle.std.specs.Prelude.{◌≡◌, ◌++◌, All, OnOk, IfOk};
+ghost use Rattle.std.specs.Prelude.{◌≡◌, ◌*◌, ◌++◌, ◌≤◌, length, All, OnOk, IfOk};
 ghost use Rattle.std.specs.List.{enumerate_from, flat_map};
 ghost use Rattle.ats_trace.specs.Journey.{IsJourney};
 ghost use Rattle.ats_replay.specs.Departures.{departures_text, journey_text};
@@ -10,6 +10,12 @@ use crate::totals::{totals_of, write_totals};
 use ats_network::Network;
 use ats_trace::Run;
 use std::alloc::{AllocError, Global};
+
+// The most hops of a frame that are counted when room is taken for its lines.
+const MAX_HOPS: usize = 16;
+
+// The bytes of room that are taken for a line.
+const LINE_BYTES: usize = 80;
 
 /// What happened to each frame of a run, in the order of the frames: a line with its number, its
 /// sender's name, its octets and its release; a line for each hop, with the port of the sender's
@@ -21,10 +27,21 @@ pub fn departures(alloc: Global, network: &Network, run: &Run) -> Result<Vec<u8>
     requires { All (IsJourney network.now) run.now }
     ensures { IfOk result (λ text. text.items ≡ departures_text network.now run.now) }
 {
-    let mut out = Vec::new(alloc);
+    let mut out = Vec::with_capacity(alloc, room_of(run))?;
     write_journeys(&mut out, network, run)?;
     write_totals(&mut out, &totals_of(run))?;
     Ok(out)
+}
+
+// About how many bytes the lines of a run take, so that the text seldom moves while it is made.
+fn room_of(run: &Run) -> usize
+    ensures { result ≤ 1440 * length run.now }
+{
+    let mut lines = 0;
+    for frame in 0..run.len() {
+        lines += 2 + run.hops_of(frame as u32).len().min(MAX_HOPS);
+    }
+    lines * LINE_BYTES
 }
 
 // The lines of all frames.

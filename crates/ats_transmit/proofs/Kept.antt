@@ -1,4 +1,4 @@
-use Rattle.std.proofs.Common.{◌≡◌, ℕ, ◌+◌, ◌<◌, ◌≤◌, Bool, false, cond, List, [], ◌∷◌, length, get_or, set, All}
+use Rattle.std.proofs.Common.{◌≡◌, ℕ, ◌+◌, ◌<◌, ◌≤◌, Bool, false, cond, List, [], ◌∷◌, length, get_or, All}
 use Rattle.std.proofs.Common.{sum, sym, ◌∙◌, ap, subst, inl, inr, arith}
 use Rattle.std.specs.Prelude.{◌≢◌, ◌==◌, map, count_by, IsPermutation}
 use Rattle.std.proofs.lemmas.Bool.{cases_eq, cond-true, cond-false, eq-eqb, ne_eqb}
@@ -8,13 +8,13 @@ use Rattle.std.proofs.lemmas.List.Elements.{All-cons, All-set}
 use Rattle.std.proofs.lemmas.List.Sorted.{All-permutation, sum_by-IsPermutation}
 use Rattle.ats_facts.proofs.Lists.{count_by-cons}
 use Rattle.ats_num.specs.Wire.{IsFrameSize}
-use Rattle.ats_queue.specs.declared.queued.Queued.{Queued}
 use Rattle.ats_queue.specs.Contents.{Contents}
 use Rattle.ats_transmit.specs.declared.offer.Offer.{Offer}
 use Rattle.ats_transmit.specs.declared.sent.Sent.{Sent}
 use Rattle.ats_transmit.specs.Sending.{last_start}
 use Rattle.ats_transmit.specs.State.{PortState, offered_of, opened}
 use Rattle.ats_transmit.specs.PortQueues.{queued_as, held_of, port_state, IsKept, AreEmpty}
+use Rattle.ats_transmit.specs.Waiting.{HasRoom, IsNew, Holds}
 use Rattle.ats_transmit.proofs.Held.{each_held, all_held, held-insert, length-held-le, none-held}
 use Rattle.ats_transmit.proofs.Lawful.{lawful-open, lawful-offer}
 
@@ -34,12 +34,6 @@ may-offer {T} s old o e not_held class room size later =
     let May : PortState T → Type 0 = λ (x : PortState T). MayOffer x o in
     subst May (sym e)
     (record { not_held = not_held; class = omega arith; room = room; size = size; later = later })
-
--- the queue of an offer's class was replaced by one that holds the frame too
-pub record Inserted {T : Type 0} (qs : List (Contents T)) (before after : Contents T) (o : Offer) : Type 0 where
-  pub stood : before ≡ get_or qs o.class before
-  pub more : IsPermutation (queued_as o ∷ before.held) after.held
-  pub rest : after ≡ record before { held = after.held }
 
 -- there are eight queues
 pub eight-queues : {T : Type 0} (key : T → ℕ → ℕ → ℕ) (s : PortState T) (qs : List (Contents T)) (room : ℕ)
@@ -62,45 +56,42 @@ capacity_of {T} qs rooms class d e h =
 
 -- the queue of an offer's class has room
 pub queue-room : {T : Type 0} (key : T → ℕ → ℕ → ℕ) (s : PortState T) (qs : List (Contents T)) (room : ℕ)
-    (before : Contents T) (o : Offer) → IsKept key s qs room → s.held ≡ held_of qs → MayOffer s o
-    → before ≡ get_or qs o.class before → length before.held < before.capacity
-queue-room {T} key s qs room before o k held may stood =
+    (o : Offer) → IsKept key s qs room → s.held ≡ held_of qs → MayOffer s o → HasRoom qs o.class
+queue-room {T} key s qs room o k held may d =
     let n = eight-queues key s qs room k in
-    let Room : Contents T → Type 0 = λ (c : Contents T). length c.held < c.capacity in
     let test : Offer → Bool = λ (x : Offer). x.class == o.class in
     let counted : count_by test s.held ≡ count_by test (held_of qs) = ap (λ (os : List Offer). count_by test os) held in
     let within : o.class < length qs = omega (arith, may.class) in
-    subst Room (sym stood)
-    (omega (
+    omega (
       arith,
-      length-held-le 0 o.class o.class qs before (omega arith) within,
+      length-held-le 0 o.class o.class qs d (omega arith) within,
       counted,
       may.room,
-      capacity_of qs s.rooms o.class before k.capacities within,
-    ))
+      capacity_of qs s.rooms o.class d k.capacities within,
+    )
 
 -- and does not hold its frame
 pub queue-new : {T : Type 0} (key : T → ℕ → ℕ → ℕ) (s : PortState T) (qs : List (Contents T)) (room : ℕ)
-    (before : Contents T) (o : Offer) → IsKept key s qs room → s.held ≡ held_of qs → MayOffer s o
-    → before ≡ get_or qs o.class before → All (λ (q : Queued). q.frame ≢ o.frame) before.held
-queue-new {T} key s qs room before o k held may stood =
+    (o : Offer) → IsKept key s qs room → s.held ≡ held_of qs → MayOffer s o → IsNew qs o
+queue-new {T} key s qs room o k held may d =
     let n = eight-queues key s qs room k in
-    let New : Contents T → Type 0 = λ (c : Contents T). All (λ (q : Queued). q.frame ≢ o.frame) c.held in
     let Not : Offer → Type 0 = λ (x : Offer). x.frame ≢ o.frame in
     let NotIn : List Offer → Type 0 = λ (os : List Offer). All Not os in
-    subst New (sym stood) (each_held Not qs (subst NotIn held may.not_held) o.class before (omega (arith, may.class)))
+    each_held Not qs (subst NotIn held may.not_held) o.class d (omega (arith, may.class))
 
 -- the offered frame is held
 pub held-offer : {T : Type 0} (key : T → ℕ → ℕ → ℕ) (s : PortState T) (qs : List (Contents T)) (room : ℕ)
-    (before after : Contents T) (o : Offer) → IsKept key s qs room → s.held ≡ held_of qs → MayOffer s o
-    → Inserted qs before after o → IsPermutation (o ∷ s.held) (held_of (set qs o.class after))
-held-offer {T} key s qs room before after o k held may i =
+    (new : List (Contents T)) (o : Offer) → IsKept key s qs room → s.held ≡ held_of qs → MayOffer s o
+    → Holds qs new o → IsPermutation (o ∷ s.held) (held_of new)
+held-offer {T} key s qs room new o k held may i =
     let n = eight-queues key s qs room k in
-    let Held : List Offer → Type 0 = λ (os : List Offer). IsPermutation (o ∷ os) (held_of (set qs o.class after)) in
-    let Perm : Contents T → Type 0 = λ (c : Contents T). IsPermutation (queued_as o ∷ c.held) after.held in
-    subst Held (sym held)
-    (held-insert 0 o.class o.class qs before (queued_as o) after (omega arith) (omega (arith, may.class))
-    (subst Perm i.stood i.more))
+    let after : Contents T = record i.before { held = i.after } in
+    let Held : List Offer → Type 0 = λ (os : List Offer). IsPermutation (o ∷ os) (held_of new) in
+    let New : List (Contents T) → Type 0 = λ (cs : List (Contents T)). IsPermutation (o ∷ held_of qs) (held_of cs) in
+    let Perm : Contents T → Type 0 = λ (c : Contents T). IsPermutation (queued_as o ∷ c.held) i.after in
+    subst Held (sym held) (subst New (sym i.changed)
+    (held-insert 0 o.class o.class qs i.before (queued_as o) after (omega arith) (omega (arith, may.class))
+    (subst Perm i.stood i.more)))
 
 -- the count of a class grows by one in the class of the offer
 within-insert : (held new : List Offer) (sent : List Sent) (rooms : List ℕ) (o : Offer) → IsPermutation (o ∷ held) new
@@ -126,30 +117,30 @@ within-insert held new sent rooms o p within room c h =
 
 -- a port that was offered a frame is kept
 pub kept-offer : {T : Type 0} (key : T → ℕ → ℕ → ℕ) (s : PortState T) (qs : List (Contents T)) (room : ℕ)
-    (before after : Contents T) (o : Offer) → IsKept key s qs room → s.held ≡ held_of qs → MayOffer s o
-    → Inserted qs before after o
-    → IsKept key (record s { held = held_of (set qs o.class after) }) (set qs o.class after) room
-kept-offer {T} key s qs room before after o k held may i =
+    (new : List (Contents T)) (o : Offer) → IsKept key s qs room → s.held ≡ held_of qs → MayOffer s o
+    → Holds qs new o → IsKept key (record s { held = held_of new }) new room
+kept-offer {T} key s qs room new o k held may i =
     let n = eight-queues key s qs room k in
     let within : o.class < length qs = omega (arith, may.class) in
+    let after : Contents T = record i.before { held = i.after } in
     let capacity : Contents T → ℕ = λ (c : Contents T). c.capacity in
     let Ties : Contents T → Type 0 = λ (c : Contents T). c.tie ≡ s.tie in
-    let tie : Contents T → T = λ (c : Contents T). c.tie in
-    let same_capacity : capacity after ≡ capacity (get_or qs o.class before) =
-    ap capacity i.rest ∙ ap capacity i.stood in
-    let same_tie : after.tie ≡ s.tie = ap tie i.rest ∙ ap tie i.stood ∙ k.ties o.class before within in
-    let perm = held-offer key s qs room before after o k held may i in
+    let Tied : List (Contents T) → Type 0 = λ (cs : List (Contents T)). All Ties cs in
+    let same_tie : after.tie ≡ s.tie = ap (λ (c : Contents T). c.tie) i.stood ∙ k.ties o.class i.before within in
+    let capacities : map capacity new ≡ map capacity qs =
+    ap (λ (cs : List (Contents T)). map capacity cs) i.changed
+    ∙ map-set_same capacity qs o.class after i.before (ap capacity i.stood) in
+    let perm = held-offer key s qs room new o k held may i in
     let Size : Offer → Type 0 = λ (x : Offer). IsFrameSize x.octets in
-    let new : List Offer = held_of (set qs o.class after) in
     record {
       classes = k.classes;
-      capacities = map-set_same capacity qs o.class after before same_capacity ∙ k.capacities;
-      ties = All-set Ties qs o.class after same_tie k.ties;
-      sizes = All-permutation Size (o ∷ s.held) new perm (All-cons Size o s.held may.size k.sizes);
+      capacities = capacities ∙ k.capacities;
+      ties = subst Tied (sym i.changed) (All-set Ties qs o.class after same_tie k.ties);
+      sizes = All-permutation Size (o ∷ s.held) (held_of new) perm (All-cons Size o s.held may.size k.sizes);
       sent_classes = k.sent_classes;
-      within = within-insert s.held new s.sent s.rooms o perm k.within may.room;
+      within = within-insert s.held (held_of new) s.sent s.rooms o perm k.within may.room;
       reserved = k.reserved;
-      lawful = lawful-offer (key s.tie) s.ps_per_bit s.held new s.sent o k.lawful may.later perm;
+      lawful = lawful-offer (key s.tie) s.ps_per_bit s.held (held_of new) s.sent o k.lawful may.later perm;
       sending = k.sending;
     }
 

@@ -1,5 +1,6 @@
 pub mod Anys
 pub mod Due
+pub mod Fronts
 pub mod Held
 pub mod Kept
 pub mod Lawful

@@ -18,6 +18,7 @@ use Rattle.ats_transmit.specs.Sending.{sent_at, begun, last_end}
 use Rattle.ats_transmit.specs.State.{PortState}
 use Rattle.ats_transmit.specs.Picks.{MaySend, IsBehind, Starts}
 use Rattle.ats_transmit.specs.PortQueues.{queued_as, offer_in, held_of, EachQueued, IsKept, IsHighest, TakesFrom}
+use Rattle.ats_transmit.specs.Waiting.{Finds}
 use Rattle.ats_transmit.proofs.Held.{all_held, held-take}
 use Rattle.ats_transmit.proofs.Kept.{eight-queues, held_classes}
 use Rattle.ats_transmit.proofs.Lawful.{lawful-start}
@@ -31,12 +32,10 @@ pub record Selected {T : Type 0} (key : T → ℕ → ℕ → ℕ) (now class : 
   pub high : IsHighest now qs class
   pub takes : TakesFrom key now class qs new started
 
-pub selected : {T : Type 0} (key : T → ℕ → ℕ → ℕ) (now class : ℕ) (s : PortState T) (qs found new : List (Contents T))
-    (started : Offer) → s.held ≡ held_of qs → found ≡ qs → IsHighest now found class
-    → TakesFrom key now class qs new started → Selected key now class s qs new started
-selected {T} key now class s qs found new started held same high takes =
-    let High : List (Contents T) → Type 0 = λ (cs : List (Contents T)). IsHighest now cs class in
-    record { held = held; high = subst High same high; takes = takes }
+pub selected : {T : Type 0} (key : T → ℕ → ℕ → ℕ) (now : ℕ) (s : PortState T) (qs new : List (Contents T))
+    (started : Offer) → s.held ≡ held_of qs → Finds key now qs new started
+    → Selected key now started.class s qs new started
+selected key now s qs new started held found = record { held = held; high = found.high; takes = found.takes }
 
 -- a frame of a lower class is preceded
 precedes-lower : (key : ℕ → ℕ → ℕ) (ps now : ℕ) (x o : Offer) → o.class < x.class

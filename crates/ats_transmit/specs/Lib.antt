@@ -2,3 +2,4 @@ pub mod Picks
 pub mod PortQueues
 pub mod Sending
 pub mod State
+pub mod Waiting

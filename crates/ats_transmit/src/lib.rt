@@ -4,10 +4,12 @@
 #![tactic(auto)]
 
 mod choice;
+mod front;
 pub mod offer;
 pub mod pick;
 pub mod port;
 pub mod sent;
+mod waiting;
 
 pub use offer::Offer;
 pub use pick::Pick;

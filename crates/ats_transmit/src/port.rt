@@ -7,14 +7,13 @@ ghost use Rattle.ats_num.specs.Wire.{IsFrameSize};
 ghost use Rattle.ats_transmit.specs.Sending.{last_of, last_start, last_end};
 ghost use Rattle.ats_transmit.specs.State.{opened, offered_of, IsLawfulPort};
 ghost use Rattle.ats_transmit.specs.Picks.{MaySend, IsFirstStart, IsPick};
-ghost use Rattle.ats_transmit.specs.PortQueues.{AreEmpty};
 
-use crate::choice::{free_at, highest_class, next_time, take_from};
+use crate::choice::free_at;
 use crate::offer::Offer;
 use crate::pick::Pick;
 use crate::sent::Sent;
+use crate::waiting::Waiting;
 use ats_num::{Ps, Tie};
-use ats_queue::ClassQueue;
 use std::alloc::{AllocError, Global};
 use std::marker::Model;
 
@@ -26,7 +25,7 @@ pub struct Port<T: Tie> {
     ps_per_bit: u32,
     rooms: [u32; 8],
     tie: T,
-    queues: Vec<ClassQueue<T>>,
+    waiting: Waiting<T>,
     sent: Vec<Sent>,
     is_sending: bool,
 }
@@ -39,11 +38,11 @@ impl<T: Tie> Model for Port<T> {
     ghost use Rattle.std.specs.Prelude.{vec_capacity};
     ghost use Rattle.ats_transmit.specs.PortQueues.{port_state, IsKept};
 
-    ghost view = { λ p. port_state p.ps_per_bit p.rooms p.tie p.queues.items p.sent.items p.is_sending };
+    ghost view = { λ p. port_state p.ps_per_bit p.rooms p.tie p.waiting p.sent.items p.is_sending };
 
     ghost invariant = { λ p. IsKept T.key
-        (port_state p.ps_per_bit p.rooms p.tie p.queues.items p.sent.items p.is_sending)
-        p.queues.items (vec_capacity p.sent) };
+        (port_state p.ps_per_bit p.rooms p.tie p.waiting p.sent.items p.is_sending)
+        p.waiting (vec_capacity p.sent) };
 }
 
 impl<T: Tie> Port<T> {
@@ -58,12 +57,12 @@ impl<T: Tie> Port<T> {
         ensures value { IfOk result (λ port. port ≡ opened ps_per_bit rooms tie) }
         ensures lawful { IfOk result (IsLawfulPort T.key) }
     {
-        let queues = queues_of(alloc, &rooms, tie)?;
+        let waiting = Waiting::open(alloc, &rooms, tie)?;
         Ok(Port {
             ps_per_bit,
             rooms,
             tie,
-            queues,
+            waiting,
             sent: Vec::with_capacity(alloc, total_of(&rooms))?,
             is_sending: false,
         })
@@ -83,7 +82,7 @@ impl<T: Tie> Port<T> {
         ensures rest { self.new ≡ record self.old { held = self.new.held } }
         ensures lawful { IsLawfulPort T.key self.new }
     {
-        self.queues[offer.class as usize].insert(offer.queued());
+        self.waiting.insert(offer);
     }
 
     /// When the port can next start a frame: it is free then, and some frame that it holds is eligible. `None` where it
@@ -91,7 +90,7 @@ impl<T: Tie> Port<T> {
     pub fn due(&self) -> Option<Ps>
         ensures { MatchOption result (self.now.held ≡ []) (λ time. IsFirstStart self.now.held self.now.sent time.0) }
     {
-        let time = next_time(&self.queues)?;
+        let time = self.waiting.next_time()?;
         Some(Ps(time.0.max(free_at(&self.sent).0)))
     }
 
@@ -112,10 +111,9 @@ impl<T: Tie> Port<T> {
                 end: free_at(&self.sent),
             };
         }
-        let Some(class) = highest_class(&self.queues, now) else {
+        let Some(started) = self.waiting.take(now) else {
             return Pick::Idle;
         };
-        let started = take_from(&mut self.queues, class, now);
         let sent = started.sent_at(self.ps_per_bit, now);
         self.sent.push(sent).unwrap();
         self.is_sending = true;
@@ -144,17 +142,6 @@ impl<T: Tie> Port<T> {
     {
         &self.sent
     }
-}
-
-/// An empty queue for each class.
-fn queues_of<T: Tie>(alloc: Global, rooms: &[u32], tie: T) -> Result<Vec<ClassQueue<T>>, AllocError>
-    ensures { IfOk result (λ queues. AreEmpty queues.items rooms.now tie) }
-{
-    let mut queues = Vec::with_capacity(alloc, rooms.len())?;
-    for room in rooms {
-        queues.push(ClassQueue::open(alloc, *room, tie)?)?;
-    }
-    Ok(queues)
 }
 
 /// The sum of the rooms.

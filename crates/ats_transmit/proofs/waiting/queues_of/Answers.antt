@@ -1,6 +1,6 @@
 use Rattle.std.proofs.Common.{arith}
 use Rattle.ats_transmit.proofs.Queues.{empty_more}
-use Rattle.ats_transmit.proofs.port.queues_of.Goals as goal
+use Rattle.ats_transmit.proofs.waiting.queues_of.Goals as goal
 
 pub loop-room-preserved : goal.loop-room-preserved
 loop-room-preserved g c =

@@ -1,6 +1,6 @@
 use Rattle.std.proofs.Common.{take}
 use Rattle.ats_transmit.specs.PortQueues.{AreEmpty}
-use Rattle.ats_transmit.proofs.port.queues_of.Given as goal
+use Rattle.ats_transmit.proofs.waiting.queues_of.Given as goal
 
 -- the queues of the rooms so far
 abbrev pub invariant-loop-room : goal.invariant-loop-room
