@@ -2,7 +2,8 @@
 //! takes few bytes at a time, one without room for the text, and files and a sink that never fail.
 
 use ats_answer::Status;
-use ats_command::{ats, ats_surely};
+use ats_command::ats;
+use ats_command_law::ats_surely;
 use ats_io::{MemFiles, MemSink, SureFiles, SureSink};
 use std::alloc::AllocGlobal;
 use std::process::Abort;

@@ -7,8 +7,8 @@ use Rattle.ats_io.specs.Outside.{Rose, TakesPrefix}
 use Rattle.ats_answer.specs.Command.{Command, Shape, Show, Bound, Explain, Check, Replay, Unknown, Capture, Conform}
 use Rattle.ats_answer.specs.Command.{Admit, Generate}
 use Rattle.ats_answer.specs.Answer.{Answer, HasText, words_answer}
-use Rattle.ats_command.specs.Due.{IsAnswer, IsDueAnswer, IsTold, told_bytes}
-use Rattle.ats_command.specs.Calls.{Answers, Printed, PrintedPrefix, ReadRose, IsCalm, StatusIsDue}
+use Rattle.ats_due.specs.Due.{IsAnswer, IsDueAnswer, IsTold, told_bytes}
+use Rattle.ats_due.specs.Calls.{Answers, Printed, PrintedPrefix, ReadRose, IsCalm, StatusIsDue}
 use Rattle.ats_answer.specs.Outcome.{Prints, PrintsFront, answer_of}
 use Rattle.ats_answer.specs.declared.outcome.Stop.{Stop}
 use Rattle.ats_answer.specs.declared.outcome.Stop.TheVariants as stop

@@ -10,7 +10,7 @@ use Rattle.ats_answer.specs.Command.{capture_in, command_on, command_on_two, gen
 use Rattle.ats_answer.specs.Making.{count_by, count_named, seed_named}
 use Rattle.ats_answer.specs.Order.{order_named}
 use Rattle.ats_answer.specs.declared.order.Order.{Order}
-use Rattle.ats_command.specs.Generated.{HasFewFrames}
+use Rattle.ats_due.specs.Generated.{HasFewFrames}
 
 -- of either of two commands
 either : (b : Bool) (one other : Command) → HasFewFrames one → HasFewFrames other

@@ -6,23 +6,15 @@ ghost use Rattle.ats_answer.specs.Command.{command_of};
 ghost use Rattle.ats_answer.specs.Command as table;
 ghost use Rattle.ats_answer.specs.Named.{texts_of, view};
 ghost use Rattle.ats_answer.specs.Answer.{HasText};
-ghost use Rattle.ats_command.specs.Due.{IsTold};
-ghost use Rattle.ats_command.specs.Generated.{HasFewFrames};
-ghost use Rattle.ats_command.specs.Soundness.{IsSoundCheck, PrintsSoundly};
-ghost use Rattle.ats_command.specs.Calls.{Answers, Printed, PrintedPrefix, ReadRose, IsCalm, StatusIsDue};
+ghost use Rattle.ats_due.specs.Due.{IsTold};
+ghost use Rattle.ats_due.specs.Generated.{HasFewFrames};
+ghost use Rattle.ats_due.specs.Soundness.{IsSoundCheck, PrintsSoundly};
+ghost use Rattle.ats_due.specs.Calls.{Answers, Printed, PrintedPrefix, ReadRose, IsCalm, StatusIsDue};
 
-use crate::admit_command::admit;
-use crate::bound_command::bound;
-use crate::capture_command::capture;
-use crate::check_command::check;
-use crate::conform_command::conform;
-use crate::explain_command::explain;
-use crate::generate_command::generate;
-use crate::replay_command::replay;
-use crate::shape_command::shape;
-use crate::show_command::show;
 use ats_answer::{Command, Status, Stop, finish, named_by, print};
 use ats_io::{Files, Sink};
+use ats_run_commands::{capture, generate, replay};
+use ats_verdict_commands::{admit, bound, check, conform, explain, shape, show};
 use std::alloc::Global;
 
 /// Carries out the command that the words name, over these files, and prints its text to the sink.

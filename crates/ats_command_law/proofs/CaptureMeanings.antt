@@ -16,9 +16,9 @@ use Rattle.ats_answer.specs.Answer.{Answer}
 use Rattle.ats_answer.specs.Input.{declared_in, network_in, records_in, traffic_in}
 use Rattle.ats_answer.specs.Station.{station_answer, station_in, station_named}
 use Rattle.ats_answer.specs.declared.order.Order.{Order}
-use Rattle.ats_command.specs.Captured.{IsCaptured, captured_in}
-use Rattle.ats_command.specs.Replayed.{IsOneOf}
-use Rattle.ats_command.proofs.Meanings.{IsInput, network_gives, none_declared}
+use Rattle.ats_due.specs.Captured.{IsCaptured, captured_in}
+use Rattle.ats_due.specs.Replayed.{IsOneOf}
+use Rattle.ats_command_law.proofs.Meanings.{IsInput, network_gives, none_declared}
 use Rattle.ats_command_law.specs.CaptureMeaning.{CaptureMeans, CaptureSays, IsCounted}
 
 -- a fault of a file is answered as one of the input

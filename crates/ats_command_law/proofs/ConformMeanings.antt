@@ -9,9 +9,9 @@ use Rattle.ats_schedule.specs.FaultText as schedule
 use Rattle.ats_num.specs.Failure.{◌>>=◌}
 use Rattle.ats_answer.specs.Answer.{Answer}
 use Rattle.ats_answer.specs.Input.{network_in, releases_in}
-use Rattle.ats_command.specs.Conformed.{IsAnswerTo, JudgesReleases, JudgesScheduled}
-use Rattle.ats_command.specs.Replayed.{scheduled_in}
-use Rattle.ats_command.proofs.Meanings.{IsInput, file_gives, network_gives, none_declared}
+use Rattle.ats_due.specs.Conformed.{IsAnswerTo, JudgesReleases, JudgesScheduled}
+use Rattle.ats_due.specs.Replayed.{scheduled_in}
+use Rattle.ats_command_law.proofs.Meanings.{IsInput, file_gives, network_gives, none_declared}
 use Rattle.ats_command_law.specs.ConformMeaning.{ConformMeans, ConformSays}
 
 -- where a schedule's file declares no releases, it has a fault

@@ -15,9 +15,9 @@ use Rattle.ats_verdict_text.specs.Text.{reason_text}
 use Rattle.ats_num.specs.Failure.{◌>>=◌}
 use Rattle.ats_answer.specs.Answer.{Answer, settled}
 use Rattle.ats_answer.specs.Input.{network_in}
-use Rattle.ats_command.specs.Due.{explain_answer}
-use Rattle.ats_command.specs.Judged.{explain_judged, judged}
-use Rattle.ats_command.proofs.Meanings.{IsInput, network_gives, none_declared}
+use Rattle.ats_due.specs.Due.{explain_answer}
+use Rattle.ats_due.specs.Judged.{explain_judged, judged}
+use Rattle.ats_command_law.proofs.Meanings.{IsInput, network_gives, none_declared}
 use Rattle.ats_command_law.specs.ExplainMeaning.{ExplainMeans, ExplainSays}
 
 -- an overload is a reason against the network

@@ -23,9 +23,9 @@ use Rattle.ats_num.specs.Failure.{◌>>=◌}
 use Rattle.ats_answer.specs.Answer.{Answer}
 use Rattle.ats_answer.specs.Input.{network_in}
 use Rattle.ats_answer.specs.declared.order.Order.TheVariants.{Early}
-use Rattle.ats_command.specs.Generated.{IsGenerated, generated_in, made_for, network_unless}
-use Rattle.ats_command.specs.Replayed.{IsOneOf, IsRunIn}
-use Rattle.ats_command.proofs.Meanings.{IsInput, network_gives, none_declared}
+use Rattle.ats_due.specs.Generated.{IsGenerated, generated_in, made_for, network_unless}
+use Rattle.ats_due.specs.Replayed.{IsOneOf, IsRunIn}
+use Rattle.ats_command_law.proofs.Meanings.{IsInput, network_gives, none_declared}
 use Rattle.ats_command_law.specs.GenerateMeaning.{AreWithinLeast, GenerateMeans, GenerateSays}
 
 -- where releases are made, there is a stream

@@ -1,3 +1,13 @@
+pub mod RowOrder
+pub mod Meanings
+pub mod Scheduled
+pub mod OneJudgement
+pub mod OneAnswer
+pub mod ReplayMeanings
+pub mod ConformBounds
+pub mod PrintedBounds
+pub mod AdmitMeanings
+pub mod Surely
 pub mod ConformMeanings
 pub mod CaptureMeanings
 pub mod ExplainMeanings

@@ -8,8 +8,8 @@ use Rattle.ats_answer.specs.Answer.{Answer}
 use Rattle.ats_answer.specs.Input.{network_in, records_in, traffic_in}
 use Rattle.ats_answer.specs.Station.{station_in}
 use Rattle.ats_answer.specs.declared.order.Order.{Order}
-use Rattle.ats_command.specs.Captured.{IsCaptureReplay}
-use Rattle.ats_command.specs.Due.{IsCaptureAnswer}
+use Rattle.ats_due.specs.Captured.{IsCaptureReplay}
+use Rattle.ats_due.specs.Due.{IsCaptureAnswer}
 use Rattle.ats_answer.specs.declared.status.Status.{Status}
 use Rattle.ats_answer.specs.declared.status.Status.TheVariants.{Done, Words, Input, Refused, ReadFailed, WriteFailed}
 use Rattle.ats_answer.specs.declared.status.Status.TheVariants.{NoMemory}

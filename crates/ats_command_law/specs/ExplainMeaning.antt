@@ -10,7 +10,7 @@ use Rattle.ats_explain.specs.Laws.{Carries, IsClear, StreamAddsUp}
 use Rattle.ats_explain_text.specs.Text.{explain_text}
 use Rattle.ats_verdict_text.specs.Text.{reason_text, refused_text}
 use Rattle.ats_answer.specs.Input.{network_in}
-use Rattle.ats_command.specs.Due.{explain_answer}
+use Rattle.ats_due.specs.Due.{explain_answer}
 use Rattle.ats_answer.specs.declared.status.Status.{Status}
 use Rattle.ats_answer.specs.declared.status.Status.TheVariants.{Done, Words, Input, Refused, ReadFailed, WriteFailed}
 use Rattle.ats_answer.specs.declared.status.Status.TheVariants.{NoMemory}

@@ -11,9 +11,9 @@ use Rattle.ats_gen.specs.declared.fault.GenFault.{GenFault}
 use Rattle.ats_verdict_text.specs.Text.{refused_text}
 use Rattle.ats_answer.specs.Answer.{Answer}
 use Rattle.ats_answer.specs.Input.{network_in}
-use Rattle.ats_command.specs.ConformMeaning.{AllDelaysAreWithin}
-use Rattle.ats_command.specs.Due.{IsGenerateAnswer}
-use Rattle.ats_command.specs.Generated.{IsReport, gen_fault_text}
+use Rattle.ats_command_law.specs.ConformBounds.{AllDelaysAreWithin}
+use Rattle.ats_due.specs.Due.{IsGenerateAnswer}
+use Rattle.ats_due.specs.Generated.{IsReport, gen_fault_text}
 use Rattle.ats_answer.specs.declared.status.Status.{Status}
 use Rattle.ats_answer.specs.declared.status.Status.TheVariants.{Done, Words, Input, Refused, ReadFailed, WriteFailed}
 use Rattle.ats_answer.specs.declared.status.Status.TheVariants.{NoMemory}

@@ -1,3 +1,8 @@
+pub mod Laws
+pub mod Meaning
+pub mod ReplayMeaning
+pub mod ConformBounds
+pub mod AdmitMeaning
 pub mod ConformMeaning
 pub mod CaptureMeaning
 pub mod ExplainMeaning

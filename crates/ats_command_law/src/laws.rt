@@ -1,27 +1,34 @@
 //! What is proved of the answers that are due, for all words and bytes.
 
+ghost use Rattle.ats_command_law.specs.AdmitMeaning.{AdmitMeans};
 ghost use Rattle.ats_command_law.specs.CaptureMeaning.{CaptureMeans};
+ghost use Rattle.ats_command_law.specs.ConformBounds.{ConformKeepsBounds};
 ghost use Rattle.ats_command_law.specs.ConformMeaning.{ConformMeans};
 ghost use Rattle.ats_command_law.specs.ExplainMeaning.{ExplainMeans};
 ghost use Rattle.ats_command_law.specs.GenerateMeaning.{GenerateMeans};
+ghost use Rattle.ats_command_law.specs.Laws.{OneAnswerIsDue, OneStatusIsDue, PrintedBoundsAreSound};
+ghost use Rattle.ats_command_law.specs.Meaning.{BoundMeans, CheckMeans};
+ghost use Rattle.ats_command_law.specs.ReplayMeaning.{ReplayKeepsBounds, ReplayMeans};
 
 use ats_explain::laws::{clear_where_one_holds, each_stream_adds_up};
 
-/// What each answer to `conform` means, by its status. `Done`: the files declare a network and releases, by which every
-/// station keeps its buckets, and the text gives their number. `Refused`: they declare a network and releases, by which
-/// some station does not keep its buckets, and the text names the first frame that breaks what its sender declares, and
-/// how. `Input`: one of them does not declare what it should. No other status comes.
-pub fn what_conform_answers()
-    ensures { ConformMeans }
+/// For all words, and all bytes told under the names of their files, just one answer is due, except to `replay` and
+/// `capture` of files without a fault, and to `generate` where releases are made: these may print any run in their
+/// order.
+pub fn one_answer_is_due()
+    ensures { OneAnswerIsDue }
 {}
 
-/// What each answer to `capture` means, by its status. `Done`: the files declare a network and a capture, of which
-/// releases of the station with this name come, and the text gives every journey of a legal run of this network, by the
-/// tie and the pace of the order, with exactly these releases, and the counts of the records. `Refused`: the first
-/// declares a network in which no station has this name. `Input`: one of them does not declare what it should. No other
-/// status comes.
-pub fn what_capture_answers()
-    ensures { CaptureMeans }
+/// For all words and bytes, all answers that are due have one status.
+pub fn one_status_is_due()
+    ensures { OneStatusIsDue }
+{}
+
+/// What each answer to `bound` means, by its status. `Done`: the file declares a network, and the text writes its least
+/// certificate, which holds and is sound. `Refused`: it declares a network for which no certificate holds. `Input`: it
+/// declares none. No other status comes.
+pub fn what_bound_answers()
+    ensures { BoundMeans }
 {}
 
 /// What each answer to `explain` means, by its status. `Done`: the file declares a network of which no port and class
@@ -36,6 +43,48 @@ pub fn what_explain_answers()
     clear_where_one_holds();
 }
 
+/// What each answer to `check` means, by its status. `Done`: the files declare a network and rows that hold for it and
+/// are sound, by which each frame of a talker that keeps its buckets arrives within its stream's sum and deadline, and
+/// the text gives the bounds and sums of these rows. `Refused`: they declare a network and rows that do not hold for
+/// it. `Input`: one of them does not declare what it should. No other status comes.
+pub fn what_check_answers()
+    ensures { CheckMeans }
+{}
+
+/// What each answer to `conform` means, by its status. `Done`: the files declare a network and releases, by which every
+/// station keeps its buckets, and the text gives their number. `Refused`: they declare a network and releases, by which
+/// some station does not keep its buckets, and the text names the first frame that breaks what its sender declares, and
+/// how. `Input`: one of them does not declare what it should. No other status comes.
+pub fn what_conform_answers()
+    ensures { ConformMeans }
+{}
+
+/// What each answer to `admit` means, by its status. `Done`: the files declare a network and make requests; for the
+/// network as it is, and after each request, the least certificate holds and is sound, and by it each frame of a talker
+/// that keeps its buckets arrives within its stream's sum and deadline; and the text gives the answers that the
+/// definition of admission gives, one after the other, each with the sum of the stream that came in, and the number of
+/// streams at the end. `Refused`: they declare a network, for which no certificate holds, and make requests. `Input`:
+/// one of them does not declare what it should. No other status comes.
+pub fn what_admit_answers()
+    ensures { AdmitMeans }
+{}
+
+/// What each answer to `replay` means, by its status. `Done`: the files declare a network and releases, and the text
+/// gives every journey of a legal run of this network, by the tie and the pace of the order, with exactly these
+/// releases. `Input`: one of them does not declare what it should. No other status comes.
+pub fn what_replay_answers()
+    ensures { ReplayMeans }
+{}
+
+/// What each answer to `capture` means, by its status. `Done`: the files declare a network and a capture, of which
+/// releases of the station with this name come, and the text gives every journey of a legal run of this network, by the
+/// tie and the pace of the order, with exactly these releases, and the counts of the records. `Refused`: the first
+/// declares a network in which no station has this name. `Input`: one of them does not declare what it should. No other
+/// status comes.
+pub fn what_capture_answers()
+    ensures { CaptureMeans }
+{}
+
 /// What each answer to `generate` means, by its status. `Done`: the file declares a network, and the text sums up a
 /// legal run, in the order `early`, with exactly the releases that are made from the seed, by which every station keeps
 /// its buckets; where some certificate of the network holds, each delay of a stream in this run is within the least
@@ -43,4 +92,26 @@ pub fn what_explain_answers()
 /// says why. `Input`: it declares none. No other status comes.
 pub fn what_generate_answers()
     ensures { GenerateMeans }
+{}
+
+/// Where `Done` is due to `check` of a certificate and to `replay` of a schedule for one network: each frame of a
+/// stream whose talker keeps its buckets in this schedule is, in the run that `replay` prints, never discarded,
+/// eligible at each next hop within the bound that `check` prints for the hop before, and arrives within the printed
+/// sum of its stream and within its deadline.
+pub fn replay_keeps_bounds()
+    ensures { ReplayKeepsBounds }
+{}
+
+/// Where `Done` is due to `conform` of a schedule, to `check` of a certificate and to `replay` of the schedule for one
+/// network: by the schedule every station keeps its buckets, and each frame of each stream is, in the run that `replay`
+/// prints, never discarded, eligible at each next hop within the bound that `check` prints for the hop before, and
+/// arrives within the printed sum of its stream and within its deadline.
+pub fn conform_keeps_bounds()
+    ensures { ConformKeepsBounds }
+{}
+
+/// What is printed is what is sound: the lines of the stream with a number give, for each port of its path, the bound
+/// of which `IsSound` speaks, and the sum of these bounds.
+pub fn printed_bounds_are_sound()
+    ensures { PrintedBoundsAreSound }
 {}

@@ -1,6 +1,6 @@
 use Rattle.std.proofs.Common.{Some, sym, ap, subst, ◌∙◌}
 use Rattle.ats_answer.specs.Answer.{HasText}
-use Rattle.ats_command.specs.Soundness.{IsSoundCheck}
+use Rattle.ats_due.specs.Soundness.{IsSoundCheck}
 use Rattle.ats_answer.specs.declared.status.Status.{Status}
 use Rattle.ats_answer.specs.Named.{view}
 use Rattle.ats_command.proofs.Ending.{printed_due, front_due, done_holds}

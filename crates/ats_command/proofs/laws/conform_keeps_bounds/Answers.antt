@@ -1,5 +1,0 @@
-use Rattle.ats_command.proofs.ConformMeanings.{conform_keeps_bounds}
-use Rattle.ats_command.proofs.laws.conform_keeps_bounds.Goals as goal
-
-pub returns : goal.returns
-returns c = conform_keeps_bounds

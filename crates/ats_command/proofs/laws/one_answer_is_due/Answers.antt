@@ -1,5 +1,0 @@
-use Rattle.ats_command.proofs.OneAnswer.{one_answer}
-use Rattle.ats_command.proofs.laws.one_answer_is_due.Goals as goal
-
-pub returns : goal.returns
-returns c = one_answer

@@ -1,5 +1,0 @@
-use Rattle.ats_command.proofs.PrintedBounds.{printed_bounds_are_sound}
-use Rattle.ats_command.proofs.laws.printed_bounds_are_sound.Goals as goal
-
-pub returns : goal.returns
-returns c = printed_bounds_are_sound

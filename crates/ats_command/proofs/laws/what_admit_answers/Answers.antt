@@ -1,5 +1,0 @@
-use Rattle.ats_command.proofs.AdmitMeanings.{admit_means}
-use Rattle.ats_command.proofs.laws.what_admit_answers.Goals as goal
-
-pub returns : goal.returns
-returns c = admit_means

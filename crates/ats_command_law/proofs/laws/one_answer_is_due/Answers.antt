@@ -1,0 +1,5 @@
+use Rattle.ats_command_law.proofs.OneAnswer.{one_answer}
+use Rattle.ats_command_law.proofs.laws.one_answer_is_due.Goals as goal
+
+pub returns : goal.returns
+returns c = one_answer

@@ -1,0 +1,86 @@
+use Rattle.std.specs.Prelude.{◌≡◌, ℕ, ◌+◌, ◌⊎◌, List, [], ◌∷◌, ◌++◌, take, Some, Ok, IsErr, slice_get}
+use Rattle.ats_network.specs.Network.{DeclaredNetwork, IsNetwork}
+use Rattle.ats_streams.specs.Stream.{DeclaredStream}
+use Rattle.ats_certificate.specs.Certificate.{Holds, bound_along}
+use Rattle.ats_certificate.specs.declared.row.Row.{Row}
+use Rattle.ats_bound.specs.Least.{least_certificate}
+use Rattle.ats_soundness_law.specs.Sound.{IsSound}
+use Rattle.ats_checker.specs.InTime.{FramesAreInTime}
+use Rattle.ats_requests.specs.Requests.{after_all, answers}
+use Rattle.ats_requests.specs.declared.answer.Answer.TheVariants.{Admitted}
+use Rattle.ats_requests.specs.declared.request.Request.{Request}
+use Rattle.ats_admission_text.specs.Text.{admission_text}
+use Rattle.ats_answer.specs.Input.{network_in, requests_in}
+use Rattle.ats_due.specs.Due.{admit_answer}
+use Rattle.ats_answer.specs.declared.status.Status.{Status}
+use Rattle.ats_answer.specs.declared.status.Status.TheVariants.{Done, Words, Input, Refused, ReadFailed, WriteFailed}
+use Rattle.ats_answer.specs.declared.status.Status.TheVariants.{NoMemory}
+
+-- the least certificate of a network holds and is sound, and by it frames are in time
+pub record IsSoundlyBounded (network : DeclaredNetwork) : Type 0 where
+  pub rules : IsNetwork network
+  pub holds : Holds network (least_certificate network)
+  pub sound : IsSound network (least_certificate network)
+  pub in_time : FramesAreInTime network (least_certificate network)
+
+-- the network after the first so many requests
+abbrev pub after_first : DeclaredNetwork → List Request → ℕ → DeclaredNetwork
+after_first network asked k = after_all network (take k asked)
+
+-- the last stream of a network has this sum of least bounds
+pub record HasLastSum (network : DeclaredNetwork) (sum : ℕ) : Type 0 where
+  pub others : List DeclaredStream
+  pub stream : DeclaredStream
+  pub last : network.streams ≡ others ++ stream ∷ []
+  pub sum_is : sum ≡ bound_along (least_certificate network) stream
+
+-- the sum that is answered to a request is that of the stream that it brings in
+abbrev pub SumsAreOfTheLast : DeclaredNetwork → List Request → Type 0
+SumsAreOfTheLast network asked = (k class sum : ℕ) → slice_get (answers network asked) k ≡ Some (Admitted class sum)
+    → HasLastSum (after_first network asked (k + 1)) sum
+
+-- two files of these bytes declare this network and make these requests; before and after each of them the least
+-- certificate is sound; and the text gives the answers, with the sums of the streams that come in
+pub record IsAdmission (net requests net_bytes requests_bytes text : List ℕ) (network : DeclaredNetwork)
+    (asked : List Request) : Type 0 where
+  pub network_declared : network_in net net_bytes ≡ Ok network
+  pub requests_made : requests_in network.topology requests requests_bytes ≡ Ok asked
+  pub sound : (k : ℕ) → IsSoundlyBounded (after_first network asked k)
+  pub sums : SumsAreOfTheLast network asked
+  pub written : text ≡ admission_text network asked
+
+-- they declare this network and make these requests, and no certificate holds for the network
+pub record IsUncertified (net requests net_bytes requests_bytes : List ℕ) (network : DeclaredNetwork)
+    (asked : List Request) : Type 0 where
+  pub network_declared : network_in net net_bytes ≡ Ok network
+  pub requests_made : requests_in network.topology requests requests_bytes ≡ Ok asked
+  pub rules : IsNetwork network
+  pub none_holds : (rows : List Row) → ¬ Holds network rows
+
+-- the first declares this network, over which the second makes no requests
+pub record HasNoRequests (net requests net_bytes requests_bytes : List ℕ) (network : DeclaredNetwork) : Type 0 where
+  pub network_declared : network_in net net_bytes ≡ Ok network
+  pub no_requests : IsErr (requests_in network.topology requests requests_bytes)
+
+-- what an answer to `admit NET REQUESTS` says of the bytes of both files, by its text and status; four statuses never
+-- come
+abbrev pub AdmitSays : List ℕ → List ℕ → List ℕ → List ℕ → List ℕ → Status → Type 0
+AdmitSays net requests net_bytes requests_bytes text Done =
+    (network : DeclaredNetwork) × (asked : List Request)
+    × IsAdmission net requests net_bytes requests_bytes text network asked
+AdmitSays net requests net_bytes requests_bytes text Input =
+    IsErr (network_in net net_bytes)
+    ⊎ ((network : DeclaredNetwork) × HasNoRequests net requests net_bytes requests_bytes network)
+AdmitSays net requests net_bytes requests_bytes text Refused =
+    (network : DeclaredNetwork) × (asked : List Request)
+    × IsUncertified net requests net_bytes requests_bytes network asked
+AdmitSays net requests net_bytes requests_bytes text Words = ⊥
+AdmitSays net requests net_bytes requests_bytes text ReadFailed = ⊥
+AdmitSays net requests net_bytes requests_bytes text WriteFailed = ⊥
+AdmitSays net requests net_bytes requests_bytes text NoMemory = ⊥
+
+-- so for all file words and bytes
+abbrev pub AdmitMeans : Type 0
+AdmitMeans = (net requests net_bytes requests_bytes : List ℕ)
+    → AdmitSays net requests net_bytes requests_bytes (admit_answer net requests net_bytes requests_bytes).text
+    (admit_answer net requests net_bytes requests_bytes).status

@@ -1,0 +1,63 @@
+use Rattle.std.specs.Prelude.{◌≡◌, ℕ, List, ◌++◌, codes, decimal, Option, Some, IsErr, slice_get}
+use Rattle.std.specs.Prelude.{sum_by}
+use Rattle.std.specs.List.{flat_map}
+use Rattle.ats_topology.specs.Topology.{DeclaredTopology}
+use Rattle.ats_verdict_text.specs.PortName.{port_name}
+use Rattle.ats_verdict_text.specs.Stream.{DeclaredStream}
+use Rattle.ats_network.specs.Network.{DeclaredNetwork}
+use Rattle.ats_network.specs.Senders.{sender_at}
+use Rattle.ats_certificate.specs.declared.row.Row.{Row}
+use Rattle.ats_soundness_law.specs.Sound.{bounds_of}
+use Rattle.ats_verdict_text.specs.Text.{stream_lines}
+use Rattle.ats_answer.specs.Command.{Command, Shape, Show, Bound, Explain, Check, Replay, Unknown, command_of}
+use Rattle.ats_answer.specs.Command.{Capture, Conform, Admit, Generate}
+use Rattle.ats_answer.specs.Answer.{Answer}
+use Rattle.ats_due.specs.Due.{IsDueAnswer, IsTold, told_bytes}
+use Rattle.ats_due.specs.Captured.{captured_in}
+use Rattle.ats_due.specs.Generated.{generated_in}
+use Rattle.ats_due.specs.Replayed.{scheduled_in}
+
+-- this answer is due, and no other
+pub record IsOnlyDue (told : List ℕ → Option (List ℕ)) (words : List (List ℕ)) (answer : Answer) : Type 0 where
+  pub due : IsDueAnswer told (command_of words) answer
+  pub only : (other : Answer) → IsDueAnswer told (command_of words) other → other ≡ answer
+
+-- the bytes that are told leave one answer alone: to each command but `replay`, `capture` and `generate`, which may
+-- print any run in their order, and to these where a file has a fault, no station has the name, or no releases are made
+abbrev pub HasOneAnswer : (List ℕ → Option (List ℕ)) → Command → Type 0
+HasOneAnswer told (Shape file) = Unit {0}
+HasOneAnswer told (Show net) = Unit {0}
+HasOneAnswer told (Bound net) = Unit {0}
+HasOneAnswer told (Explain net) = Unit {0}
+HasOneAnswer told (Check net certificate) = Unit {0}
+HasOneAnswer told (Conform net schedule) = Unit {0}
+HasOneAnswer told (Admit net requests) = Unit {0}
+HasOneAnswer told (Replay net schedule order) =
+    IsErr (scheduled_in net schedule (told_bytes told net) (told_bytes told schedule))
+HasOneAnswer told (Capture net station file order) =
+    IsErr (captured_in net station file (told_bytes told net) (told_bytes told file))
+HasOneAnswer told (Generate net seed count) = IsErr (generated_in net seed count (told_bytes told net))
+HasOneAnswer told Unknown = Unit {0}
+
+-- for all words, and all bytes told under the names of their files, just one answer is due, where they leave one alone
+abbrev pub OneAnswerIsDue : Type 0
+OneAnswerIsDue = (told : List ℕ → Option (List ℕ)) (words : List (List ℕ)) → IsTold told (command_of words)
+    → HasOneAnswer told (command_of words) → (answer : Answer) × IsOnlyDue told words answer
+
+-- for all words and bytes, all answers that are due have one status
+abbrev pub OneStatusIsDue : Type 0
+OneStatusIsDue = (told : List ℕ → Option (List ℕ)) (words : List (List ℕ)) (one other : Answer)
+    → IsDueAnswer told (command_of words) one → IsDueAnswer told (command_of words) other → one.status ≡ other.status
+
+-- a line `hop NAME PORT BOUND` for each port of a path, by these bounds, and a line `sum NAME SUM` with their sum
+abbrev pub lines_by : DeclaredTopology → List ℕ → (ℕ → ℕ) → List ℕ → List ℕ
+lines_by topology name bound path =
+    flat_map (λ port. codes "hop " ++ name ++ codes " " ++ port_name topology port ++ codes " " ++ decimal (bound port)
+    ++ codes "\n") path ++ codes "sum " ++ name ++ codes " " ++ decimal (sum_by bound path) ++ codes "\n"
+
+-- what is printed of the stream with a number: at each port of its path the bound of which soundness speaks, and the
+-- sum of these bounds
+abbrev pub PrintedBoundsAreSound : Type 0
+PrintedBoundsAreSound = (network : DeclaredNetwork) (rows : List Row) (i : ℕ) (stream : DeclaredStream)
+    → slice_get network.streams i ≡ Some stream → stream_lines network.topology rows stream
+    ≡ lines_by network.topology stream.name (bounds_of rows (sender_at network i)) (sender_at network i).path

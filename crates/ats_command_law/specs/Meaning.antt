@@ -1,0 +1,89 @@
+use Rattle.std.specs.Prelude.{◌≡◌, ℕ, ◌⊎◌, List, Ok, IsErr}
+use Rattle.ats_network.specs.Network.{DeclaredNetwork, IsNetwork}
+use Rattle.ats_certificate.specs.Certificate.{Holds}
+use Rattle.ats_certificate.specs.declared.row.Row.{Row}
+use Rattle.ats_certificate_file.specs.Text.{certificate_text}
+use Rattle.ats_bound.specs.Least.{least_certificate}
+use Rattle.ats_soundness_law.specs.Sound.{IsSound}
+use Rattle.ats_checker.specs.InTime.{FramesAreInTime}
+use Rattle.ats_verdict_text.specs.Text.{accepted_text}
+use Rattle.ats_answer.specs.Input.{network_in, rows_in}
+use Rattle.ats_due.specs.Due.{bound_answer, check_answer}
+use Rattle.ats_answer.specs.declared.status.Status.{Status}
+use Rattle.ats_answer.specs.declared.status.Status.TheVariants.{Done, Words, Input, Refused, ReadFailed, WriteFailed}
+use Rattle.ats_answer.specs.declared.status.Status.TheVariants.{NoMemory}
+
+-- a file of these bytes declares this network, and the text writes its least certificate, which holds and is sound
+pub record IsBounded (net bytes text : List ℕ) (network : DeclaredNetwork) : Type 0 where
+  pub declared : network_in net bytes ≡ Ok network
+  pub rules : IsNetwork network
+  pub holds : Holds network (least_certificate network)
+  pub sound : IsSound network (least_certificate network)
+  pub written : text ≡ certificate_text network.topology (least_certificate network)
+
+-- it declares this network, for which no certificate holds
+pub record HasNone (net bytes : List ℕ) (network : DeclaredNetwork) : Type 0 where
+  pub declared : network_in net bytes ≡ Ok network
+  pub rules : IsNetwork network
+  pub none_holds : (rows : List Row) → ¬ Holds network rows
+
+-- what an answer to `bound NET` says of the bytes of the file, by its text and status; four statuses never come
+abbrev pub BoundSays : List ℕ → List ℕ → List ℕ → Status → Type 0
+BoundSays net bytes text Done = (network : DeclaredNetwork) × IsBounded net bytes text network
+BoundSays net bytes text Input = IsErr (network_in net bytes)
+BoundSays net bytes text Refused = (network : DeclaredNetwork) × HasNone net bytes network
+BoundSays net bytes text Words = ⊥
+BoundSays net bytes text ReadFailed = ⊥
+BoundSays net bytes text WriteFailed = ⊥
+BoundSays net bytes text NoMemory = ⊥
+
+-- so for each file word and all bytes
+abbrev pub BoundMeans : Type 0
+BoundMeans = (net bytes : List ℕ) → BoundSays net bytes (bound_answer net bytes).text (bound_answer net bytes).status
+
+-- two files of these bytes declare this network and these rows, which hold for it and are sound; by them frames are in
+-- time, and the text gives their bounds and sums
+pub record IsAccepted (net certificate net_bytes certificate_bytes text : List ℕ) (network : DeclaredNetwork)
+    (rows : List Row) : Type 0 where
+  pub network_declared : network_in net net_bytes ≡ Ok network
+  pub rows_declared : rows_in network.topology certificate certificate_bytes ≡ Ok rows
+  pub rules : IsNetwork network
+  pub holds : Holds network rows
+  pub sound : IsSound network rows
+  pub in_time : FramesAreInTime network rows
+  pub written : text ≡ accepted_text network rows
+
+-- they declare this network and these rows, which do not hold for it
+pub record IsRefused (net certificate net_bytes certificate_bytes : List ℕ) (network : DeclaredNetwork)
+    (rows : List Row) : Type 0 where
+  pub network_declared : network_in net net_bytes ≡ Ok network
+  pub rows_declared : rows_in network.topology certificate certificate_bytes ≡ Ok rows
+  pub rules : IsNetwork network
+  pub fails : ¬ Holds network rows
+
+-- the first declares this network, and the second no rows for its ports
+pub record HasNoRows (net certificate net_bytes certificate_bytes : List ℕ) (network : DeclaredNetwork) : Type 0 where
+  pub network_declared : network_in net net_bytes ≡ Ok network
+  pub no_rows : IsErr (rows_in network.topology certificate certificate_bytes)
+
+-- what an answer to `check NET CERT` says of the bytes of both files, by its text and status; the same four never come
+abbrev pub CheckSays : List ℕ → List ℕ → List ℕ → List ℕ → List ℕ → Status → Type 0
+CheckSays net certificate net_bytes certificate_bytes text Done =
+    (network : DeclaredNetwork) × (rows : List Row)
+    × IsAccepted net certificate net_bytes certificate_bytes text network rows
+CheckSays net certificate net_bytes certificate_bytes text Input =
+    IsErr (network_in net net_bytes)
+    ⊎ ((network : DeclaredNetwork) × HasNoRows net certificate net_bytes certificate_bytes network)
+CheckSays net certificate net_bytes certificate_bytes text Refused =
+    (network : DeclaredNetwork) × (rows : List Row) × IsRefused net certificate net_bytes certificate_bytes network rows
+CheckSays net certificate net_bytes certificate_bytes text Words = ⊥
+CheckSays net certificate net_bytes certificate_bytes text ReadFailed = ⊥
+CheckSays net certificate net_bytes certificate_bytes text WriteFailed = ⊥
+CheckSays net certificate net_bytes certificate_bytes text NoMemory = ⊥
+
+-- so for all file words and bytes
+abbrev pub CheckMeans : Type 0
+CheckMeans = (net certificate net_bytes certificate_bytes : List ℕ)
+    → CheckSays net certificate net_bytes certificate_bytes
+    (check_answer net certificate net_bytes certificate_bytes).text
+    (check_answer net certificate net_bytes certificate_bytes).status

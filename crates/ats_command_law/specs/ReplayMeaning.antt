@@ -1,0 +1,89 @@
+use Rattle.std.specs.Prelude.{◌≡◌, ℕ, ◌⊎◌, List, Option, Some, Ok, IsErr, Contains, slice_get}
+use Rattle.ats_network.specs.Network.{DeclaredNetwork, IsNetwork}
+use Rattle.ats_network.specs.Senders.{sender_at}
+use Rattle.ats_verdict_text.specs.Stream.{DeclaredStream}
+use Rattle.ats_certificate.specs.declared.row.Row.{Row}
+use Rattle.ats_soundness_law.specs.Sound.{IsServed}
+use Rattle.ats_checker.specs.InTime.{ArrivesInTime}
+use Rattle.ats_trace.specs.Journey.{Travel}
+use Rattle.ats_trace.specs.Talker.{talker_of, KeepsBuckets}
+use Rattle.ats_trace.specs.declared.journey.Release.{Release}
+use Rattle.ats_answer.specs.Answer.{Answer}
+use Rattle.ats_answer.specs.Command.{Check, Replay}
+use Rattle.ats_answer.specs.Input.{network_in, releases_in}
+use Rattle.ats_answer.specs.declared.order.Order.{Order}
+use Rattle.ats_due.specs.Due.{IsDueAnswer, told_bytes}
+use Rattle.ats_command_law.specs.Meaning.{IsAccepted}
+use Rattle.ats_due.specs.Replayed.{IsOneOf, IsReplay, IsReplayed, scheduled_in}
+use Rattle.ats_answer.specs.declared.status.Status.{Status}
+use Rattle.ats_answer.specs.declared.status.Status.TheVariants.{Done, Words, Input, Refused, ReadFailed, WriteFailed}
+use Rattle.ats_answer.specs.declared.status.Status.TheVariants.{NoMemory}
+
+-- two files of these bytes declare this network and these releases, and the text is that of this run, in this order
+pub record IsRunOut (net schedule net_bytes schedule_bytes : List ℕ) (order : Order) (text : List ℕ)
+    (network : DeclaredNetwork) (releases : List Release) (run : List Travel) : Type 0 where
+  pub network_declared : network_in net net_bytes ≡ Ok network
+  pub releases_declared : releases_in network schedule schedule_bytes ≡ Ok releases
+  pub rules : IsNetwork network
+  pub replay : IsReplay order network releases text run
+
+-- the first declares this network, and the second no releases for its senders
+pub record HasNoReleases (net schedule net_bytes schedule_bytes : List ℕ) (network : DeclaredNetwork) : Type 0 where
+  pub network_declared : network_in net net_bytes ≡ Ok network
+  pub no_releases : IsErr (releases_in network schedule schedule_bytes)
+
+-- what an answer to `replay NET SCHEDULE ORDER` says of the bytes of both files, by its text and status; five statuses
+-- never come
+abbrev pub ReplaySays : List ℕ → List ℕ → List ℕ → List ℕ → Order → List ℕ → Status → Type 0
+ReplaySays net schedule net_bytes schedule_bytes order text Done =
+    (network : DeclaredNetwork) × (releases : List Release) × (run : List Travel)
+    × IsRunOut net schedule net_bytes schedule_bytes order text network releases run
+ReplaySays net schedule net_bytes schedule_bytes order text Input =
+    IsErr (network_in net net_bytes)
+    ⊎ ((network : DeclaredNetwork) × HasNoReleases net schedule net_bytes schedule_bytes network)
+ReplaySays net schedule net_bytes schedule_bytes order text Refused = ⊥
+ReplaySays net schedule net_bytes schedule_bytes order text Words = ⊥
+ReplaySays net schedule net_bytes schedule_bytes order text ReadFailed = ⊥
+ReplaySays net schedule net_bytes schedule_bytes order text WriteFailed = ⊥
+ReplaySays net schedule net_bytes schedule_bytes order text NoMemory = ⊥
+
+-- so for all file words, orders and bytes, and each answer
+abbrev pub ReplayMeans : Type 0
+ReplayMeans = (net schedule net_bytes schedule_bytes : List ℕ) (order : Order) (answer : Answer)
+    → IsOneOf (IsReplayed order) (scheduled_in net schedule net_bytes schedule_bytes) answer
+    → ReplaySays net schedule net_bytes schedule_bytes order answer.text answer.status
+
+-- a frame is never discarded, is eligible at each next hop within the bound of the hop before, and arrives within the
+-- sum of the bounds; so it does within its stream's sum and deadline
+pub record IsWithinBounds (network : DeclaredNetwork) (rows : List Row) (stream : DeclaredStream) (journey : Travel)
+    : Type 0 where
+  pub served : IsServed rows (sender_at network journey.release.sender) journey
+  pub in_time : ArrivesInTime rows stream journey
+
+-- each frame of a stream whose talker keeps its buckets in these releases is within the bounds of these rows
+abbrev pub DelaysAreWithin : DeclaredNetwork → List Row → List Release → List Travel → Type 0
+DelaysAreWithin network rows releases run = (journey : Travel) → Contains run journey → (stream : DeclaredStream)
+    → slice_get network.streams journey.release.sender ≡ Some stream
+    → KeepsBuckets network releases (talker_of network journey.release.sender)
+    → IsWithinBounds network rows stream journey
+
+-- a network, a certificate and a schedule are told: the first text gives the bounds and sums of these rows, the second
+-- the journeys of this run, whose delays are within them
+pub record AreTextsOf (told : List ℕ → Option (List ℕ)) (net certificate schedule : List ℕ) (order : Order)
+    (checked replayed : List ℕ) (network : DeclaredNetwork) (rows : List Row) (releases : List Release)
+    (run : List Travel) : Type 0 where
+  pub accepted :
+      IsAccepted net certificate (told_bytes told net) (told_bytes told certificate) checked network rows
+  pub run_out :
+      IsRunOut net schedule (told_bytes told net) (told_bytes told schedule) order replayed network releases run
+  pub within : DelaysAreWithin network rows releases run
+
+-- where Done is due to `check NET CERT` and to `replay NET SCHEDULE ORDER`, what the second prints of each frame of a
+-- stream whose talker keeps its buckets in the schedule is within what the first prints
+abbrev pub ReplayKeepsBounds : Type 0
+ReplayKeepsBounds = (told : List ℕ → Option (List ℕ)) (net certificate schedule : List ℕ) (order : Order)
+    (checked replayed : List ℕ)
+    → IsDueAnswer told (Check net certificate) (record { status = Done; text = checked })
+    → IsDueAnswer told (Replay net schedule order) (record { status = Done; text = replayed })
+    → (network : DeclaredNetwork) × (rows : List Row) × (releases : List Release) × (run : List Travel)
+    × AreTextsOf told net certificate schedule order checked replayed network rows releases run

@@ -1,0 +1,54 @@
+use Rattle.std.proofs.Common.{ℕ, List, [], Option, Some, Ok, lit<, ap, refl, inr, ◌≡◌, ◌∙◌}
+use Rattle.ats_network.specs.Network.{DeclaredNetwork}
+use Rattle.ats_trace.specs.declared.journey.Release.{Release}
+use Rattle.ats_num.specs.Failure.{◌>>=◌}
+use Rattle.ats_answer.specs.Input.{network_in, releases_in}
+use Rattle.ats_answer.proofs.Steps.{stops_all}
+use Rattle.ats_due.specs.Due.{told_bytes}
+use Rattle.ats_due.specs.Replayed.{IsReplayText, IsReplayed, scheduled_in}
+use Rattle.ats_due.proofs.Steps.{told_is, declared_is_ok}
+use Rattle.ats_run_commands.proofs.Replays.{one_settles, stop_gives_one, one_goes_on, one_made}
+use Rattle.ats_io.proofs.Outside.{Rose-since}
+use Rattle.ats_run_commands.proofs.replay_command.replay.Goals as goal
+
+pub returns-in_err-network-clause-due : goal.returns-in_err-network-clause-due
+unfolding scheduled_in
+returns-in_err-network-clause-due g c = λ is_told.
+    let told : List ℕ → Option (List ℕ) = g.F.Files.told c.args.files.now in
+    let net : List ℕ = c.args.net.now in
+    let schedule : List ℕ = c.args.schedule.now in
+    let due = scheduled_in net schedule (told_bytes told net) (told_bytes told schedule) in
+    one_settles (IsReplayed c.args.order) c.from_residual.result due
+    (stop_gives_one (IsReplayed c.args.order) c.from_residual.result c.in_err-network.field-0.0 due
+    c.from_residual.ensures.1
+    (stops_all c.in_err-network.field-0.0 (network_in net (told_bytes told net)) _
+    (c.in_err-network.ensures.due (told_bytes told net) (told_is told net (is_told 0 [] (lit< tt))))))
+
+pub returns-clause-due : goal.returns-clause-due
+unfolding scheduled_in
+returns-clause-due g c = λ is_told.
+    let told : List ℕ → Option (List ℕ) = g.F.Files.told c.args.files.now in
+    let net : List ℕ = c.args.net.now in
+    let schedule : List ℕ = c.args.schedule.now in
+    let network : DeclaredNetwork = c.in_ok-network.network in
+    let still : g.F.Files.told c.network_in.new.files schedule ≡ Some (told_bytes told schedule) =
+    ap (λ (t : List ℕ → Option (List ℕ)). t schedule) c.network_in.ensures.continues.holds
+    ∙ told_is told schedule (is_told 1 [] (lit< tt)) in
+    one_settles (IsReplayed c.args.order) c.replay_of.result
+    (scheduled_in net schedule (told_bytes told net) (told_bytes told schedule))
+    (one_goes_on (IsReplayed c.args.order) c.replay_of.result (network_in net (told_bytes told net)) network
+    (λ n. releases_in n schedule (told_bytes told schedule)
+    >>= λ releases. Ok (record { network = n; releases = releases }))
+    (c.in_ok-network.ensures.due (told_bytes told net) (told_is told net (is_told 0 [] (lit< tt))))
+    (one_made (IsReplayText c.args.order network) (IsReplayed c.args.order)
+    (λ (releases : List Release). record { network = network; releases = releases }) c.replay_of.result
+    (releases_in network schedule (told_bytes told schedule)) (λ releases text is. is)
+    (c.replay_of.ensures.due (told_bytes told schedule) still)))
+
+pub returns-clause-failed : goal.returns-clause-failed
+returns-clause-failed g c = λ failed.
+    let schedule : List ℕ = c.args.schedule.now in (
+      schedule,
+      inr (refl, λ bytes told. declared_is_ok _ _ (c.in_ok-network.ensures.due bytes told)),
+      Rose-since _ _ _ (c.network_in.ensures.continues.counts schedule) (c.replay_of.ensures.failed failed),
+    )

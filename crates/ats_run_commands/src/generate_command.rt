@@ -1,0 +1,93 @@
+//! `generate NET SEED COUNT`: makes releases by which all talkers keep their buckets, runs them, and gives a summary.
+
+ghost use Rattle.std.specs.Prelude.{◌≡◌, ◌≤◌, All, IfOk, IsErrOf};
+ghost use Rattle.ats_io.specs.Outside.{Continues};
+ghost use Rattle.ats_trace.specs.Journey.{IsJourney};
+ghost use Rattle.ats_trace.specs.Releases.{AreReleases};
+ghost use Rattle.ats_trace.specs.declared.run.TheConstants.{MAX_FRAMES};
+ghost use Rattle.ats_replay.specs.Report.{report_text};
+ghost use Rattle.ats_verdict_text.specs.Text.{refused_text};
+ghost use Rattle.ats_answer.specs.Command as table;
+ghost use Rattle.ats_due.specs.Calls.{Answers, ReadRose};
+ghost use Rattle.ats_due.specs.Generated.{IsGenerated, IsReportText, gen_fault_text, least_sums, made_for};
+ghost use Rattle.ats_due.specs.Replayed.{GivesOne};
+
+use crate::replay_command::run_in;
+use ats_answer::{Order, Stop, network_in};
+use ats_bound::make;
+use ats_gen::{GenFault, schedule};
+use ats_io::Files;
+use ats_network::Network;
+use ats_num::Failure;
+use ats_replay::report;
+use ats_tally::Delays;
+use ats_trace::{Release, Run};
+use std::alloc::{AllocError, Global};
+
+/// The text of `generate NET SEED COUNT`: for each stream and flow what came of its frames in a run of the network with
+/// exactly the releases that are made from the seed, by the tie and the pace of the order `early`, beside the sum of
+/// the stream's least bounds. It stops where the network's file has a fault or can't be read, and where no stream is
+/// declared or a release would be past the limit.
+pub fn generate<F: Files>(
+    alloc: Global,
+    net: &str,
+    seed: u64,
+    count: u32,
+    files: &mut F,
+) -> Result<Vec<u8>, Stop>
+    requires { count ≤ MAX_FRAMES }
+    ensures due { Answers (F.told files.old) (table.Generate net.now seed count) result }
+    ensures failed { IsErrOf result Stop.ReadFailed
+        → ReadRose (F.told files.old) (table.Generate net.now seed count) (F.faults files.old) (F.faults files.new) }
+    ensures continues { Continues F.told F.faults files.old files.new }
+{
+    let network = network_in(alloc, net, files)?;
+    summary_of(alloc, &network, seed, count)
+}
+
+// What is printed of the releases that are made for a network, or why none are.
+fn summary_of(alloc: Global, network: &Network, seed: u64, count: u32) -> Result<Vec<u8>, Stop>
+    requires { count ≤ MAX_FRAMES }
+    ensures due { GivesOne (IsGenerated seed count) result (made_for seed count network.now) }
+    ensures was_read { ¬ IsErrOf result Stop.ReadFailed }
+{
+    match schedule(alloc, network, seed, count) {
+        Ok(releases) => Ok(text_of(alloc, network, &releases)?),
+        Err(Failure::Fault(fault)) => Err(Stop::Refused(refused(alloc, fault)?)),
+        Err(Failure::NoMemory) => Err(Stop::NoMemory),
+    }
+}
+
+// What is printed of a run with these releases.
+fn text_of(alloc: Global, network: &Network, releases: &[Release]) -> Result<Vec<u8>, AllocError>
+    requires { AreReleases network.now releases.now }
+    ensures { IfOk result (λ text. IsReportText network.now releases.now text.items) }
+{
+    let run = run_in(alloc, network, releases, Order::Early)?;
+    report_of(alloc, network, &run)
+}
+
+// What came of each sender's frames in a run, with the sums of the least bounds.
+fn report_of(alloc: Global, network: &Network, run: &Run) -> Result<Vec<u8>, AllocError>
+    requires { All (IsJourney network.now) run.now }
+    ensures { IfOk result (λ text. text.items ≡ report_text network.now run.now (least_sums network.now)) }
+{
+    match make(alloc, network) {
+        Ok(certificate) => {
+            let delays = Delays::new(alloc, network, &certificate)?;
+            report(alloc, network, run, Some(delays.sums()))
+        }
+        Err(Failure::Fault(_)) => report(alloc, network, run, None),
+        Err(Failure::NoMemory) => Err(AllocError),
+    }
+}
+
+// The line that says why no releases are made.
+fn refused(alloc: Global, fault: GenFault) -> Result<Vec<u8>, AllocError>
+    ensures { IfOk result (λ text. text.items ≡ refused_text (gen_fault_text fault)) }
+{
+    match fault {
+        GenFault::NoStream => Vec::from_slice(alloc, b"refused no-stream\n"),
+        GenFault::Limit => Vec::from_slice(alloc, b"refused limit\n"),
+    }
+}

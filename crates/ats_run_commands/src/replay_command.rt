@@ -1,0 +1,106 @@
+//! `replay NET SCHEDULE ORDER`: runs a schedule, and gives every journey.
+
+ghost use Rattle.std.specs.Prelude.{◌≡◌, IfOk, IsErrOf};
+ghost use Rattle.ats_io.specs.Outside.{Continues, IfTold, Rose};
+ghost use Rattle.ats_trace.specs.Releases.{AreReleases};
+ghost use Rattle.ats_trace.specs.Run.{HasReleases, IsRunBy};
+ghost use Rattle.ats_answer.specs.Command as table;
+ghost use Rattle.ats_answer.specs.Input.{releases_in};
+ghost use Rattle.ats_due.specs.Calls.{Answers, ReadRose};
+ghost use Rattle.ats_due.specs.Replayed.{GivesOne, IsReplayText, IsRunIn};
+
+use ats_answer::{Order, Stop, network_in, schedule_in};
+use ats_engine::Engine;
+use ats_events::{Down, Scrambled, TimeOrder, Up};
+use ats_io::Files;
+use ats_network::Network;
+use ats_num::{Drawn, Early, Greatest, Late, Least, Mixed, Pace, Tie};
+use ats_replay::departures;
+use ats_trace::{Release, Run};
+use std::alloc::{AllocError, Global};
+
+/// The text of `replay NET SCHEDULE ORDER`: every journey of a run of the network with exactly the releases of the
+/// schedule, by the tie and the pace of the order. It stops where the network's file and then where the schedule's has
+/// a fault or can't be read.
+pub fn replay<F: Files>(
+    alloc: Global,
+    net: &str,
+    schedule: &str,
+    order: Order,
+    files: &mut F,
+) -> Result<Vec<u8>, Stop>
+    ensures due { Answers (F.told files.old) (table.Replay net.now schedule.now order) result }
+    ensures failed { IsErrOf result Stop.ReadFailed
+        → ReadRose (F.told files.old) (table.Replay net.now schedule.now order) (F.faults files.old)
+        (F.faults files.new) }
+    ensures continues { Continues F.told F.faults files.old files.new }
+{
+    let network = network_in(alloc, net, files)?;
+    replay_of(alloc, &network, schedule, order, files)
+}
+
+// What is printed of a run of the schedule that a file declares.
+fn replay_of<F: Files>(
+    alloc: Global,
+    network: &Network,
+    schedule: &str,
+    order: Order,
+    files: &mut F,
+) -> Result<Vec<u8>, Stop>
+    ensures due { IfTold (F.told files.old schedule.now) (λ bytes.
+        GivesOne (IsReplayText order network.now) result (releases_in network.now schedule.now bytes)) }
+    ensures failed { IsErrOf result Stop.ReadFailed
+        → Rose (F.faults files.old schedule.now) (F.faults files.new schedule.now) }
+    ensures continues { Continues F.told F.faults files.old files.new }
+{
+    let releases = schedule_in(alloc, schedule, network, files)?;
+    Ok(text_of(alloc, network, &releases, order)?)
+}
+
+// What is printed of a run with these releases.
+fn text_of(
+    alloc: Global,
+    network: &Network,
+    releases: &[Release],
+    order: Order,
+) -> Result<Vec<u8>, AllocError>
+    requires { AreReleases network.now releases.now }
+    ensures { IfOk result (λ text. IsReplayText order network.now releases.now text.items) }
+{
+    let run = run_in(alloc, network, releases, order)?;
+    departures(alloc, network, &run)
+}
+
+/// A run of a network with exactly these releases, by the tie and the pace of the order.
+pub(crate) fn run_in(
+    alloc: Global,
+    network: &Network,
+    releases: &[Release],
+    order: Order,
+) -> Result<Run, AllocError>
+    requires { AreReleases network.now releases.now }
+    ensures { IfOk result (λ run. IsRunIn order network.now releases.now run) }
+{
+    match order {
+        Order::Early => run_by(alloc, network, releases, Early, Up, Least),
+        Order::Late => run_by(alloc, network, releases, Late, Down, Greatest),
+        Order::Mixed(n) => run_by(alloc, network, releases, Mixed(n), Scrambled(n), Drawn(n)),
+    }
+}
+
+// A run by a tie, an order of moments and a pace.
+fn run_by<T: Tie, O: TimeOrder, P: Pace>(
+    alloc: Global,
+    network: &Network,
+    releases: &[Release],
+    tie: T,
+    order: O,
+    pace: P,
+) -> Result<Run, AllocError>
+    requires { AreReleases network.now releases.now }
+    ensures by { IfOk result (λ run. IsRunBy (T.key tie) (P.wait pace) network.now run) }
+    ensures releases { IfOk result (λ run. HasReleases releases.now run) }
+{
+    let engine = Engine::open(alloc, network, releases, tie, order, pace)?;
+    Ok(engine.run())
+}

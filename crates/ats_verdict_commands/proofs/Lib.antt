@@ -1,0 +1,4 @@
+pub mod Judging
+pub mod Admitting
+pub mod Explaining
+pub mod Conforms

@@ -1,0 +1,36 @@
+use Rattle.std.proofs.Common.{ℕ, List, [], Option, Some, lit<, ap, refl, inr, ◌≡◌, ◌∙◌}
+use Rattle.ats_answer.specs.Input.{network_in}
+use Rattle.ats_due.specs.Judged.{requests_judged}
+use Rattle.ats_due.specs.Due.{told_bytes, admit_answer}
+use Rattle.ats_due.proofs.Steps.{told_is, file_settles, file_goes_on, declared_is_ok}
+use Rattle.ats_io.proofs.Outside.{Rose-since}
+use Rattle.ats_verdict_commands.proofs.admit_command.admit.Goals as goal
+
+pub returns-in_err-network-clause-due : goal.returns-in_err-network-clause-due
+unfolding admit_answer
+returns-in_err-network-clause-due g c = λ is_told.
+    let told : List ℕ → Option (List ℕ) = g.F.Files.told c.args.files.now in
+    let requests : List ℕ = c.args.requests.now in
+    file_settles told c.args.net.now c.from_residual.result c.in_err-network.field-0.0 (network_in c.args.net.now)
+    (λ network. requests_judged network requests (told_bytes told requests))
+    c.from_residual.ensures.1 c.in_err-network.ensures.due (is_told 0 [] (lit< tt))
+
+pub returns-clause-due : goal.returns-clause-due
+unfolding admit_answer
+returns-clause-due g c = λ is_told.
+    let told : List ℕ → Option (List ℕ) = g.F.Files.told c.args.files.now in
+    let requests : List ℕ = c.args.requests.now in
+    let still : g.F.Files.told c.network_in.new.files requests ≡ Some (told_bytes told requests) =
+    ap (λ (t : List ℕ → Option (List ℕ)). t requests) c.network_in.ensures.continues.holds
+    ∙ told_is told requests (is_told 1 [] (lit< tt)) in
+    file_goes_on told c.args.net.now c.admission_of.result c.in_ok-network.network (network_in c.args.net.now)
+    (λ n. requests_judged n requests (told_bytes told requests)) c.in_ok-network.ensures.due
+    (is_told 0 [] (lit< tt)) (c.admission_of.ensures.due (told_bytes told requests) still)
+
+pub returns-clause-failed : goal.returns-clause-failed
+returns-clause-failed g c = λ failed.
+    let requests : List ℕ = c.args.requests.now in (
+      requests,
+      inr (refl, λ bytes told. declared_is_ok _ _ (c.in_ok-network.ensures.due bytes told)),
+      Rose-since _ _ _ (c.network_in.ensures.continues.counts requests) (c.admission_of.ensures.failed failed),
+    )

@@ -1,0 +1,66 @@
+use Rattle.std.proofs.Common.{ℕ, List, [], Option, Some, lit<, ap, refl, inr, ◌≡◌, ◌∙◌}
+use Rattle.ats_io.specs.Outside.{IfTold}
+use Rattle.ats_network.specs.Network.{DeclaredNetwork}
+use Rattle.ats_answer.specs.Command.{Check}
+use Rattle.ats_answer.specs.Input.{network_in}
+use Rattle.ats_due.specs.Judged.{certificate_judged}
+use Rattle.ats_due.specs.Due.{told_bytes, check_answer}
+use Rattle.ats_due.specs.Soundness.{IsSoundCheck, IsSoundFile}
+use Rattle.ats_due.proofs.Steps.{told_is, file_settles, file_goes_on, text_then, declared_is_ok}
+use Rattle.ats_io.proofs.Outside.{Rose-since}
+use Rattle.ats_verdict_commands.proofs.check_command.check.Goals as goal
+
+pub returns-in_err-network-clause-due : goal.returns-in_err-network-clause-due
+unfolding check_answer
+returns-in_err-network-clause-due g c = λ is_told.
+    let told : List ℕ → Option (List ℕ) = g.F.Files.told c.args.files.now in
+    let certificate : List ℕ = c.args.certificate.now in
+    file_settles told c.args.net.now c.from_residual.result c.in_err-network.field-0.0 (network_in c.args.net.now)
+    (λ network. certificate_judged network certificate (told_bytes told certificate))
+    c.from_residual.ensures.1 c.in_err-network.ensures.due (is_told 0 [] (lit< tt))
+
+pub returns-clause-due : goal.returns-clause-due
+unfolding check_answer
+returns-clause-due g c = λ is_told.
+    let told : List ℕ → Option (List ℕ) = g.F.Files.told c.args.files.now in
+    let certificate : List ℕ = c.args.certificate.now in
+    let still : g.F.Files.told c.network_in.new.files certificate ≡ Some (told_bytes told certificate) =
+    ap (λ (t : List ℕ → Option (List ℕ)). t certificate) c.network_in.ensures.continues.holds
+    ∙ told_is told certificate (is_told 1 [] (lit< tt)) in
+    file_goes_on told c.args.net.now c.verdict_of.result c.in_ok-network.network (network_in c.args.net.now)
+    (λ n. certificate_judged n certificate (told_bytes told certificate)) c.in_ok-network.ensures.due
+    (is_told 0 [] (lit< tt)) (c.verdict_of.ensures.due (told_bytes told certificate) still)
+
+pub returns-clause-failed : goal.returns-clause-failed
+returns-clause-failed g c = λ failed.
+    let certificate : List ℕ = c.args.certificate.now in (
+      certificate,
+      inr (refl, λ bytes told. declared_is_ok _ _ (c.in_ok-network.ensures.due bytes told)),
+      Rose-since _ _ _ (c.network_in.ensures.continues.counts certificate) (c.verdict_of.ensures.failed failed),
+    )
+
+pub returns-clause-sound : goal.returns-clause-sound
+returns-clause-sound g c =
+    let told : List ℕ → Option (List ℕ) = g.F.Files.told c.args.files.now in
+    let net : List ℕ = c.args.net.now in
+    let certificate : List ℕ = c.args.certificate.now in
+    let network : DeclaredNetwork = c.in_ok-network.network in
+    text_then c.verdict_of.result
+    (λ text. IfTold (g.F.Files.told c.network_in.new.files certificate)
+    (λ bytes. IsSoundFile network certificate bytes text))
+    (IsSoundCheck told (Check net certificate)) c.verdict_of.ensures.sound
+    (λ text sound is_told.
+    let still : g.F.Files.told c.network_in.new.files certificate ≡ Some (told_bytes told certificate) =
+    ap (λ (t : List ℕ → Option (List ℕ)). t certificate) c.network_in.ensures.continues.holds
+    ∙ told_is told certificate (is_told 1 [] (lit< tt)) in
+    let file : IsSoundFile network certificate (told_bytes told certificate) text =
+    sound (told_bytes told certificate) still in (
+      network,
+      file.0,
+      record {
+        network_declared =
+            c.in_ok-network.ensures.due (told_bytes told net) (told_is told net (is_told 0 [] (lit< tt)));
+        rows_declared = file.1;
+        is_sound = file.2;
+      },
+    ))

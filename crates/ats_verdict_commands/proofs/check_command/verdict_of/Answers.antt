@@ -1,0 +1,51 @@
+use Rattle.std.proofs.Common.{ℕ, List, Result, Some, Ok, sym, subst, ◌≡◌}
+use Rattle.std.specs.Global.{Vec}
+use Rattle.ats_topology.specs.Topology.{DeclaredTopology}
+use Rattle.ats_network.specs.Network.{DeclaredNetwork}
+use Rattle.ats_certificate.specs.declared.row.Row.{Row}
+use Rattle.ats_answer.specs.Input.{rows_in}
+use Rattle.ats_answer.specs.Outcome.{Gives, IsStopOf}
+use Rattle.ats_answer.specs.declared.outcome.Stop.{Stop}
+use Rattle.ats_answer.proofs.Steps.{stops_all, goes_on, err_is}
+use Rattle.ats_due.specs.Judged.{certificate_judged, check_judged}
+use Rattle.ats_due.specs.Soundness.{IsSoundFile, IsSoundText}
+use Rattle.ats_due.proofs.Steps.{text_then}
+use Rattle.ats_verdict_commands.proofs.check_command.verdict_of.Goals as goal
+
+pub returns-in_err-rows-clause-due : goal.returns-in_err-rows-clause-due
+returns-in_err-rows-clause-due g c = λ bytes told.
+    let network : DeclaredNetwork = c.args.network.now in
+    let certificate : List ℕ = c.args.certificate.now in
+    let stops = subst (λ (t : DeclaredTopology). IsStopOf c.in_err-rows.field-0.0 (rows_in t certificate bytes))
+    c.topology.ensures.value (c.in_err-rows.ensures.due bytes told) in
+    subst (λ (r : Result (Vec ℕ) Stop). Gives (λ (text : Vec ℕ). text.items) r
+    (certificate_judged network certificate bytes))
+    (sym (err_is c.from_residual.result c.in_err-rows.field-0.0 c.from_residual.ensures.1))
+    (stops_all c.in_err-rows.field-0.0 (rows_in network.topology certificate bytes)
+    (λ rows. check_judged network rows) stops)
+
+pub returns-clause-due : goal.returns-clause-due
+returns-clause-due g c = λ bytes told.
+    let network : DeclaredNetwork = c.args.network.now in
+    let certificate : List ℕ = c.args.certificate.now in
+    let rows : List Row = c.in_ok-rows.rows in
+    goes_on (λ (text : Vec ℕ). text.items) c.judgement_of.result (rows_in network.topology certificate bytes) rows
+    (λ rows. check_judged network rows)
+    (subst (λ (t : DeclaredTopology). rows_in t certificate bytes ≡ Ok rows) c.topology.ensures.value
+    (c.in_ok-rows.ensures.due bytes told)) c.judgement_of.ensures.due
+
+pub returns-clause-sound : goal.returns-clause-sound
+returns-clause-sound g c =
+    let network : DeclaredNetwork = c.args.network.now in
+    let certificate : List ℕ = c.args.certificate.now in
+    let rows : List Row = c.in_ok-rows.rows in
+    text_then c.judgement_of.result (IsSoundText network rows)
+    (λ text. (bytes : List ℕ) → g.F.Files.told c.args.files.now certificate ≡ Some bytes
+    → IsSoundFile network certificate bytes text)
+    c.judgement_of.ensures.sound
+    (λ text sound bytes told. (
+      rows,
+      subst (λ (t : DeclaredTopology). rows_in t certificate bytes ≡ Ok rows) c.topology.ensures.value
+          (c.in_ok-rows.ensures.due bytes told),
+      sound,
+    ))

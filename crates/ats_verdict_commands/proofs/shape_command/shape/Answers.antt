@@ -1,0 +1,23 @@
+use Rattle.std.proofs.Common.{ℕ, List, [], Option, Ok, lit<, sym, ap, ◌∙◌}
+use Rattle.ats_shape.specs.Text.{text_of}
+use Rattle.ats_num.specs.Failure.{◌>>=◌}
+use Rattle.ats_answer.specs.Input.{shape_in}
+use Rattle.ats_due.specs.Due.{told_bytes, shape_answer}
+use Rattle.ats_due.proofs.Steps.{told_is, text_settles, file_settles}
+use Rattle.ats_verdict_commands.proofs.shape_command.shape.Goals as goal
+
+pub returns-in_err-shape-clause-due : goal.returns-in_err-shape-clause-due
+unfolding shape_answer
+returns-in_err-shape-clause-due g c = λ is_told.
+    file_settles (g.F.Files.told c.args.files.now) c.args.file.now c.from_residual.result c.in_err-shape.field-0.0
+    (shape_in c.args.file.now) (λ shape. Ok (text_of shape)) c.from_residual.ensures.1 c.in_err-shape.ensures.due
+    (is_told 0 [] (lit< tt))
+
+pub returns-clause-due : goal.returns-clause-due
+unfolding shape_answer
+returns-clause-due g c = λ is_told.
+    let told : List ℕ → Option (List ℕ) = g.F.Files.told c.args.files.now in
+    let file : List ℕ = c.args.file.now in
+    text_settles c.in_ok-text_of.field-0.items (shape_in file (told_bytes told file) >>= λ shape. Ok (text_of shape))
+    (ap (λ d. d >>= λ shape. Ok (text_of shape)) (c.in_ok-shape.ensures.due (told_bytes told file)
+    (told_is told file (is_told 0 [] (lit< tt)))) ∙ ap Ok (sym c.in_ok-text_of.ensures))

@@ -1,0 +1,89 @@
+//! `check NET CERT`: judges a certificate of a network, and gives the sums.
+
+ghost use Rattle.std.specs.Prelude.{◌≡◌, IfOk, IsErrOf};
+ghost use Rattle.ats_io.specs.Outside.{Continues, IfTold, Rose};
+ghost use Rattle.ats_checker.specs.Ports.{RefusalInside, RowsInside};
+ghost use Rattle.ats_verdict_text.specs.Text.{refusal_text, refused_text};
+ghost use Rattle.ats_answer.specs.Command as table;
+ghost use Rattle.ats_due.specs.Calls.{Answers, ReadRose};
+ghost use Rattle.ats_due.specs.Judged.{certificate_judged, check_judged};
+ghost use Rattle.ats_answer.specs.Outcome.{Gives};
+ghost use Rattle.ats_due.specs.Soundness.{IsSoundCheck, IsSoundFile, IsSoundText};
+
+use ats_answer::{Stop, certificate_in, network_in};
+use ats_certificate::Certificate;
+use ats_checker::Refusal;
+use ats_io::Files;
+use ats_network::Network;
+use ats_num::Failure;
+use ats_topology::Topology;
+use ats_verdict_text::{accepted, write_refusal};
+use std::alloc::{AllocError, Global};
+
+/// The text of `check NET CERT`: the bounds and sums of the certificate, which are sound. It stops where the network's
+/// file and then where the certificate's has a fault or can't be read, and where the certificate does not hold.
+pub fn check<F: Files>(
+    alloc: Global,
+    net: &str,
+    certificate: &str,
+    files: &mut F,
+) -> Result<Vec<u8>, Stop>
+    ensures due { Answers (F.told files.old) (table.Check net.now certificate.now) result }
+    ensures sound { IfOk result (λ text.
+        IsSoundCheck (F.told files.old) (table.Check net.now certificate.now) text.items) }
+    ensures failed { IsErrOf result Stop.ReadFailed
+        → ReadRose (F.told files.old) (table.Check net.now certificate.now) (F.faults files.old) (F.faults files.new) }
+    ensures continues { Continues F.told F.faults files.old files.new }
+{
+    let network = network_in(alloc, net, files)?;
+    verdict_of(alloc, &network, certificate, files)
+}
+
+// What is printed of the certificate that a file declares.
+fn verdict_of<F: Files>(
+    alloc: Global,
+    network: &Network,
+    certificate: &str,
+    files: &mut F,
+) -> Result<Vec<u8>, Stop>
+    ensures due { IfTold (F.told files.old certificate.now) (λ bytes.
+        Gives (λ text. text.items) result (certificate_judged network.now certificate.now bytes)) }
+    ensures sound { IfOk result (λ text. IfTold (F.told files.old certificate.now)
+        (λ bytes. IsSoundFile network.now certificate.now bytes text.items)) }
+    ensures failed { IsErrOf result Stop.ReadFailed
+        → Rose (F.faults files.old certificate.now) (F.faults files.new certificate.now) }
+    ensures continues { Continues F.told F.faults files.old files.new }
+{
+    let rows = certificate_in(alloc, certificate, network.topology(), files)?;
+    judgement_of(alloc, network, &rows)
+}
+
+// What is printed of a certificate that holds, or why it does not.
+fn judgement_of(
+    alloc: Global,
+    network: &Network,
+    certificate: &Certificate,
+) -> Result<Vec<u8>, Stop>
+    requires { RowsInside network.now.topology certificate.now }
+    ensures due { Gives (λ text. text.items) result (check_judged network.now certificate.now) }
+    ensures sound { IfOk result (λ text. IsSoundText network.now certificate.now text.items) }
+    ensures was_read { ¬ IsErrOf result Stop.ReadFailed }
+{
+    let topology = network.topology();
+    match ats_checker::check(alloc, network, certificate) {
+        Ok(delays) => Ok(accepted(alloc, &delays)?),
+        Err(Failure::Fault(refusal)) => Err(Stop::Refused(refused(alloc, topology, &refusal)?)),
+        Err(Failure::NoMemory) => Err(Stop::NoMemory),
+    }
+}
+
+// The line that says why a certificate does not hold.
+fn refused(alloc: Global, topology: &Topology, refusal: &Refusal) -> Result<Vec<u8>, AllocError>
+    requires { RefusalInside topology.now refusal.now }
+    ensures { IfOk result (λ text. text.items ≡ refused_text (refusal_text topology.now refusal.now)) }
+{
+    let mut text = Vec::from_slice(alloc, b"refused ")?;
+    write_refusal(&mut text, topology, refusal)?;
+    text.extend_from_slice(b"\n")?;
+    Ok(text)
+}

@@ -1,0 +1,42 @@
+//! `explain NET`: why the least bounds of a network are as large as they are.
+
+ghost use Rattle.std.specs.Prelude.{IsErrOf};
+ghost use Rattle.ats_io.specs.Outside.{Continues};
+ghost use Rattle.ats_answer.specs.Command as table;
+ghost use Rattle.ats_answer.specs.Outcome.{Gives};
+ghost use Rattle.ats_due.specs.Calls.{Answers, ReadRose};
+ghost use Rattle.ats_due.specs.Judged.{explain_judged};
+
+use crate::bound_command::refused;
+use ats_answer::{Stop, network_in};
+use ats_explain::Explanation;
+use ats_explain_text::explained;
+use ats_io::Files;
+use ats_network::Network;
+use ats_num::Failure;
+use std::alloc::Global;
+
+/// The text of `explain NET`. It stops where the network's file has a fault or can't be read, and
+/// where a port and class that some stream uses is overloaded.
+pub fn explain<F: Files>(alloc: Global, net: &str, files: &mut F) -> Result<Vec<u8>, Stop>
+    ensures due { Answers (F.told files.old) (table.Explain net.now) result }
+    ensures failed { IsErrOf result Stop.ReadFailed
+        → ReadRose (F.told files.old) (table.Explain net.now) (F.faults files.old) (F.faults files.new) }
+    ensures continues { Continues F.told F.faults files.old files.new }
+{
+    let network = network_in(alloc, net, files)?;
+    explanation_of(alloc, &network)
+}
+
+// What is printed of a network's least bounds, or what is overloaded.
+fn explanation_of(alloc: Global, network: &Network) -> Result<Vec<u8>, Stop>
+    ensures due { Gives (λ text. text.items) result (explain_judged network.now) }
+    ensures was_read { ¬ IsErrOf result Stop.ReadFailed }
+{
+    let topology = network.topology();
+    match Explanation::new(alloc, network) {
+        Ok(explanation) => Ok(explained(alloc, &explanation)?),
+        Err(Failure::Fault(reason)) => Err(Stop::Refused(refused(alloc, topology, &reason)?)),
+        Err(Failure::NoMemory) => Err(Stop::NoMemory),
+    }
+}
