@@ -181,7 +181,7 @@ build_alone() {
     needed=
     trap put_back EXIT
     trap 'stop_working; say "the build was stopped; the next call goes on with it"; exit 8' HUP INT TERM
-    say 'proving and building the program, crate by crate; from nothing this takes about 20 minutes on four processors'
+    say 'proving and building the program, crate by crate; from nothing this takes about 25 minutes on four processors'
     began=$(date +%s)
     if ! set_apart; then
         say 'the crates could not be put into a folder of their own, so the program was not built'

@@ -1,8 +1,12 @@
 -- What is answered to a stream, and what the network is then.
 use Rattle.std.proofs.Common.{◌≡◌, ℕ, List, [], ◌∷◌, length, Option, Some, None, Result, Ok, Err}
 use Rattle.std.proofs.Common.{refl, sym, ap, subst, ◌∙◌}
+use Rattle.std.specs.Option.{option_map, option_or}
 use Rattle.std.proofs.Math.Seq.{get_or-append_seam}
+use Rattle.ats_num.specs.Failure.{Fails, IsDue, IsWithin, unless}
 use Rattle.ats_num.specs.Places.{place_of}
+use Rattle.ats_num.specs.declared.failure.Failure.{Failure}
+use Rattle.ats_num.specs.declared.failure.Failure.TheVariants.{Fault, NoMemory}
 use Rattle.ats_streams.specs.Stream.{DeclaredStream, with_class}
 use Rattle.ats_network.specs.Edits.{no_stream, with_class_at}
 use Rattle.ats_network.specs.Network.{DeclaredNetwork}
@@ -15,16 +19,16 @@ use Rattle.ats_bound.specs.Least.{least_certificate}
 use Rattle.ats_bound.specs.Reason.{reason_of}
 use Rattle.ats_requests.proofs.Keeps.{admitted_keeps, entered, enters_with}
 use Rattle.ats_requests.specs.Admission.{admit_lowest, class_given, class_reason, entry_fault, first_class, lowest_of}
-use Rattle.ats_requests.specs.Admission.{sum_given}
+use Rattle.ats_requests.specs.Admission.{admit, reason_with, sum_given, sum_with}
 use Rattle.ats_requests.specs.Laws.{IsCertified}
 use Rattle.ats_requests.specs.Requests.{MayEnter}
 use Rattle.ats_requests.specs.declared.denied.Denied.{Denied}
-use Rattle.ats_requests.specs.declared.denied.Denied.TheVariants.{NoClass}
+use Rattle.ats_requests.specs.declared.denied.Denied.TheVariants.{Because, NoClass}
 use Rattle.ats_kept.specs.Judged.{judged, sum_at}
 use Rattle.ats_admission.specs.Judged.{AreSameBut, IsGiven, lowest_at, no_class}
-use Rattle.ats_admission.specs.Sessions.{without_at}
+use Rattle.ats_port_shares.specs.PortShares.{without_at}
 use Rattle.ats_admission.proofs.Classed.{classed_last, still_found, undone}
-use Rattle.ats_admission.proofs.Judgements.{judged_ok}
+use Rattle.ats_admission.proofs.Judgements.{judged_err, judged_ok}
 
 -- a stream came in: nothing stands against its entry, and it is the last, with this number
 pub record IsIn (network : DeclaredNetwork) (stream : DeclaredStream) (n : ℕ) (between : DeclaredNetwork) : Type 0 where
@@ -65,6 +69,30 @@ pub out_again : (network : DeclaredNetwork) (stream : DeclaredStream) (n : ℕ) 
 out_again network stream n between after new in' same taken =
     undone network stream after new (in_same network stream n between after in' same)
     (taken ∙ ap (without_at after) in'.number)
+
+-- where it is refused, the answer is the reason
+refused_answer : (network : DeclaredNetwork) (stream : DeclaredStream) (n : ℕ) (between : DeclaredNetwork)
+    (reason : Reason) → IsIn network stream n between → judged between n ≡ Err reason
+    → admit network stream ≡ Err (Because reason)
+refused_answer network stream n between reason in' refused =
+    let with_reason : reason_with network stream ≡ Some reason =
+    ap reason_of (sym in'.is) ∙ judged_err between n reason refused in
+    ap (λ (o : Option Denied). unless (λ (denied : Denied). denied)
+    (option_or o (option_map Because (reason_with network stream))) (sum_with network stream)) in'.free
+    ∙ ap (λ (o : Option Reason). unless (λ (denied : Denied). denied) (option_map Because o)
+    (sum_with network stream)) with_reason
+
+-- so it is told, unless memory ran out
+pub refused_told : (network : DeclaredNetwork) (stream : DeclaredStream) (n : ℕ) (between : DeclaredNetwork)
+    (failure : Failure Reason) (told : Failure Denied) → IsIn network stream n between
+    → IsWithin (λ reason denied. denied ≡ Because reason) failure told → Fails failure (judged between n)
+    → Fails told (admit network stream)
+refused_told network stream n between NoMemory NoMemory in' within refused = tt
+refused_told network stream n between NoMemory (Fault denied) in' within refused = absurd within
+refused_told network stream n between (Fault reason) NoMemory in' within refused = tt
+refused_told network stream n between (Fault reason) (Fault denied) in' within refused =
+    refused_answer network stream n between reason in' refused
+    ∙ ap (λ (d : Denied). let r : Result ℕ Denied = Err d in r) (sym within)
 
 -- the search among the classes of the last stream is the one of admission
 lowest_same : (network : DeclaredNetwork) (stream : DeclaredStream) (classes : List ℕ)
@@ -125,7 +153,7 @@ given_certified network stream n between new class sum in' given is =
     (ap reason_of (sym at) ∙ given.free)).certified
 
 -- what is answered without one
-pub none_answer : (network : DeclaredNetwork) (stream : DeclaredStream) (n : ℕ) (between : DeclaredNetwork)
+none_answer : (network : DeclaredNetwork) (stream : DeclaredStream) (n : ℕ) (between : DeclaredNetwork)
     (denied : Denied) → IsIn network stream n between
     → no_class (lowest_at between n stream_classes) ≡ Some denied → admit_lowest network stream ≡ Err denied
 none_answer network stream n between denied in' due =
@@ -138,3 +166,10 @@ none_answer network stream n between denied in' due =
         → sum_given network stream (class_given None r) ≡ Err denied
     by (Ok class) h = absurd (let no : None ≡ Some denied = h in cc)
     by (Err reasons) h = let same : NoClass reasons ≡ denied = cc h in ap (λ (d : Denied). Err d) same
+
+-- so it is told, unless memory ran out
+pub none_told : (network : DeclaredNetwork) (stream : DeclaredStream) (n : ℕ) (between : DeclaredNetwork)
+    (failure : Failure Denied) → IsIn network stream n between
+    → IsDue failure (no_class (lowest_at between n stream_classes)) → Fails failure (admit_lowest network stream)
+none_told network stream n between NoMemory in' due = tt
+none_told network stream n between (Fault denied) in' due = none_answer network stream n between denied in' due

@@ -1,11 +1,12 @@
 //! Streams that ask to enter.
 
 ghost use Rattle.std.specs.Prelude.{◌≡◌, IfOk, OnOk, OnErr};
-ghost use Rattle.ats_num.specs.Failure.{Gives};
+ghost use Rattle.ats_num.specs.Failure.{Gives, IsWithin};
 ghost use Rattle.ats_streams.specs.Stream.{with_class};
 ghost use Rattle.ats_network.specs.Pushes.{with_stream};
 ghost use Rattle.ats_requests.specs.Admission.{admit, admit_lowest};
 ghost use Rattle.ats_requests.specs.Requests.{MayEnter};
+ghost use Rattle.ats_requests.specs.declared.denied.Denied.TheVariants.{Because};
 ghost use Rattle.ats_admission.specs.Sessions.{IsSession};
 
 use crate::entering::{enter, leave};
@@ -15,6 +16,7 @@ use ats_network::Network;
 use ats_num::Failure;
 use ats_requests::Denied;
 use ats_streams::Stream;
+use ats_tally::Reason;
 
 /// Adds a stream as the last one, where a certificate holds for the network with it. The sum of its least bounds.
 ///
@@ -34,12 +36,12 @@ pub(crate) fn admit_stream(
     ensures session { IsSession network.new kept.new }
 {
     let name = stream.name();
-    let number = enter(network, kept, stream)?;
+    let number = enter(network, stream)?;
     match kept.judge(network, number) {
         Ok(sum) => Ok(sum),
-        Err(reason) => {
+        Err(failure) => {
             leave(network, kept, number, &name);
-            Err(Failure::Fault(Denied::Because(reason)))
+            Err(because(failure))
         }
     }
 }
@@ -63,12 +65,22 @@ pub(crate) fn admit_with_lowest(
     ensures session { IsSession network.new kept.new }
 {
     let name = stream.name();
-    let number = enter(network, kept, stream)?;
+    let number = enter(network, stream)?;
     match lowest(network, kept, number) {
         Ok(given) => Ok(given),
-        Err(denied) => {
+        Err(failure) => {
             leave(network, kept, number, &name);
-            Err(Failure::Fault(denied))
+            Err(failure)
         }
+    }
+}
+
+// Why a stream is not admitted, from what its judgement gave in place of a sum.
+fn because(failure: Failure<Reason>) -> Failure<Denied>
+    ensures { IsWithin (λ reason denied. denied ≡ Because reason) failure result }
+{
+    match failure {
+        Failure::Fault(reason) => Failure::Fault(Denied::Because(reason)),
+        Failure::NoMemory => Failure::NoMemory,
     }
 }

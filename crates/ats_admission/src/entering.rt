@@ -9,7 +9,8 @@ ghost use Rattle.ats_requests.specs.Admission.{entry_fault};
 ghost use Rattle.ats_requests.specs.Entry.{by_fault};
 ghost use Rattle.ats_requests.specs.Requests.{MayEnter};
 ghost use Rattle.ats_requests.specs.declared.denied.Denied.TheVariants.{NameTaken, Limit};
-ghost use Rattle.ats_admission.specs.Sessions.{IsPending, IsSession, without_at};
+ghost use Rattle.ats_port_shares.specs.PortShares.{without_at};
+ghost use Rattle.ats_admission.specs.Sessions.{IsPending, IsSession};
 
 use ats_kept::Kept;
 use ats_network::{Network, PushFault};
@@ -22,61 +23,7 @@ use ats_streams::Stream;
 /// # Errors
 ///
 /// Nothing changes. What stands against the entry, or `Failure::NoMemory` where memory runs out.
-pub(crate) fn enter(
-    network: &mut Network,
-    kept: &mut Kept,
-    stream: Stream,
-) -> Result<u32, Failure<Denied>>
-    requires session { IsSession network.old kept.old }
-    requires enters { MayEnter network.old.topology stream }
-    ensures number { IfOk result (λ number. number ≡ length network.old.streams) }
-    ensures ok { OnOk result (network.new ≡ with_stream network.old stream) }
-    ensures free { OnOk result (entry_fault network.old stream ≡ None) }
-    ensures pending { IfOk result (λ number. IsPending network.new number kept.new) }
-    ensures fault { IfErr result (λ failure. IsDue failure (entry_fault network.old stream)) }
-    ensures err { OnErr result (network.new ≡ network.old) }
-    ensures kept { OnErr result (kept.new ≡ kept.old) }
-{
-    let name = stream.name();
-    let number = add(network, stream)?;
-    match kept.push(network.streams()[number as usize].path()) {
-        Ok(()) => Ok(number),
-        Err(_) => {
-            let _ = network.take_stream(&name);
-            Err(Failure::NoMemory)
-        }
-    }
-}
-
-/// Takes out the stream with this number and name, without which a certificate holds. The others keep their order. It
-/// takes no memory.
-pub(crate) fn leave(network: &mut Network, kept: &mut Kept, number: u32, name: &Name)
-    requires named { place_of name.now (stream_names network.old.streams) ≡ Some number }
-    requires pending { IsPending network.old number kept.old }
-    ensures network { network.new ≡ without_at network.old number }
-    ensures session { IsSession network.new kept.new }
-{
-    let _rules = network.streams(); // for what a network keeps
-    if let Some(stream) = network.take_stream(name) {
-        kept.take(number, stream.path());
-        kept.renew(network, stream.path());
-    }
-}
-
-/// The number of the stream with this name; `None` exactly where no stream has it, also where a flow does.
-pub(crate) fn stream_named(network: &Network, name: &Name) -> Option<u32>
-    ensures { result ≡ place_of name.now (stream_names network.now.streams) }
-{
-    let number = network.sender_named(name)?;
-    if (number as usize) < network.streams().len() {
-        Some(number)
-    } else {
-        None
-    }
-}
-
-// Adds a stream as the last one. Its number.
-fn add(network: &mut Network, stream: Stream) -> Result<u32, Failure<Denied>>
+pub(crate) fn enter(network: &mut Network, stream: Stream) -> Result<u32, Failure<Denied>>
     requires { MayEnter network.old.topology stream }
     ensures number { IfOk result (λ number. number ≡ length network.old.streams) }
     ensures ok { OnOk result (network.new ≡ with_stream network.old stream) }
@@ -89,6 +36,45 @@ fn add(network: &mut Network, stream: Stream) -> Result<u32, Failure<Denied>>
         Ok(()) => Ok(number),
         Err(Failure::NoMemory) => Err(Failure::NoMemory),
         Err(Failure::Fault(fault)) => Err(Failure::Fault(denied(fault))),
+    }
+}
+
+/// Takes out the last stream, with this number and name, of which nothing is kept, and without which a certificate
+/// holds. It takes no memory.
+pub(crate) fn leave(network: &mut Network, kept: &mut Kept, number: u32, name: &Name)
+    requires named { place_of name.now (stream_names network.old.streams) ≡ Some number }
+    requires pending { IsPending network.old number kept.old }
+    ensures network { network.new ≡ without_at network.old number }
+    ensures session { IsSession network.new kept.new }
+{
+    let _rules = network.streams(); // for what a network keeps
+    if let Some(stream) = network.take_stream(name) {
+        kept.renew(network, stream.path());
+    }
+}
+
+/// Takes out the stream with this number and name from a session's network. The others keep their order. It takes no
+/// memory.
+pub(crate) fn take_out(network: &mut Network, kept: &mut Kept, number: u32, name: &Name)
+    requires named { place_of name.now (stream_names network.old.streams) ≡ Some number }
+    requires session { IsSession network.old kept.old }
+    ensures network { network.new ≡ without_at network.old number }
+    ensures session { IsSession network.new kept.new }
+{
+    if let Some(stream) = network.take_stream(name) {
+        kept.take(network, number, &stream);
+    }
+}
+
+/// The number of the stream with this name; `None` exactly where no stream has it, also where a flow does.
+pub(crate) fn stream_named(network: &Network, name: &Name) -> Option<u32>
+    ensures { result ≡ place_of name.now (stream_names network.now.streams) }
+{
+    let number = network.sender_named(name)?;
+    if (number as usize) < network.streams().len() {
+        Some(number)
+    } else {
+        None
     }
 }
 

@@ -16,7 +16,7 @@ ghost use Rattle.ats_requests.specs.declared.request.Request.TheVariants.{Admit,
 ghost use Rattle.ats_admission.specs.Sessions.{IsSession};
 
 use crate::admitting::{admit_stream, admit_with_lowest};
-use crate::entering::{leave, stream_named};
+use crate::entering::{stream_named, take_out};
 use ats_bound::make;
 use ats_certificate::Certificate;
 use ats_kept::Kept;
@@ -120,7 +120,7 @@ impl Session {
     {
         match stream_named(&self.network, name) {
             Some(number) => {
-                leave(&mut self.network, &mut self.kept, number, name);
+                take_out(&mut self.network, &mut self.kept, number, name);
                 Ok(())
             }
             None => Err(Denied::NameUnknown),

@@ -1,18 +1,15 @@
 -- Where a path leads on from one port to another.
 use Rattle.std.proofs.Common.{◌≡◌, ◌≢◌, ℕ, zero, suc, ◌<◌, Bool, true, false, List, [], ◌∷◌, length, get_or, refl, sym}
 use Rattle.std.proofs.Common.{ap, ◌∙◌}
-use Rattle.std.proofs.Common.{◌-◌, eqb, subst, arith, Some}
+use Rattle.std.proofs.Common.{◌-◌, ◌/◌, eqb, map, subst, arith, Some}
 use Rattle.std.specs.Prelude.{◌&&◌, ◌||◌, not}
 use Rattle.std.specs.List.{All, AllPairs}
 use Rattle.std.proofs.lemmas.List.{get_or-map, length-map}
 use Rattle.std.proofs.lemmas.Bool.{and_right, eq-eqb, ne_eqb, or_from}
 use Rattle.ats_facts.proofs.Lists.{pairs_head, pairs_tail}
-use Rattle.ats_streams.specs.Stream.{DeclaredStream}
-use Rattle.ats_network.specs.Edits.{no_stream}
-use Rattle.ats_network.specs.Network.{DeclaredNetwork}
 use Rattle.ats_port_users.specs.Users.{IsHop}
-use Rattle.ats_kept.specs.Judging.{begins_with, is_new, leads_on, path_at}
-use Rattle.ats_kept.specs.Kept.{stream_paths}
+use Rattle.ats_kept.specs.Judging.{begins_with, is_new, leads_on}
+use Rattle.ats_kept.specs.Routes.{RouteState, no_route, ports_along, route_paths}
 
 -- the port before a hop is this one
 abbrev pub is_behind : ℕ → List ℕ → ℕ → Bool
@@ -68,12 +65,27 @@ behind_some before path zero some = absurd (some refl)
 behind_some before path (suc hop) some =
     let same : hop ≡ suc hop - 1 = omega arith in ap (λ (k : ℕ). eqb (get_or path k 0) before) same
 
--- the hop that an index tells for a user is one of the stream's own path
-pub own_hop : (network : DeclaredNetwork) (port n user hop : ℕ) → n ≡ user → n < length (stream_paths network)
-    → IsHop port (get_or (stream_paths network) user []) hop → IsHop port (path_at network n) hop
-own_hop network port n user hop same within is =
-    let inside : n < length network.streams =
-    omega (arith, within, length-map network.streams (λ (s : DeclaredStream). s.path)) in
+-- the port before a hop, as the place before it tells
+pub comes_is : (before : ℕ) (places : List ℕ) (hop : ℕ) → hop < length places
+    → (not (eqb hop 0) && eqb (get_or places (hop - 1) 0 / 8) before)
+    ≡ is_behind before (map (λ place. place / 8) places) hop
+comes_is before places zero within = refl
+comes_is before places (suc hop) within =
+    let same : suc hop - 1 ≡ hop = omega arith in
+    ap (λ (b : Bool). not b && eqb (get_or places (suc hop - 1) 0 / 8) before) (ne_eqb (suc hop) 0 (omega arith))
+    ∙ ap (λ (k : ℕ). eqb (get_or places k 0 / 8) before) same
+    ∙ sym (ap (λ (port : ℕ). eqb port before)
+    (get_or-map (λ (place : ℕ). place / 8) places hop 0 0 (omega arith)))
+
+-- the path of a route among those of several
+pub path_of : (routes : List RouteState) (n : ℕ) → n < length routes
+    → get_or (route_paths routes) n [] ≡ ports_along (get_or routes n no_route)
+path_of routes n within = get_or-map ports_along routes n no_route [] within
+
+-- the hop that an index tells for a user is one of the route's own
+pub own_hop : (routes : List RouteState) (port n user hop : ℕ) → n ≡ user → n < length (route_paths routes)
+    → IsHop port (get_or (route_paths routes) user []) hop → IsHop port (ports_along (get_or routes n no_route)) hop
+own_hop routes port n user hop same within is =
     subst (λ (path : List ℕ). IsHop port path hop)
-    (sym (ap (λ (k : ℕ). get_or (stream_paths network) k []) same)
-    ∙ get_or-map (λ (s : DeclaredStream). s.path) network.streams n no_stream [] inside) is
+    (sym (ap (λ (k : ℕ). get_or (route_paths routes) k []) same)
+    ∙ path_of routes n (omega (arith, within, length-map routes ports_along))) is

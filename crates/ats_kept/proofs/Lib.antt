@@ -4,8 +4,10 @@ pub mod Found
 pub mod Users
 pub mod Near
 pub mod Hops
-pub mod Sums
+pub mod Places
+pub mod Bounds
+pub mod Last
+pub mod Nearby
+pub mod Lateness
 pub mod Judgements
 pub mod Opened
-pub mod ShareLemmas
-pub mod UserTallies

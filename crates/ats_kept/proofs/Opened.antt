@@ -1,15 +1,10 @@
--- The paths of a network's streams and flows, as they are listed one by one.
+-- The paths of a network's streams, as they are listed one by one.
 use Rattle.std.proofs.Common.{◌≡◌, ◌≢◌, ℕ, ◌+◌, ◌<◌, List, [], ◌∷◌, ◌++◌, length, get_or, map, take, sym, ap, subst}
 use Rattle.std.proofs.Common.{◌∙◌, arith}
 use Rattle.std.specs.List.{All, AllPairs}
-use Rattle.std.proofs.lemmas.List.{get_or-map, length-map, map_more}
-use Rattle.ats_facts.proofs.Lists.{all_right}
-use Rattle.ats_streams.specs.Flow.{DeclaredFlow}
+use Rattle.std.proofs.lemmas.List.{map_more}
 use Rattle.ats_streams.specs.Stream.{DeclaredStream}
 use Rattle.ats_network.specs.Network.{DeclaredNetwork, IsNetwork}
-use Rattle.ats_network.specs.Sender.{Sender, flow_sender, stream_sender}
-use Rattle.ats_network.specs.Senders.{IsSender, no_sender}
-use Rattle.ats_network.proofs.SenderLemmas.{each_is_sender}
 use Rattle.ats_tally.proofs.Paths.{paths_apart, paths_inside}
 
 -- a path of different ports, of so many
@@ -21,18 +16,6 @@ pub streams_over : (network : DeclaredNetwork) → IsNetwork network
     → All (λ (s : DeclaredStream). IsOver (length network.topology.ports) s.path) network.streams
 streams_over network is k d h =
     record { inside = paths_inside network is k d h; apart = paths_apart network is k d h }
-
-pub flows_over : (network : DeclaredNetwork) → IsNetwork network
-    → All (λ (f : DeclaredFlow). IsOver (length network.topology.ports) f.path) network.flows
-flows_over network is k d h =
-    let flows : List Sender = map flow_sender network.flows in
-    let each : All (IsSender network.topology) flows =
-    all_right (IsSender network.topology) (map stream_sender network.streams) flows (each_is_sender network is) in
-    let long = length-map network.flows flow_sender in
-    let sender : IsSender network.topology (get_or flows k no_sender) = each k no_sender (omega (arith, long)) in
-    let same = get_or-map flow_sender network.flows k d no_sender h in
-    subst (λ (s : Sender). IsOver (length network.topology.ports) s.path) same
-    (record { inside = sender.ports; apart = sender.apart })
 
 -- what is read in a loop over a list is one of its elements
 pub read_is : {X : Type 0} (P : X → Type 0) (xs listed : List X) (i : ℕ) (x : X) → All P xs → i < length listed

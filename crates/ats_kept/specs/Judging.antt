@@ -1,18 +1,18 @@
 use Rattle.std.specs.Prelude.{◌≡◌, ◌≢◌, ℕ, ◌+◌, ◌*◌, ◌<◌, ◌≤◌, Bool, true, false, ◌==◌, ◌&&◌, ◌||◌, not, if◌then◌else◌}
-use Rattle.std.specs.Prelude.{List, [], ◌∷◌, ◌++◌}
+use Rattle.std.specs.Prelude.{List, [], ◌∷◌, ◌++◌, ◌⊎◌, min}
 use Rattle.std.specs.Prelude.{length, map, filter, fold, Option, Some, None, slice_index_or}
 use Rattle.std.specs.Option.{option_or}
-use Rattle.ats_network.specs.Edits.{no_stream}
 use Rattle.ats_network.specs.Network.{DeclaredNetwork}
 use Rattle.ats_certificate.specs.PortSums.{is_used}
 use Rattle.ats_certificate.specs.Used.{place}
 use Rattle.ats_tally.specs.Reason.{first_some}
 use Rattle.ats_tally.specs.declared.reason.Reason.{Reason}
 use Rattle.ats_bound.specs.Reason.{overload}
-use Rattle.ats_admission_law.specs.Lowest.{lower_of, lowest_found}
-use Rattle.ats_admission_law.specs.Near.{found_there, late_at, overstay_at}
+use Rattle.ats_admission_law.specs.Lowest.{lowest_found}
+use Rattle.ats_admission_law.specs.Near.{found_there, overstay_at}
 use Rattle.ats_port_users.specs.Users.{users_of}
-use Rattle.ats_kept.specs.Kept.{least_bound, stream_paths}
+use Rattle.ats_kept.specs.Kept.{least_bound}
+use Rattle.ats_kept.specs.Routes.{RouteState, is_late, no_route, ports_along, route_paths}
 
 -- what a search finds at a port and a class, where some stream uses them
 abbrev pub given_at : (ℕ × ℕ → Option Reason) → DeclaredNetwork → ℕ → ℕ → Option Reason
@@ -56,29 +56,55 @@ abbrev pub is_new : Option ℕ → ℕ → List ℕ → Bool
 is_new None port path = true
 is_new (Some before) port path = not (leads_on before port path)
 
--- the path of the stream with a number
-abbrev pub path_at : DeclaredNetwork → ℕ → List ℕ
-path_at network n = (slice_index_or network.streams n no_stream).path
-
--- the numbers of the streams that use a port and whose paths do not lead there from the one before
-abbrev pub new_at : DeclaredNetwork → Option ℕ → ℕ → List ℕ
-new_at network before port =
-    filter (λ n. is_new before port (path_at network n)) (users_of (stream_paths network) port)
+-- the numbers of the paths that have a port and do not lead there from the one before
+abbrev pub new_at : List (List ℕ) → Option ℕ → ℕ → List ℕ
+new_at paths before port = filter (λ n. is_new before port (slice_index_or paths n [])) (users_of paths port)
 
 -- so along a path, behind this port
-abbrev pub new_along : DeclaredNetwork → Option ℕ → List ℕ → List ℕ
-new_along network before [] = []
-new_along network before (port ∷ path) = new_at network before port ++ new_along network (Some port) path
+abbrev pub new_along : List (List ℕ) → Option ℕ → List ℕ → List ℕ
+new_along paths before [] = []
+new_along paths before (port ∷ path) = new_at paths before port ++ new_along paths (Some port) path
 
--- of a late stream found so far and the late ones with these numbers, the one with the lowest number
-abbrev pub lowest_late_of : DeclaredNetwork → Option (ℕ × Reason) → List ℕ → Option (ℕ × Reason)
-lowest_late_of network best numbers = fold (λ found n. lower_of found n (late_at network n)) best numbers
+-- of a number found so far and one more, the lower one
+abbrev pub lower_number : Option ℕ → ℕ → Option ℕ
+lower_number None n = Some n
+lower_number (Some best) n = Some (min best n)
 
--- the same with one stream, unless its path leads to a port from the one before
-abbrev pub lowest_late_with : DeclaredNetwork → Option (ℕ × Reason) → Option ℕ → ℕ → ℕ → Option (ℕ × Reason)
-lowest_late_with network best before port n =
-    if is_new before port (path_at network n) then lower_of best n (late_at network n) else best
+-- so where the route with this number is late by these bounds
+abbrev pub lower_late : List ℕ → List RouteState → Option ℕ → ℕ → Option ℕ
+lower_late bounds routes best n =
+    if is_late bounds (slice_index_or routes n no_route) then lower_number best n else best
 
--- the late stream with the lowest number among those that use a port of a path
-abbrev pub late_on : DeclaredNetwork → List ℕ → Option Reason
-late_on network path = found_there (lowest_late_of network None (new_along network None path))
+-- so, unless the route leads to the port from the one before
+abbrev pub lower_new : List ℕ → List RouteState → Option ℕ → ℕ → Option ℕ → ℕ → Option ℕ
+lower_new bounds routes before port best n =
+    if is_new before port (ports_along (slice_index_or routes n no_route)) then lower_late bounds routes best n
+    else best
+
+-- of a late route found so far and the late ones with these numbers, the lowest number
+abbrev pub lowest_number : List ℕ → List RouteState → Option ℕ → List ℕ → Option ℕ
+lowest_number bounds routes best numbers = fold (lower_late bounds routes) best numbers
+
+-- the lowest number of a late route among those that have a port of a path
+abbrev pub late_number : List ℕ → List RouteState → List ℕ → Option ℕ
+late_number bounds routes path = lowest_number bounds routes None (new_along (route_paths routes) None path)
+
+-- no route with a number below this one is late
+abbrev pub NoneLate : List ℕ → List RouteState → ℕ → Type 0
+NoneLate bounds routes below =
+    (n : ℕ) → n < below → is_late bounds (slice_index_or routes n no_route) ≡ false
+
+-- the route with this number is the first late one of all
+pub record IsFirstLate (bounds : List ℕ) (routes : List RouteState) (n : ℕ) : Type 0 where
+  pub within : n < length routes
+  pub late : is_late bounds (slice_index_or routes n no_route) ≡ true
+  pub none_before : NoneLate bounds routes n
+
+-- so it is, or none is late
+abbrev pub IsFirstOfAll : List ℕ → List RouteState → Option ℕ → Type 0
+IsFirstOfAll bounds routes None = NoneLate bounds routes (length routes)
+IsFirstOfAll bounds routes (Some n) = IsFirstLate bounds routes n
+
+-- the late route with the lowest number was looked for among those that have a port of a path, or among all
+abbrev pub IsLateFound : List ℕ → List RouteState → List ℕ → Option ℕ → Type 0
+IsLateFound bounds routes path found = (found ≡ late_number bounds routes path) ⊎ IsFirstOfAll bounds routes found

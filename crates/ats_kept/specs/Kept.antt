@@ -1,36 +1,42 @@
-use Rattle.std.specs.Prelude.{◌≡◌, ℕ, ◌+◌, ◌*◌, ◌<◌, ◌≤◌, false, if◌then◌else◌, List, [], ◌∷◌, ◌++◌, map, length, None}
-use Rattle.std.specs.Prelude.{slice_index_or}
-use Rattle.std.specs.List.{remove}
+use Rattle.std.specs.Prelude.{◌≡◌, ℕ, ◌+◌, ◌*◌, ◌<◌, ◌≤◌, false, if◌then◌else◌, List, length, slice_index_or}
 use Rattle.ats_streams.specs.Stream.{DeclaredStream}
-use Rattle.ats_streams.specs.Flow.{DeclaredFlow}
-use Rattle.ats_network.specs.Network.{DeclaredNetwork}
+use Rattle.ats_network.specs.Network.{DeclaredNetwork, IsNetwork}
 use Rattle.ats_certificate.specs.PortSums.{is_used}
 use Rattle.ats_bound.specs.Least.{least_row}
-use Rattle.ats_bound.specs.Reason.{reason_of}
-use Rattle.ats_admission_law.specs.Less.{IsLessBy}
 use Rattle.ats_port_users.specs.Users.{UsersState, ListsPaths, has_port}
+use Rattle.ats_port_shares.specs.PortShares.{AreSharesOf, stream_at, stream_paths, without_at}
+use Rattle.ats_port_shares.specs.declared.share.Share.{Share}
+use Rattle.ats_kept.specs.Routes.{RouteState, routes_of}
 
--- which streams and which flows use each port, and a bound for each port and class, at 8 * port + class
+-- which streams use each port, what the senders of each class make there, a bound for each port and class, at
+-- 8 * port + class, and the routes of the streams
 pub record KeptState : Type 0 where
   pub streams : UsersState
-  pub flows : UsersState
+  pub shares : List Share
   pub bounds : List ℕ
+  pub routes : List RouteState
 
 -- these as one state
-abbrev pub kept_state : UsersState → UsersState → List ℕ → KeptState
-kept_state streams flows bounds = record { streams = streams; flows = flows; bounds = bounds }
+abbrev pub kept_state : UsersState → List Share → List ℕ → List RouteState → KeptState
+kept_state streams shares bounds routes =
+    record { streams = streams; shares = shares; bounds = bounds; routes = routes }
 
--- the paths of a network's streams, and of its flows
-abbrev pub stream_paths : DeclaredNetwork → List (List ℕ)
-stream_paths network = map (λ (s : DeclaredStream). s.path) network.streams
+-- the users of a network's ports, by the paths of its streams, the shares of its senders, and its streams' routes
+pub record KeepsStreams (network : DeclaredNetwork) (streams : UsersState) (shares : List Share)
+    (routes : List RouteState) : Type 0 where
+  pub users : ListsPaths (length network.topology.ports) (stream_paths network) streams
+  pub shares_are : AreSharesOf network shares
+  pub routes_are : routes ≡ routes_of network
 
-abbrev pub flow_paths : DeclaredNetwork → List (List ℕ)
-flow_paths network = map (λ (f : DeclaredFlow). f.path) network.flows
-
--- the users of a network's ports, by the paths of its streams and flows
-pub record ListsUsers (network : DeclaredNetwork) (kept : KeptState) : Type 0 where
-  pub streams : ListsPaths (length network.topology.ports) (stream_paths network) kept.streams
-  pub flows : ListsPaths (length network.topology.ports) (flow_paths network) kept.flows
+-- so they are those of the network that was this one with this stream more, at this number
+pub record KeepsBefore (network : DeclaredNetwork) (number : ℕ) (x : DeclaredStream) (streams : UsersState)
+    (shares : List Share) (routes : List RouteState) : Type 0 where
+  pub old : DeclaredNetwork
+  pub rules : IsNetwork old
+  pub within : number < length old.streams
+  pub stream : stream_at old number ≡ x
+  pub without : network ≡ without_at old number
+  pub keeps : KeepsStreams old streams shares routes
 
 -- the least bound of a port and a class that some stream uses there; of another 0
 abbrev pub least_bound : DeclaredNetwork → ℕ → ℕ → ℕ
@@ -50,30 +56,16 @@ pub record AreLeastBeside (network : DeclaredNetwork) (path : List ℕ) (bounds 
 
 -- what is kept is that of the network
 pub record IsKept (network : DeclaredNetwork) (kept : KeptState) : Type 0 where
-  pub users : ListsUsers network kept
+  pub keeps : KeepsStreams network kept.streams kept.shares kept.routes
   pub bounds : AreLeast network kept.bounds
 
 -- so it is but for the bounds along a path
 pub record IsKeptBeside (network : DeclaredNetwork) (path : List ℕ) (kept : KeptState) : Type 0 where
-  pub users : ListsUsers network kept
+  pub keeps : KeepsStreams network kept.streams kept.shares kept.routes
   pub bounds : AreLeastBeside network path kept.bounds
 
--- a path comes last among those of the streams; the flows and the bounds stay
-pub record PushesPath (path : List ℕ) (old new : KeptState) : Type 0 where
-  pub streams : (ports : ℕ) (paths : List (List ℕ)) → ListsPaths ports paths old.streams
-      → ListsPaths ports (paths ++ path ∷ []) new.streams
-  pub flows : new.flows ≡ old.flows
-  pub bounds : new.bounds ≡ old.bounds
-
--- the path with this number goes from among those of the streams; the flows and the bounds stay
-pub record TakesPath (number : ℕ) (path : List ℕ) (old new : KeptState) : Type 0 where
-  pub streams : (ports : ℕ) (paths : List (List ℕ)) → ListsPaths ports paths old.streams
-      → slice_index_or paths number [] ≡ path → ListsPaths ports (remove paths number) new.streams
-  pub flows : new.flows ≡ old.flows
-  pub bounds : new.bounds ≡ old.bounds
-
--- a certificate holds for the network without this stream
-pub record IsFreeWithout (network : DeclaredNetwork) (x : DeclaredStream) : Type 0 where
-  pub less : DeclaredNetwork
-  pub is_less : IsLessBy network less x
-  pub free : reason_of less ≡ None
+-- what is kept is that of the network that was this one with this stream more, at this number, but for the bounds along
+-- its path
+pub record WasKept (network : DeclaredNetwork) (number : ℕ) (x : DeclaredStream) (kept : KeptState) : Type 0 where
+  pub keeps : KeepsBefore network number x kept.streams kept.shares kept.routes
+  pub bounds : AreLeastBeside network x.path kept.bounds

@@ -1,6 +1,5 @@
 pub mod Kept
 pub mod Judged
-pub mod ClassTallies
-pub mod Shares
+pub mod Routes
 pub mod Judging
 pub mod Laws

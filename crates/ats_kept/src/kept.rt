@@ -1,27 +1,34 @@
 //! What is kept of a network.
 
-ghost use Rattle.std.specs.Prelude.{◌≡◌, ◌≢◌, ◌<◌, length, All, AllPairs, None, IfOk, OnOk, OnErr, slice_index_or};
-ghost use Rattle.ats_network.specs.Edits.{no_stream};
+ghost use Rattle.std.specs.Prelude.{◌≡◌, ◌+◌, ◌<◌, length, All, None, IfOk, OnOk, OnErr};
+ghost use Rattle.ats_num.specs.Failure.{Gives};
 ghost use Rattle.ats_bound.specs.Reason.{reason_of};
-ghost use Rattle.ats_port_users.specs.declared.port_users.TheConstants.{MAX_PATHS};
+ghost use Rattle.ats_port_shares.specs.PortShares.{stream_at, without_at};
 ghost use Rattle.ats_kept.specs.Judged.{judged};
-ghost use Rattle.ats_kept.specs.Kept.{IsFreeWithout, IsKept, IsKeptBeside, PushesPath, TakesPath};
+ghost use Rattle.ats_kept.specs.Kept.{IsKept, IsKeptBeside, WasKept};
 
-use crate::opening::{flow_users, least_bounds, stream_users};
+use crate::entering::{enter, leave};
+use crate::opening::{least_bounds, stream_routes, stream_users};
+use crate::routes::Route;
 use crate::walks::{judge_stream, renew_path};
 use ats_network::Network;
+use ats_num::Failure;
+use ats_port_shares::PortShares;
 use ats_port_users::PortUsers;
+use ats_streams::Stream;
 use ats_tally::Reason;
 use std::alloc::{AllocError, Global};
 use std::marker::Model;
 
-/// What is kept of a network that streams enter and leave: which streams and flows use each port, and the least bound
-/// of each port and class, in picoseconds. Contracts see these three.
+/// What is kept of a network that streams enter and leave: which streams use each port, what the senders of each class
+/// make there, the least bound of each port and class, in picoseconds, and the route of each stream. Contracts see
+/// these four.
 #[derive(Drop)]
 pub struct Kept {
     streams: PortUsers,
-    flows: PortUsers,
+    shares: PortShares,
     bounds: Vec<u128>,
+    routes: Vec<Route>,
 }
 
 impl Model for Kept {
@@ -29,7 +36,7 @@ impl Model for Kept {
 
     ghost Value = { KeptState };
 
-    ghost view = { λ k. kept_state k.streams k.flows k.bounds.items };
+    ghost view = { λ k. kept_state k.streams k.shares k.bounds.items k.routes.items };
 }
 
 impl Kept {
@@ -40,32 +47,68 @@ impl Kept {
         ensures { IfOk result (λ kept. IsKept network.now kept) }
     {
         let streams = stream_users(alloc, network)?;
-        let flows = flow_users(alloc, network)?;
-        let bounds = least_bounds(alloc, network, &streams, &flows)?;
+        let shares = PortShares::new(alloc, network)?;
+        let routes = stream_routes(alloc, network)?;
+        let bounds = least_bounds(alloc, network, &shares)?;
         Ok(Kept {
             streams,
-            flows,
+            shares,
             bounds,
+            routes,
         })
     }
 
-    /// Lists a path, which has no port twice, as that of the last stream. `AllocError` leaves all as it was.
-    pub fn push(&mut self, path: &[u32]) -> Result<(), AllocError>
-        requires ports { All (λ p. p < length self.old.streams.lists) path.now }
-        requires apart { AllPairs (λ p q. p ≢ q) path.now }
-        requires room { length self.old.streams.slots < MAX_PATHS }
-        ensures ok { OnOk result (PushesPath path.now self.old self.new) }
-        ensures err { OnErr result (self.new ≡ self.old) }
+    /// Judges a network by its last stream, of which nothing is kept yet, and without which a certificate holds: only
+    /// the ports of the stream's path are judged anew, and only the deadlines of streams that use one of these. Where
+    /// nothing stands against the network, the stream is kept from now on. The sum of its least bounds, in picoseconds.
+    ///
+    /// # Errors
+    ///
+    /// The reason against the network exactly where there is one, or `Failure::NoMemory` where memory runs out. The
+    /// bounds along the path then are any, and nothing else is changed.
+    pub fn judge(&mut self, network: &Network, stream: u32) -> Result<u128, Failure<Reason>>
+        requires last { stream + 1 ≡ length network.now.streams }
+        requires free { reason_of (without_at network.now stream) ≡ None }
+        requires beside { IsKeptBeside (without_at network.now stream) (stream_at network.now stream).path self.old }
+        ensures answer { Gives result (judged network.now stream) }
+        ensures ok { OnOk result (IsKept network.now self.new) }
+        ensures err { OnErr result (IsKeptBeside (without_at network.now stream)
+            (stream_at network.now stream).path self.new) }
     {
-        self.streams.push(path)
+        let sum = judge_stream(
+            &mut self.bounds,
+            network,
+            &self.streams,
+            &self.shares,
+            &self.routes,
+            stream,
+        )?;
+        enter(
+            &mut self.streams,
+            &mut self.shares,
+            &mut self.routes,
+            network,
+            stream,
+        )?;
+        Ok(sum)
     }
 
-    /// Lists the path of the stream with this number no longer. It takes no memory.
-    pub fn take(&mut self, stream: u32, path: &[u32])
-        requires number { stream < length self.old.streams.slots }
-        ensures { TakesPath stream path.now self.old self.new }
+    /// Keeps this stream no longer, which was taken out of the network where it had this number, and makes the bounds
+    /// along its path anew. It takes no memory.
+    pub fn take(&mut self, network: &Network, number: u32, stream: &Stream)
+        requires free { reason_of network.now ≡ None }
+        requires was { WasKept network.now number stream.now self.old }
+        ensures { IsKept network.now self.new }
     {
-        self.streams.take(stream, path);
+        leave(
+            &mut self.streams,
+            &mut self.shares,
+            &mut self.routes,
+            network,
+            number,
+            stream,
+        );
+        renew_path(&mut self.bounds, network, &self.shares, stream.path());
     }
 
     /// Makes the bounds along a path anew, where no certificate is refused for the network. It takes no memory.
@@ -75,31 +118,6 @@ impl Kept {
         requires beside { IsKeptBeside network.now path.now self.old }
         ensures { IsKept network.now self.new }
     {
-        renew_path(&mut self.bounds, network, &self.streams, &self.flows, path);
-    }
-
-    /// Judges a network by the stream with this number, without which a certificate holds for it: only the ports of the
-    /// stream's path are judged anew, and only the deadlines of streams that use one of these. The sum of the stream's
-    /// least bounds, in picoseconds. It takes no memory.
-    ///
-    /// # Errors
-    ///
-    /// The reason against the network exactly where there is one. The bounds along the path then are any.
-    pub fn judge(&mut self, network: &Network, stream: u32) -> Result<u128, Reason>
-        requires number { stream < length network.now.streams }
-        requires free { IsFreeWithout network.now (slice_index_or network.now.streams stream no_stream) }
-        requires beside { IsKeptBeside network.now (slice_index_or network.now.streams stream no_stream).path self.old }
-        ensures answer { result ≡ judged network.now stream }
-        ensures ok { OnOk result (IsKept network.now self.new) }
-        ensures err { OnErr result (IsKeptBeside network.now (slice_index_or network.now.streams stream no_stream).path
-            self.new) }
-    {
-        judge_stream(
-            &mut self.bounds,
-            network,
-            &self.streams,
-            &self.flows,
-            stream,
-        )
+        renew_path(&mut self.bounds, network, &self.shares, path);
     }
 }

@@ -1,153 +1,157 @@
-//! Sums of least bounds along the streams' paths, and the streams whose sum is over their deadline.
+//! Routes whose sum of bounds is over their deadline.
 
-ghost use Rattle.std.specs.Prelude.{◌≡◌, ◌≢◌, ◌<◌, length, slice_index_or, All, AllPairs};
-ghost use Rattle.ats_admission_law.specs.Lowest.{lower_of};
-ghost use Rattle.ats_bound.specs.Least.{least_certificate};
-ghost use Rattle.ats_certificate.specs.Certificate.{bound_along};
-ghost use Rattle.ats_tally.specs.Reason.{late_by};
-ghost use Rattle.ats_admission_law.specs.Near.{late_at};
+ghost use Rattle.std.specs.Prelude.{◌≡◌, ◌≢◌, ◌<◌, ◌≤◌, nat_le, [], length, slice_index_or, All, AllPairs};
+ghost use Rattle.std.specs.List.{list_any};
 ghost use Rattle.ats_port_users.specs.Users.{ListsPaths};
-ghost use Rattle.ats_kept.specs.Judged.{sum_at};
-ghost use Rattle.ats_kept.specs.Judging.{is_new, late_on, lowest_late_of, lowest_late_with, new_at, path_at};
-ghost use Rattle.ats_kept.specs.Kept.{AreLeast, stream_paths};
+ghost use Rattle.ats_kept.specs.Judging.{IsFirstOfAll, IsLateFound, is_new, late_number, lower_new, lower_number};
+ghost use Rattle.ats_kept.specs.Judging.{lowest_number, new_at};
+ghost use Rattle.ats_kept.specs.Routes.{AreBounded, no_route, ports_along, route_paths};
 
-use crate::ports::place;
-use crate::walks::lower_of;
-use ats_network::Network;
-use ats_num::time::PS_PER_NS;
+use crate::routes::Route;
 use ats_port_users::PortUsers;
-use ats_streams::Stream;
-use ats_tally::Reason;
 
-/// Of the streams that use a port of a path, the one with the lowest number whose sum is over its deadline. A stream is
-/// looked at where its path does not lead to the port from the one before.
-pub(crate) fn first_late(
+/// The late route with the lowest number, looked for among those that have a port of a path, or among all, where a port
+/// of the path is had by a quarter of them.
+pub(crate) fn find_late(
     bounds: &[u128],
-    network: &Network,
-    streams: &PortUsers,
+    routes: &[Route],
+    users: &PortUsers,
     path: &[u32],
-) -> Option<Reason>
-    requires ports { All (λ p. p < length network.now.topology.ports) path.now }
-    requires least { AreLeast network.now bounds.now }
-    requires streams { ListsPaths (length network.now.topology.ports) (stream_paths network.now) streams.now }
-    ensures { result ≡ late_on network.now path.now }
+) -> Option<u32>
+    requires few { length routes.now ≤ 4096 }
+    requires ports { All (λ p. p < length users.now.lists) path.now }
+    requires bounded { All (AreBounded bounds.now) routes.now }
+    requires apart { All (λ r. AllPairs (λ p q. p ≢ q) (ports_along r)) routes.now }
+    requires users { ListsPaths (length users.now.lists) (route_paths routes.now) users.now }
+    ensures { IsLateFound bounds.now routes.now path.now result }
+{
+    if is_busy(users, path, routes.len() / 4) {
+        first_of_all(bounds, routes)
+    } else {
+        first_late(bounds, routes, users, path)
+    }
+}
+
+// Whether a port of a path is had by so many others at least.
+fn is_busy(users: &PortUsers, path: &[u32], many: usize) -> bool
+    requires { All (λ p. p < length users.now.lists) path.now }
+    ensures { result ≡ list_any (λ p. nat_le many (length (slice_index_or users.now.lists p []))) path.now }
+{
+    for port in path {
+        if users.count(*port) >= many {
+            return true;
+        }
+    }
+    false
+}
+
+// The late route with the lowest number.
+fn first_of_all(bounds: &[u128], routes: &[Route]) -> Option<u32>
+    requires few { length routes.now ≤ 4096 }
+    requires bounded { All (AreBounded bounds.now) routes.now }
+    ensures { IsFirstOfAll bounds.now routes.now result }
+{
+    for (number, route) in routes.iter().enumerate() {
+        if route.is_late(bounds) {
+            return Some(number as u32);
+        }
+    }
+    None
+}
+
+// Of the routes that have a port of a path, the late one with the lowest number. A route is looked at where it does not
+// lead to the port from the one before.
+fn first_late(bounds: &[u128], routes: &[Route], users: &PortUsers, path: &[u32]) -> Option<u32>
+    requires ports { All (λ p. p < length users.now.lists) path.now }
+    requires bounded { All (AreBounded bounds.now) routes.now }
+    requires apart { All (λ r. AllPairs (λ p q. p ≢ q) (ports_along r)) routes.now }
+    requires users { ListsPaths (length users.now.lists) (route_paths routes.now) users.now }
+    ensures { result ≡ late_number bounds.now routes.now path.now }
 {
     let mut lowest = None;
     let mut before = None;
     for port in path {
-        lowest = late_at_port(lowest, bounds, network, streams, before, *port);
+        lowest = late_at_port(lowest, bounds, routes, users, before, *port);
         before = Some(*port);
     }
-    match lowest {
-        Some(found) => Some(found.1),
-        None => None,
-    }
+    lowest
 }
 
-// Of a late stream found so far and those that use the port and whose paths do not lead there from the one before, the
-// one with the lowest number.
+// Of a late route found so far and those that have the port and do not lead there from the one before, the one with the
+// lowest number.
 fn late_at_port(
-    best: Option<(u32, Reason)>,
+    best: Option<u32>,
     bounds: &[u128],
-    network: &Network,
-    streams: &PortUsers,
+    routes: &[Route],
+    users: &PortUsers,
     before: Option<u32>,
     port: u32,
-) -> Option<(u32, Reason)>
-    requires port { port < length network.now.topology.ports }
-    requires least { AreLeast network.now bounds.now }
-    requires streams { ListsPaths (length network.now.topology.ports) (stream_paths network.now) streams.now }
-    ensures { result ≡ lowest_late_of network.now best (new_at network.now before port) }
+) -> Option<u32>
+    requires port { port < length users.now.lists }
+    requires bounded { All (AreBounded bounds.now) routes.now }
+    requires apart { All (λ r. AllPairs (λ p q. p ≢ q) (ports_along r)) routes.now }
+    requires users { ListsPaths (length users.now.lists) (route_paths routes.now) users.now }
+    ensures { result ≡ lowest_number bounds.now routes.now best (new_at (route_paths routes.now) before port) }
 {
     let mut lowest = best;
-    for rank in 0..streams.count(port) {
-        let stream = streams.user(port, rank);
+    for rank in 0..users.count(port) {
+        let number = users.user(port, rank);
         lowest = late_at(
             lowest,
             bounds,
-            network,
+            routes,
             before,
-            stream,
-            streams.hop(port, rank),
+            number,
+            users.hop(port, rank),
         );
     }
     lowest
 }
 
-// Of a late stream found so far and the one with this number, which uses a port at this hop, the one with the lower
-// number. A stream whose path leads to the port from the one before is passed over.
+// Of a late route found so far and the one with this number, which has a port at this hop, the one with the lower
+// number, where it is late. A route that leads to the port from the one before is passed over.
 fn late_at(
-    best: Option<(u32, Reason)>,
+    best: Option<u32>,
     bounds: &[u128],
-    network: &Network,
+    routes: &[Route],
     before: Option<u32>,
-    stream: u32,
+    number: u32,
     hop: usize,
-) -> Option<(u32, Reason)>
-    requires number { stream < length network.now.streams }
-    requires least { AreLeast network.now bounds.now }
-    requires hop { hop < length (path_at network.now stream) }
-    ensures { result
-        ≡ lowest_late_with network.now best before (slice_index_or (path_at network.now stream) hop 0) stream }
+) -> Option<u32>
+    requires number { number < length routes.now }
+    requires bounded { All (AreBounded bounds.now) routes.now }
+    requires apart { All (λ r. AllPairs (λ p q. p ≢ q) (ports_along r)) routes.now }
+    requires hop { hop < length (slice_index_or routes.now number no_route).places }
+    ensures { result ≡ lower_new bounds.now routes.now before
+        (slice_index_or (ports_along (slice_index_or routes.now number no_route)) hop 0) best number }
 {
-    let declared = &network.streams()[stream as usize];
-    if !is_new(before, declared.path(), hop) {
-        return best;
+    let route = &routes[number as usize];
+    if is_new(before, route, hop) && route.is_late(bounds) {
+        Some(lower_number(best, number))
+    } else {
+        best
     }
-    lower_of(
-        best,
-        stream,
-        late_by(declared, sum_at(bounds, network, stream)),
-    )
 }
 
-// Whether a path, which has no port twice, does not lead right to this hop from the port that comes before, where one
+// Of a number found so far and one more, the lower one.
+fn lower_number(best: Option<u32>, number: u32) -> u32
+    ensures { Some result ≡ lower_number best number }
+{
+    match best {
+        Some(lowest) => lowest.min(number),
+        None => number,
+    }
+}
+
+// Whether a route, which has no port twice, does not lead right to this hop from the port that comes before, where one
 // is given.
-fn is_new(before: Option<u32>, path: &[u32], hop: usize) -> bool
-    requires hop { hop < length path.now }
-    requires apart { AllPairs (λ p q. p ≢ q) path.now }
-    ensures { result ≡ is_new before (slice_index_or path.now hop 0) path.now }
+fn is_new(before: Option<u32>, route: &Route, hop: usize) -> bool
+    requires hop { hop < length route.now.places }
+    requires apart { AllPairs (λ p q. p ≢ q) (ports_along route.now) }
+    ensures { result ≡ is_new before (slice_index_or (ports_along route.now) hop 0) (ports_along route.now) }
 {
     match before {
         None => true,
-        Some(port) => hop == 0 || path[hop - 1] != port,
+        Some(port) => !route.comes_from(port, hop),
     }
-}
-
-// The sum of a stream's bounds, where it is over the stream's deadline.
-fn late_by(stream: &Stream, sum: u128) -> Option<Reason>
-    ensures { result ≡ late_by stream.now sum }
-{
-    if sum <= u128::from(PS_PER_NS) * u128::from(stream.deadline_ns()) {
-        return None;
-    }
-    Some(Reason::Deadline {
-        stream: stream.name(),
-        sum,
-    })
-}
-
-/// The sum of the least bounds of the stream with this number.
-pub(crate) fn sum_at(bounds: &[u128], network: &Network, stream: u32) -> u128
-    requires number { stream < length network.now.streams }
-    requires least { AreLeast network.now bounds.now }
-    ensures { result ≡ sum_at network.now stream }
-{
-    sum_along(bounds, network, &network.streams()[stream as usize])
-}
-
-// The sum of the least bounds along a stream's path.
-fn sum_along(bounds: &[u128], network: &Network, stream: &Stream) -> u128
-    requires ports { All (λ p. p < length network.now.topology.ports) stream.now.path }
-    requires apart { AllPairs (λ p q. p ≢ q) stream.now.path }
-    requires least { AreLeast network.now bounds.now }
-    ensures { result ≡ bound_along (least_certificate network.now) stream.now }
-{
-    let _rules = network.topology(); // for what a network keeps
-    let classes = stream.classes();
-    let mut sum = 0;
-    for (hop, port) in stream.path().iter().enumerate() {
-        sum += bounds[place(*port, classes[hop])];
-    }
-    sum
 }

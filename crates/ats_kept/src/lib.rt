@@ -1,13 +1,15 @@
 //! What is kept of a network that streams enter and leave, so that each is judged along its own path.
 #![tactic(auto)]
 
+mod entering;
 pub mod kept;
 mod late;
 pub mod laws;
 mod opening;
 mod ports;
-mod shares;
-mod tallies;
+pub mod routes;
+mod sums;
 mod walks;
 
 pub use kept::Kept;
+pub use routes::Route;

@@ -7,36 +7,28 @@ ghost use Rattle.ats_tally.specs.Tally.{IsTally};
 ghost use Rattle.ats_bound.specs.Reason.{overload, reason_of};
 ghost use Rattle.ats_admission_law.specs.Lowest.{found_at};
 ghost use Rattle.ats_admission_law.specs.Near.{overstay_at};
-ghost use Rattle.ats_port_users.specs.Users.{ListsPaths};
+ghost use Rattle.ats_port_shares.specs.ClassTallies.{AreClassTallies};
 ghost use Rattle.ats_kept.specs.Judging.{KeepsOthers, SetsBelow, given_at};
-ghost use Rattle.ats_kept.specs.Kept.{flow_paths, least_bound, stream_paths};
+ghost use Rattle.ats_kept.specs.Kept.{least_bound};
 
-use crate::tallies::tallies_at;
 use ats_bound::row_of;
 use ats_network::Network;
-use ats_port_users::PortUsers;
 use ats_tally::{Reason, Tally, first_overstay};
 
-/// Makes the bounds of a port anew, where no certificate is refused for the network. Those of all other ports stay.
-pub(crate) fn renew_port(
-    bounds: &mut Vec<u128>,
-    network: &Network,
-    streams: &PortUsers,
-    flows: &PortUsers,
-    port: u32,
-)
+/// Makes the bounds of a port anew, where the senders make so much of each class and no certificate is refused for the
+/// network. Those of all other ports stay.
+pub(crate) fn renew_port(bounds: &mut Vec<u128>, network: &Network, port: u32, tallies: &[Tally; 8])
     requires free { reason_of network.now ≡ None }
     requires port { port < length network.now.topology.ports }
     requires count { length bounds.old.items ≡ 8 * length network.now.topology.ports }
-    requires streams { ListsPaths (length network.now.topology.ports) (stream_paths network.now) streams.now }
-    requires flows { ListsPaths (length network.now.topology.ports) (flow_paths network.now) flows.now }
+    requires tallies { AreClassTallies (senders_at port (senders_of network.now)) tallies.now }
     ensures { SetsBelow network.now port 8 bounds.old.items bounds.new.items }
 {
-    let _ = judge_port(bounds, network, streams, flows, port);
+    let _ = judge_port(bounds, network, port, tallies);
 }
 
-/// Makes the bounds of a port anew. What is found at the port: the need of residence, over the residence time behind
-/// the port, of the lowest class that has one.
+/// Makes the bounds of a port anew, where the senders make so much of each class. What is found at the port: the need
+/// of residence, over the residence time behind the port, of the lowest class that has one.
 ///
 /// # Errors
 ///
@@ -44,21 +36,18 @@ pub(crate) fn renew_port(
 pub(crate) fn judge_port(
     bounds: &mut Vec<u128>,
     network: &Network,
-    streams: &PortUsers,
-    flows: &PortUsers,
     port: u32,
+    tallies: &[Tally; 8],
 ) -> Result<Option<Reason>, Reason>
     requires port { port < length network.now.topology.ports }
     requires count { length bounds.old.items ≡ 8 * length network.now.topology.ports }
-    requires streams { ListsPaths (length network.now.topology.ports) (stream_paths network.now) streams.now }
-    requires flows { ListsPaths (length network.now.topology.ports) (flow_paths network.now) flows.now }
+    requires tallies { AreClassTallies (senders_at port (senders_of network.now)) tallies.now }
     ensures stay { IfOk result (λ stay. stay ≡ found_at (overstay_at network.now) network.now port) }
     ensures fits { OnOk result (found_at (overload network.now) network.now port ≡ None) }
     ensures set { OnOk result (SetsBelow network.now port 8 bounds.old.items bounds.new.items) }
     ensures load { IfErr result (λ load. found_at (overload network.now) network.now port ≡ Some load) }
     ensures kept { KeepsOthers port bounds.old.items bounds.new.items }
 {
-    let tallies = tallies_at(network, streams, flows, port);
     let mut stay = None;
     for class in 1..8 {
         match judge_class(bounds, network, port, class, tallies[class as usize]) {

@@ -1,5 +1,25 @@
-use Rattle.ats_admission.proofs.Entered.{IsIn, given_answer, given_certified, in_named, none_answer, out_again}
+use Rattle.std.proofs.Common.{◌∙◌}
+use Rattle.ats_admission.proofs.Entered.{IsIn, classed_in, given_answer, given_certified, in_named}
+use Rattle.ats_admission.proofs.Entered.{none_told, out_again}
+use Rattle.ats_admission.proofs.Pending.{in_waits}
 use Rattle.ats_admission.proofs.admitting.admit_with_lowest.Goals as goal
+
+pub lowest-requires : goal.lowest-requires
+lowest-requires c =
+    in_waits c.args.network.now c.enter.new.network c.args.stream c.in_ok-number.number c.args.kept.now
+    c.requires.session c.in_ok-number.ensures.number c.in_ok-number.ensures.ok
+
+pub returns-in-Ok-clause-ok : goal.returns-in-Ok-clause-ok
+returns-in-Ok-clause-ok c =
+    let in' : IsIn c.args.network.now c.args.stream c.in_ok-number.number c.enter.new.network = record {
+      certified = c.requires.session.certified;
+      may = c.requires.enters;
+      free = c.in_ok-number.ensures.free;
+      number = c.in_ok-number.ensures.number;
+      is = c.in_ok-number.ensures.ok;
+    } in
+    c.in-Ok.ensures.network
+    ∙ classed_in c.args.network.now c.args.stream c.in_ok-number.number c.enter.new.network c.in-Ok.given.0 in'
 
 pub leave-requires-clause-named : goal.leave-requires-clause-named
 leave-requires-clause-named c =
@@ -49,7 +69,7 @@ returns-in-Err-clause-answer c =
       number = c.in_ok-number.ensures.number;
       is = c.in_ok-number.ensures.ok;
     } in
-    none_answer c.args.network.now c.args.stream c.in_ok-number.number c.enter.new.network c.in-Err.denied in'
+    none_told c.args.network.now c.args.stream c.in_ok-number.number c.enter.new.network c.in-Err.failure in'
     c.in-Err.ensures.none
 
 pub returns-in-Err-clause-err : goal.returns-in-Err-clause-err

@@ -1,21 +1,18 @@
-use Rattle.std.proofs.Common.{ℕ, List, get_or, Option, sym, ap, ◌∙◌}
+use Rattle.std.proofs.Common.{◌<◌, ◌/◌, ℕ, List, get_or, length, Option, sym, ap, ◌∙◌, arith}
 use Rattle.std.specs.Prelude.{not}
-use Rattle.std.proofs.lemmas.Bool.{eq-eqb}
+use Rattle.std.proofs.lemmas.List.{length-map}
 use Rattle.ats_kept.specs.Judging.{is_new}
-use Rattle.ats_kept.proofs.Hops.{behind_some, is_behind, new_at_hop}
+use Rattle.ats_kept.specs.Routes.{ports_along}
+use Rattle.ats_kept.proofs.Hops.{comes_is, new_at_hop}
 use Rattle.ats_kept.proofs.late.is_new.Goals as goal
 
-pub returns-then-hop-eq0 : goal.returns-then-hop-eq0
-returns-then-hop-eq0 c =
-    let path : List ℕ = c.args.path.now in
-    eq-eqb c.args.hop 0 c.if-hop-eq0.true
-    ∙ sym (ap (λ (before : Option ℕ). is_new before (get_or path c.args.hop 0) path) c.in-Some.is
-    ∙ new_at_hop c.in-Some.port path c.args.hop c.requires.hop c.requires.apart
-    ∙ ap (λ (hop : ℕ). not (is_behind c.in-Some.port path hop)) c.if-hop-eq0.true)
-
-pub returns-else-hop-eq0 : goal.returns-else-hop-eq0
-returns-else-hop-eq0 c =
-    let path : List ℕ = c.args.path.now in
-    sym (ap (λ (before : Option ℕ). is_new before (get_or path c.args.hop 0) path) c.in-Some.is
-    ∙ new_at_hop c.in-Some.port path c.args.hop c.requires.hop c.requires.apart
-    ∙ ap not (behind_some c.in-Some.port path c.args.hop c.if-hop-eq0.false))
+pub returns-in-Some : goal.returns-in-Some
+returns-in-Some c =
+    let hop : ℕ = c.args.hop in
+    let places : List ℕ = c.args.route.now.places in
+    let ports : List ℕ = ports_along c.args.route.now in
+    let within : hop < length ports =
+    omega (arith, c.requires.hop, length-map places (λ (place : ℕ). place / 8)) in
+    ap not (c.comes_from.ensures ∙ comes_is c.in-Some.port places hop c.requires.hop)
+    ∙ sym (new_at_hop c.in-Some.port ports hop within c.requires.apart)
+    ∙ sym (ap (λ (before : Option ℕ). is_new before (get_or ports hop 0) ports) c.in-Some.is)

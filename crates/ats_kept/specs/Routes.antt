@@ -1,0 +1,51 @@
+use Rattle.std.specs.Prelude.{ℕ, ◌+◌, ◌*◌, ◌/◌, ◌<◌, ◌^◌, Bool, nat_lt, List, [], ◌∷◌, map, length, sum_by, All}
+use Rattle.std.specs.Prelude.{slice_index_or}
+use Rattle.ats_num.specs.declared.time.TheConstants.{PS_PER_NS}
+use Rattle.ats_streams.specs.Stream.{DeclaredStream}
+use Rattle.ats_network.specs.Network.{DeclaredNetwork}
+
+-- where the bounds of a stream stand, in the order of its path, and its deadline in nanoseconds
+pub record RouteState : Type 0 where
+  pub places : List ℕ
+  pub deadline_ns : ℕ
+
+-- for places past the last route
+abbrev pub no_route : RouteState
+no_route = record { places = []; deadline_ns = 0 }
+
+-- the places of the ports of a path, with the class at each, at 8 * port + class
+abbrev pub places_along : List ℕ → List ℕ → List ℕ
+places_along [] classes = []
+places_along (port ∷ path) [] = []
+places_along (port ∷ path) (class ∷ classes) = (8 * port + class) ∷ places_along path classes
+
+-- the route of a stream, and those of a network's streams
+abbrev pub route_of : DeclaredStream → RouteState
+route_of s = record { places = places_along s.path s.classes; deadline_ns = s.deadline_ns }
+
+abbrev pub routes_of : DeclaredNetwork → List RouteState
+routes_of network = map route_of network.streams
+
+-- the ports of a route, and those of several
+abbrev pub ports_along : RouteState → List ℕ
+ports_along route = map (λ place. place / 8) route.places
+
+abbrev pub route_paths : List RouteState → List (List ℕ)
+route_paths routes = map ports_along routes
+
+-- the sum of the bounds along a route
+abbrev pub sum_along : List ℕ → RouteState → ℕ
+sum_along bounds route = sum_by (λ place. slice_index_or bounds place 0) route.places
+
+-- it is over the deadline
+abbrev pub is_late : List ℕ → RouteState → Bool
+is_late bounds route = nat_lt (PS_PER_NS * route.deadline_ns) (sum_along bounds route)
+
+-- a place has a bound of at most 36 digits
+pub record IsBounded (bounds : List ℕ) (place : ℕ) : Type 0 where
+  pub within : place < length bounds
+  pub small : slice_index_or bounds place 0 < 10 ^ 36
+
+-- so has each place of a route
+abbrev pub AreBounded : List ℕ → RouteState → Type 0
+AreBounded bounds route = All (IsBounded bounds) route.places
