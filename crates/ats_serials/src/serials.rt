@@ -37,7 +37,7 @@ fn place_named(serials: &[u64], serial: u64) -> Option<u32>
     }
 }
 
-/// The least serial number above these, which rise. There is none above the greatest number of all, which no list of
+/// A serial number above all of these, which rise. There is none above the greatest number of all, which no list of
 /// pushes reaches; the answer is then `AllocError`.
 pub fn serial_after(serials: &[u64]) -> Result<u64, AllocError>
     requires { AreRising serials.now }
