@@ -10,7 +10,7 @@ use ats_num::{Ps, Tie};
 use std::alloc::{AllocError, Global};
 use std::marker::Model;
 
-/// How many frames wait in their order. Few ever wait at once.
+/// How many frames wait in their order, behind the first. Few ever wait at once.
 const SHORT: u32 = 15;
 
 /// The frames that wait at a port in one class. Contracts see them with sender and eligibility time as a list, whose
@@ -38,7 +38,7 @@ impl<T: Tie> ClassQueue<T> {
         ensures { IfOk result (λ queue. queue ≡ record { held = []; capacity = capacity; tie = tie }) }
     {
         Ok(ClassQueue {
-            held: Heap::open_short(alloc, capacity, capacity.min(SHORT), ByEligibility { tie })?,
+            held: Heap::open_short(alloc, capacity, waiting_of(capacity), ByEligibility { tie })?,
         })
     }
 
@@ -75,4 +75,10 @@ impl<T: Tie> ClassQueue<T> {
     {
         Some(self.held.peek()?.eligible)
     }
+}
+
+/// How many frames more than the first wait in their order in a queue with this capacity: none in a small one, which
+/// takes no array for them.
+fn waiting_of(capacity: u32) -> u32 {
+    if capacity <= SHORT { 0 } else { SHORT }
 }

@@ -115,7 +115,6 @@ fn count_at(table: &mut Vec<Tally>, port: u32, sender: &SeenSender)
     ensures { AddsSender (port_sender sender.now) (8 * port) 8 table.old.items table.new.items }
 {
     for class in 1..8 {
-        let tally = &mut table[place(port, class)];
-        *tally = tally.with_sender(class, sender);
+        table[place(port, class)].count(class, sender);
     }
 }

@@ -46,18 +46,27 @@ impl Tally {
         ensures { result ≡ tally_with class (port_sender sender.now) self }
     {
         let mut tally = self;
-        if sender.class < class {
-            tally.lower = tally.lower.max(wire_bits(sender.max_octets));
-            return tally;
-        }
-        tally.bursts += sender.burst_bits;
-        if sender.class > class {
-            tally.above += sender.rate_bps;
-            return tally;
-        }
-        tally.equal += sender.rate_bps;
-        tally.least = Some(least_with(tally.least, wire_bits(sender.min_octets)));
+        tally.count(class, sender);
         tally
+    }
+
+    /// Counts one sender more that a port sees.
+    pub fn count(&mut self, class: u8, sender: &SeenSender)
+        requires limits { KeepsLimits sender.now }
+        requires room { IsWithin MAX_SENDERS self.old }
+        ensures { self.new ≡ tally_with class (port_sender sender.now) self.old }
+    {
+        if sender.class < class {
+            self.lower = self.lower.max(wire_bits(sender.max_octets));
+            return;
+        }
+        self.bursts += sender.burst_bits;
+        if sender.class > class {
+            self.above += sender.rate_bps;
+            return;
+        }
+        self.equal += sender.rate_bps;
+        self.least = Some(least_with(self.least, wire_bits(sender.min_octets)));
     }
 }
 
