@@ -24,7 +24,7 @@ use Rattle.ats_network_toml.specs.declared.key.Key.TheVariants as key
 abbrev pub named : List ℕ → Option ℕ
 named text = position_from (λ k. bytes_eq text (key_text k)) 0 all_keys
 
-named_key : (k : Key) → named (key_text k) ≡ Some (slot_of k)
+pub named_key : (k : Key) → named (key_text k) ≡ Some (slot_of k)
 named_key key.Name = refl
 named_key key.Path = refl
 named_key key.Class = refl
@@ -53,7 +53,7 @@ named_key key.Link = refl
 named_key key.Stream = refl
 named_key key.Flow = refl
 
-at_slot : (k d : Key) → get_or all_keys (slot_of k) d ≡ k
+pub at_slot : (k d : Key) → get_or all_keys (slot_of k) d ≡ k
 at_slot key.Name d = refl
 at_slot key.Path d = refl
 at_slot key.Class d = refl
@@ -129,10 +129,10 @@ found test n (x ∷ xs) i d h = by (test x) refl h (found test (n + 1) xs i d)
     by false e h more = let f : IsFound test xs d (n + 1) i = more h in
         record { place = suc f.place; is = omega (arith, f.is); passes = f.passes }
 
-same_bytes : (xs ys : List ℕ) → bytes_eq xs ys ≡ true → xs ≡ ys
+pub same_bytes : (xs ys : List ℕ) → bytes_eq xs ys ≡ true → xs ≡ ys
 same_bytes xs ys h = grind (arith, bytes_eq-Decides xs ys)
 
-same_again : (xs : List ℕ) → bytes_eq xs xs ≡ true
+pub same_again : (xs : List ℕ) → bytes_eq xs xs ≡ true
 same_again xs = grind (arith, bytes_eq-Decides xs xs)
 
 -- a text that is found at the place of a key is the key's
@@ -156,7 +156,7 @@ by_order Equal found rest = refl
 by_order Greater found rest = refl
 
 -- what a key has in a table with one member in front
-get_first : (name text : List ℕ) (d : Data) (ms : Members)
+pub get_first : (name text : List ℕ) (d : Data) (ms : Members)
     → get_member name (member text d ms) ≡ cond (bytes_eq name text) (Some d) (get_member name ms)
 get_first name text d ms = by_order (slice_cmp nat_cmp name text) (Some d) (get_member name ms)
     ∙ ap (λ (b : Bool). cond b (Some d) (get_member name ms)) (is_eq-slice_cmp name text)

@@ -1,11 +1,14 @@
-use Rattle.std.specs.Prelude.{◌≡◌, ℕ, List, [], ◌∷◌, length, slice_index_or, Option, option_map, None}
+use Rattle.std.specs.Prelude.{◌≡◌, ℕ, Bool, not, ◌&&◌, ◌==◌, List, [], ◌∷◌, length, slice_index_or}
+use Rattle.std.specs.Prelude.{Option, is_some, option_map, None}
+use Rattle.std.specs.List.{list_any}
 use Rattle.std.specs.Borrow.{Bor}
 use Rattle.std.specs.Prelude.{String}
 use Rattle.std.specs.declared.alloc.Global.{Global}
-use Rattle.toml.specs.Data.{get_member}
+use Rattle.toml.specs.Data.{Members, get_member}
 use Rattle.toml.specs.View.{view, members_view}
 use Rattle.toml.specs.declared.value.Value.{Value}
 use Rattle.ats_network_toml.specs.Words.{key_text}
+use Rattle.ats_network_toml.specs.Walk.{has_unknown}
 use Rattle.ats_network_toml.specs.declared.key.Key.{Key}
 use Rattle.ats_network_toml.specs.declared.key.Key.TheVariants as key
 
@@ -50,8 +53,21 @@ slot_of key.Link = 24
 slot_of key.Stream = 25
 slot_of key.Flow = 26
 
--- at the place of each key there is its value, where the table has the key
-pub record AreSlots (entries : Entries) (values : List (Option (Bor Value))) : Type 0 where
+-- one of these keys has this place
+abbrev pub is_listed : List Key → ℕ → Bool
+is_listed ks slot = list_any (λ k. slot_of k == slot) ks
+
+-- a key stands in the table and is none of these
+abbrev pub stands_beside : List Key → Members → Key → Bool
+stands_beside ks ms k = is_some (get_member (key_text k) ms) && not (is_listed ks (slot_of k))
+
+-- one of all keys stands in the table and is none of these
+abbrev pub has_other : List Key → Members → Bool
+has_other ks ms = list_any (stands_beside ks ms) all_keys
+
+-- at the place of each key there is its value, where the table has the key; and whether each member has one of the keys
+pub record AreSlots (entries : Entries) (values : List (Option (Bor Value))) (all_named : Bool) : Type 0 where
   pub long : length values ≡ 27
   pub each : (k : Key) → option_map (λ v. view v.now) (slice_index_or values (slot_of k) None)
       ≡ get_member (key_text k) (members_view entries)
+  pub named : has_unknown all_keys (members_view entries) ≡ not all_named

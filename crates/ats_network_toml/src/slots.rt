@@ -7,7 +7,7 @@ ghost use Rattle.toml.specs.Data.{get_member};
 ghost use Rattle.toml.specs.View.{view, members_view, table_view};
 ghost use Rattle.ats_network_toml.specs.Words.{key_text};
 ghost use Rattle.ats_network_toml.specs.Walk.{is_known, has_unknown};
-ghost use Rattle.ats_network_toml.specs.Slots.{AreSlots, all_keys, slot_of};
+ghost use Rattle.ats_network_toml.specs.Slots.{all_keys, slot_of, is_listed, stands_beside, has_other};
 
 use crate::key::Key;
 use std::marker::Model;
@@ -49,6 +49,8 @@ const ALL_KEYS: [Key; 27] = [
 pub(crate) struct Slots<'a> {
     members: &'a toml::Table,
     values: [Option<&'a Value>; 27],
+    // Whether each member's text is that of one of all keys.
+    all_named: bool,
 }
 
 impl<'a> Model for Slots<'a> {
@@ -62,7 +64,7 @@ impl<'a> Model for Slots<'a> {
 
     ghost view = { λ s. s.members.now.entries };
 
-    ghost invariant = { λ s. AreSlots s.members.now.entries s.values };
+    ghost invariant = { λ s. AreSlots s.members.now.entries s.values s.all_named };
 }
 
 impl<'a> Slots<'a> {
@@ -70,15 +72,45 @@ impl<'a> Slots<'a> {
     pub(crate) fn of(members: &'a toml::Table) -> Self
         ensures { result ≡ members.now.entries }
     {
-        let values = values_of(members);
-        Slots { members, values }
+        let mut values = [None; 27];
+        let mut all_named = true;
+        'members: for (text, value) in members.iter() {
+            match slot_named(text.as_str()) {
+                Some(slot) => values[slot] = at(values.as_slice(), slot).or(Some(value)),
+                None => all_named = false,
+            }
+        }
+        Slots {
+            members,
+            values,
+            all_named,
+        }
     }
 
     /// Whether a key stands in the table that is none of these.
     pub(crate) fn has_unknown(&self, keys: &[Key]) -> bool
         ensures { result ≡ has_unknown keys.now (members_view self.now) }
     {
-        has_unknown(keys, self.members)
+        // Where each text is a key's, the keys decide, and no text is compared again.
+        if self.all_named {
+            self.has_other(keys)
+        } else {
+            has_unknown(keys, self.members)
+        }
+    }
+
+    // Whether one of all keys stands in the table and is none of these.
+    fn has_other(&self, keys: &[Key]) -> bool
+        ensures { result ≡ has_other keys.now (members_view self.now) }
+    {
+        ALL_KEYS.iter().any(|key| self.stands_beside(keys, *key))
+    }
+
+    // Whether a key stands in the table and is none of these.
+    fn stands_beside(&self, keys: &[Key], key: Key) -> bool
+        ensures { result ≡ stands_beside keys.now (members_view self.now) key }
+    {
+        self.value(key).is_some() && !is_listed(keys, slot_of(key))
     }
 
     /// What stands with a key.
@@ -87,19 +119,6 @@ impl<'a> Slots<'a> {
     {
         at(self.values.as_slice(), slot_of(key))
     }
-}
-
-// The values of a table at the places of their keys.
-fn values_of<'a>(members: &'a toml::Table) -> [Option<&'a Value>; 27]
-    ensures { AreSlots members.now.entries result }
-{
-    let mut values = [None; 27];
-    'members: for (text, value) in members.iter() {
-        if let Some(slot) = slot_named(text.as_str()) {
-            values[slot] = at(values.as_slice(), slot).or(Some(value));
-        }
-    }
-    values
 }
 
 // What stands at a place.
@@ -156,6 +175,14 @@ fn slot_named(text: &str) -> Option<usize>
         .position(|key| text.as_bytes() == key.text().as_bytes())
 }
 
+// Whether one of these keys has this place.
+fn is_listed(keys: &[Key], slot: usize) -> bool
+    ensures { result ≡ is_listed keys.now slot }
+{
+    keys.iter().any(|key| slot_of(*key) == slot)
+}
+
+// Whether a member's text is that of none of these keys.
 fn has_unknown(keys: &[Key], members: &toml::Table) -> bool
     ensures { result ≡ has_unknown keys.now (table_view members.now) }
 {
