@@ -5,8 +5,7 @@ ghost use Rattle.ats_answer.specs.Order.{mixed_named, order_named};
 
 use ats_num::number;
 
-/// Which of the lawful runs of a schedule is meant: how ports break ties, in which order simultaneous events are
-/// handled, and how long frames take to arrive.
+/// Which of the lawful runs of a schedule is meant: how ports break ties, and how long frames take to arrive.
 #[derive(Clone, Copy, Debug, PartialEq, Eq)]
 pub enum Order {
     /// Of equals the frame with the lesser number goes first; each frame arrives as early as it may.

@@ -28,6 +28,7 @@ pub fn finish<O: Sink>(out: &mut O, outcome: Result<Vec<u8>, Stop>) -> Status
     ensures printed { HasText result → Prints outcome result (O.held out.old) (O.held out.new) }
     ensures no_words { ¬ (result ≡ Status.Words) }
     ensures read_failed { result ≡ Status.ReadFailed → outcome ≡ Err Stop.ReadFailed }
+    ensures no_memory { result ≡ Status.NoMemory → outcome ≡ Err Stop.NoMemory }
     ensures write_failed { result ≡ Status.WriteFailed → Rose (O.faults out.old) (O.faults out.new) }
     ensures cut_short { result ≡ Status.WriteFailed → PrintsFront outcome (O.held out.old) (O.held out.new) }
     ensures silent { (result ≡ Status.ReadFailed) ⊎ (result ≡ Status.NoMemory) → O.held out.new ≡ O.held out.old }

@@ -11,7 +11,7 @@ use ats_io::{Files, SureFiles, SureSink};
 use std::alloc::Global;
 
 /// Over files that tell their bytes and a sink, of which neither ever fails, a call ends with the
-/// status that is due, or with `NoMemory`.
+/// status that is due, or with `NoMemory`. Nothing is said of what was written.
 pub fn ats_surely(
     alloc: Global,
     words: &[String],

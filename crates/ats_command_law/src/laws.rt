@@ -13,8 +13,8 @@ ghost use Rattle.ats_command_law.specs.ReplayMeaning.{ReplayKeepsBounds, ReplayM
 use ats_explain::laws::{clear_where_one_holds, each_stream_adds_up};
 
 /// For all words, and all bytes told under the names of their files, just one answer is due, except to `replay` and
-/// `capture` of files without a fault, and to `generate` where releases are made: these may print any run in their
-/// order.
+/// `capture` where no file has a fault and, for `capture`, a station has the name, and to `generate` where releases are
+/// made: these may print any run in their order.
 pub fn one_answer_is_due()
     ensures { OneAnswerIsDue }
 {}

@@ -1,2 +1,3 @@
-//! Which answers are due to each command, and what a call did: definitions alone, over which all commands stand.
+//! Which answers are due to each command, and what a call did: definitions, over which all commands stand, and small
+//! lemmas about them.
 #![tactic(auto)]

@@ -11,7 +11,8 @@ use std::alloc::{AllocError, Global};
 use std::marker::Model;
 
 /// Items in an order. Contracts see them as a list, whose order means nothing, and the capacity and the order that the
-/// heap was opened with. An item that comes in its order waits in a line, any other stands in a tree.
+/// heap was opened with. An item that comes in its order waits in a line, where that has room; any other stands in a
+/// tree.
 #[derive(Drop)]
 pub struct Heap<T: Copy, O: Precedence<T>> {
     tree: Tree<T, O>,
@@ -39,7 +40,8 @@ impl<T: Copy, O: Precedence<T>> Heap<T, O> {
         Heap::open_short(alloc, capacity, capacity, order)
     }
 
-    /// As `open`, where at most one item more than `waiting` waits in the line. `AllocError` where memory runs out.
+    /// As `open`, where at most one item more than `waiting` waits in the line. No clause says so: it is a matter of
+    /// memory alone. `AllocError` where memory runs out.
     pub fn open_short(
         alloc: Global,
         capacity: u32,

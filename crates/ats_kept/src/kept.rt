@@ -40,8 +40,8 @@ impl Model for Kept {
 }
 
 impl Kept {
-    /// What is kept of a network whose ports and classes all fit their links. It takes time and memory linear in the
-    /// number of ports and the sum of the paths' lengths. `AllocError` where memory runs out.
+    /// What is kept of a network against which there is no reason. It takes time and memory linear in the number of
+    /// ports and the sum of the paths' lengths. `AllocError` where memory runs out.
     pub fn new(alloc: Global, network: &Network) -> Result<Self, AllocError>
         requires { reason_of network.now ≡ None }
         ensures { IfOk result (λ kept. IsKept network.now kept) }
@@ -65,7 +65,7 @@ impl Kept {
     /// # Errors
     ///
     /// The reason against the network exactly where there is one, or `Failure::NoMemory` where memory runs out. The
-    /// bounds along the path then are any, and nothing else is changed.
+    /// bounds along the path then are any; all else is still that of the network without the stream.
     pub fn judge(&mut self, network: &Network, stream: u32) -> Result<u128, Failure<Reason>>
         requires last { stream + 1 ≡ length network.now.streams }
         requires free { reason_of (without_at network.now stream) ≡ None }

@@ -70,7 +70,8 @@ impl PortUsers {
         Ok(())
     }
 
-    /// Takes out the path with this number. The others keep their order. It takes no memory.
+    /// Takes out the path with this number, which has to be the one given. The others keep their order. It takes no
+    /// memory.
     pub fn take(&mut self, number: u32, path: &[u32])
         requires number { number < length self.old.slots }
         ensures { (ports : ℕ) (paths : List (List ℕ)) → ListsPaths ports paths self.old

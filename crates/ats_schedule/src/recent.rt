@@ -21,7 +21,7 @@ pub(crate) struct Recent {
 }
 
 impl Recent {
-    /// No sender yet. `AllocError` where there is no memory for the slots.
+    /// Sender 0 in each slot. `AllocError` where there is no memory for the slots.
     pub(crate) fn new(alloc: Global) -> Result<Recent, AllocError> {
         let senders = vec![in alloc; 0u16; SLOTS]?;
         Ok(Recent { senders })
