@@ -1,4 +1,4 @@
-use Rattle.std.proofs.Common.{◌≡◌, ℕ, List, [], Option, Some, None, Result, Ok, Err, refl, sym, ◌∙◌, ap, subst}
+use Rattle.std.proofs.Common.{◌≡◌, ℕ, List, [], Option, Some, None, Result, Ok, Err, refl, sym, ap, subst}
 use Rattle.std.specs.Prelude.{IsSome, IfSome, IfOk, IsErrAnd, IsOk, unwrap_or}
 use Rattle.std.specs.Global.{Vec}
 use Rattle.ats_num.specs.Failure.{◌>>=◌}
@@ -74,14 +74,6 @@ pub text_then : (result : Result (Vec ℕ) Stop) (P Q : List ℕ → Type 0) →
     → ((text : List ℕ) → P text → Q text) → IfOk result (λ (text : Vec ℕ). Q text.items)
 text_then (Ok text) P Q h f = f text.items h
 text_then (Err stop) P Q h f = tt
-
-one_error : {X : Type 0} (stop other : Stop) → (let r : Result X Stop = Err stop in r ≡ Err other) → stop ≡ other
-one_error stop other h = cc
-
--- two stops of one outcome are the same
-pub same_stop : {X : Type 0} (result : Result X Stop) (stop other : Stop) → result ≡ Err stop → result ≡ Err other
-    → stop ≡ other
-same_stop {X} result stop other h k = one_error {X = X} stop other (sym h ∙ k)
 
 -- what is declared is no answer
 pub declared_is_ok : {A : Type 0} (due : Result A Answer) (value : A) → due ≡ Ok value → IsOk due
