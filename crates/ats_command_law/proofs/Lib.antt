@@ -6,6 +6,7 @@ pub mod OneAnswer
 pub mod ReplayMeanings
 pub mod ConformBounds
 pub mod PrintedBounds
+pub mod OneClass
 pub mod AdmitMeanings
 pub mod Surely
 pub mod ConformMeanings

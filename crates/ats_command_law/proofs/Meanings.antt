@@ -81,15 +81,19 @@ judged_bound net bytes network None declared rules is =
         rules = rules;
         holds = holds;
         sound = certificate_is_sound network (least_certificate network) rules holds;
+        in_time = holding_is_in_time network (least_certificate network) rules holds;
         written = refl;
       },
     )
 judged_bound net bytes network (Some reason) declared rules is = (
   network,
+  reason,
   record {
     declared = declared;
     rules = rules;
+    first = is;
     none_holds = λ rows. reason_leaves_none network reason rows rules is;
+    written = refl;
   },
 )
 
@@ -130,11 +134,14 @@ judged_check net certificate net_bytes certificate_bytes network rows (Some refu
     network_is rows_are rules ordered is = (
       network,
       rows,
+      refusal,
       record {
         network_declared = network_is;
         rows_declared = rows_are;
         rules = rules;
+        first = is;
         fails = λ holds. other refusal (sym is ∙ (refused_unless_holding network rows rules ordered).1 holds);
+        written = refl;
       },
     )
   where

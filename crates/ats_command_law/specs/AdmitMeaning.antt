@@ -1,14 +1,17 @@
 use Rattle.std.specs.Prelude.{◌≡◌, ℕ, ◌+◌, ◌⊎◌, List, [], ◌∷◌, ◌++◌, take, Some, Ok, IsErr, slice_get}
 use Rattle.ats_network.specs.Network.{DeclaredNetwork, IsNetwork}
-use Rattle.ats_streams.specs.Stream.{DeclaredStream}
+use Rattle.ats_streams.specs.Stream.{DeclaredStream, with_class}
 use Rattle.ats_certificate.specs.Certificate.{Holds, bound_along}
 use Rattle.ats_certificate.specs.declared.row.Row.{Row}
+use Rattle.ats_tally.specs.declared.reason.Reason.{Reason}
 use Rattle.ats_bound.specs.Least.{least_certificate}
+use Rattle.ats_bound.specs.Reason.{reason_of}
 use Rattle.ats_soundness_law.specs.Sound.{IsSound}
 use Rattle.ats_checker.specs.InTime.{FramesAreInTime}
 use Rattle.ats_requests.specs.Requests.{after_all, answers}
 use Rattle.ats_requests.specs.declared.answer.Answer.TheVariants.{Admitted}
 use Rattle.ats_requests.specs.declared.request.Request.{Request}
+use Rattle.ats_verdict_text.specs.Text.{reason_text, refused_text}
 use Rattle.ats_admission_text.specs.Text.{admission_text}
 use Rattle.ats_answer.specs.Input.{network_in, requests_in}
 use Rattle.ats_due.specs.Due.{admit_answer}
@@ -27,20 +30,21 @@ pub record IsSoundlyBounded (network : DeclaredNetwork) : Type 0 where
 abbrev pub after_first : DeclaredNetwork → List Request → ℕ → DeclaredNetwork
 after_first network asked k = after_all network (take k asked)
 
--- the last stream of a network has this sum of least bounds
-pub record HasLastSum (network : DeclaredNetwork) (sum : ℕ) : Type 0 where
+-- the last stream of a network has this class at each port of its path, and this sum of least bounds
+pub record HasLastSum (network : DeclaredNetwork) (class sum : ℕ) : Type 0 where
   pub others : List DeclaredStream
   pub stream : DeclaredStream
   pub last : network.streams ≡ others ++ stream ∷ []
+  pub has_class : stream ≡ with_class stream class
   pub sum_is : sum ≡ bound_along (least_certificate network) stream
 
--- the sum that is answered to a request is that of the stream that it brings in
+-- the class and the sum that are answered to a request are those of the stream that it brings in
 abbrev pub SumsAreOfTheLast : DeclaredNetwork → List Request → Type 0
 SumsAreOfTheLast network asked = (k class sum : ℕ) → slice_get (answers network asked) k ≡ Some (Admitted class sum)
-    → HasLastSum (after_first network asked (k + 1)) sum
+    → HasLastSum (after_first network asked (k + 1)) class sum
 
 -- two files of these bytes declare this network and make these requests; before and after each of them the least
--- certificate is sound; and the text gives the answers, with the sums of the streams that come in
+-- certificate is sound; and the text gives the answers, with the classes and sums of the streams that come in
 pub record IsAdmission (net requests net_bytes requests_bytes text : List ℕ) (network : DeclaredNetwork)
     (asked : List Request) : Type 0 where
   pub network_declared : network_in net net_bytes ≡ Ok network
@@ -49,13 +53,16 @@ pub record IsAdmission (net requests net_bytes requests_bytes text : List ℕ) (
   pub sums : SumsAreOfTheLast network asked
   pub written : text ≡ admission_text network asked
 
--- they declare this network and make these requests, and no certificate holds for the network
-pub record IsUncertified (net requests net_bytes requests_bytes : List ℕ) (network : DeclaredNetwork)
-    (asked : List Request) : Type 0 where
+-- they declare this network and make these requests; no certificate holds for the network, and the text gives the first
+-- reason against it
+pub record IsUncertified (net requests net_bytes requests_bytes text : List ℕ) (network : DeclaredNetwork)
+    (asked : List Request) (reason : Reason) : Type 0 where
   pub network_declared : network_in net net_bytes ≡ Ok network
   pub requests_made : requests_in network.topology requests requests_bytes ≡ Ok asked
   pub rules : IsNetwork network
+  pub first : reason_of network ≡ Some reason
   pub none_holds : (rows : List Row) → ¬ Holds network rows
+  pub written : text ≡ refused_text (reason_text network.topology reason)
 
 -- the first declares this network, over which the second makes no requests
 pub record HasNoRequests (net requests net_bytes requests_bytes : List ℕ) (network : DeclaredNetwork) : Type 0 where
@@ -72,8 +79,8 @@ AdmitSays net requests net_bytes requests_bytes text Input =
     IsErr (network_in net net_bytes)
     ⊎ ((network : DeclaredNetwork) × HasNoRequests net requests net_bytes requests_bytes network)
 AdmitSays net requests net_bytes requests_bytes text Refused =
-    (network : DeclaredNetwork) × (asked : List Request)
-    × IsUncertified net requests net_bytes requests_bytes network asked
+    (network : DeclaredNetwork) × (asked : List Request) × (reason : Reason)
+    × IsUncertified net requests net_bytes requests_bytes text network asked reason
 AdmitSays net requests net_bytes requests_bytes text Words = ⊥
 AdmitSays net requests net_bytes requests_bytes text ReadFailed = ⊥
 AdmitSays net requests net_bytes requests_bytes text WriteFailed = ⊥

@@ -1,37 +1,46 @@
-use Rattle.std.specs.Prelude.{◌≡◌, ℕ, ◌⊎◌, List, Ok, IsErr}
+use Rattle.std.specs.Prelude.{◌≡◌, ℕ, ◌⊎◌, List, Some, Ok, IsErr}
 use Rattle.ats_network.specs.Network.{DeclaredNetwork, IsNetwork}
 use Rattle.ats_certificate.specs.Certificate.{Holds}
 use Rattle.ats_certificate.specs.declared.row.Row.{Row}
 use Rattle.ats_certificate_file.specs.Text.{certificate_text}
+use Rattle.ats_tally.specs.declared.reason.Reason.{Reason}
 use Rattle.ats_bound.specs.Least.{least_certificate}
+use Rattle.ats_bound.specs.Reason.{reason_of}
 use Rattle.ats_soundness_law.specs.Sound.{IsSound}
 use Rattle.ats_checker.specs.InTime.{FramesAreInTime}
-use Rattle.ats_verdict_text.specs.Text.{accepted_text}
+use Rattle.ats_checker.specs.Refusal.{refusal_of}
+use Rattle.ats_checker.specs.declared.refusal.Refusal.{Refusal}
+use Rattle.ats_verdict_text.specs.Text.{accepted_text, reason_text, refusal_text, refused_text}
 use Rattle.ats_answer.specs.Input.{network_in, rows_in}
 use Rattle.ats_due.specs.Due.{bound_answer, check_answer}
 use Rattle.ats_answer.specs.declared.status.Status.{Status}
 use Rattle.ats_answer.specs.declared.status.Status.TheVariants.{Done, Words, Input, Refused, ReadFailed, WriteFailed}
 use Rattle.ats_answer.specs.declared.status.Status.TheVariants.{NoMemory}
 
--- a file of these bytes declares this network, and the text writes its least certificate, which holds and is sound
+-- a file of these bytes declares this network, and the text writes its least certificate, which holds and is sound, and
+-- by which frames are in time
 pub record IsBounded (net bytes text : List ℕ) (network : DeclaredNetwork) : Type 0 where
   pub declared : network_in net bytes ≡ Ok network
   pub rules : IsNetwork network
   pub holds : Holds network (least_certificate network)
   pub sound : IsSound network (least_certificate network)
+  pub in_time : FramesAreInTime network (least_certificate network)
   pub written : text ≡ certificate_text network.topology (least_certificate network)
 
--- it declares this network, for which no certificate holds
-pub record HasNone (net bytes : List ℕ) (network : DeclaredNetwork) : Type 0 where
+-- it declares this network, for which no certificate holds, and the text gives the first reason against it
+pub record HasNone (net bytes text : List ℕ) (network : DeclaredNetwork) (reason : Reason) : Type 0 where
   pub declared : network_in net bytes ≡ Ok network
   pub rules : IsNetwork network
+  pub first : reason_of network ≡ Some reason
   pub none_holds : (rows : List Row) → ¬ Holds network rows
+  pub written : text ≡ refused_text (reason_text network.topology reason)
 
 -- what an answer to `bound NET` says of the bytes of the file, by its text and status; four statuses never come
 abbrev pub BoundSays : List ℕ → List ℕ → List ℕ → Status → Type 0
 BoundSays net bytes text Done = (network : DeclaredNetwork) × IsBounded net bytes text network
 BoundSays net bytes text Input = IsErr (network_in net bytes)
-BoundSays net bytes text Refused = (network : DeclaredNetwork) × HasNone net bytes network
+BoundSays net bytes text Refused =
+    (network : DeclaredNetwork) × (reason : Reason) × HasNone net bytes text network reason
 BoundSays net bytes text Words = ⊥
 BoundSays net bytes text ReadFailed = ⊥
 BoundSays net bytes text WriteFailed = ⊥
@@ -53,13 +62,15 @@ pub record IsAccepted (net certificate net_bytes certificate_bytes text : List �
   pub in_time : FramesAreInTime network rows
   pub written : text ≡ accepted_text network rows
 
--- they declare this network and these rows, which do not hold for it
-pub record IsRefused (net certificate net_bytes certificate_bytes : List ℕ) (network : DeclaredNetwork)
-    (rows : List Row) : Type 0 where
+-- they declare this network and these rows, which do not hold for it, and the text gives the first refusal of them
+pub record IsRefused (net certificate net_bytes certificate_bytes text : List ℕ) (network : DeclaredNetwork)
+    (rows : List Row) (refusal : Refusal) : Type 0 where
   pub network_declared : network_in net net_bytes ≡ Ok network
   pub rows_declared : rows_in network.topology certificate certificate_bytes ≡ Ok rows
   pub rules : IsNetwork network
+  pub first : refusal_of network rows ≡ Some refusal
   pub fails : ¬ Holds network rows
+  pub written : text ≡ refused_text (refusal_text network.topology refusal)
 
 -- the first declares this network, and the second no rows for its ports
 pub record HasNoRows (net certificate net_bytes certificate_bytes : List ℕ) (network : DeclaredNetwork) : Type 0 where
@@ -75,7 +86,8 @@ CheckSays net certificate net_bytes certificate_bytes text Input =
     IsErr (network_in net net_bytes)
     ⊎ ((network : DeclaredNetwork) × HasNoRows net certificate net_bytes certificate_bytes network)
 CheckSays net certificate net_bytes certificate_bytes text Refused =
-    (network : DeclaredNetwork) × (rows : List Row) × IsRefused net certificate net_bytes certificate_bytes network rows
+    (network : DeclaredNetwork) × (rows : List Row) × (refusal : Refusal)
+    × IsRefused net certificate net_bytes certificate_bytes text network rows refusal
 CheckSays net certificate net_bytes certificate_bytes text Words = ⊥
 CheckSays net certificate net_bytes certificate_bytes text ReadFailed = ⊥
 CheckSays net certificate net_bytes certificate_bytes text WriteFailed = ⊥

@@ -25,8 +25,9 @@ pub fn one_status_is_due()
 {}
 
 /// What each answer to `bound` means, by its status. `Done`: the file declares a network, and the text writes its least
-/// certificate, which holds and is sound. `Refused`: it declares a network for which no certificate holds. `Input`: it
-/// declares none. No other status comes.
+/// certificate, which holds and is sound, and by which each frame of a talker that keeps its buckets arrives within its
+/// stream's sum and deadline. `Refused`: it declares a network for which no certificate holds, and the text gives the
+/// first reason against it. `Input`: it declares none. No other status comes.
 pub fn what_bound_answers()
     ensures { BoundMeans }
 {}
@@ -46,7 +47,8 @@ pub fn what_explain_answers()
 /// What each answer to `check` means, by its status. `Done`: the files declare a network and rows that hold for it and
 /// are sound, by which each frame of a talker that keeps its buckets arrives within its stream's sum and deadline, and
 /// the text gives the bounds and sums of these rows. `Refused`: they declare a network and rows that do not hold for
-/// it. `Input`: one of them does not declare what it should. No other status comes.
+/// it, and the text gives the first refusal of these rows. `Input`: one of them does not declare what it should. No
+/// other status comes.
 pub fn what_check_answers()
     ensures { CheckMeans }
 {}
@@ -62,9 +64,10 @@ pub fn what_conform_answers()
 /// What each answer to `admit` means, by its status. `Done`: the files declare a network and make requests; for the
 /// network as it is, and after each request, the least certificate holds and is sound, and by it each frame of a talker
 /// that keeps its buckets arrives within its stream's sum and deadline; and the text gives the answers that the
-/// definition of admission gives, one after the other, each with the sum of the stream that came in, and the number of
-/// streams at the end. `Refused`: they declare a network, for which no certificate holds, and make requests. `Input`:
-/// one of them does not declare what it should. No other status comes.
+/// definition of admission gives, one after the other, and the number of streams at the end; where a stream came in,
+/// the class is that which it has at each port of its path, and the sum is that of its least bounds. `Refused`: they
+/// declare a network, for which no certificate holds, and make requests, and the text gives the first reason against
+/// the network. `Input`: one of them does not declare what it should. No other status comes.
 pub fn what_admit_answers()
     ensures { AdmitMeans }
 {}
