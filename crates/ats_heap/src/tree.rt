@@ -1,12 +1,17 @@
 //! A heap in one array.
 
-ghost use Rattle.std.specs.Prelude.{◌≡◌, ◌↔◌, ◌+◌, ◌<◌, [], ◌∷◌, length, IsNone, IfNone, IfSome, IfOk, IsPermutation};
+ghost use Rattle.std.specs.Prelude.{◌≡◌, ◌↔◌, ◌+◌, ◌<◌, ◌≤◌, [], ◌∷◌, length, IsNone, IfNone, IfSome, IfOk};
+ghost use Rattle.std.specs.Prelude.{IsPermutation};
 ghost use Rattle.ats_heap.specs.Steps.{Pops, IsFirst};
 
 use crate::precedence::Precedence;
 use crate::sift::{rise, settle};
 use std::alloc::{AllocError, Global};
 use std::marker::Model;
+
+/// The least room of an array that has any. The system's allocator keeps blocks of up to 1,032 bytes for itself when
+/// they are freed, and what lies below them stays with the program; so no array of a queue is that small.
+const LEAST: u32 = 44;
 
 /// Items in an order, each of which stands above two others. Contracts see them as a heap: a list, whose order means
 /// nothing, and the capacity and the order that the tree was opened with.
@@ -37,7 +42,7 @@ impl<T: Copy, O: Precedence<T>> Tree<T, O> {
         ensures { IfOk result (λ tree. tree ≡ record { items = []; capacity = capacity; order = order }) }
     {
         Ok(Tree {
-            items: Vec::with_capacity(alloc, capacity as usize)?,
+            items: Vec::with_capacity(alloc, room_for(capacity))?,
             capacity,
             order,
         })
@@ -86,4 +91,14 @@ impl<T: Copy, O: Precedence<T>> Tree<T, O> {
         }
         Some(self.items[0])
     }
+}
+
+/// The room of an array for so many items: none, or for some more where they are few.
+fn room_for(capacity: u32) -> usize
+    ensures { capacity ≤ result }
+{
+    if capacity == 0 {
+        return 0;
+    }
+    capacity.max(LEAST) as usize
 }
