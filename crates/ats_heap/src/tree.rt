@@ -9,8 +9,8 @@ use crate::sift::{rise, settle};
 use std::alloc::{AllocError, Global};
 use std::marker::Model;
 
-/// The least room of an array that has any. The system's allocator keeps blocks of up to 1,032 bytes for itself when
-/// they are freed, and what lies below them stays with the program; so no array of a queue is that small.
+/// The least room of an array that has any. The system's allocator keeps some blocks of each size up to 1,032 bytes
+/// when they are freed, and what lies below them stays with the program; 44 entries of a queue take 1,056.
 const LEAST: u32 = 44;
 
 /// Items in an order, each of which stands above two others. Contracts see them as a heap: a list, whose order means
