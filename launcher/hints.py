@@ -1,11 +1,14 @@
 """Names the culprit of a fault that `ats` names by its kind and a number alone.
 
-Usage: hints.py KIND FILE FAULT NET. KIND is what the file is to the command (NET, CERT, SCHEDULE, REQUESTS or FILE), FAULT
-what the program prints behind `input FILE`, or of a schedule the line `refused`, NET the network file. Prints one line, or
-nothing where no culprit is found. It reads the files by Python's own readers (of TOML from Python 3.11 on), so what it prints
-is a help for people and nothing that is proved."""
+Usage: hints.py KIND FILE FAULT NET. KIND is what the file is to the command (NET, CERT, SCHEDULE, REQUESTS, CAPTURE, or
+FILE for a shape file), FAULT what the program prints behind `input FILE`, or of a schedule the line `refused`, NET the
+network file. Prints one line, or nothing where no culprit is found. It reads the files by Python's own readers (of TOML
+from Python 3.11 on), so what it prints is a help for people and nothing that is proved.
+
+The tables of keys, ranges and headers are held against docs/FORMATS.md by .ci/launcher."""
 
 import csv
+import datetime
 import difflib
 import io
 import re
@@ -16,8 +19,10 @@ KEYS = {
     "top": ["format", "station", "bridge", "link", "stream", "flow"],
     "station": ["name"],
     "link": ["a", "b", "mbps", "propagation_ns"],
-    "stream": ["name", "path", "from", "to", "class", "classes", "rate_bps", "burst_bits", "min_octets", "max_octets",
-               "deadline_ns", "address", "vlan"],
+    "stream": [
+        "name", "path", "from", "to", "class", "classes", "rate_bps", "burst_bits", "min_octets", "max_octets",
+        "deadline_ns", "address", "vlan",
+    ],
     "flow": ["name", "path", "from", "to", "max_octets"],
 }
 BRIDGE_KEYS = {
@@ -44,14 +49,26 @@ RATES = "10, 100, 1000, 2500, 5000, 10000, 25000, 40000, 50000 or 100000"
 MOST_NESTED = 80
 MOST_LINKS = 16
 HEADERS = {"CERT": "port,class,higher,equal,bursts,lower,least,wait,bound", "SCHEDULE": "at_ps,sender,octets"}
-REQUEST_FORMS = "a line is admit NAME FROM TO CLASS RATE BURST MIN MAX DEADLINE_NS, or withdraw NAME"
-SHAPE_FORMS = "a line is residence NS (the first), stream NAME RATE BURST MIN MAX, or frame AT NAME OCTETS"
+REQUEST_FORMS = ["admit NAME FROM TO CLASS RATE BURST MIN MAX DEADLINE_NS", "withdraw NAME"]
+SHAPE_FORMS = ["residence NS", "stream NAME RATE BURST MIN MAX", "frame AT NAME OCTETS"]
+FORMS = {
+    "REQUESTS": "a line is {}, or {}".format(*REQUEST_FORMS),
+    "FILE": "a line is {} (the first), {}, or {}".format(*SHAPE_FORMS),
+}
+PCAP_HEADER = 24
+MAGIC = {b"\xd4\xc3\xb2\xa1", b"\xa1\xb2\xc3\xd4", b"\x4d\x3c\xb2\xa1", b"\xa1\xb2\x3c\x4d", b"\x0a\x0d\x0d\x0a"}
 
 
 def shown(value):
     """A value as it may be printed: short, and without what could steer a terminal."""
-    text = repr(value)
+    is_time = isinstance(value, (datetime.date, datetime.time))
+    text = value.isoformat() if is_time else repr(value)
     return text if len(text) <= 70 else text[:67] + "..."
+
+
+def range_of(key):
+    """The least and the greatest that a number may be, as words."""
+    return "{} to {}".format(*RANGES[key])
 
 
 def near(name, names):
@@ -71,13 +88,23 @@ def line_of(text, number, column=1):
     return line if column <= 60 else "..." + line[column - 40:]
 
 
-# What is no TOML
+# What is another kind of file
 
 
-def no_utf8(raw, error):
+def strange(raw):
+    """What a file is that is no text, where that shows."""
+    if raw[:4] in MAGIC:
+        return "the file is a capture, which ats capture NET STATION FILE ORDER runs"
     if raw[:2] in (b"\xff\xfe", b"\xfe\xff"):
         return "the file is UTF-16: save it as UTF-8"
-    return f"line {raw[:error.start].count(10) + 1} is no UTF-8"
+    try:
+        raw.decode("utf-8")
+    except UnicodeDecodeError as error:
+        return f"line {raw[:error.start].count(10) + 1} is no UTF-8"
+    return None
+
+
+# What is no TOML
 
 
 def outside_64_bits(value, key):
@@ -100,10 +127,9 @@ TOML_SIGNS = {
 
 
 def not_toml(raw):
-    try:
-        text = text_of(raw)
-    except UnicodeDecodeError as error:
-        return no_utf8(raw, error)
+    if other := strange(raw):
+        return other
+    text = text_of(raw)
     if text.startswith(("port,class,", "at_ps,")):
         return "the file is a table of values: the network comes first among the words"
     alone = re.search(r"\r(?!\n)", text)
@@ -118,7 +144,8 @@ def not_toml(raw):
             return f"Python's reader of TOML says: {error}"
         number, column = int(place[1]), int(place[2])
         more = next((more for sign, more in TOML_SIGNS.items() if sign in str(error)), "")
-        return f"Python's reader of TOML says: {error}; line {number} is {shown(line_of(text, number, column))}{more}"
+        line = shown(line_of(text, number, column))
+        return f"Python's reader of TOML says: {error}; line {number} is {line}{more}"
     except RecursionError:
         return f"arrays are nested deeper than {MOST_NESTED}"
 
@@ -147,11 +174,13 @@ def unknown_key(document, table, number):
     keys = keys_of(document, table)
     for key in entry_of(document, table, number):
         if key not in keys:
+            listed = "; its keys are " + ", ".join(keys)
             if table == "bridge" and any(key in others for others in BRIDGE_KEYS.values()):
-                return f"the key {key} is not one of format {document.get('format')}; its keys are {', '.join(keys)}"
+                return f"the key {key} is not one of format {document.get('format')}{listed}"
             if table != "top" and key in KEYS["top"]:
-                return f"{key} stands behind [[{table}]] and so belongs to it: put it before the first table in double brackets"
-            return f"the key {shown(key)} is not known there{near(key, keys) or '; its keys are ' + ', '.join(keys)}"
+                due = "put it before the first table in double brackets"
+                return f"{key} stands behind [[{table}]] and so belongs to it: {due}"
+            return f"the key {shown(key)} is not known there{near(key, keys) or listed}"
     return None
 
 
@@ -164,8 +193,10 @@ def missing_format(document):
     for table in KEYS["top"][1:]:
         for number, entry in enumerate(document.get(table, []), 1):
             if isinstance(entry, dict) and "format" in entry:
-                return f"format stands behind [[{table}]] and so belongs to {table} {number}: put it before the first table"
-    return unknown_key(document, "top", 0) or "the file begins with format = 1, or 2 where bridges have two processing times"
+                due = "put it before the first table"
+                return f"format stands behind [[{table}]] and so belongs to {table} {number}: {due}"
+    due = "the file begins with format = 1, or 2 where bridges have two processing times"
+    return unknown_key(document, "top", 0) or due
 
 
 DUE = {
@@ -208,11 +239,12 @@ def wrong_number(key, value):
     if key == "mbps":
         due = f"it is {RATES}"
     elif key in RANGES:
-        due = "it is 1 or 2" if key == "format" else "it is {} to {}".format(*RANGES[key])
+        due = "it is 1 or 2" if key == "format" else f"it is {range_of(key)}"
     else:
         return f"{key} is {shown(value)}"
     whole = isinstance(value, int) and not isinstance(value, bool)
-    return f"{key} is {shown(value)}; {due}" + ("" if whole else ", a whole number without point, exponent, quotes and unit")
+    kind = "" if whole else ", a whole number without point, exponent, quotes and unit"
+    return f"{key} is {shown(value)}; {due}{kind}"
 
 
 def wrong_kind(document, table, number, key):
@@ -320,9 +352,9 @@ def distances(start, links):
 
 
 RULES = {
-    "bad-class": "a class is 1 to 7",
-    "bad-rate": "a rate is 1 to 100000000000 b/s",
-    "bad-sizes": "octets are 64 to 2000, and the least not above the greatest",
+    "bad-class": f"a class is {range_of('class')}",
+    "bad-rate": f"a rate is {range_of('rate_bps')} b/s",
+    "bad-sizes": f"octets are {range_of('max_octets')}, and the least not above the greatest",
     "limit": f"the most are {MOST_LINKS} links, {RANGES['burst_bits'][1]} bits and {RANGES['deadline_ns'][1]} ns",
 }
 
@@ -332,7 +364,10 @@ def due_of(document, entry, fault):
     if fault == "burst-below-frame":
         return f"the burst is at least {8 * (entry['max_octets'] + 20)}"
     if fault == "bad-class" and "classes" in entry:
-        ports = len(entry["path"]) - 1 if "path" in entry else distances(entry["from"], links_of(document))[entry["to"]]
+        if "path" in entry:
+            ports = len(entry["path"]) - 1
+        else:
+            ports = distances(entry["from"], links_of(document))[entry["to"]]
         return f"{RULES[fault]}, and of the path's {ports} ports each has one, or all the same"
     return RULES[fault]
 
@@ -416,19 +451,21 @@ def no_sender(name, document):
 
 def no_port(port, document):
     """What stands in the place of a port in a certificate."""
-    ports = [f"{a}>{b}" for link in document.get("link", []) for a, b in ((link["a"], link["b"]), (link["b"], link["a"]))]
+    ends = [(link["a"], link["b"]) for link in document.get("link", [])]
+    ports = [f"{a}>{b}" for one, other in ends for a, b in ((one, other), (other, one))]
     return f"; no port is called {shown(port)}{near(port, ports)}"
 
 
 def due_of_record(kind, fault, record, number, net):
     """What a record has to keep that has a fault."""
     if fault == "bad-row":
-        due = "the header is" if number == 1 else f"there are {HEADERS[kind].count(',') + 1} fields, joined by commas, as in"
+        fields = HEADERS[kind].count(",") + 1
+        due = "the header is" if number == 1 else f"there are {fields} fields, joined by commas, as in"
         return f"; {due} {HEADERS[kind]}"
     if fault == "bad-number":
         return "; numbers are whole, without signs, points, exponents and blanks"
     if fault == "bad-size":
-        return "; octets are 64 to 2000"
+        return f"; octets are {range_of('max_octets')}"
     if fault == "unknown-name":
         return no_sender(record[1], network_of(net))
     if fault == "unknown-port":
@@ -441,6 +478,8 @@ def records_of(text):
 
 
 def record_hint(kind, raw, fault, number, net):
+    if other := strange(raw):
+        return other
     text = text_of(raw)
     if number == 1 and re.match(r"(refused|input) ", text):
         return f"the file has what ats said in place of a certificate: {shown(line_of(text, 1))}"
@@ -461,8 +500,6 @@ def refused_frames(raw, words):
 def request_hint(line, fault, net):
     """What a line of a request file has to keep that has a fault."""
     words = line.split()
-    if fault == "bad-line":
-        return f"; {REQUEST_FORMS}"
     if fault in ("unknown-node", "no-path"):
         document = network_of(net)
         stations = [node["name"] for node in document.get("station", [])]
@@ -473,23 +510,60 @@ def request_hint(line, fault, net):
     return f"; {RULES[fault]}" if fault in ("bad-class", "bad-rate", "bad-sizes") else ""
 
 
-def capture_hint(raw, fault):
-    """What a capture is that cannot be read."""
-    if fault == "pcapng":
-        return "editcap -F pcap FILE NEW makes a pcap of it"
-    if fault == "bad-link":
-        return f"its link type is {int.from_bytes(raw[20:24], 'big' if raw[0] == 0xa1 else 'little')}, and that of Ethernet is 1"
+def bad_magic(raw):
+    """What a file is that begins as no capture does."""
     if raw[:2] == b"\x1f\x8b":
         return "gzip compressed it: editcap -F pcap FILE NEW unpacks it"
-    return f"it begins with {shown(raw[:16].decode('latin-1'))}, which is no capture" if fault == "bad-magic" else None
+    return f"it begins with {shown(raw[:16].decode('latin-1'))}, which is no capture"
+
+
+def cut_short(raw, number):
+    """Where a capture ends that is not whole."""
+    if not raw:
+        return "the file is empty, as where the tool wrote nothing"
+    if number == 0:
+        return f"the file has {len(raw)} bytes, and the header of a capture {PCAP_HEADER}"
+    return f"the file ends inside record {number}: editcap -F pcap FILE NEW leaves that record out"
+
+
+def capture_hint(raw, words):
+    """What a capture is that cannot be read."""
+    order = "big" if raw[:1] == b"\xa1" else "little"
+    match words:
+        case ["pcapng"]:
+            return "editcap -F pcap FILE NEW makes a pcap of it"
+        case ["bad-link"]:
+            return f"its link type is {int.from_bytes(raw[20:24], order)}, and that of Ethernet is 1"
+        case ["bad-version"]:
+            version = int.from_bytes(raw[4:6], order), int.from_bytes(raw[6:8], order)
+            return "its version is {}.{}, and 2.4 is due".format(*version)
+        case ["bad-magic"]:
+            return bad_magic(raw)
+        case ["cut-short", number]:
+            return cut_short(raw, int(number))
+    return None
+
+
+def bad_line(kind, text, line):
+    """What a line has to be that has no form."""
+    if not any(words.strip(" \r") for words in text.split("\n") if not words.startswith("#")):
+        return "no line of the file says anything; " + FORMS[kind]
+    if line.startswith("\ufeff"):
+        return "a byte order mark stands in front: save the file without"
+    if "\t" in line:
+        return "a tab stands there, and words are separated by spaces"
+    return FORMS[kind]
 
 
 def line_hint(kind, raw, fault, number, net):
-    line = line_of(raw.decode("utf-8"), number)
-    if kind == "REQUESTS":
-        due = request_hint(line, fault, net)
+    if other := strange(raw):
+        return other
+    text = raw.decode("utf-8")
+    line = line_of(text, number)
+    if fault == "bad-line":
+        due = "; " + bad_line(kind, text, line)
     else:
-        due = f"; {SHAPE_FORMS}" if fault == "bad-line" else ""
+        due = request_hint(line, fault, net) if kind == "REQUESTS" else ""
     return f"line {number} is {shown(line)}{due}"
 
 
@@ -498,8 +572,8 @@ def hint(kind, raw, words, net):
         return network_hint(raw, words)
     if words[0] == "refused":
         return refused_frames(raw, words[2:])
-    if words[0] in ("pcapng", "bad-link", "bad-magic"):
-        return capture_hint(raw, words[0])
+    if kind == "CAPTURE":
+        return capture_hint(raw, words)
     number = int(words[-1])
     if kind in HEADERS:
         return record_hint(kind, raw, words[0], number, net)
@@ -515,4 +589,5 @@ def main():
         print(found)
 
 
-main()
+if __name__ == "__main__":
+    main()
