@@ -7,7 +7,6 @@ pub mod Lists
 pub mod Judged
 pub mod SenderParts
 pub mod MetersMade
-pub mod Counts
 pub mod Prefix
 pub mod OneBroken
 pub mod Either

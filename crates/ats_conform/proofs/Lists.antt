@@ -1,19 +1,16 @@
 use Rattle.std.proofs.Common.{◌≡◌, ◌≢◌, ℕ, ◌+◌, ◌<◌, ◌≤◌, ◌==◌, Bool, true, false}
 use Rattle.std.proofs.Common.{cond, if◌then◌else◌, List, [], ◌∷◌, ◌++◌}
-use Rattle.std.proofs.Common.{length, map, filter, take, get_or, All, refl, sym, ap, ◌∙◌, append-nil, arith}
+use Rattle.std.proofs.Common.{length, map, filter, take, get_or, All, refl, ap, ◌∙◌, append-nil, arith}
 use Rattle.std.proofs.lemmas.Bool.{eq-eqb, ne_eqb}
 use Rattle.std.proofs.lemmas.List.{take_more, length-take-le, get_or-take, get_or-map, length-map}
 use Rattle.std.proofs.lemmas.List.Elements.{All-nil, All-cons, All-head, All-tail}
-use Rattle.std.proofs.lemmas.List.Sums.{sum_by-take-le, count_by_more_yes}
 use Rattle.std.specs.List.Sorted.{IsNonDecreasing}
-use Rattle.ats_facts.proofs.Lists.{count_by-cons}
 use Rattle.ats_bucket.specs.Conforming.{Frame}
 use Rattle.ats_trace.specs.Talker.{frame_of, frames_of}
 use Rattle.ats_trace.specs.declared.journey.Release.{Release}
 use Rattle.ats_conform.specs.declared.meter.Metered.{Metered}
 use Rattle.ats_conform.specs.Metering.{counted}
 use Rattle.ats_conform.specs.Releases.{no_release, release_at, metered_at, metered_from}
-use Rattle.ats_conform.specs.Steps.{count_of}
 
 joined : (b : Bool) (m : Metered) (l a z : List Metered) → l ≡ a ++ z
     → (if b then m ∷ l else l) ≡ (if b then m ∷ a else a) ++ z
@@ -73,28 +70,15 @@ counted-frames i n (r ∷ releases) =
     by true l rs e = ap (λ (t : List Frame). frame_of r ∷ t) e
     by false l rs e = e
 
--- and there are as many
-pub length-metered : (i n : ℕ) (releases : List Release) → length (metered_from i n releases) ≡ count_of i releases
-length-metered i n [] = refl
-length-metered i n (r ∷ releases) =
-    by (r.sender == i) (metered_from i (n + 1) releases) (length-metered i (n + 1) releases)
-    ∙ sym (count_by-cons (λ (s : Release). s.sender == i) r releases)
+-- a sender has no more frames than there are releases
+pub few : (i n : ℕ) (releases : List Release) → length (metered_from i n releases) ≤ length releases
+few i n [] = omega arith
+few i n (r ∷ releases) = by (r.sender == i) (metered_from i (n + 1) releases) (few i (n + 1) releases)
   where
-    by : (b : Bool) (l : List Metered) → length l ≡ count_of i releases
-        → length (if b then metered_at n r ∷ l else l) ≡ cond b 1 0 + count_of i releases
-    by true l e = omega arith
-    by false l e = omega arith
-
--- before a release of a sender fewer of its releases came than there are
-pub fewer : (i n : ℕ) (releases : List Release) → n < length releases → (release_at releases n).sender ≡ i
-    → length (metered_from i 0 (take n releases)) < count_of i releases
-fewer i n releases h e =
-    let mine : Release → Bool = λ r. r.sender == i in
-    let more : count_of i (take (n + 1) releases) ≡ count_of i (take n releases) + 1 =
-    count_by_more_yes mine releases n no_release h (eq-eqb (release_at releases n).sender i e) in
-    let all : count_of i (take (n + 1) releases) ≤ count_of i releases =
-    sum_by-take-le (λ (r : Release). cond (mine r) 1 0) releases (n + 1) in
-    omega (arith, length-metered i 0 (take n releases))
+    by : (b : Bool) (l : List Metered) → length l ≤ length releases
+        → length (if b then metered_at n r ∷ l else l) ≤ length (r ∷ releases)
+    by true l h = omega arith
+    by false l h = omega arith
 
 -- what holds of each release holds of each frame
 metered-all : (P : Metered → Type 0) (Q : Release → Type 0) → ((n : ℕ) (r : Release) → Q r → P (metered_at n r))

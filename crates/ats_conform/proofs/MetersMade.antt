@@ -7,21 +7,20 @@ use Rattle.ats_network.specs.Sender.{Sender}
 use Rattle.ats_network.specs.Network.{DeclaredNetwork}
 use Rattle.ats_trace.specs.declared.journey.Release.{Release}
 use Rattle.ats_conform.specs.Metering.{Metering}
-use Rattle.ats_conform.specs.Steps.{count_of, meter_after}
+use Rattle.ats_conform.specs.Steps.{meter_after}
 use Rattle.ats_conform.proofs.SenderParts.{stream-at}
 
 -- the meter of a stream before any release
 pub meter-first : (network : DeclaredNetwork) (releases : List Release) (i : ℕ) (stream : DeclaredStream)
-    (rate burst room : ℕ) → i < length network.streams → stream ≡ get_or network.streams i stream
-    → rate ≡ stream.rate → burst ≡ stream.burst_bits → room ≡ count_of i releases
-    → (let m : Metering = record { rate = rate; burst = burst; room = room; taken = [] } in m)
-    ≡ meter_after network releases 0 i
-meter-first network releases i stream rate burst room h is r b n =
+    (rate burst : ℕ) → i < length network.streams → stream ≡ get_or network.streams i stream
+    → rate ≡ stream.rate → burst ≡ stream.burst_bits
+    → (let m : Metering = record { rate = rate; burst = burst; taken = [] } in m) ≡ meter_after network releases 0 i
+meter-first network releases i stream rate burst h is r b =
     let sender = stream-at network i stream h in
     let one : rate ≡ (get_or network.streams i stream).rate = r ∙ ap (λ (s : DeclaredStream). s.rate) is in
     let two : burst ≡ (get_or network.streams i stream).burst_bits = b ∙ ap (λ (s : DeclaredStream). s.burst_bits) is in
-    rw (one, two, n) (ap (λ (s : Sender). let m : Metering =
-    record { rate = s.rate; burst = s.burst_bits; room = count_of i releases; taken = [] } in m) (sym sender))
+    rw (one, two) (ap (λ (s : Sender). let m : Metering =
+    record { rate = s.rate; burst = s.burst_bits; taken = [] } in m) (sym sender))
 
 -- the meters of the first streams, and the next one
 pub meters-more : (network : DeclaredNetwork) (releases : List Release) (n : ℕ) (meters new : List Metering)

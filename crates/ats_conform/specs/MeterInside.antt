@@ -47,12 +47,9 @@ abbrev pub IsWorstOf : ℕ → List Metered → Option Start → Type 0
 IsWorstOf rate taken None = taken ≡ []
 IsWorstOf rate taken (Some start) = IsWorst rate taken start
 
--- what a meter keeps: memory for all frames that it has room for, frames that conform, their bits, and the worst start
-pub record IsKept (rate burst room : ℕ) (taken : List Metered) (capacity total : ℕ) (start : Option Start) : Type 0
-  where
-    pub reserved : room ≤ capacity
-    pub within : length taken ≤ room
-    pub small : All (λ (m : Metered). m.bits ≤ MAX_WIRE_BITS) taken
-    pub conforms : Conforms rate burst (counted taken)
-    pub sent : sum_by (λ (m : Metered). m.bits) taken ≡ total
-    pub worst : IsWorstOf rate taken start
+-- the frames that a meter took conform, and of them it keeps the sum of their bits and the worst start
+pub record IsKept (rate burst : ℕ) (taken : List Metered) (total : ℕ) (start : Option Start) : Type 0 where
+  pub small : All (λ (m : Metered). m.bits ≤ MAX_WIRE_BITS) taken
+  pub conforms : Conforms rate burst (counted taken)
+  pub sent : sum_by (λ (m : Metered). m.bits) taken ≡ total
+  pub worst : IsWorstOf rate taken start

@@ -4,12 +4,10 @@ use Rattle.ats_num.specs.declared.time.TheConstants.{PS_PER_SECOND}
 use Rattle.ats_bucket.specs.Conforming.{Frame, bits_between, time_between}
 use Rattle.ats_conform.specs.declared.meter.Metered.{Metered}
 
--- what a meter is: a rate in bits per second, a burst in bits, the number of frames that it has room for, and the
--- frames that it took
+-- what a meter is: a rate in bits per second, a burst in bits, and the frames that it took
 pub record Metering : Type 0 where
   pub rate : ℕ
   pub burst : ℕ
-  pub room : ℕ
   pub taken : List Metered
 
 -- a frame with this number, time and bits

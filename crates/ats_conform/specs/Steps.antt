@@ -1,4 +1,4 @@
-use Rattle.std.specs.Prelude.{◌≡◌, ℕ, ◌<◌, ◌==◌, List, length, take, count_by, All, slice_index_or}
+use Rattle.std.specs.Prelude.{◌≡◌, ℕ, ◌<◌, List, length, take, All, slice_index_or}
 use Rattle.ats_network.specs.Network.{DeclaredNetwork}
 use Rattle.ats_bucket.specs.Conforming.{Conforms}
 use Rattle.ats_trace.specs.Eligibility.{declared_by}
@@ -7,16 +7,11 @@ use Rattle.ats_trace.specs.declared.journey.Release.{Release}
 use Rattle.ats_conform.specs.Metering.{Metering, counted}
 use Rattle.ats_conform.specs.Releases.{metered_from}
 
--- how many of the releases are a sender's
-abbrev pub count_of : ℕ → List Release → ℕ
-count_of i releases = count_by (λ (r : Release). r.sender == i) releases
-
--- the meter of a stream after the first n releases: it has room for all of its frames, and has taken those so far
+-- the meter of a stream after the first n releases: it has taken the stream's frames among them
 abbrev pub meter_after : DeclaredNetwork → List Release → ℕ → ℕ → Metering
 meter_after network releases n i = record {
   rate = (declared_by network i).rate;
   burst = (declared_by network i).burst_bits;
-  room = count_of i releases;
   taken = metered_from i 0 (take n releases);
 }
 

@@ -23,7 +23,7 @@ use std::alloc::Global;
 /// has a declared size, and those of each stream conform to its declared rate and burst. Conditions: there are at most
 /// 200,000 releases, none is earlier than one before it or later than 100,000,000,000,000,000 ps, each is of a sender
 /// of the network, and octets are 64 to 2000. It takes time linear in the numbers of streams and releases, and room for
-/// one frame a release.
+/// one meter a stream.
 ///
 /// # Errors
 ///
@@ -39,7 +39,7 @@ pub fn conform(
     ensures broken { IfErr result (AreBrokenOrFails network.now releases.now) }
     ensures err { IfErr result (BreaksOrFails network.now releases.now) }
 {
-    let mut meters = meters_for(alloc, network, releases)?;
+    let mut meters = meters_for(alloc, network)?;
     for place in 0..releases.len() {
         judge(network, &mut meters, releases, place)?;
     }

@@ -1,11 +1,13 @@
-use Rattle.std.proofs.Common.{◌≡◌, ℕ, ◌+◌, ◌*◌, ◌<◌, ◌≤◌, [], ◌∷◌, ◌++◌, length, All, refl, sym, ◌∙◌, subst, arith}
+use Rattle.std.proofs.Common.{◌≡◌, ℕ, ◌+◌, ◌*◌, ◌^◌, ◌<◌, ◌≤◌, List, [], ◌∷◌, ◌++◌, length, take, All, refl, sym, ◌∙◌}
+use Rattle.std.proofs.Common.{subst, arith}
+use Rattle.std.proofs.lemmas.List.{length-take-le}
 use Rattle.ats_bucket.specs.Conforming.{Conforms}
 use Rattle.ats_trace.specs.declared.journey.Release.{Release}
 use Rattle.ats_conform.specs.declared.meter.Metered.{Metered}
 use Rattle.ats_conform.specs.Metering.{Metering, Names, counted, metered}
-use Rattle.ats_conform.specs.Releases.{release_at}
+use Rattle.ats_conform.specs.Releases.{metered_from, release_at}
 use Rattle.ats_conform.specs.Steps.{meter_after}
-use Rattle.ats_conform.proofs.Lists.{fewer, none_later}
+use Rattle.ats_conform.proofs.Lists.{few, none_later}
 use Rattle.ats_conform.proofs.Judged.{bucket-broken, keep-more, meters-mine, meters-other}
 use Rattle.ats_conform.proofs.conformance.judge_bucket.Goals as goal
 
@@ -19,14 +21,17 @@ returns-then-stream-len-clause-kept c =
     keep-more c.args.network.now c.args.releases.now c.args.place c.requires.place c.requires.before c.requires.size
     (λ stream. absurd (omega (arith, c.requires.meters.count)))
 
-pub take-requires-clause-room : goal.take-requires-clause-room
-take-requires-clause-room c =
+pub take-requires-clause-few : goal.take-requires-clause-few
+take-requires-clause-few c =
     let s : ℕ = (release_at c.args.releases.now c.args.place).sender in
     let below : s < length c.args.meters.now.items = omega arith in
     let is : c.index_mut-meter.result.now ≡ meter_after c.args.network.now c.args.releases.now c.args.place s =
     c.index_mut-meter.ensures.value ∙ c.requires.meters.each s c.index_mut-meter.result.now below in
-    subst (λ (m : Metering). length m.taken < m.room) (sym is)
-    (fewer s c.args.place c.args.releases.now c.requires.place refl)
+    let so_far : List Release = take c.args.place c.args.releases.now in
+    let most : length (metered_from s 0 so_far) ≤ length so_far = few s 0 so_far in
+    let place = length-take-le c.args.place c.args.releases.now (omega (arith, c.requires.place)) in
+    subst (λ (m : Metering). length m.taken < 2 ^ 32) (sym is)
+    (omega (arith, c.requires.place, c.requires.releases.few))
 
 pub take-requires-clause-order : goal.take-requires-clause-order
 take-requires-clause-order c =

@@ -1,7 +1,5 @@
 use Rattle.std.proofs.Common.{◌≡◌, ℕ, ◌+◌, ◌*◌, ◌≤◌, [], ◌∷◌, ◌++◌, length, sum_by}
 use Rattle.std.proofs.Common.{true≢false, sym, ◌∙◌, ap, refl, arith}
-use Rattle.std.proofs.lemmas.Grind.{common_steps}
-use Rattle.std.proofs.lemmas.List.{length_push}
 use Rattle.std.proofs.lemmas.List.Elements.{All-push}
 use Rattle.std.proofs.lemmas.List.Sums.{sum_by-le, sum_by_push}
 use Rattle.ats_num.specs.declared.wire.TheConstants.{MAX_WIRE_BITS}
@@ -21,6 +19,7 @@ worst-worst-requires-clause-time c =
 pub overflow_add-sent : goal.overflow_add-sent
 overflow_add-sent c =
     let s = c.self.inside in
+    let few = rw (← c.self.view_is) at c.requires.few in
     let most : sum_by (λ (m : Metered). m.bits) s.taken.items ≤ length s.taken.items * MAX_WIRE_BITS =
     sum_by-le (λ (m : Metered). m.bits) MAX_WIRE_BITS s.taken.items c.self.invariant.small in
     omega arith
@@ -80,8 +79,7 @@ pub invariant_of-self : goal.invariant_of-self
 invariant_of-self c =
     let s = c.self.inside in
     let x : Metered = metered c.args.frame c.args.at.0 c.args.bits in
-    let room = rw (← c.self.view_is) at c.requires.room in
-    let pushed : c.push.new.self.items ≡ s.taken.items ++ x ∷ [] = grind (arith, common_steps) in
+    let pushed : c.and-self-inside.result.items ≡ s.taken.items ++ x ∷ [] = c.and-self-inside.ensures in
     let order = rw (← c.self.view_is) at c.requires.order in
     let w : IsWorst s.rate (s.taken.items ++ x ∷ []) c.worst-worst.result =
     rw c.worst-worst.ensures
@@ -91,8 +89,6 @@ invariant_of-self c =
     c.self.invariant.conforms order c.self.invariant.sent w (sym c.is_over.ensures ∙ c.if-is_over.false) in
     rw pushed
     record {
-      reserved = omega (arith, c.self.invariant.reserved, c.push.ensures.capacity);
-      within = omega (arith, room, length_push s.taken.items x);
       small = All-push (λ (m : Metered). m.bits ≤ MAX_WIRE_BITS) s.taken.items x c.self.invariant.small
           c.requires.in_frame;
       conforms = conforms;

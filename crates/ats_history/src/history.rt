@@ -1,0 +1,34 @@
+//! A list that proofs alone read.
+
+ghost use Rattle.std.specs.Prelude.{◌≡◌, List, [], ◌∷◌, ◌++◌};
+ghost use Rattle.std.specs.Borrow.{ftrue};
+
+use std::marker::{Model, PhantomData};
+
+/// What came so far, in order. It takes no memory, and its calls do nothing when the program runs: contracts alone see
+/// the list, as `items`, and it says no more than what they tie to it.
+#[derive(Drop)]
+pub struct History<T> {
+    of: PhantomData<T>,
+    pub ghost items: { List T },
+}
+
+impl<T> Model for History<T> {
+    ghost also_owns = { λ _. ftrue };
+}
+
+impl<T> History<T> {
+    /// Nothing came so far.
+    pub fn new() -> History<T>
+        ensures { result.items ≡ [] }
+    {
+        History { of: PhantomData }
+    }
+
+    /// This came last.
+    pub fn and(&self, item: &T) -> History<T>
+        ensures { result.items ≡ self.now.items ++ item.now ∷ [] }
+    {
+        History { of: PhantomData }
+    }
+}
