@@ -11,7 +11,7 @@ use Rattle.ats_queue.specs.declared.queued.Queued.{Queued}
 use Rattle.ats_queue.specs.Contents.{Contents}
 use Rattle.ats_transmit.specs.declared.offer.Offer.{Offer}
 use Rattle.ats_transmit.specs.PortQueues.{offer_in, held_from, held_of, queued_of, EachQueued}
-use Rattle.ats_transmit.proofs.Totals.{count_by-append, count_by-map, count_by-all}
+use Rattle.ats_transmit.proofs.Counts.{count_by-append, count_by-map, count_by-all}
 
 -- what holds of each frame in each queue holds of all that these queues hold
 each_from : {T : Type 0} (P : Offer → Type 0) (base : ℕ) (qs : List (Contents T))

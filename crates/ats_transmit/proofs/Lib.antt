@@ -1,4 +1,5 @@
 pub mod Anys
+pub mod Counts
 pub mod Due
 pub mod Fronts
 pub mod Held
@@ -6,4 +7,3 @@ pub mod Kept
 pub mod Lawful
 pub mod Queues
 pub mod Started
-pub mod Totals

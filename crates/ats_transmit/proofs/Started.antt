@@ -1,12 +1,11 @@
-use Rattle.std.proofs.Common.{◌≡◌, ℕ, ◌+◌, ◌<◌, ◌≤◌, true, cond, List, [], ◌∷◌, ◌++◌, length, get_or, All, sym}
-use Rattle.std.proofs.Common.{◌∙◌, ap, subst, refl, inl, inr, arith, length-append}
-use Rattle.std.specs.Prelude.{◌≢◌, ◌==◌, map, count_by, IsPermutation, Bool}
+use Rattle.std.proofs.Common.{◌≡◌, ℕ, ◌<◌, ◌≤◌, true, List, [], ◌∷◌, ◌++◌, length, get_or, All, sym}
+use Rattle.std.proofs.Common.{Option, Some, ◌∙◌, ap, subst, refl, inl, inr, arith, length-append}
+use Rattle.std.specs.Prelude.{◌≢◌, map, IsPermutation}
 use Rattle.std.proofs.lemmas.Bool.{cases_lt}
 use Rattle.std.proofs.Math.Seq.{map-set_same}
-use Rattle.std.proofs.lemmas.List.Elements.{All-head, All-tail, All-push, All-set}
-use Rattle.std.proofs.lemmas.List.Sorted.{All-permutation, length_permutation, sum_by-IsPermutation}
-use Rattle.std.proofs.lemmas.List.Sums.{sum_by_push}
-use Rattle.ats_facts.proofs.Lists.{count_by-cons}
+use Rattle.std.proofs.lemmas.List.{get_or_push}
+use Rattle.std.proofs.lemmas.List.Elements.{All-head, All-tail, All-set}
+use Rattle.std.proofs.lemmas.List.Sorted.{All-permutation}
 use Rattle.ats_num.specs.Wire.{IsFrameSize}
 use Rattle.ats_queue.specs.declared.queued.Queued.{Queued}
 use Rattle.ats_queue.specs.Contents.{Contents}
@@ -14,16 +13,15 @@ use Rattle.ats_queue.specs.Order.{GoesBefore}
 use Rattle.ats_port_rule.specs.Order.{Precedes}
 use Rattle.ats_transmit.specs.declared.offer.Offer.{Offer}
 use Rattle.ats_transmit.specs.declared.sent.Sent.{Sent}
-use Rattle.ats_transmit.specs.Sending.{sent_at, begun, last_end}
+use Rattle.ats_transmit.specs.Sending.{sent_at, begun, never, last_of, last_end}
 use Rattle.ats_transmit.specs.State.{PortState}
 use Rattle.ats_transmit.specs.Picks.{MaySend, IsBehind, Starts}
 use Rattle.ats_transmit.specs.PortQueues.{queued_as, offer_in, held_of, EachQueued, IsKept, IsHighest, TakesFrom}
 use Rattle.ats_transmit.specs.Waiting.{Finds}
 use Rattle.ats_transmit.proofs.Held.{all_held, held-take}
-use Rattle.ats_transmit.proofs.Kept.{eight-queues, held_classes}
+use Rattle.ats_transmit.proofs.Kept.{eight-queues}
 use Rattle.ats_transmit.proofs.Lawful.{lawful-start}
 use Rattle.ats_transmit.proofs.Queues.{each-set}
-use Rattle.ats_transmit.proofs.Totals.{both-within}
 
 -- what a selection finds and changes: the highest class, and its queue without the frame that starts
 pub record Selected {T : Type 0} (key : T → ℕ → ℕ → ℕ) (now class : ℕ) (s : PortState T) (qs new : List (Contents T))
@@ -98,11 +96,11 @@ taken-held {T} key now class s qs new started x =
 
 -- the frame starts
 pub starts-select : {T : Type 0} (key : T → ℕ → ℕ → ℕ) (now class : ℕ) (s : PortState T) (qs new : List (Contents T))
-    (started : Offer) (pushed : List Sent) (room : ℕ) → IsKept key s qs room → Selected key now class s qs new started
-    → pushed ≡ s.sent ++ sent_at s.ps_per_bit started now ∷ []
+    (started : Offer) (pushed : List Sent) (last : Option Sent) → IsKept key s qs last
+    → Selected key now class s qs new started → pushed ≡ s.sent ++ sent_at s.ps_per_bit started now ∷ []
     → Starts (key s.tie) s (record s { held = held_of new; sent = pushed; is_sending = true }) now started.frame
     (sent_at s.ps_per_bit started now).end.0
-starts-select key now class s qs new started pushed room k x p =
+starts-select key now class s qs new started pushed last k x p =
     record {
       started = started;
       named = refl;
@@ -114,34 +112,19 @@ starts-select key now class s qs new started pushed room k x p =
       rest = refl;
     }
 
--- the frames of each class together stay as many
-within-start : (held new : List Offer) (sent : List Sent) (rooms : List ℕ) (o : Offer) (x : Sent) → x.class ≡ o.class
-    → IsPermutation held (o ∷ new)
-    → ((c : ℕ) → c < 8
-    → count_by (λ (y : Offer). y.class == c) held + count_by (λ (y : Sent). y.class == c) sent ≤ get_or rooms c 0)
-    → (c : ℕ) → c < 8
-    → count_by (λ (y : Offer). y.class == c) new + count_by (λ (y : Sent). y.class == c) (sent ++ x ∷ [])
-    ≤ get_or rooms c 0
-within-start held new sent rooms o x same p within c h =
-    let test : Offer → Bool = λ (y : Offer). y.class == c in
-    let out : Sent → Bool = λ (y : Sent). y.class == c in
-    let one : ℕ → ℕ = λ (n : ℕ). cond (n == c) 1 0 in
-    let counted : count_by test (o ∷ new) ≡ count_by test held =
-    sum_by-IsPermutation (λ (y : Offer). cond (test y) 1 0) held (o ∷ new) p in
-    let pushed : count_by out (sent ++ x ∷ []) ≡ count_by out sent + one x.class =
-    sum_by_push (λ (y : Sent). one y.class) sent x in
-    let consed : count_by test (o ∷ new) ≡ one o.class + count_by test new = count_by-cons test o new in
-    let ones : one x.class ≡ one o.class = ap one same in
-    omega (arith, within c h)
+-- a transmission that was added is the last
+last-pushed : (sent : List Sent) (x : Sent) → x ≡ last_of (sent ++ x ∷ [])
+last-pushed sent x = sym (get_or_push sent x never _ (omega (arith, length-append sent (x ∷ []))))
 
 -- a port that starts a frame is kept
 pub kept-select : {T : Type 0} (key : T → ℕ → ℕ → ℕ) (now class : ℕ) (s : PortState T) (qs new : List (Contents T))
-    (started : Offer) (pushed : List Sent) (room more : ℕ) → IsKept key s qs room
+    (started : Offer) (pushed : List Sent) (last : Option Sent) → IsKept key s qs last
     → Selected key now class s qs new started → pushed ≡ s.sent ++ sent_at s.ps_per_bit started now ∷ []
-    → last_end s.sent ≤ now → ((time : ℕ) → MaySend s.held s.sent time → now ≤ time) → room ≤ more
-    → IsKept key (record s { held = held_of new; sent = pushed; is_sending = true }) new more
-kept-select {T} key now class s qs new started pushed room more k x p ended due le =
-    let n = eight-queues key s qs room k in
+    → last_end s.sent ≤ now → ((time : ℕ) → MaySend s.held s.sent time → now ≤ time)
+    → IsKept key (record s { held = held_of new; sent = pushed; is_sending = true }) new
+    (Some (sent_at s.ps_per_bit started now))
+kept-select {T} key now class s qs new started pushed last k x p ended due =
+    let n = eight-queues key s qs last k in
     let t = x.takes in
     let named : started.class ≡ class = t.named in
     let sent : Sent = sent_at s.ps_per_bit started now in
@@ -158,40 +141,23 @@ kept-select {T} key now class s qs new started pushed room more k x p ended due 
     ∙ map-set_same capacity qs class after t.before (ap capacity t.stood) in
     let first = first_of_all key s.tie s.ps_per_bit now class qs new started k.ties x.high t in
     let Kept : List Sent → Type 0 =
-    λ (ss : List Sent). IsKept key (record s { held = held_of new; sent = ss; is_sending = true }) new more in
+    λ (ss : List Sent). IsKept key (record s { held = held_of new; sent = ss; is_sending = true }) new (Some sent) in
     subst Kept (sym p) (record {
       classes = k.classes;
       capacities = capacities ∙ k.capacities;
       ties = subst Tied (sym t.changed) (All-set Ties qs class after same_tie k.ties);
       sizes = All-tail Size started (held_of new) (All-permutation Size s.held (started ∷ held_of new) taken k.sizes);
-      sent_classes = All-push (λ (y : Sent). y.class < 8) s.sent sent k.sent_classes (omega (arith, x.high.within));
-      within = within-start s.held (held_of new) s.sent s.rooms started sent refl taken k.within;
-      reserved = omega (arith, k.reserved);
       lawful = lawful-start (key s.tie) s.ps_per_bit now s.held (held_of new) s.sent started k.lawful taken
           t.takes.eligible ended due first;
+      last = last-pushed s.sent sent;
       sending = λ _. omega (arith, length-append s.sent (sent ∷ []));
     })
 
 -- the frame that starts is of a size that frames have
 pub started-size : {T : Type 0} (key : T → ℕ → ℕ → ℕ) (now class : ℕ) (s : PortState T) (qs new : List (Contents T))
-    (started : Offer) (room : ℕ) → IsKept key s qs room → Selected key now class s qs new started
+    (started : Offer) (last : Option Sent) → IsKept key s qs last → Selected key now class s qs new started
     → IsFrameSize started.octets
-started-size key now class s qs new started room k x =
+started-size key now class s qs new started last k x =
     let Size : Offer → Type 0 = λ (o : Offer). IsFrameSize o.octets in
     let taken = taken-held key now class s qs new started x in
     All-head Size started (held_of new) (All-permutation Size s.held (started ∷ held_of new) taken k.sizes)
-
--- there is room for the transmission
-pub sent-room : {T : Type 0} (key : T → ℕ → ℕ → ℕ) (now class : ℕ) (s : PortState T) (qs new : List (Contents T))
-    (started : Offer) (room : ℕ) → IsKept key s qs room → Selected key now class s qs new started → length s.sent < room
-sent-room key now class s qs new started room k x =
-    let taken = taken-held key now class s qs new started x in
-    let Classes : List Offer → Type 0 = λ (os : List Offer). All (λ (o : Offer). o.class < 8) os in
-    let classes : Classes s.held = subst Classes (sym x.held) (held_classes qs (eight-queues key s qs room k)) in
-    omega (
-      arith,
-      k.reserved,
-      length_permutation _ _ taken,
-      both-within (λ (o : Offer). o.class) (λ (y : Sent). y.class) s.held s.sent s.rooms 8 k.classes classes
-          k.sent_classes k.within,
-    )

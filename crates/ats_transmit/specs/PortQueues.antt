@@ -1,5 +1,5 @@
-use Rattle.std.specs.Prelude.{◌≡◌, ℕ, suc, ◌+◌, ◌<◌, ◌≤◌, Bool, true, List, [], ◌∷◌, ◌++◌, length, map, sum}
-use Rattle.std.specs.Prelude.{slice_index, slice_index_or, slice_set, All, Any, Option, MatchOption}
+use Rattle.std.specs.Prelude.{◌≡◌, ℕ, suc, ◌+◌, ◌<◌, ◌≤◌, Bool, true, List, [], ◌∷◌, ◌++◌, length, map}
+use Rattle.std.specs.Prelude.{slice_index_or, slice_set, All, Any, Option, MatchOption}
 use Rattle.std.specs.List.{flat_map}
 use Rattle.ats_num.specs.Wire.{IsFrameSize}
 use Rattle.ats_num.specs.declared.time.Ps.{Ps}
@@ -8,7 +8,8 @@ use Rattle.ats_queue.specs.Contents.{Contents}
 use Rattle.ats_queue.specs.Order.{Takes, IsNextTime}
 use Rattle.ats_transmit.specs.declared.offer.Offer.{Offer}
 use Rattle.ats_transmit.specs.declared.sent.Sent.{Sent}
-use Rattle.ats_transmit.specs.State.{PortState, offered_of, IsLawfulPort}
+use Rattle.ats_transmit.specs.Sending.{IsLast}
+use Rattle.ats_transmit.specs.State.{PortState, IsLawfulPort}
 
 -- an offered frame, as the queue of its class holds it
 abbrev pub queued_as : Offer → Queued
@@ -48,17 +49,15 @@ port_state ps_per_bit rooms tie queues sent is_sending =
       is_sending = is_sending;
     }
 
--- the queues and the transmissions fit each other, and there is room for all that may be offered
-pub record IsKept {T : Type 0} (key : T → ℕ → ℕ → ℕ) (s : PortState T) (queues : List (Contents T)) (sent_room : ℕ)
-    : Type 0 where
+-- what a port keeps: the queues with what is held, and the last transmission
+pub record IsKept {T : Type 0} (key : T → ℕ → ℕ → ℕ) (s : PortState T) (queues : List (Contents T))
+    (kept : Option Sent) : Type 0 where
   pub classes : length s.rooms ≡ 8
   pub capacities : map (λ (c : Contents T). c.capacity) queues ≡ s.rooms
   pub ties : All (λ (c : Contents T). c.tie ≡ s.tie) queues
   pub sizes : All (λ (o : Offer). IsFrameSize o.octets) s.held
-  pub sent_classes : All (λ (x : Sent). x.class < 8) s.sent
-  pub within : (class : ℕ) → class < 8 → offered_of s class ≤ slice_index s.rooms class
-  pub reserved : sum s.rooms ≤ sent_room
   pub lawful : IsLawfulPort key s
+  pub last : IsLast s.sent kept
   pub sending : s.is_sending ≡ true → 0 < length s.sent
 
 -- the least eligibility time in these queues, where they hold any frame

@@ -1,4 +1,4 @@
-use Rattle.std.specs.Prelude.{ℕ, ◌+◌, ◌-◌, ◌*◌, List, length, map, slice_index_or, All}
+use Rattle.std.specs.Prelude.{◌≡◌, ℕ, ◌+◌, ◌-◌, ◌*◌, List, [], length, map, slice_index_or, All, Option, MatchOption}
 use Rattle.ats_num.specs.Wire.{bits_of}
 use Rattle.ats_port_rule.specs.Transmission.{Transmission}
 use Rattle.ats_port_rule.specs.PortRule.{KeepsPortRule, KeepsTie}
@@ -53,6 +53,10 @@ never =
 
 abbrev pub last_of : List Sent → Sent
 last_of sent = slice_index_or sent (length sent - 1) never
+
+-- this is the last of these transmissions, where there is any
+abbrev pub IsLast : List Sent → Option Sent → Type 0
+IsLast sent last = MatchOption last (sent ≡ []) (λ (x : Sent). x ≡ last_of sent)
 
 -- when the last transmission started and ended, 0 before the first
 abbrev pub last_start : List Sent → ℕ

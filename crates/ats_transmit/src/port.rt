@@ -1,6 +1,6 @@
 //! One port.
 
-ghost use Rattle.std.specs.Prelude.{◌≡◌, ◌≢◌, ℕ, ◌+◌, ◌<◌, ◌≤◌, true, false, [], ◌∷◌, length, sum, slice_index, All};
+ghost use Rattle.std.specs.Prelude.{◌≡◌, ◌≢◌, ℕ, ◌+◌, ◌<◌, ◌≤◌, true, false, [], ◌∷◌, length, slice_index, All};
 ghost use Rattle.std.specs.Prelude.{IfOk, IsPermutation, MatchOption};
 ghost use Rattle.ats_num.specs.declared.time.TheConstants.{END};
 ghost use Rattle.ats_num.specs.Wire.{IsFrameSize};
@@ -13,20 +13,22 @@ use crate::offer::Offer;
 use crate::pick::Pick;
 use crate::sent::Sent;
 use crate::waiting::Waiting;
+use ats_history::History;
 use ats_num::{Ps, Tie};
 use std::alloc::{AllocError, Global};
 use std::marker::Model;
 
 /// A port. Contracts see its picoseconds per bit, how many frames of each class it may be offered, its tie, the frames
 /// that it holds, up to their order, the list of its transmissions, and whether the last of them has still to be
-/// finished.
+/// finished. It keeps the last of them alone.
 #[derive(Drop)]
 pub struct Port<T: Tie> {
     ps_per_bit: u32,
     rooms: [u32; 8],
     tie: T,
     waiting: Waiting<T>,
-    sent: Vec<Sent>,
+    last: Option<Sent>,
+    sent: History<Sent>,
     is_sending: bool,
 }
 
@@ -35,14 +37,13 @@ impl<T: Tie> Model for Port<T> {
 
     ghost Value = { PortState T };
 
-    ghost use Rattle.std.specs.Prelude.{vec_capacity};
     ghost use Rattle.ats_transmit.specs.PortQueues.{port_state, IsKept};
 
     ghost view = { λ p. port_state p.ps_per_bit p.rooms p.tie p.waiting p.sent.items p.is_sending };
 
     ghost invariant = { λ p. IsKept T.key
         (port_state p.ps_per_bit p.rooms p.tie p.waiting p.sent.items p.is_sending)
-        p.waiting (vec_capacity p.sent) };
+        p.waiting p.last };
 }
 
 impl<T: Tie> Port<T> {
@@ -63,7 +64,8 @@ impl<T: Tie> Port<T> {
             rooms,
             tie,
             waiting,
-            sent: Vec::with_capacity(alloc, total_of(&rooms))?,
+            last: None,
+            sent: History::new(),
             is_sending: false,
         })
     }
@@ -91,7 +93,7 @@ impl<T: Tie> Port<T> {
         ensures { MatchOption result (self.now.held ≡ []) (λ time. IsFirstStart self.now.held self.now.sent time.0) }
     {
         let time = self.waiting.next_time()?;
-        Some(Ps(time.0.max(free_at(&self.sent).0)))
+        Some(Ps(time.0.max(free_at(self.last).0)))
     }
 
     /// What the port does at `now`, which is at most `END` and not after the time at which it is due. `Busy` exactly
@@ -108,14 +110,15 @@ impl<T: Tie> Port<T> {
     {
         if self.is_sending {
             return Pick::Busy {
-                end: free_at(&self.sent),
+                end: free_at(self.last),
             };
         }
         let Some(started) = self.waiting.take(now) else {
             return Pick::Idle;
         };
         let sent = started.sent_at(self.ps_per_bit, now);
-        self.sent.push(sent).unwrap();
+        self.last = Some(sent);
+        self.sent = self.sent.and(&sent);
         self.is_sending = true;
         Pick::Start {
             frame: sent.frame,
@@ -132,22 +135,6 @@ impl<T: Tie> Port<T> {
         ensures lawful { IsLawfulPort T.key self.new }
     {
         self.is_sending = false;
-        self.sent[self.sent.len() - 1].frame
+        self.last.unwrap().frame
     }
-
-    /// All transmissions in the order in which they were made; the last may still be under way.
-    pub fn sent(&self) -> &[Sent]
-        ensures value { result.now ≡ self.now.sent }
-        ensures lawful { IsLawfulPort T.key self.now }
-    {
-        &self.sent
-    }
-}
-
-/// The sum of the rooms.
-fn total_of(rooms: &[u32]) -> usize
-    requires { length rooms.now ≤ 8 }
-    ensures { result ≡ sum rooms.now }
-{
-    rooms.iter().map(|room| *room as usize).sum()
 }

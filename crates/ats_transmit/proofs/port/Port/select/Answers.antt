@@ -1,6 +1,4 @@
-use Rattle.std.proofs.Common.{◌≡◌, All, ◌<◌, ◌≤◌, ◌++◌, [], ◌∷◌, ℕ, List, length, ap, subst, sym, arith, refl, false}
-use Rattle.std.proofs.lemmas.Grind.{common_steps}
-use Rattle.std.specs.Prelude.{vec_capacity}
+use Rattle.std.proofs.Common.{◌≡◌, All, ◌<◌, ◌≤◌, ◌++◌, [], ◌∷◌, ℕ, List, ap, subst, sym, arith, refl, false}
 use Rattle.ats_queue.specs.Contents.{Contents}
 use Rattle.ats_transmit.specs.declared.offer.Offer.{Offer}
 use Rattle.ats_transmit.specs.Sending.{sent_at, last_end}
@@ -9,7 +7,7 @@ use Rattle.ats_transmit.specs.Picks.{MaySend}
 use Rattle.ats_transmit.specs.PortQueues.{port_state}
 use Rattle.ats_transmit.proofs.Due.{none_held}
 use Rattle.ats_transmit.proofs.Kept.{eight-queues}
-use Rattle.ats_transmit.proofs.Started.{selected, kept-select, starts-select, started-size, sent-room}
+use Rattle.ats_transmit.proofs.Started.{selected, kept-select, starts-select, started-size}
 use Rattle.ats_transmit.proofs.port.Port.select.Goals as goal
 
 pub take-requires : goal.take-requires
@@ -41,17 +39,6 @@ sent_at-sent-requires-clause-size g c =
     let x = selected g.T.Tie.key now s i.waiting new started refl c.in-Some.ensures.found in
     started-size g.T.Tie.key now started.class s i.waiting new started _ c.self.invariant x
 
-pub unwrap-requires : goal.unwrap-requires
-unwrap-requires g c =
-    let i = c.self.inside in
-    let s : PortState g.row.T.Denot = port_state i.ps_per_bit i.rooms i.tie i.waiting i.sent.items i.is_sending in
-    let started : Offer = c.in-Some.started in
-    let new = c.take.new.self in
-    let x = selected g.T.Tie.key c.args.now.0 s i.waiting new started refl c.in-Some.ensures.found in
-    let room : length i.sent.items < vec_capacity i.sent = sent-room g.T.Tie.key c.args.now.0 started.class s i.waiting
-    new started _ c.self.invariant x in
-    c.push.ensures.succeeds (omega (arith, i.sent.ok.0))
-
 pub invariant_of-self-2 : goal.invariant_of-self-2
 invariant_of-self-2 g c =
     let i = c.self.inside in
@@ -60,18 +47,16 @@ invariant_of-self-2 g c =
     let now = c.args.now.0 in
     let new = c.take.new.self in
     let x = selected g.T.Tie.key now s i.waiting new started refl c.in-Some.ensures.found in
-    let pushed : c.push.new.self.items ≡ i.sent.items ++ c.sent_at-sent.result ∷ [] = grind (arith, common_steps) in
-    let sent : c.push.new.self.items ≡ i.sent.items ++ sent_at i.ps_per_bit started now ∷ [] =
-    rw c.sent_at-sent.ensures at pushed in
+    let is : c.sent_at-sent.result ≡ sent_at i.ps_per_bit started now = c.sent_at-sent.ensures in
+    let pushed : c.and-self-inside.result.items ≡ i.sent.items ++ sent_at i.ps_per_bit started now ∷ [] =
+    rw is at c.and-self-inside.ensures in
     let Finished : PortState g.row.T.Denot → Type 0 =
     λ (p : PortState g.row.T.Denot). p.is_sending ≡ false → last_end p.sent ≤ now in
     let ended : last_end i.sent.items ≤ now = subst Finished (sym c.self.view_is) c.requires.finished c.if-self.false in
     let Due : PortState g.row.T.Denot → Type 0 =
     λ (p : PortState g.row.T.Denot). (time : ℕ) → MaySend p.held p.sent time → now ≤ time in
-    let after = c.push.new.self in
-    kept-select g.T.Tie.key now started.class s i.waiting new started after.items (vec_capacity i.sent)
-    (vec_capacity after) c.self.invariant x sent ended (subst Due (sym c.self.view_is) c.requires.due)
-    c.push.ensures.capacity
+    rw is (kept-select g.T.Tie.key now started.class s i.waiting new started c.and-self-inside.result.items i.last
+    c.self.invariant x pushed ended (subst Due (sym c.self.view_is) c.requires.due))
 
 pub returns-clause-pick : goal.returns-clause-pick
 returns-clause-pick g c =
@@ -80,9 +65,9 @@ returns-clause-pick g c =
     let now = c.args.now.0 in
     let started : Offer = c.in-Some.started in
     let new = c.take.new.self in
-    let after = c.push.new.self.items in
-    let pushed : after ≡ i.sent.items ++ c.sent_at-sent.result ∷ [] = grind (arith, common_steps) in
-    let sent : after ≡ i.sent.items ++ sent_at i.ps_per_bit started now ∷ [] = rw c.sent_at-sent.ensures at pushed in
+    let after = c.and-self-inside.result.items in
+    let sent : after ≡ i.sent.items ++ sent_at i.ps_per_bit started now ∷ [] =
+    rw c.sent_at-sent.ensures at c.and-self-inside.ensures in
     let starts = starts-select g.T.Tie.key now started.class s i.waiting new started after _ c.self.invariant
     (selected g.T.Tie.key now s i.waiting new started refl c.in-Some.ensures.found) sent in
     rw (← c.self.view_is, c.sent_at-sent.ensures) (c.if-self.false, starts)
