@@ -87,12 +87,9 @@ impl Records {
         requires room { length (progress_at self.old frame).hops < (progress_at self.old frame).room }
         ensures { self.new ≡ slice_set self.old frame (with_hop (progress_at self.old frame) hop) }
     {
-        let span = self.spans[frame as usize];
+        let span = &mut self.spans[frame as usize];
         self.hops[(span.first + span.count) as usize] = hop;
-        self.spans[frame as usize] = Span {
-            first: span.first,
-            count: span.count + 1,
-        };
+        span.count += 1;
     }
 
     /// Tells in the last hop record of a frame when its transmission starts and ends. It takes no memory.
@@ -103,12 +100,7 @@ impl Records {
     {
         let span = self.spans[frame as usize];
         let place = (span.first + span.count - 1) as usize;
-        let hop = self.hops[place];
-        self.hops[place] = HopRecord {
-            arrival: hop.arrival,
-            verdict: hop.verdict,
-            sent: Some((start, end)),
-        };
+        self.hops[place].sent = Some((start, end));
     }
 
     /// Ends the journey of a frame. It takes no memory.
@@ -116,16 +108,8 @@ impl Records {
         requires { frame < length self.old }
         ensures { self.new ≡ slice_set self.old frame (with_ending (progress_at self.old frame) ending) }
     {
-        let journey = self.journeys[frame as usize];
-        self.journeys[frame as usize] = Journey {
-            release: journey.release,
-            ending,
-        };
-        let slot = self.slots[frame as usize];
-        self.slots[frame as usize] = Slot {
-            room: slot.room,
-            is_over: true,
-        };
+        self.journeys[frame as usize].ending = ending;
+        self.slots[frame as usize].is_over = true;
     }
 
     /// The run of these records, in which each journey has ended. It takes no memory.

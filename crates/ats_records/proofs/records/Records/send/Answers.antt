@@ -21,14 +21,6 @@ overflow_sub-place c =
     record { seen = c.self.view_is; laid = c.self.invariant; within = c.requires.frame; is = c.index-span.ensures } in
     omega (arith, count-is found, c.requires.last)
 
-pub index-hop-requires : goal.index-hop-requires
-index-hop-requires c =
-    let found : IsFound c.args.self.now c.self.inside.journeys.items c.self.inside.spans.items c.self.inside.slots.items
-    c.self.inside.hops.items c.args.frame c.index-span.result.now =
-    record { seen = c.self.view_is; laid = c.self.invariant; within = c.requires.frame; is = c.index-span.ensures } in
-    let room = room-is found in
-    omega (arith, count-is found, c.requires.last, room.counts, room.within)
-
 pub index_mut-requires : goal.index_mut-requires
 index_mut-requires c =
     let found : IsFound c.args.self.now c.self.inside.journeys.items c.self.inside.spans.items c.self.inside.slots.items
@@ -42,4 +34,4 @@ returns c =
     let found : IsFound c.args.self.now c.self.inside.journeys.items c.self.inside.spans.items c.self.inside.slots.items
     c.self.inside.hops.items c.args.frame c.index-span.result.now =
     record { seen = c.self.view_is; laid = c.self.invariant; within = c.requires.frame; is = c.index-span.ensures } in
-    view-send c.index-hop.result.now c.args.start c.args.end found c.requires.last c.index-hop.ensures
+    view-send c.index_mut.result.now c.args.start c.args.end found c.requires.last c.index_mut.ensures.value
