@@ -67,11 +67,8 @@ impl MemberScheduler {
         ensures value { result ≡ scheduler_after self.now eligible.0 octets }
         ensures scheduler { IsMemberScheduler result }
     {
-        let mut bucket = self.bucket;
-        bucket.accept(eligible, wire_bits(octets));
-        MemberScheduler {
-            member: self.member,
-            bucket,
-        }
+        let mut scheduler = *self;
+        scheduler.bucket.accept(eligible, wire_bits(octets));
+        scheduler
     }
 }
