@@ -9,7 +9,6 @@ ghost use Rattle.ats_engine.specs.Starts.{IsStart, AreReleased};
 ghost use Rattle.ats_engine.specs.Rooms.{AreOpened};
 
 use crate::rooms::{counts_of, rooms_at, rooms_of};
-use ats_events::phase::ARRIVAL;
 use ats_events::{Agenda, Moment, TimeOrder};
 use ats_group::Groups;
 use ats_network::Network;
@@ -95,12 +94,8 @@ pub(crate) fn agenda_of<O: TimeOrder>(
     let capacity = releases.len() + net.topology().ports().len();
     let mut agenda = Agenda::open(alloc, capacity as u32, order)?;
     for (frame, release) in releases.iter().enumerate() {
-        let moment = Moment {
-            at: release.at,
-            phase: ARRIVAL,
-            id: frame as u32,
-        };
-        agenda.insert(moment, Event::Arrival(frame as u32));
+        let (moment, event) = Event::Arrival(frame as u32).at(release.at);
+        agenda.insert(moment, event);
     }
     Ok(agenda)
 }

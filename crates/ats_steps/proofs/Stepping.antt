@@ -1,5 +1,6 @@
 use Rattle.std.proofs.Common.{◌≡◌, ℕ, ◌<◌, List, [], ◌∷◌, length, get_or, set, All, IsPermutation, refl, sym, ap, ◌∙◌}
 use Rattle.std.proofs.Common.{subst, false, ◌+◌, ◌++◌}
+use Rattle.std.specs.Prelude.{◌≢◌}
 use Rattle.ats_topology.specs.Port.{port_at}
 use Rattle.ats_topology.specs.declared.port.Port.{Port}
 use Rattle.std.proofs.lemmas.List.{set-get_or, set-set, get_or-set_same, get_or_default}
@@ -8,6 +9,7 @@ use Rattle.std.proofs.lemmas.List.Sorted.{All-permutation}
 use Rattle.ats_num.specs.declared.time.Ps.{Ps}
 use Rattle.ats_network.specs.Network.{DeclaredNetwork}
 use Rattle.ats_group.specs.declared.verdict.Verdict.{Verdict}
+use Rattle.ats_group.specs.declared.verdict.Verdict.TheVariants.{Eligible, Late, Size}
 use Rattle.ats_events.specs.declared.moment.Moment.{Moment}
 use Rattle.ats_transmit.specs.Picks.{Starts}
 use Rattle.ats_transmit.specs.State.{PortState, opened, IsLawfulPort}
@@ -46,16 +48,19 @@ closed-record records pushed closed frame p ending within once twice =
     (get_or-set_same records frame p no_progress within)
     ∙ set-set records frame p (with_ending p ending)
 
+-- the move of a frame that does not become eligible
+discarded-move : (frame : ℕ) (p : Progress) (at : Ps) (v : Verdict) → ((e : Ps) → v ≢ Eligible e)
+    → comes_by frame p at v
+    ≡ record { stage = Over; progress = with_ending (with_hop p (came at v)) Discard; entries = [] }
+discarded-move frame p at (Eligible e) not = absurd (not e refl)
+discarded-move frame p at (Late e) not = refl
+discarded-move frame p at Size not = refl
+
 -- a frame whose verdict brings its end
 pub discarded : {T : Type 0} (network : DeclaredNetwork) (old : Course T) (now : Moment) (frame : ℕ) (v : Verdict)
     (pushed closed : List Progress) → frame < length old.records
     → v ≡ verdict_now network old.groups (progress_at old.records frame) now.at.0
-    → comes_by frame (progress_at old.records frame) now.at v
-    ≡ record {
-      stage = Over;
-      progress = with_ending (with_hop (progress_at old.records frame) (came now.at v)) Discard;
-      entries = [];
-    }
+    → ((e : Ps) → v ≢ Eligible e)
     → pushed ≡ set old.records frame (with_hop (progress_at old.records frame) (came now.at v))
     → closed ≡ set pushed frame (with_ending (progress_at pushed frame) Discard)
     → Comes network old (record old {
@@ -64,8 +69,9 @@ pub discarded : {T : Type 0} (network : DeclaredNetwork) (old : Course T) (now :
       groups = groups_now network old.groups (progress_at old.records frame) now.at.0;
       last = now;
     }) now frame []
-discarded {T} network old now frame v pushed closed within is shape once twice =
+discarded {T} network old now frame v pushed closed within is not once twice =
     let p : Progress = progress_at old.records frame in
+    let shape = discarded-move frame p now.at v not in
     let groups = groups_now network old.groups p now.at.0 in
     let over : Progress = with_ending (with_hop p (came now.at v)) Discard in
     let becomes : Move → Course T = λ (m : Move). record (moved old now frame m) { groups = groups } in

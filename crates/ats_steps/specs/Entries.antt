@@ -23,6 +23,13 @@ eligible_moment frame at = record { at = at; phase = ELIGIBLE; id = frame }
 abbrev pub selection_moment : ℕ → Ps → Moment
 selection_moment port at = record { at = at; phase = SELECTION; id = port }
 
+-- the moment of an event at a time
+abbrev pub moment_at : Event → Ps → Moment
+moment_at (End frame) at = end_moment frame at
+moment_at (Arrival frame) at = arrival_moment frame at
+moment_at (Eligibility frame) at = eligible_moment frame at
+moment_at (Selection port) at = selection_moment port at
+
 -- when a frame at this stage arrives, becomes eligible, or has been sent; no more than one of them is still to happen
 abbrev pub arrival_by : ℕ → Stage → Option Moment
 arrival_by frame (Coming at) = Some (arrival_moment frame at)

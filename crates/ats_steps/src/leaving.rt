@@ -15,7 +15,6 @@ use crate::event::Event;
 use crate::stage::Stage;
 use crate::turn::Turn;
 use ats_events::Moment;
-use ats_events::phase::{ARRIVAL, SELECTION};
 use ats_network::Network;
 use ats_num::{Pace, Ps, Tie};
 use ats_records::Records;
@@ -62,14 +61,7 @@ pub(crate) fn selection_of(port: u32, turn: Turn) -> Option<(Moment, Event)>
     ensures { option_to_list result ≡ selections port turn }
 {
     match turn {
-        Turn::Selecting(at) => {
-            let moment = Moment {
-                at,
-                phase: SELECTION,
-                id: port,
-            };
-            Some((moment, Event::Selection(port)))
-        },
+        Turn::Selecting(at) => Some(Event::Selection(port).at(at)),
         Turn::Resting => None,
         Turn::Occupied => None,
     }
@@ -102,10 +94,5 @@ pub(crate) fn leave(
         return None;
     }
     stages[frame as usize] = Stage::Coming(at);
-    let moment = Moment {
-        at,
-        phase: ARRIVAL,
-        id: frame,
-    };
-    Some((moment, Event::Arrival(frame)))
+    Some(Event::Arrival(frame).at(at))
 }

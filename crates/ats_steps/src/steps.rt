@@ -14,7 +14,6 @@ use crate::stage::Stage;
 use crate::state::State;
 use crate::turn::Turn;
 use ats_events::Moment;
-use ats_events::phase::{ELIGIBLE, SELECTION, TRANSMISSION_END};
 use ats_group::Verdict;
 use ats_network::Network;
 use ats_num::{Pace, Ps, Tie};
@@ -50,27 +49,13 @@ pub fn come<T: Tie>(
     };
     state.records.push(frame, hop);
     state.last = now;
-    match verdict {
-        Verdict::Eligible(at) => {
-            state.stages[frame as usize] = Stage::Due(at);
-            let moment = Moment {
-                at,
-                phase: ELIGIBLE,
-                id: frame,
-            };
-            Some((moment, Event::Eligibility(frame)))
-        },
-        Verdict::Late(_) => {
-            state.records.close(frame, Ending::Discard);
-            state.stages[frame as usize] = Stage::Over;
-            None
-        },
-        Verdict::Size => {
-            state.records.close(frame, Ending::Discard);
-            state.stages[frame as usize] = Stage::Over;
-            None
-        },
-    }
+    let Verdict::Eligible(at) = verdict else {
+        state.records.close(frame, Ending::Discard);
+        state.stages[frame as usize] = Stage::Over;
+        return None;
+    };
+    state.stages[frame as usize] = Stage::Due(at);
+    Some(Event::Eligibility(frame).at(at))
 }
 
 /// A frame becomes eligible: its port holds it from now on, and where the port has rested it
@@ -94,12 +79,7 @@ pub fn become_eligible<T: Tie>(
     match turn {
         Turn::Resting => {
             state.turns[port as usize] = Turn::Selecting(now.at);
-            let moment = Moment {
-                at: now.at,
-                phase: SELECTION,
-                id: port,
-            };
-            Some((moment, Event::Selection(port)))
+            Some(Event::Selection(port).at(now.at))
         },
         Turn::Selecting(_) => None,
         Turn::Occupied => None,
@@ -119,12 +99,7 @@ pub fn select<T: Tie>(state: &mut State<T>, now: Moment, port: u32) -> (Moment, 
     state.stages[frame as usize] = Stage::Sending(end);
     state.records.send(frame, now.at, end);
     state.last = now;
-    let moment = Moment {
-        at: end,
-        phase: TRANSMISSION_END,
-        id: frame,
-    };
-    (moment, Event::End(frame))
+    Event::End(frame).at(end)
 }
 
 /// The transmission of a frame ends: the frame is on its way behind the port, and this gives the

@@ -1,5 +1,6 @@
-use Rattle.std.proofs.Common.{refl}
+use Rattle.std.proofs.Common.{refl, ap}
 use Rattle.ats_events.specs.declared.moment.Moment.{Moment}
+use Rattle.ats_steps.specs.declared.event.Event.{Event}
 use Rattle.ats_trace.specs.declared.journey.Release.{Release}
 use Rattle.ats_engine.proofs.Releasing.{released-room, released-apart, released-after, released-inserted}
 use Rattle.ats_engine.proofs.opening.agenda_of.Goals as goal
@@ -16,7 +17,7 @@ insert-requires-clause-room g c =
 pub insert-requires-clause-apart : goal.insert-requires-clause-apart
 insert-requires-clause-apart g c =
     released-apart c.args.net.now c.args.releases.now c.args.order c.loop-frame.frame c.loop-frame.agenda _
-    c.loop-frame-test.true refl c.loop-frame.invariant
+    c.loop-frame-test.true (ap (λ (entry : Moment × Event). entry.0.id) c.at-event.ensures) c.loop-frame.invariant
 
 pub insert-requires-clause-after : goal.insert-requires-clause-after
 insert-requires-clause-after g c =
@@ -27,4 +28,4 @@ pub loop-frame-preserved : goal.loop-frame-preserved
 loop-frame-preserved g c =
     released-inserted (g.O.TimeOrder.before c.loop-frame.agenda.order) c.args.net.now c.args.releases.now c.args.order
     c.loop-frame.frame c.loop-frame.agenda c.insert.new.self _ _ c.loop-frame-test.true refl c.loop-frame.invariant
-    c.insert.ensures.inserted
+    (rw c.at-event.ensures at c.insert.ensures.inserted)

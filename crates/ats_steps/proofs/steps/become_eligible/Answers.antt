@@ -15,12 +15,13 @@ returns-in-Resting g c =
     let was = port-read old port c.index_mut.result.now within c.index_mut.ensures.value in
     let is = turn-read old port (Resting) c.index-turn.result.now listed
     c.index-turn.ensures c.in-Resting.is in
-    offered g.T.Tie.key c.args.net.now old c.args.now c.args.frame port c.index_mut.result.now c.offer.new.self
+    rw c.at.ensures
+    (offered g.T.Tie.key c.args.net.now old c.args.now c.args.frame port c.index_mut.result.now c.offer.new.self
     c.offer_of-offer.result Resting (set old.turns port (Selecting c.args.now.at))
     ((selection_moment port c.args.now.at, Selection port) ∷ [])
     c.place_of-port.ensures was
     c.offer_of-offer.ensures c.offer.ensures.held
-    c.offer.ensures.rest c.offer.ensures.lawful is (refl) refl
+    c.offer.ensures.rest c.offer.ensures.lawful is (refl) refl)
 
 pub returns-in-Selecting : goal.returns-in-Selecting
 returns-in-Selecting g c =

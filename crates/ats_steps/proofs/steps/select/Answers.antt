@@ -46,6 +46,7 @@ pub returns : goal.returns
 returns g c =
     let old = course_of {T = g.row.T.Denot} c.args.state.now in
     let was = port-read old c.args.port c.index_mut.result.now c.requires.within c.index_mut.ensures.value in
-    selected g.T.Tie.key old c.args.now c.args.port c.in-Start.frame c.in-Start.end c.index_mut.result.now
+    rw c.at.ensures
+    (selected g.T.Tie.key old c.args.now c.args.port c.in-Start.frame c.in-Start.end c.index_mut.result.now
     c.select-pick.new.self c.send.new.self was c.requires.tie c.in-Start.ensures.pick.1 c.in-Start.ensures.lawful
-    c.send.ensures
+    c.send.ensures)
