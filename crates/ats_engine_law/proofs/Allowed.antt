@@ -133,13 +133,13 @@ later-start {T} {key} {wait} {network} {releases} {course} {now} {event} {entrie
     let reached : IsReached course.last now =
     All-head (λ (entry : Moment × Event). IsReached course.last entry.0) (now, event) entries
     next.holds.awaited.reached in
-    let started : start ≤ course.last.at.0 = kept.started some in
+    let started : start ≤ course.last.at.0 = kept.times.started some in
     elim (cases_lt start now.at.0) as (λ _. start < now.at.0) [
       | inl less ↦ less
       | inr late ↦ absurd (
           let same : start ≡ course.last.at.0 = omega (arith, reached.time) in
           let now_too : course.last.at.0 ≡ now.at.0 = omega (arith, reached.time) in
-          omega (arith, kept.selected some same, reached.phase now_too))
+          omega (arith, kept.times.selected some same, reached.phase now_too))
     ]
 
 -- the port of a frame that becomes eligible next may be offered it
@@ -165,7 +165,7 @@ may-be-offered {T} {key} {wait} {network} {releases} {course} {now} {frame} {ent
     let not_held : All (λ (o : Offer). o.frame ≢ frame) standing.held =
     λ k d h e. (
     let waits : stage_at course frame ≡ Waiting =
-    subst (λ (f : ℕ). stage_at course f ≡ Waiting) e (kept.held k d h).stage in
+    subst (λ (f : ℕ). stage_at course f ≡ Waiting) e (kept.holding.held k d h).stage in
     let both : Due now.at ≡ Waiting = sym at.at ∙ waits in
     cc) in
     let not_sent : All (λ (x : Sent). x.frame ≢ frame) standing.sent =
@@ -208,12 +208,12 @@ may-select {T} {key} {wait} {network} {releases} {course} {now} {port} {entries}
       stages = next.holds.shape.stages;
       within = omega (arith, next.holds.shape.ports);
       turns = within;
-      tie = kept.tie;
+      tie = kept.of_network.tie;
       free = turn.0;
       due = turn.1;
-      known = λ k d h. (kept.held k d h).within;
+      known = λ k d h. (kept.holding.held k d h).within;
       came = λ k d h. (
-          let o = kept.held k d h in
+          let o = kept.holding.held k d h in
           let frame : ℕ = (get_or standing.held k d).frame in
           let progress : Progress = progress_at course.records frame in
           stands-some IsUnsent (path_of network progress) progress.hops
@@ -254,7 +254,7 @@ may-end {T} {key} {wait} {network} {releases} {course} {now} {frame} {entries} n
     let within : place < length network.topology.ports = standing-place here in
     let kept : IsPortOf key network course place (port_state_at course place) = next.holds.ports place within in
     let sends : Sends (port_state_at course place) frame now.at.0 =
-    kept.sending frame now.at at.within at.at refl in
+    kept.sends.sending frame now.at at.within at.at refl in
     let link : IsPort (length network.topology.nodes) (port_at network.topology.ports place) =
     (ports_are_lawful network.topology next.holds.rules.topology).each place no_port within in
     let time : now.at.0 ≤ horizon = in_time next in

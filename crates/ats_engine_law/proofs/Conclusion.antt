@@ -70,7 +70,7 @@ none-sends : {T : Type 0} {key : T → ℕ → ℕ → ℕ} {wait : ℕ → ℕ 
     {releases : List Release} {course : Course T} → Holds key wait network releases course [] → (port : ℕ)
     → port < length network.topology.ports → (port_state_at course port).is_sending ≡ true → ⊥
 none-sends {T} {key} {wait} {network} {releases} {course} holds port within sends =
-    let way = (holds.ports port within).under_way sends in
+    let way = (holds.ports port within).sends.under_way sends in
     none-to-come holds (End (last_of (port_state_at course port).sent).frame) _
     (ap (end_by (last_of (port_state_at course port).sent).frame) way.stage)
 
@@ -100,7 +100,7 @@ none-waits {T} {key} {wait} {network} {releases} {course} holds frame within wai
     let port : place_at network course frame < length network.topology.ports =
     s.ports (length p.hops - 1) 0 (omega arith) in
     none-held holds (place_at network course frame) port (offer_at network course frame)
-    ((holds.ports (place_at network course frame) port).waiting frame within waits refl)
+    ((holds.ports (place_at network course frame) port).holding.waiting frame within waits refl)
 
 -- each frame's journey is whole
 each-whole : {T : Type 0} {key : T → ℕ → ℕ → ℕ} {wait : ℕ → ℕ → ℕ} {network : DeclaredNetwork}
@@ -164,18 +164,18 @@ port-rule : {T : Type 0} {key : T → ℕ → ℕ → ℕ} {network : DeclaredNe
     (standing : PortState T) → IsPortOf key network course port standing
     → KeepsPortRule (port_at network.topology.ports port).ps_per_bit (sent_by network (travels course) port)
 port-rule {T} {key} {network} {course} port standing is =
-    subst (λ (ps : ℕ). KeepsPortRule ps (sent_by network (travels course) port)) is.ps_per_bit
-    (rule-permutation standing.ps_per_bit (transmissions standing.sent) (sent_by network (travels course) port) is.sent
-    is.lawful.rule)
+    subst (λ (ps : ℕ). KeepsPortRule ps (sent_by network (travels course) port)) is.of_network.ps_per_bit
+    (rule-permutation standing.ps_per_bit (transmissions standing.sent) (sent_by network (travels course) port)
+    is.past.sent is.past.lawful.rule)
 
 -- and so it keeps its tie
 port-tie : {T : Type 0} {key : T → ℕ → ℕ → ℕ} {network : DeclaredNetwork} {course : Course T} (port : ℕ)
     (standing : PortState T) → IsPortOf key network course port standing
     → KeepsTie (key course.tie) (sent_by network (travels course) port)
 port-tie {T} {key} {network} {course} port standing is =
-    subst (λ (t : T). KeepsTie (key t) (sent_by network (travels course) port)) is.tie
-    (tie-permutation (key standing.tie) (transmissions standing.sent) (sent_by network (travels course) port) is.sent
-    is.lawful.tie)
+    subst (λ (t : T). KeepsTie (key t) (sent_by network (travels course) port)) is.of_network.tie
+    (tie-permutation (key standing.tie) (transmissions standing.sent) (sent_by network (travels course) port)
+    is.past.sent is.past.lawful.tie)
 
 -- the group behind a port for a class has judged what came to it
 group-judged : {T : Type 0} (network : DeclaredNetwork) (course : Course T) (port class : ℕ)

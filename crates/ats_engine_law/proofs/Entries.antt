@@ -238,7 +238,7 @@ pub selects-end : {T : Type 0} {key : T → ℕ → ℕ → ℕ} {wait : ℕ →
     → step.end.0 ≡ now.at.0 + (port_at network.topology.ports port).ps_per_bit * bits_of step.starts.started.octets
 selects-end {T} {key} {wait} {network} {releases} {old} {new} {now} {port} next step =
     step.starts.ends ∙ ap (λ (ps : ℕ). now.at.0 + ps * bits_of step.starts.started.octets)
-    (next.holds.ports port (selecting-within next)).ps_per_bit
+    (next.holds.ports port (selecting-within next)).of_network.ps_per_bit
 
 -- the end of a transmission that starts is later
 pub selects-after : {T : Type 0} {key : T → ℕ → ℕ → ℕ} {wait : ℕ → ℕ → ℕ} {network : DeclaredNetwork}
@@ -263,7 +263,8 @@ pub selects-held : {T : Type 0} {key : T → ℕ → ℕ → ℕ} {wait : ℕ �
 selects-held {T} {key} {wait} {network} {releases} {old} {new} {now} {port} next step =
     All-head (IsHeld network old port) step.starts.started step.standing.held
     (All-permutation (IsHeld network old port) (port_state_at old port).held
-    (step.starts.started ∷ step.standing.held) step.starts.held (next.holds.ports port (selecting-within next)).held)
+    (step.starts.started ∷ step.standing.held) step.starts.held
+    (next.holds.ports port (selecting-within next)).holding.held)
 
 -- the events that are to happen after a selection
 pub selects-awaited : {T : Type 0} {key : T → ℕ → ℕ → ℕ} {wait : ℕ → ℕ → ℕ} {network : DeclaredNetwork}
@@ -313,7 +314,7 @@ pub ending-sends : {T : Type 0} {key : T → ℕ → ℕ → ℕ} {wait : ℕ �
     → Sends (port_state_at course (place_at network course frame)) frame now.at.0
 ending-sends {T} {key} {wait} {network} {releases} {course} {now} {frame} next =
     let was = next-sending next in
-    (next.holds.ports (place_at network course frame) (ending-port next)).sending frame now.at
+    (next.holds.ports (place_at network course frame) (ending-port next)).sends.sending frame now.at
     (stage-within course frame (Sending now.at) next.holds.shape.stages was (λ e. cc)) was refl
 
 -- a port that sends goes on with it

@@ -279,7 +279,7 @@ selected-held : {T : Type 0} {key : T → ℕ → ℕ → ℕ} {wait : ℕ → �
 selected-held {T} {key} {wait} {network} {releases} {old} {new} {now} {port} next step =
     let within : port < length old.turns = turn-within old port (Selecting now.at) (next-selecting next)
     (λ same. cc) in
-    let held = (next.holds.ports port (omega (arith, next.holds.shape.turns))).held in
+    let held = (next.holds.ports port (omega (arith, next.holds.shape.turns))).holding.held in
     started-frame (key old.tie) (port_state_at old port) step.standing now.at.0 step.frame step.end.0 step.starts
     (λ (f : ℕ). (f < length old.records) × (stage_at old f ≡ Waiting))
     (λ k d h. ((held k d h).within, (held k d h).stage))

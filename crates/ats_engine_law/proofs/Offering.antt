@@ -137,7 +137,7 @@ of_standing : {T : Type 0} {key : T → ℕ → ℕ → ℕ} {network : Declared
 of_standing {T} {key} {network} {course} {port} {s} Q kept all =
     all_unmapped Q transmission_of s.sent
     (All-permutation Q (sent_by network (travels course) port) (transmissions s.sent)
-    (IsPermutation-sym (transmissions s.sent) (sent_by network (travels course) port) kept.sent) all)
+    (IsPermutation-sym (transmissions s.sent) (sent_by network (travels course) port) kept.past.sent) all)
 
 -- a frame that a port sent passes it
 sent-passes : {T : Type 0} {key : T → ℕ → ℕ → ℕ} {network : DeclaredNetwork} {course : Course T} {port : ℕ}
@@ -166,7 +166,7 @@ held-passes : {T : Type 0} {key : T → ℕ → ℕ → ℕ} {network : Declared
     → All (λ (o : Offer). Passes network course.records port (o.frame, o.class)) s.held
 held-passes {T} {key} {network} {course} {port} {s} kept standing k d h =
     let o : Offer = get_or s.held k d in
-    let held : IsHeld network course port o = kept.held k d h in
+    let held : IsHeld network course port o = kept.holding.held k d h in
     record {
       within = held.within;
       there = standing-passes (standing o held) port o.class held.place (ap (λ (x : Offer). x.class) held.same);
@@ -221,11 +221,11 @@ room-here {T} {key} {network} {course} {port} {s} {Last} frame same kept place w
     let of_offer : Offer → ℕ × ℕ = λ (o : Offer). (o.frame, o.class) in
     let of_sent : Sent → ℕ × ℕ = λ (x : Sent). (x.frame, x.class) in
     let less : offered_of s class < room_of network course.records port class =
-    room_for network course.records port frame class s kept.apart
+    room_for network course.records port frame class s kept.holding.apart
     (All-append Row (map of_offer s.held) (map of_sent s.sent)
     (All-map Row of_offer s.held (held-passes kept stand))
     (All-map Row of_sent s.sent (sent-passes same kept)))
     (All-append Other (map of_offer s.held) (map of_sent s.sent) (All-map Other of_offer s.held not_held)
     (All-map Other of_sent s.sent not_sent))
     (record { within = within; there = standing-passes at port class place refl }) in
-    omega (arith, less, kept.rooms class few)
+    omega (arith, less, kept.of_network.rooms class few)

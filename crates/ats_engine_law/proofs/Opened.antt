@@ -263,22 +263,32 @@ fresh-port {T} key network releases course port rooms opened each =
     let fresh : PortState T = standing.opened ps rooms course.tie in
     let nothing : List Transmission = [] in
     record {
-      ps_per_bit = refl;
-      tie = refl;
-      rooms = each;
-      lawful = lawful-open (key course.tie) ps;
-      sent = subst (IsPermutation nothing) (sym (sent-nothing network releases course port opened))
-          (IsPermutation-refl nothing);
-      held = All-nil (IsHeld network course port);
-      waiting = λ frame within waits place. absurd (never-waits frame within waits);
-      apart = λ i j d less h. absurd (omega arith);
-      under_way = λ sends. absurd (true≢false (sym sends));
-      sending = λ frame until within sends place. absurd (never-sends frame until within sends);
+      of_network = record {
+        ps_per_bit = refl;
+        tie = refl;
+        rooms = each;
+      };
+      past = record {
+        lawful = lawful-open (key course.tie) ps;
+        sent = subst (IsPermutation nothing) (sym (sent-nothing network releases course port opened))
+            (IsPermutation-refl nothing);
+      };
+      holding = record {
+        held = All-nil (IsHeld network course port);
+        waiting = λ frame within waits place. absurd (never-waits frame within waits);
+        apart = λ i j d less h. absurd (omega arith);
+      };
+      sends = record {
+        under_way = λ sends. absurd (true≢false (sym sends));
+        sending = λ frame until within sends place. absurd (never-sends frame until within sends);
+      };
       turn = subst (IsTurn fresh) (sym (turn-is network releases course port opened)) (refl, refl);
-      started = λ some. absurd (omega arith);
-      selected = λ some. absurd (omega arith);
-      ended = λ free. omega arith;
-      eligible = All-nil (λ (o : Offer). o.eligible.0 ≤ course.last.at.0);
+      times = record {
+        started = λ some. absurd (omega arith);
+        selected = λ some. absurd (omega arith);
+        ended = λ free. omega arith;
+        eligible = All-nil (λ (o : Offer). o.eligible.0 ≤ course.last.at.0);
+      };
     }
   where
     comes : (frame : ℕ) → frame < length course.records

@@ -119,17 +119,18 @@ crossed_before {T} {key} {wait} {network} {releases} {old} {new} {now} {frame} {
     let standing : PortState T = port_state_at old place in
     let is : IsPortOf key network old place standing = next.holds.ports place below in
     let sends : Sends standing frame now.at.0 =
-    is.sending frame now.at (may-end next).placed.within (next-sending next) refl in
+    is.sends.sending frame now.at (may-end next).placed.within (next-sending next) refl in
     let Sooner : Transmission → Type 0 = λ (t : Transmission). t.frame ≢ frame → t.end < now.at.0 in
     let rate = (next-port next place below).rate.least in
     let before : All Sooner (transmissions standing.sent) = λ i e within other.
     omega (
       arith,
       sends.end,
-      ended_before (key standing.tie) standing.ps_per_bit standing.held standing.sent is.lawful
-          (omega (arith, is.ps_per_bit, rate)) i e within (λ same. other (same ∙ sends.named)),
+      ended_before (key standing.tie) standing.ps_per_bit standing.held standing.sent is.past.lawful
+          (omega (arith, is.of_network.ps_per_bit, rate)) i e within (λ same. other (same ∙ sends.named)),
     ) in
-    let all = All-permutation Sooner (transmissions standing.sent) (sent_by network (travels old) place) is.sent before
+    let all = All-permutation Sooner (transmissions standing.sent) (sent_by network (travels old) place)
+    is.past.sent before
     in
     All-contains Sooner (sent_by network (travels old) place)
     (get_or (crossings_by network (travels old) place) k d).sent all

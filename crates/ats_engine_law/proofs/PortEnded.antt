@@ -40,30 +40,40 @@ pub port-ended : {T : Type 0} {network : DeclaredNetwork} {old new : Course T} {
 port-ended {T} {network} {old} {new} {now} {frame} {port} key s turn o is lawful sent next turns =
     let c = o.changes in
     let t : PortState T = record s { is_sending = false } in
-    let sends : Sends s frame now.0 = is.sending frame now o.within o.was o.place in
+    let sends : Sends s frame now.0 = is.sends.sending frame now o.within o.was o.place in
     let is_now : new.last.at.0 ≡ now.0 = ap (λ (at : Ps). at.0) o.last in
     record {
-      ps_per_bit = is.ps_per_bit;
-      tie = is.tie ∙ sym c.tie;
-      rooms = λ class within. is.rooms class within ∙ sym (c.rooms port class);
-      lawful = lawful;
-      sent = subst (λ (ts : List Transmission). IsPermutation (transmissions s.sent) ts) (sym sent) is.sent;
-      held = All-weaker (IsHeld network old port) (IsHeld network new port)
-          (λ x h. held-else port x c
-          (λ e. sending-waiting now (sym o.was ∙ ap (stage_at old) (sym e) ∙ h.stage)) h) s.held is.held;
-      waiting = λ other within stage place. waiting-else key port other s c
-          (λ e. o.away.waiting (ap (stage_at new) (sym e) ∙ stage) (ap (place_at network new) (sym e) ∙ place)) is
-          within stage place;
-      apart = is.apart;
-      under_way = λ sending. absurd (true≢false (sym sending));
-      sending = λ other until within stage place. (
-          let apart : other ≢ frame =
-          λ e. o.away.sending until (ap (stage_at new) (sym e) ∙ stage) (ap (place_at network new) (sym e) ∙ place) in
-          let also = sending-else key port other until s c apart is within stage place in
-          absurd (apart (sym also.named ∙ sends.named)));
+      of_network = record {
+        ps_per_bit = is.of_network.ps_per_bit;
+        tie = is.of_network.tie ∙ sym c.tie;
+        rooms = λ class within. is.of_network.rooms class within ∙ sym (c.rooms port class);
+      };
+      past = record {
+        lawful = lawful;
+        sent = subst (λ (ts : List Transmission). IsPermutation (transmissions s.sent) ts) (sym sent) is.past.sent;
+      };
+      holding = record {
+        held = All-weaker (IsHeld network old port) (IsHeld network new port)
+            (λ x h. held-else port x c
+            (λ e. sending-waiting now (sym o.was ∙ ap (stage_at old) (sym e) ∙ h.stage)) h) s.held is.holding.held;
+        waiting = λ other within stage place. waiting-else key port other s c
+            (λ e. o.away.waiting (ap (stage_at new) (sym e) ∙ stage) (ap (place_at network new) (sym e) ∙ place)) is
+            within stage place;
+        apart = is.holding.apart;
+      };
+      sends = record {
+        under_way = λ sending. absurd (true≢false (sym sending));
+        sending = λ other until within stage place. (
+            let apart : other ≢ frame =
+            λ e. o.away.sending until (ap (stage_at new) (sym e) ∙ stage) (ap (place_at network new) (sym e) ∙ place) in
+            let also = sending-else key port other until s c apart is within stage place in
+            absurd (apart (sym also.named ∙ sends.named)));
+      };
       turn = subst (IsTurn t) (sym turns) next;
-      started = started-later key port s c is;
-      selected = selected-later key port s c is;
-      ended = λ _. omega (arith, sends.end);
-      eligible = eligible-later key port s c is;
+      times = record {
+        started = started-later key port s c is;
+        selected = selected-later key port s c is;
+        ended = λ _. omega (arith, sends.end);
+        eligible = eligible-later key port s c is;
+      };
     }

@@ -41,7 +41,7 @@ pub waiting-else : {T : Type 0} {network : DeclaredNetwork} {old new : Course T}
     → place_at network new other ≡ port → Contains s.held (offer_at network new other)
 waiting-else {T} {network} key port other s c apart is within stage place =
     subst (Contains s.held) (ap (offer_of network other) (sym (c.records other apart)))
-    (is.waiting other (subst (λ (n : ℕ). other < n) c.count within) (sym (c.stages other apart) ∙ stage)
+    (is.holding.waiting other (subst (λ (n : ℕ). other < n) c.count within) (sym (c.stages other apart) ∙ stage)
     (ap (place_of network) (sym (c.records other apart)) ∙ place))
 
 -- and sends another one that is on its way there
@@ -50,7 +50,7 @@ pub sending-else : {T : Type 0} {network : DeclaredNetwork} {old new : Course T}
     → other ≢ frame → IsPortOf key network old port s → other < length new.records
     → stage_at new other ≡ Sending until → place_at network new other ≡ port → Sends s other until.0
 sending-else {T} {network} key port other until s c apart is within stage place =
-    is.sending other until (subst (λ (n : ℕ). other < n) c.count within) (sym (c.stages other apart) ∙ stage)
+    is.sends.sending other until (subst (λ (n : ℕ). other < n) c.count within) (sym (c.stages other apart) ∙ stage)
     (ap (place_of network) (sym (c.records other apart)) ∙ place)
 
 -- a last start that was no later than the last event is still no later, and one at its time is of a selection's phase
@@ -59,10 +59,10 @@ pub selected-later : {T : Type 0} {network : DeclaredNetwork} {old new : Course 
     → 0 < length s.sent → last_start s.sent ≡ new.last.at.0 → SELECTION ≤ new.last.phase
 selected-later {T} {network} {old} {new} key port s c is some now =
     let past : old.last.at.0 ≤ new.last.at.0 = c.reached.time in
-    let started : last_start s.sent ≤ old.last.at.0 = is.started some in
+    let started : last_start s.sent ≤ old.last.at.0 = is.times.started some in
     let equal : old.last.at.0 ≡ new.last.at.0 = omega arith in
     let later : old.last.phase ≤ new.last.phase = c.reached.phase equal in
-    let first : SELECTION ≤ old.last.phase = is.selected some (omega arith) in
+    let first : SELECTION ≤ old.last.phase = is.times.selected some (omega arith) in
     omega arith
 
 -- it is no later than the last event
@@ -71,7 +71,7 @@ pub started-later : {T : Type 0} {network : DeclaredNetwork} {old new : Course T
     → 0 < length s.sent → last_start s.sent ≤ new.last.at.0
 started-later {T} {network} {old} {new} key port s c is some =
     let past : old.last.at.0 ≤ new.last.at.0 = c.reached.time in
-    let started : last_start s.sent ≤ old.last.at.0 = is.started some in
+    let started : last_start s.sent ≤ old.last.at.0 = is.times.started some in
     omega arith
 
 -- the frames that a port holds were eligible by now
@@ -81,7 +81,7 @@ pub eligible-later : {T : Type 0} {network : DeclaredNetwork} {old new : Course 
 eligible-later {T} {network} {old} {new} key port s c is =
     let past : old.last.at.0 ≤ new.last.at.0 = c.reached.time in
     All-weaker (λ (o : Offer). o.eligible.0 ≤ old.last.at.0) (λ (o : Offer). o.eligible.0 ≤ new.last.at.0)
-    (λ o before. omega arith) s.held is.eligible
+    (λ o before. omega arith) s.held is.times.eligible
 
 -- a frame neither waits at a port nor is sent there
 pub record IsAway {T : Type 0} (network : DeclaredNetwork) (course : Course T) (port frame : ℕ) : Type 0 where
@@ -107,26 +107,36 @@ pub port-stays : {T : Type 0} {network : DeclaredNetwork} {old new : Course T} {
     → sent_by network (travels new) port ≡ sent_by network (travels old) port
     → turn_at new port ≡ turn_at old port → IsPortOf key network new port s
 port-stays {T} {network} {old} {new} {frame} key port s c is before after sent turn = record {
-  ps_per_bit = is.ps_per_bit;
-  tie = is.tie ∙ sym c.tie;
-  rooms = λ class within. is.rooms class within ∙ sym (c.rooms port class);
-  lawful = is.lawful;
-  sent = subst (λ (ts : List Transmission). IsPermutation (transmissions s.sent) ts) (sym sent) is.sent;
-  held = All-weaker (IsHeld network old port) (IsHeld network new port)
-      (λ o h. held-else port o c (held-apart o before h) h) s.held is.held;
-  waiting = λ other within stage place. waiting-else key port other s c
-      (λ e. after.waiting (ap (stage_at new) (sym e) ∙ stage) (ap (place_at network new) (sym e) ∙ place)) is within
-      stage place;
-  apart = is.apart;
-  under_way = λ sending. (let h = is.under_way sending in
-      under-way-else port (last_of s.sent) c (under-way-apart (last_of s.sent) before h) h);
-  sending = λ other until within stage place. sending-else key port other until s c
-      (λ e. after.sending until (ap (stage_at new) (sym e) ∙ stage) (ap (place_at network new) (sym e) ∙ place)) is
-      within stage place;
+  of_network = record {
+    ps_per_bit = is.of_network.ps_per_bit;
+    tie = is.of_network.tie ∙ sym c.tie;
+    rooms = λ class within. is.of_network.rooms class within ∙ sym (c.rooms port class);
+  };
+  past = record {
+    lawful = is.past.lawful;
+    sent = subst (λ (ts : List Transmission). IsPermutation (transmissions s.sent) ts) (sym sent) is.past.sent;
+  };
+  holding = record {
+    held = All-weaker (IsHeld network old port) (IsHeld network new port)
+        (λ o h. held-else port o c (held-apart o before h) h) s.held is.holding.held;
+    waiting = λ other within stage place. waiting-else key port other s c
+        (λ e. after.waiting (ap (stage_at new) (sym e) ∙ stage) (ap (place_at network new) (sym e) ∙ place)) is within
+        stage place;
+    apart = is.holding.apart;
+  };
+  sends = record {
+    under_way = λ sending. (let h = is.sends.under_way sending in
+        under-way-else port (last_of s.sent) c (under-way-apart (last_of s.sent) before h) h);
+    sending = λ other until within stage place. sending-else key port other until s c
+        (λ e. after.sending until (ap (stage_at new) (sym e) ∙ stage) (ap (place_at network new) (sym e) ∙ place)) is
+        within stage place;
+  };
   turn = subst (IsTurn s) (sym turn) is.turn;
-  started = started-later key port s c is;
-  selected = selected-later key port s c is;
-  ended = λ free. (let past : old.last.at.0 ≤ new.last.at.0 = c.reached.time in
-      let before : last_end s.sent ≤ old.last.at.0 = is.ended free in omega arith);
-  eligible = eligible-later key port s c is;
+  times = record {
+    started = started-later key port s c is;
+    selected = selected-later key port s c is;
+    ended = λ free. (let past : old.last.at.0 ≤ new.last.at.0 = c.reached.time in
+        let before : last_end s.sent ≤ old.last.at.0 = is.times.ended free in omega arith);
+    eligible = eligible-later key port s c is;
+  };
 }

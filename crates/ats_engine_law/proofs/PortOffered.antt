@@ -108,13 +108,13 @@ all-apart {T} {network} {old} {new} {now} {frame} {port} key s held o is p not_s
     let of_sent : Sent → ℕ = λ (x : Sent). x.frame in
     let first : All Other (map of_offer s.held) =
     All-map Other of_offer s.held (All-weaker (IsHeld network old port) (λ (x : Offer). frame ≢ x.frame)
-    (λ x h. flip x.frame frame (held-apart x o h)) s.held is.held) in
+    (λ x h. flip x.frame frame (held-apart x o h)) s.held is.holding.held) in
     let second : All Other (map of_sent s.sent) =
     All-map Other of_sent s.sent (All-weaker (λ (x : Sent). x.frame ≢ frame) (λ (x : Sent). frame ≢ x.frame)
     (λ x h. flip x.frame frame h) s.sent not_sent) in
     pairs_more (λ (x y : ℕ). x ≢ y) flip frame (frames_at s) (map of_offer held ++ map of_sent s.sent)
     (frames-offered (offer_at network old frame) s.held held s.sent p)
-    (All-append Other (map of_offer s.held) (map of_sent s.sent) first second) is.apart
+    (All-append Other (map of_offer s.held) (map of_sent s.sent) first second) is.holding.apart
 
 -- a port that has nothing to do selects now
 turn-rested : {T : Type 0} {network : DeclaredNetwork} {old new : Course T} {now : Ps} {frame port : ℕ}
@@ -126,7 +126,7 @@ turn-rested {T} {network} {old} {new} {now} {frame} key s held o is p free empty
     let past : old.last.at.0 ≤ new.last.at.0 = o.changes.reached.time in
     let is_now : new.last.at.0 ≡ now.0 = ap (λ (at : Ps). at.0) o.last in
     let eligible : offer.eligible.0 ≡ now.0 = ap (λ (at : Ps). at.0) o.eligible in
-    let ended : last_end s.sent ≤ old.last.at.0 = is.ended free in
+    let ended : last_end s.sent ≤ old.last.at.0 = is.times.ended free in
     let there : Contains held offer = contains-new offer s.held held p in
     record {
       reached = record {
@@ -154,7 +154,8 @@ turn-selecting {T} {network} {old} {new} {now} {frame} key s held at o is p was 
     let eligible : offer.eligible.0 ≡ now.0 = ap (λ (at : Ps). at.0) o.eligible in
     let some : Any (λ (x : Offer). x.eligible.0 ≤ at) s.held = was.reached.eligible in
     let held_before : some.1.eligible.0 ≤ old.last.at.0 =
-    All-contains (λ (x : Offer). x.eligible.0 ≤ old.last.at.0) s.held some.1 is.eligible (some.0, some.2, some.3) in
+    All-contains (λ (x : Offer). x.eligible.0 ≤ old.last.at.0) s.held some.1 is.times.eligible
+    (some.0, some.2, some.3) in
     record {
       reached = record {
         free = was.reached.free;
@@ -196,26 +197,36 @@ port-offered {T} {network} {old} {new} {now} {frame} {port} key s held o is p la
     let eligible : offer.eligible.0 ≡ new.last.at.0 = ap (λ (at : Ps). at.0) (o.eligible ∙ sym o.last) in
     let Eligible : Offer → Type 0 = λ (x : Offer). x.eligible.0 ≤ new.last.at.0 in
     record {
-      ps_per_bit = is.ps_per_bit;
-      tie = is.tie ∙ sym c.tie;
-      rooms = λ class within. is.rooms class within ∙ sym (c.rooms port class);
-      lawful = lawful;
-      sent = subst (λ (ts : List Transmission). IsPermutation (transmissions s.sent) ts) (sym sent) is.sent;
-      held = all-held s.held held o p is.held;
-      waiting = all-there key s held o is p;
-      apart = all-apart key s held o is p not_sent;
-      under_way = λ sending. (let h = is.under_way sending in
-          under-way-else port (last_of s.sent) c
-          (λ e. due-sending now (last_of s.sent).end (sym o.due ∙ ap (stage_at old) (sym e) ∙ h.stage)) h);
-      sending = λ other until within stage place. (
-          let apart : other ≢ frame =
-          λ e. waiting-sending until (sym o.waits ∙ ap (stage_at new) (sym e) ∙ stage) in
-          let h = sending-else key port other until s c apart is within stage place in
-          record { sending = h.sending; named = h.named; end = h.end });
+      of_network = record {
+        ps_per_bit = is.of_network.ps_per_bit;
+        tie = is.of_network.tie ∙ sym c.tie;
+        rooms = λ class within. is.of_network.rooms class within ∙ sym (c.rooms port class);
+      };
+      past = record {
+        lawful = lawful;
+        sent = subst (λ (ts : List Transmission). IsPermutation (transmissions s.sent) ts) (sym sent) is.past.sent;
+      };
+      holding = record {
+        held = all-held s.held held o p is.holding.held;
+        waiting = all-there key s held o is p;
+        apart = all-apart key s held o is p not_sent;
+      };
+      sends = record {
+        under_way = λ sending. (let h = is.sends.under_way sending in
+            under-way-else port (last_of s.sent) c
+            (λ e. due-sending now (last_of s.sent).end (sym o.due ∙ ap (stage_at old) (sym e) ∙ h.stage)) h);
+        sending = λ other until within stage place. (
+            let apart : other ≢ frame =
+            λ e. waiting-sending until (sym o.waits ∙ ap (stage_at new) (sym e) ∙ stage) in
+            let h = sending-else key port other until s c apart is within stage place in
+            record { sending = h.sending; named = h.named; end = h.end });
+      };
       turn = subst (IsTurn t) (sym turn) (turn-offered key s held o is p (turn_at old port) is.turn);
-      started = started-later key port s c is;
-      selected = selected-later key port s c is;
-      ended = λ free. (let before : last_end s.sent ≤ old.last.at.0 = is.ended free in omega arith);
-      eligible = All-permutation Eligible (offer ∷ s.held) held p
-          (All-cons Eligible offer s.held (omega arith) (eligible-later key port s c is));
+      times = record {
+        started = started-later key port s c is;
+        selected = selected-later key port s c is;
+        ended = λ free. (let before : last_end s.sent ≤ old.last.at.0 = is.times.ended free in omega arith);
+        eligible = All-permutation Eligible (offer ∷ s.held) held p
+            (All-cons Eligible offer s.held (omega arith) (eligible-later key port s c is));
+      };
     }

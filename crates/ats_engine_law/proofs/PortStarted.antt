@@ -74,7 +74,7 @@ still-apart {T} {network} {old} {new} {now} {end} {frame} {port} {s} {held} {sta
     let Other : ℕ → Type 0 = λ (n : ℕ). started.frame ≢ n in
     let rest : All Other (map of_offer held ++ map of_sent s.sent) =
     (pairs_less (λ (x y : ℕ). x ≢ y) flip started.frame (frames_at s) (map of_offer held ++ map of_sent s.sent)
-    (frames-taken started s.held held s.sent o.takes) is.apart).0 in
+    (frames-taken started s.held held s.sent o.takes) is.holding.apart).0 in
     let each : All (λ (x : Offer). started.frame ≢ x.frame) held =
     all_unmapped Other of_offer held (all_left Other (map of_offer held) (map of_sent s.sent) rest) in
     subst (λ (n : ℕ). All (λ (x : Offer). n ≢ x.frame) held) o.named each
@@ -87,7 +87,7 @@ still-held : {T : Type 0} {network : DeclaredNetwork} {old new : Course T} {now 
 still-held {T} {network} {old} {new} {now} {end} {frame} {port} {s} {held} {started} key o is =
     let before : All (IsHeld network old port) held =
     All-tail (IsHeld network old port) started held
-    (All-permutation (IsHeld network old port) s.held (started ∷ held) o.takes is.held) in
+    (All-permutation (IsHeld network old port) s.held (started ∷ held) o.takes is.holding.held) in
     let apart = still-apart key o is in
     λ k d h. held-else port _ o.changes (flip _ _ (apart k d h)) (before k d h)
 
@@ -173,22 +173,32 @@ port-started {T} {network} {old} {new} {now} {end} {frame} {port} {s} {held} {st
     ap (λ (y : Sent). y.start.0) last ∙ ap (λ (at : Ps). at.0) (sym o.last) in
     let Eligible : Offer → Type 0 = λ (y : Offer). y.eligible.0 ≤ new.last.at.0 in
     record {
-      ps_per_bit = is.ps_per_bit;
-      tie = is.tie ∙ sym c.tie;
-      rooms = λ class within. is.rooms class within ∙ sym (c.rooms port class);
-      lawful = lawful;
-      sent = more-sent s started now (sent_by network (travels old) port) (sent_by network (travels new) port) is.sent
-          more;
-      held = still-held key o is;
-      waiting = still-there key o is;
-      apart = AllPairs-permutation (λ (a b : ℕ). a ≢ b) flip (frames_at s) (frames_at t)
-          (frames-started started x s.held held s.sent o.takes refl) is.apart;
-      under_way = λ _. subst (IsUnderWay network new port) (sym last) (under-way-starts o);
-      sending = sends-started key o is;
+      of_network = record {
+        ps_per_bit = is.of_network.ps_per_bit;
+        tie = is.of_network.tie ∙ sym c.tie;
+        rooms = λ class within. is.of_network.rooms class within ∙ sym (c.rooms port class);
+      };
+      past = record {
+        lawful = lawful;
+        sent = more-sent s started now (sent_by network (travels old) port) (sent_by network (travels new) port)
+            is.past.sent more;
+      };
+      holding = record {
+        held = still-held key o is;
+        waiting = still-there key o is;
+        apart = AllPairs-permutation (λ (a b : ℕ). a ≢ b) flip (frames_at s) (frames_at t)
+            (frames-started started x s.held held s.sent o.takes refl) is.holding.apart;
+      };
+      sends = record {
+        under_way = λ _. subst (IsUnderWay network new port) (sym last) (under-way-starts o);
+        sending = sends-started key o is;
+      };
       turn = subst (IsTurn t) (sym o.turn) refl;
-      started = λ _. omega (arith, start);
-      selected = λ _ _. o.phase;
-      ended = λ free. absurd (true≢false free);
-      eligible = All-tail Eligible started held
-          (All-permutation Eligible s.held (started ∷ held) o.takes (eligible-later key port s c is));
+      times = record {
+        started = λ _. omega (arith, start);
+        selected = λ _ _. o.phase;
+        ended = λ free. absurd (true≢false free);
+        eligible = All-tail Eligible started held
+            (All-permutation Eligible s.held (started ∷ held) o.takes (eligible-later key port s c is));
+      };
     }

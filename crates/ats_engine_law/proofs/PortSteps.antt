@@ -119,7 +119,8 @@ pub starts-held : {T : Type 0} {key : T → ℕ → ℕ → ℕ} {wait : ℕ →
 starts-held {T} {key} {wait} {network} {releases} {old} {new} {now} {port} next step =
     All-head (IsHeld network old port) step.starts.started step.standing.held
     (All-permutation (IsHeld network old port) (port_state_at old port).held
-    (step.starts.started ∷ step.standing.held) step.starts.held (next.holds.ports port (selects-within next)).held)
+    (step.starts.started ∷ step.standing.held) step.starts.held
+    (next.holds.ports port (selects-within next)).holding.held)
 
 -- what becomes of the frame that a port starts
 pub starting : {T : Type 0} {key : T → ℕ → ℕ → ℕ} {wait : ℕ → ℕ → ℕ} {network : DeclaredNetwork}

@@ -392,7 +392,7 @@ ends-bounds {T} {key} {wait} {network} {releases} {old} {new} {now} {frame} {ent
     let place : ℕ = place_at network old frame in
     let reached : old.last.at.0 ≤ now.at.0 = (next-reached next).time in
     let ended : last_end (port_state_at old place).sent ≡ now.at.0 = (ending-sends next).end in
-    let eligible = (next.holds.ports place (ending-port next)).eligible in
+    let eligible = (next.holds.ports place (ending-port next)).times.eligible in
     let known : Held (port_state_at old place) = (omega arith, λ k d h. omega (arith, eligible k d h)) in
     let freed : Held (record (port_state_at old step.port) { is_sending = false }) =
     subst (λ (port : ℕ). Held (port_state_at old port)) step.place known in

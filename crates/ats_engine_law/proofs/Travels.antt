@@ -267,7 +267,7 @@ module _ {T : Type 0} {key : T → ℕ → ℕ → ℕ} {wait : ℕ → ℕ → 
       All-head (IsHeld network old port) step.starts.started step.standing.held
       (All-permutation (IsHeld network old port) (port_state_at old port).held
       (step.starts.started ∷ step.standing.held) step.starts.held
-      (next.holds.ports port (selecting-within next)).held)
+      (next.holds.ports port (selecting-within next)).holding.held)
 
   -- it is one of the course
   pub selects-within : IsNext key wait network releases old now (Selection port) entries

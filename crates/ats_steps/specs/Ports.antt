@@ -63,30 +63,48 @@ abbrev pub frames_at : {T : Type 0} → PortState T → List ℕ
 frames_at standing =
     map (λ (o : Offer). o.frame) standing.held ++ map (λ (x : Sent). x.frame) standing.sent
 
--- what a port that has these frames has to do with the run
-pub record IsPortOf {T : Type 0} (key : T → ℕ → ℕ → ℕ) (network : DeclaredNetwork) (course : Course T) (port : ℕ)
-    (standing : PortState T) : Type 0 where
-  -- it is that of the network
+-- a port is that of the network
+pub record IsOfNetwork {T : Type 0} (network : DeclaredNetwork) (course : Course T) (port : ℕ) (standing : PortState T)
+    : Type 0 where
   pub ps_per_bit : standing.ps_per_bit ≡ (port_at network.topology.ports port).ps_per_bit
   pub tie : standing.tie ≡ course.tie
   pub rooms : (class : ℕ) → class ≤ 7 → slice_index standing.rooms class ≡ room_of network course.records port class
-  -- it is lawful, and its transmissions are those of the run so far
+
+-- it is lawful, and its transmissions are those of the run so far
+pub record HasSentSoFar {T : Type 0} (key : T → ℕ → ℕ → ℕ) (network : DeclaredNetwork) (course : Course T) (port : ℕ)
+    (standing : PortState T) : Type 0 where
   pub lawful : IsLawfulPort key standing
   pub sent : IsPermutation (transmissions standing.sent) (sent_by network (travels course) port)
-  -- it holds the frames that wait there, each once
+
+-- a port holds the frames that wait there, each once
+pub record HoldsWaiting {T : Type 0} (network : DeclaredNetwork) (course : Course T) (port : ℕ) (standing : PortState T)
+    : Type 0 where
   pub held : All (IsHeld network course port) standing.held
   pub waiting : (frame : ℕ) → frame < length course.records → stage_at course frame ≡ Waiting
       → place_at network course frame ≡ port → Contains standing.held (offer_at network course frame)
   pub apart : AllPairs (λ (x y : ℕ). x ≢ y) (frames_at standing)
-  -- it sends the frame that is being sent there
+
+-- a port sends the frame that is being sent there
+pub record SendsThere {T : Type 0} (network : DeclaredNetwork) (course : Course T) (port : ℕ) (standing : PortState T)
+    : Type 0 where
   pub under_way : standing.is_sending ≡ true → IsUnderWay network course port (last_of standing.sent)
   pub sending : (frame : ℕ) (until : Ps) → frame < length course.records → stage_at course frame ≡ Sending until
       → place_at network course frame ≡ port → Sends standing frame until.0
-  -- it does next what its turn says
-  pub turn : IsTurn standing (turn_at course port)
-  -- its last start is no later than the last event, and where it is at that time, that was a selection or later; a
-  -- finished transmission has ended by then, and each frame that it holds was eligible
+
+-- a port's last start is no later than the last event, and where it is at that time, that was a selection or later; a
+-- finished transmission has ended by then, and each frame that it holds was eligible
+pub record IsInStep {T : Type 0} (course : Course T) (standing : PortState T) : Type 0 where
   pub started : 0 < length standing.sent → last_start standing.sent ≤ course.last.at.0
   pub selected : 0 < length standing.sent → last_start standing.sent ≡ course.last.at.0 → SELECTION ≤ course.last.phase
   pub ended : standing.is_sending ≡ false → last_end standing.sent ≤ course.last.at.0
   pub eligible : All (λ (o : Offer). o.eligible.0 ≤ course.last.at.0) standing.held
+
+-- what a port that has these frames has to do with the run; it does next what its turn says
+pub record IsPortOf {T : Type 0} (key : T → ℕ → ℕ → ℕ) (network : DeclaredNetwork) (course : Course T) (port : ℕ)
+    (standing : PortState T) : Type 0 where
+  pub of_network : IsOfNetwork network course port standing
+  pub past : HasSentSoFar key network course port standing
+  pub holding : HoldsWaiting network course port standing
+  pub sends : SendsThere network course port standing
+  pub turn : IsTurn standing (turn_at course port)
+  pub times : IsInStep course standing
