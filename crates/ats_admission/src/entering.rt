@@ -47,7 +47,6 @@ pub(crate) fn leave(network: &mut Network, kept: &mut Kept, number: u32, name: &
     ensures network { network.new ≡ without_at network.old number }
     ensures session { IsSession network.new kept.new }
 {
-    let _rules = network.streams(); // for what a network keeps
     if let Some(stream) = network.take_stream(name) {
         kept.renew(network, stream.path());
     }
@@ -71,7 +70,7 @@ pub(crate) fn stream_named(network: &Network, name: &Name) -> Option<u32>
     ensures { result ≡ place_of name.now (stream_names network.now.streams) }
 {
     let number = network.sender_named(name)?;
-    if (number as usize) < network.streams().len() {
+    if network.sender(number).is_stream() {
         Some(number)
     } else {
         None

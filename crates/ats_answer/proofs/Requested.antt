@@ -15,10 +15,10 @@ use Rattle.ats_num.specs.Places.{place_of}
 use Rattle.ats_num.proofs.Numbered.{place_of-lt}
 use Rattle.ats_io.specs.Text.{lines_of, words_of}
 use Rattle.ats_topology.specs.Node.{is_station, names_of}
-use Rattle.ats_topology.specs.Topology.{DeclaredTopology, IsTopology, node_at}
+use Rattle.ats_topology.specs.Topology.{DeclaredTopology, IsTopology, node_at, if_station, station_named, IsStationAt}
 use Rattle.ats_topology.specs.declared.node.Node.{Node}
 use Rattle.ats_streams.specs.Stream.{DeclaredStream, classes_for, stream_fault}
-use Rattle.ats_network.specs.Path.{IsStationAt, IsValidPath}
+use Rattle.ats_network.specs.Path.{IsValidPath}
 use Rattle.ats_network.specs.Shortest.{shortest_of}
 use Rattle.ats_network.proofs.RouteLemmas.{shortest_least}
 use Rattle.ats_network_file.proofs.SenderLemmas.{stream_keeps}
@@ -26,8 +26,8 @@ use Rattle.ats_network_file.proofs.Steps.{Given, Sound, both, ok_where_ok, or_fa
 use Rattle.ats_requests.specs.Requests.{MayAsk, MayEnter}
 use Rattle.ats_requests.specs.declared.request.Request.{Request}
 use Rattle.ats_requests.specs.declared.request.Request.TheVariants.{Withdraw}
-use Rattle.ats_request_file.specs.Reading.{admit_line, asked, asked_in, if_station, made_class, path_between, path_in}
-use Rattle.ats_request_file.specs.Reading.{request_in, requests_from, requests_of, station_of, stream_made}
+use Rattle.ats_request_file.specs.Reading.{admit_line, asked, asked_in, made_class, path_between, path_in}
+use Rattle.ats_request_file.specs.Reading.{request_in, requests_from, requests_of, stream_made}
 use Rattle.ats_request_file.specs.Reading.{stream_over, withdraw_line, with_line}
 use Rattle.ats_request_file.specs.Words.{admit_in, named}
 use Rattle.ats_words.specs.Words.{is_skipped, word}
@@ -58,7 +58,7 @@ station_at topology node n within = by (is_station (node_at topology.nodes node)
         subst (IsStationAt topology) (same_Some node n h) here
     by false e h = absurd (none-some n h)
 
-station_is : (topology : DeclaredTopology) (text : List ℕ) (n : ℕ) → station_of topology text ≡ Some n
+station_is : (topology : DeclaredTopology) (text : List ℕ) (n : ℕ) → station_named topology text ≡ Some n
     → IsStationAt topology n
 station_is topology text n h =
     let found = from (if_station topology)
@@ -85,16 +85,16 @@ between_valid topology a b path is begins ends = by (a == b) refl
 path_valid : (topology : DeclaredTopology) (n : ℕ) (words : List (List ℕ)) (path : List ℕ) → IsTopology topology
     → path_in topology n words ≡ Ok path → IsValidPath topology path
 path_valid topology n words path is h =
-    let begins = both (or_fault (UnknownNode n) (station_of topology (word words 2)))
-    (λ a. or_fault (UnknownNode n) (station_of topology (word words 3))
+    let begins = both (or_fault (UnknownNode n) (station_named topology (word words 2)))
+    (λ a. or_fault (UnknownNode n) (station_named topology (word words 3))
     >>= λ b. or_fault (NoPath n) (path_between topology a b)) path h in
-    let ends = both (or_fault (UnknownNode n) (station_of topology (word words 3)))
+    let ends = both (or_fault (UnknownNode n) (station_named topology (word words 3)))
     (λ b. or_fault (NoPath n) (path_between topology begins.first b)) path begins.then in
     between_valid topology begins.first ends.first path is
     (station_is topology (word words 2) begins.first
-    (or_fault_ok (UnknownNode n) (station_of topology (word words 2)) begins.first begins.is))
+    (or_fault_ok (UnknownNode n) (station_named topology (word words 2)) begins.first begins.is))
     (station_is topology (word words 3) ends.first
-    (or_fault_ok (UnknownNode n) (station_of topology (word words 3)) ends.first ends.is))
+    (or_fault_ok (UnknownNode n) (station_named topology (word words 3)) ends.first ends.is))
     (or_fault_ok (NoPath n) (path_between topology begins.first ends.first) path ends.then)
 
 -- a stream over a valid path that breaks no rule and has no identity may be asked for

@@ -1,12 +1,11 @@
 //! The station that a word names.
 
-ghost use Rattle.std.specs.Prelude.{◌≡◌, ◌<◌, length, IfOk, IsErrOf};
+ghost use Rattle.std.specs.Prelude.{IsErrOf};
 ghost use Rattle.ats_answer.specs.Outcome.{Gives};
-ghost use Rattle.ats_answer.specs.Station.{station_in, station_named};
+ghost use Rattle.ats_answer.specs.Station.{station_in};
 
 use crate::outcome::Stop;
-use ats_num::Name;
-use ats_topology::{Kind, Topology};
+use ats_topology::Topology;
 use std::alloc::Global;
 
 /// The number of the station with this name. `Refused` exactly where no station has it.
@@ -15,23 +14,11 @@ pub fn station_in(alloc: Global, word: &str, topology: &Topology) -> Result<u32,
     ensures due { Gives (λ station. station) result (station_in topology.now word.now) }
     ensures was_read { ¬ IsErrOf result Stop.ReadFailed }
 {
-    match station_named(topology, word.as_bytes()) {
+    match topology.station_named(word.as_bytes()) {
         Some(station) => Ok(station),
         None => {
             let line = format!(in alloc; "refused station {word}\n")?;
             Err(Stop::Refused(line.into_bytes()))
         }
-    }
-}
-
-// The number of the station with this name.
-fn station_named(topology: &Topology, word: &[u8]) -> Option<u32>
-    ensures { result ≡ station_named topology.now word.now }
-{
-    let name = Name::new(word)?;
-    let node = topology.node_named(&name)?;
-    match topology.nodes()[node as usize].kind {
-        Kind::Station => Some(node),
-        Kind::Bridge { .. } => None,
     }
 }

@@ -2,7 +2,7 @@
 use Rattle.std.proofs.Common.{◌≡◌, ℕ, ◌+◌, List, Option, Some, None, Result, Ok, Err, refl, sym, ap, subst, inl, inr}
 use Rattle.std.proofs.Common.{◌∙◌}
 use Rattle.std.specs.Prelude.{MatchResult}
-use Rattle.ats_topology.specs.Topology.{DeclaredTopology}
+use Rattle.ats_topology.specs.Topology.{DeclaredTopology, station_named}
 use Rattle.ats_network.specs.Network.{DeclaredNetwork, IsNetwork}
 use Rattle.ats_pcap.specs.declared.record.Record.{Record}
 use Rattle.ats_capture.specs.FaultText.{fault_text, records_fault_text}
@@ -14,7 +14,7 @@ use Rattle.ats_capture_law.proofs.Counting.{traffic_is_counted}
 use Rattle.ats_num.specs.Failure.{◌>>=◌, or_fault, unless}
 use Rattle.ats_answer.specs.Answer.{Answer}
 use Rattle.ats_answer.specs.Input.{declared_in, network_in, records_in, traffic_in}
-use Rattle.ats_answer.specs.Station.{station_answer, station_in, station_named}
+use Rattle.ats_answer.specs.Station.{station_answer, station_in}
 use Rattle.ats_answer.specs.declared.order.Order.{Order}
 use Rattle.ats_due.specs.Captured.{IsCaptured, captured_in}
 use Rattle.ats_due.specs.Replayed.{IsOneOf}

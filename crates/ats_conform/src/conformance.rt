@@ -1,9 +1,6 @@
 //! The judgement of all releases of a network.
 
-ghost use Rattle.std.specs.Prelude.{◌≡◌, ◌+◌, ◌<◌, length, IfErr, OnOk};
-ghost use Rattle.ats_network.specs.Network.{senders_of};
-ghost use Rattle.ats_group.specs.Group.{is_declared_size};
-ghost use Rattle.ats_trace.specs.Eligibility.{declared_by};
+ghost use Rattle.std.specs.Prelude.{◌+◌, ◌<◌, length, IfErr, OnOk};
 ghost use Rattle.ats_conform.specs.Broken.{AreBrokenOrFails, Breaks, BreaksOrFails};
 ghost use Rattle.ats_trace.specs.Talker.{IsDeclaredSize};
 ghost use Rattle.ats_conform.specs.Releases.{AllKeepBuckets, release_at};
@@ -14,7 +11,6 @@ use crate::broken::Broken;
 use crate::meter::Meter;
 use crate::meters::meters_for;
 use ats_network::Network;
-use ats_num::wire::MIN_OCTETS;
 use ats_num::{Failure, wire_bits};
 use ats_trace::Release;
 use std::alloc::Global;
@@ -74,27 +70,12 @@ fn judge_size(network: &Network, releases: &[Release], place: usize) -> Result<(
     ensures broken { IfErr result (Breaks network.now releases.now) }
 {
     let release = releases[place];
-    if allows(network, release.sender, release.octets) {
+    if network.sender(release.sender).allows(release.octets) {
         return Ok(());
     }
     Err(Broken::Size {
         frame: place as u32,
     })
-}
-
-// Whether a sender declares frames of so many octets.
-fn allows(network: &Network, sender: u32, octets: u32) -> bool
-    requires { sender < length (senders_of network.now) }
-    ensures { result ≡ is_declared_size (declared_by network.now sender) octets }
-{
-    let streams = network.streams();
-    let place = sender as usize;
-    if place < streams.len() {
-        let stream = &streams[place];
-        return octets >= stream.min_octets() && octets <= stream.max_octets();
-    }
-    let flow = &network.flows()[place - streams.len()];
-    octets >= MIN_OCTETS && octets <= flow.max_octets()
 }
 
 // Hands the release with this number, which has a declared size, to the meter of its stream, where it is a stream's.

@@ -11,10 +11,11 @@ use Rattle.ats_network.specs.Network.{DeclaredNetwork}
 use Rattle.ats_network.specs.Senders.{IsSender, sender_at}
 use Rattle.ats_network.proofs.ClassLemmas.{class_at-le}
 use Rattle.ats_network.proofs.SenderLemmas.{sender_keeps}
-use Rattle.ats_group.specs.Group.{State, Offer, judged, after, first, verdicts_of, state_after, is_declared_size}
+use Rattle.ats_group.specs.Group.{State, Offer, judged, after, first, verdicts_of, state_after}
+use Rattle.ats_streams.specs.Traffic.{is_declared_size}
 use Rattle.ats_group.specs.GroupsState.{GroupsState, verdict_of, value_after}
 use Rattle.ats_group.specs.Laws.{Outlasts}
-use Rattle.ats_group.specs.declared.member.Declared.{Declared}
+use Rattle.ats_streams.specs.declared.traffic.Declared.{Declared}
 use Rattle.ats_group.specs.declared.verdict.Verdict.{Verdict}
 use Rattle.ats_group.specs.declared.verdict.Verdict.TheVariants.{Eligible, Size}
 use Rattle.ats_group.proofs.StepLemmas.{the_rest}

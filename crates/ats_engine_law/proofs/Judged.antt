@@ -13,7 +13,7 @@ use Rattle.ats_network.specs.Senders.{sender_at}
 use Rattle.ats_group.specs.Group.{State, Offer, judged, after, next, verdicts_of, state_after, verdict_on, empty_once}
 use Rattle.ats_group.specs.GroupsState.{GroupsState, member_at, time_at, empty_at, group_of, declared_of}
 use Rattle.ats_group.specs.GroupsState.{residence_of, verdict_of, groups_after, no_member}
-use Rattle.ats_group.specs.declared.member.Declared.{Declared}
+use Rattle.ats_streams.specs.declared.traffic.Declared.{Declared}
 use Rattle.ats_group.specs.declared.member.Member.{Member}
 use Rattle.ats_group.specs.declared.verdict.Verdict.{Verdict}
 use Rattle.ats_group.specs.declared.verdict.Verdict.TheVariants.{Eligible, Late, Size}

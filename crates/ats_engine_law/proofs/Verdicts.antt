@@ -17,11 +17,12 @@ use Rattle.ats_topology.specs.declared.node.TheConstants.{MAX_RESIDENCE_NS}
 use Rattle.ats_topology.specs.Node as node
 use Rattle.ats_network.specs.Network.{DeclaredNetwork, IsNetwork}
 use Rattle.ats_network.specs.Residence.{residence_at}
-use Rattle.ats_group.specs.Group.{is_declared_size, verdict_by, verdict_on}
+use Rattle.ats_group.specs.Group.{verdict_by, verdict_on}
+use Rattle.ats_streams.specs.Traffic.{is_declared_size}
 use Rattle.ats_group.specs.GroupsState.{GroupsState, verdict_of}
 use Rattle.ats_group.specs.GroupsState as groups
 use Rattle.ats_group.specs.Judge.{OnEligible}
-use Rattle.ats_group.specs.declared.member.Declared.{Declared}
+use Rattle.ats_streams.specs.declared.traffic.Declared.{Declared}
 use Rattle.ats_group.specs.declared.verdict.Verdict.{Verdict}
 use Rattle.ats_group.specs.declared.verdict.Verdict.TheVariants.{Eligible, Late, Size}
 use Rattle.ats_bucket.specs.Scheduler.{eligibility_time}

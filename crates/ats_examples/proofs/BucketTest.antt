@@ -6,7 +6,7 @@ use Rattle.ats_num.specs.declared.time.TheConstants.{PS_PER_SECOND}
 use Rattle.ats_network.specs.Network.{DeclaredNetwork, senders_of}
 use Rattle.ats_network.specs.Senders.{sender_at}
 use Rattle.ats_bucket.specs.Conforming.{Frame, times_of, bits_between, time_between, Conforms}
-use Rattle.ats_group.specs.Group.{is_declared_size}
+use Rattle.ats_streams.specs.Traffic.{is_declared_size}
 use Rattle.ats_trace.specs.Eligibility.{declared_by}
 use Rattle.ats_trace.specs.Talker.{talker_of, frames_of, IsDeclaredSize, KeepsBuckets}
 use Rattle.ats_trace.specs.declared.journey.Release.{Release}

@@ -5,7 +5,7 @@ use Rattle.std.proofs.lemmas.List.Elements.{All-nil, All-cons}
 use Rattle.ats_num.specs.declared.time.TheConstants.{PS_PER_NS, PS_PER_SECOND}
 use Rattle.ats_group.specs.declared.verdict.Verdict.{Verdict}
 use Rattle.ats_group.specs.declared.verdict.Verdict.TheVariants.{Eligible, Late, Size}
-use Rattle.ats_group.specs.Group.{IsRuled, is_declared_size}
+use Rattle.ats_streams.specs.Traffic.{IsRuled, is_declared_size}
 use Rattle.ats_bucket.specs.Conforming.{Frame, Conforms}
 use Rattle.ats_group_law.specs.Shaping.{Passage, IsEligibleAgain}
 use Rattle.ats_group_law.specs.Windows.{is_within, bits_within, KeepsWindows}

@@ -2,7 +2,7 @@ use Rattle.std.specs.Prelude.{◌≡◌, ◌+◌, sum_by, Contains}
 use Rattle.ats_topology.specs.Port.{port_at}
 use Rattle.ats_network.specs.Bridges.{IsBridgeAt}
 use Rattle.ats_network.specs.Network.{IsNetwork}
-use Rattle.ats_network.specs.Path.{IsStationAt}
+use Rattle.ats_topology.specs.Topology.{IsStationAt}
 use Rattle.ats_network.specs.Senders.{sender_at}
 use Rattle.ats_certificate.specs.Certificate.{Holds}
 use Rattle.ats_trace.specs.Journey.{Travel, IsOfStream}

@@ -7,7 +7,6 @@ ghost use Rattle.ats_explain.specs.Margins.{is_late, is_no_slacker, is_tightest,
 
 use ats_certificate::Certificate;
 use ats_network::Network;
-use ats_num::time::PS_PER_NS;
 use ats_tally::Delays;
 use std::alloc::{AllocError, Global};
 
@@ -69,7 +68,7 @@ pub(crate) fn margins_of(
     for i in 0..streams.len() {
         margins.push(Margin {
             sum: sums[i],
-            deadline: u128::from(PS_PER_NS) * u128::from(streams[i].deadline_ns()),
+            deadline: u128::from(streams[i].deadline().0),
         })?;
     }
     Ok(margins)

@@ -7,8 +7,8 @@ use Rattle.ats_bucket.specs.Conforming.{Frame}
 use Rattle.ats_bucket.specs.Scheduler.{first_empty, eligibility_time, empty_after}
 use Rattle.ats_bucket.proofs.Eligibility.{eligibility_time-is}
 use Rattle.ats_bucket.proofs.EmptyAfter.{empty_after-is}
-use Rattle.ats_group.specs.declared.member.Declared.{Declared}
-use Rattle.ats_group.specs.Group.{IsRuled}
+use Rattle.ats_streams.specs.declared.traffic.Declared.{Declared}
+use Rattle.ats_streams.specs.Traffic.{IsRuled}
 use Rattle.ats_group_law.specs.Windows.{ConformsByWindows}
 use Rattle.ats_group_law.specs.Full.{IsFullEligibility, full_after, full_time}
 use Rattle.ats_group_law.proofs.FullStep.{IsEarlier, full-from_signed}

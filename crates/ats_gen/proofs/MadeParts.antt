@@ -8,8 +8,8 @@ use Rattle.std.proofs.lemmas.List.Elements.{All-push, All-nil}
 use Rattle.ats_num.specs.Wire.{IsFrameSize, bits_of}
 use Rattle.ats_streams.specs.Rules.{AreSizes}
 use Rattle.ats_bucket.specs.Conforming.{Frame}
-use Rattle.ats_group.specs.declared.member.Declared.{Declared}
-use Rattle.ats_group.specs.Group.{IsRuled, is_declared_size}
+use Rattle.ats_streams.specs.declared.traffic.Declared.{Declared}
+use Rattle.ats_streams.specs.Traffic.{IsRuled, is_declared_size}
 use Rattle.ats_network.specs.Network.{DeclaredNetwork}
 use Rattle.ats_trace.specs.Eligibility.{declared_by}
 use Rattle.ats_trace.specs.Talker.{frames_of, IsDeclaredSize}

@@ -10,7 +10,7 @@ use Rattle.ats_num.specs.Wire.{bits_of}
 use Rattle.ats_streams.specs.Stream.{DeclaredStream}
 use Rattle.ats_bucket.specs.Conforming.{Frame}
 use Rattle.ats_bucket.specs.Scheduler.{Bucket, first_empty, empty_after, eligibility_time}
-use Rattle.ats_group.specs.declared.member.Declared.{Declared}
+use Rattle.ats_streams.specs.declared.traffic.Declared.{Declared}
 use Rattle.ats_network.specs.Sender.{Sender}
 use Rattle.ats_network.specs.Network.{DeclaredNetwork}
 use Rattle.ats_trace.specs.Eligibility.{declared_by}

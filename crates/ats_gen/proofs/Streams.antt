@@ -1,11 +1,11 @@
 use Rattle.std.proofs.Common.{◌≡◌, ℕ, ◌<◌, [], None, length, map, get_or, ◌∙◌, subst, sym, arith}
 use Rattle.std.proofs.lemmas.List.{get_or-map, length-map, get_or_append_left}
 use Rattle.ats_streams.specs.Stream.{DeclaredStream, declared_stream}
-use Rattle.ats_group.specs.Group.{IsRuled}
-use Rattle.ats_network.specs.Sender.{Sender, stream_sender, flow_sender}
+use Rattle.ats_streams.specs.Traffic.{IsRuled}
+use Rattle.ats_network.specs.Sender.{Sender, stream_sender, flow_sender, declared_of}
 use Rattle.ats_network.specs.Network.{DeclaredNetwork, IsNetwork}
 use Rattle.ats_network.specs.Senders.{sender_at, no_sender}
-use Rattle.ats_trace.specs.Eligibility.{declared_of, declared_by}
+use Rattle.ats_trace.specs.Eligibility.{declared_by}
 
 -- the first senders are the streams
 pub stream-at : (network : DeclaredNetwork) (i : ℕ) (d : DeclaredStream) → i < length network.streams

@@ -6,7 +6,7 @@ use Rattle.std.specs.Ordering.{nat_cmp}
 use Rattle.ats_num.specs.Wire.{bits_of}
 use Rattle.ats_bucket.specs.Conforming.{Frame}
 use Rattle.ats_bucket.specs.Scheduler.{first_empty, eligibility_time, empty_after}
-use Rattle.ats_group.specs.declared.member.Declared.{Declared}
+use Rattle.ats_streams.specs.declared.traffic.Declared.{Declared}
 use Rattle.ats_network.specs.Network.{DeclaredNetwork}
 use Rattle.ats_trace.specs.Eligibility.{declared_by}
 use Rattle.ats_trace.specs.Talker.{frames_of}

@@ -2,7 +2,7 @@
 
 ghost use Rattle.std.specs.Prelude.{◌≡◌, ◌<◌, ◌≤◌, [], ◌∷◌, ◌++◌, length, IfOk, IfErr, OnOk};
 ghost use Rattle.ats_num.specs.declared.time.TheConstants.{END};
-ghost use Rattle.ats_group.specs.Group.{IsRuled};
+ghost use Rattle.ats_streams.specs.Traffic.{IsRuled};
 ghost use Rattle.ats_trace.specs.Eligibility.{declared_by};
 ghost use Rattle.ats_trace.specs.declared.run.TheConstants.{MAX_RELEASE_PS};
 ghost use Rattle.ats_gen.specs.Made.{octets_by, release_by};
@@ -36,9 +36,9 @@ pub(crate) fn octets_for(network: &Network, stream: u32, drawn: u64) -> u32
     ensures least { (declared_by network.now stream).min_octets ≤ result }
     ensures most { result ≤ (declared_by network.now stream).max_octets }
 {
-    let declared = &network.streams()[stream as usize];
-    let sizes = declared.max_octets() - declared.min_octets() + 1;
-    declared.min_octets() + (drawn % u64::from(sizes)) as u32
+    let declared = network.streams()[stream as usize].declared();
+    let sizes = declared.max_octets - declared.min_octets + 1;
+    declared.min_octets + (drawn % u64::from(sizes)) as u32
 }
 
 /// Makes a frame of a stream: offers it to the stream's scheduler at this time, and adds its release to those made.

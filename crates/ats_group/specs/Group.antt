@@ -1,20 +1,12 @@
-use Rattle.std.specs.Prelude.{ℕ, ◌+◌, ◌*◌, ◌<◌, ◌≤◌, Bool, ◌&&◌, ◌==◌, nat_le, ℤ, List, [], ◌∷◌, if◌then◌else◌}
+use Rattle.std.specs.Prelude.{ℕ, ◌+◌, ◌*◌, ◌<◌, ◌≤◌, ◌==◌, nat_le, ℤ, List, [], ◌∷◌, if◌then◌else◌}
 use Rattle.ats_num.specs.declared.time.TheConstants.{PS_PER_SECOND, PS_PER_NS, END}
 use Rattle.ats_num.specs.declared.wire.TheConstants.{MAX_WIRE_BITS}
 use Rattle.ats_num.specs.Wire.{bits_of}
-use Rattle.ats_streams.specs.Rules.{KeepsRules}
+use Rattle.ats_streams.specs.Traffic.{is_declared_size}
 use Rattle.ats_bucket.specs.Scheduler.{first_empty, eligibility_time, empty_after}
-use Rattle.ats_group.specs.declared.member.Declared.{Declared}
+use Rattle.ats_streams.specs.declared.traffic.Declared.{Declared}
 use Rattle.ats_group.specs.declared.verdict.Verdict.{Verdict}
 use Rattle.ats_group.specs.declared.verdict.Verdict.TheVariants.{Eligible, Late, Size}
-
--- what is declared keeps the rules of a stream
-abbrev pub IsRuled : Declared → Type 0
-IsRuled declared = KeepsRules declared.rate declared.burst_bits declared.min_octets declared.max_octets
-
--- a frame of so many octets is within the declared sizes
-abbrev pub is_declared_size : Declared → ℕ → Bool
-is_declared_size declared octets = nat_le declared.min_octets octets && nat_le octets declared.max_octets
 
 -- the verdict on a frame that would be eligible at this time, where it may stay until `latest`
 abbrev pub verdict_by : ℕ → ℕ → Verdict

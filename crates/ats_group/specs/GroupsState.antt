@@ -2,11 +2,12 @@ use Rattle.std.specs.Prelude.{◌≡◌, ℕ, ◌<◌, ◌==◌, ℤ, pos, List,
 use Rattle.std.specs.Prelude.{slice_set, All, if◌then◌else◌}
 use Rattle.ats_num.specs.declared.time.Ps.{Ps}
 use Rattle.ats_bucket.specs.Scheduler.{first_empty}
-use Rattle.ats_group.specs.declared.member.Declared.{Declared}
+use Rattle.ats_streams.specs.declared.traffic.Declared.{Declared}
 use Rattle.ats_group.specs.declared.member.Member.{Member}
 use Rattle.ats_group.specs.declared.verdict.Verdict.{Verdict}
 use Rattle.ats_group.specs.declared.verdict.Verdict.TheVariants.{Eligible, Late, Size}
-use Rattle.ats_group.specs.Group.{State, verdict_on, empty_once, IsRuled}
+use Rattle.ats_group.specs.Group.{State, verdict_on, empty_once}
+use Rattle.ats_streams.specs.Traffic.{IsRuled}
 
 -- what all groups keep: the maximum residence time of each group in nanoseconds, the members, the group eligibility
 -- time of each group, and the bucket-empty time of each member, multiplied by its rate

@@ -1,6 +1,6 @@
 use Rattle.std.specs.Prelude.{ℕ, List}
 use Rattle.ats_bucket.specs.Conforming.{Frame, Conforms}
-use Rattle.ats_group.specs.declared.member.Declared.{Declared}
+use Rattle.ats_streams.specs.declared.traffic.Declared.{Declared}
 use Rattle.ats_group.specs.declared.verdict.Verdict.{Verdict}
 use Rattle.ats_group.specs.declared.verdict.Verdict.TheVariants.{Eligible, Late, Size}
 use Rattle.ats_group.specs.Group.{Offer, first, verdicts_of}

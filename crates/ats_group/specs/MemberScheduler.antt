@@ -8,7 +8,7 @@ use Rattle.ats_group.specs.declared.member.Member.{Member}
 use Rattle.ats_group.specs.declared.member_scheduler.MemberScheduler.{MemberScheduler}
 use Rattle.ats_group.specs.declared.verdict.Verdict.{Verdict}
 use Rattle.ats_group.specs.declared.verdict.Verdict.TheVariants.{Eligible, Late, Size}
-use Rattle.ats_group.specs.Group.{IsRuled}
+use Rattle.ats_streams.specs.Traffic.{IsRuled}
 use Rattle.ats_group.specs.GroupsState.{GroupsState}
 
 -- the bucket is the member's, and what is declared of it keeps the rules of a stream

@@ -8,6 +8,7 @@ pub mod member;
 mod member_scheduler;
 pub mod verdict;
 
+pub use ats_streams::Declared;
 pub use groups::Groups;
-pub use member::{Declared, Member};
+pub use member::Member;
 pub use verdict::Verdict;

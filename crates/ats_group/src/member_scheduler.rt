@@ -1,7 +1,8 @@
 //! One member's scheduler in its group.
 
 ghost use Rattle.std.specs.Prelude.{◌≡◌, ◌-◌, ◌≤◌};
-ghost use Rattle.ats_group.specs.Group.{IsRuled, verdict_on, InTime};
+ghost use Rattle.ats_group.specs.Group.{verdict_on, InTime};
+ghost use Rattle.ats_streams.specs.Traffic.{IsRuled};
 ghost use Rattle.ats_num.specs.declared.time.TheConstants.{PS_PER_SECOND, END};
 ghost use Rattle.ats_bucket.specs.Scheduler.{first_empty};
 ghost use Rattle.ats_group.specs.declared.member.TheConstants.{MAX_RESIDENCE_NS};

@@ -9,10 +9,11 @@ use Rattle.ats_bucket.specs.Integers.{nonnegative-is}
 use Rattle.ats_bucket.specs.Scheduler.{holds_at, IsEligibility, eligibility_time}
 use Rattle.ats_num.proofs.Ceiling.{ceiling-is}
 use Rattle.ats_bucket.proofs.EmptyAfter.{empty_after-is}
-use Rattle.ats_group.specs.declared.member.Declared.{Declared}
+use Rattle.ats_streams.specs.declared.traffic.Declared.{Declared}
 use Rattle.ats_group.specs.declared.verdict.Verdict.{Verdict}
 use Rattle.ats_group.specs.declared.verdict.Verdict.TheVariants.{Eligible, Late, Size}
-use Rattle.ats_group.specs.Group.{State, Offer, is_declared_size, verdict_by, first, judged, after, next}
+use Rattle.ats_group.specs.Group.{State, Offer, verdict_by, first, judged, after, next}
+use Rattle.ats_streams.specs.Traffic.{is_declared_size}
 use Rattle.ats_group_law.specs.Full.{IsFullEligibility, full_eligibility, full_after, FullState, full_first}
 use Rattle.ats_group_law.specs.Full.{full_judged, full_state_by, full_next}
 

@@ -4,7 +4,8 @@ use Rattle.std.proofs.lemmas.List.{length-map, length-replicate}
 use Rattle.ats_num.specs.declared.time.Ps.{Ps}
 use Rattle.ats_bucket.specs.Scheduler.{first_empty}
 use Rattle.ats_group.specs.declared.member.Member.{Member}
-use Rattle.ats_group.specs.Group.{State, Offer, IsRuled, first, judged, verdicts_of, state_after}
+use Rattle.ats_group.specs.Group.{State, Offer, first, judged, verdicts_of, state_after}
+use Rattle.ats_streams.specs.Traffic.{IsRuled}
 use Rattle.ats_group.specs.GroupsState.{GroupsState, AreGroups, no_member, member_at, declared_of, group_of}
 use Rattle.ats_group.specs.GroupsState.{residence_of}
 use Rattle.ats_group.specs.GroupsState.{state_of, time_at, opened}

@@ -2,8 +2,9 @@ use Rattle.std.proofs.Common.{◌≡◌, ℕ, List, [], sym, ap, ◌∙◌, arit
 use Rattle.std.specs.Prelude.{fold}
 use Rattle.ats_num.specs.Wire.{bits_of}
 use Rattle.ats_bucket.specs.Conforming.{Frame}
-use Rattle.ats_group.specs.declared.member.Declared.{Declared}
-use Rattle.ats_group.specs.Group.{Offer, IsRuled, first, state_after}
+use Rattle.ats_streams.specs.declared.traffic.Declared.{Declared}
+use Rattle.ats_group.specs.Group.{Offer, first, state_after}
+use Rattle.ats_streams.specs.Traffic.{IsRuled}
 use Rattle.ats_group_law.specs.Accepted.{accepted, accepted_of}
 use Rattle.ats_group_law.specs.Full.{FullState, full_first, full_judged, full_state_after, full_verdicts}
 use Rattle.ats_group_law.specs.Laws.{passed, passed_of, next_verdict, IsLeastFor, EligibilityIsLeast, LateTimeIsLeast}

@@ -1,10 +1,11 @@
 use Rattle.std.proofs.Common.{◌≡◌, ℕ, Bool, true, false, List, [], ◌∷◌, refl, arith}
 use Rattle.std.specs.Prelude.{◌≤◌, nat_le, if◌then◌else◌}
 use Rattle.std.specs.List.{AllZip}
-use Rattle.ats_group.specs.declared.member.Declared.{Declared}
+use Rattle.ats_streams.specs.declared.traffic.Declared.{Declared}
 use Rattle.ats_group.specs.declared.verdict.Verdict.{Verdict}
 use Rattle.ats_group.specs.declared.verdict.Verdict.TheVariants.{Eligible, Late, Size}
-use Rattle.ats_group.specs.Group.{Offer, State, first, next, verdicts_of, is_declared_size, verdict_by}
+use Rattle.ats_group.specs.Group.{Offer, State, first, next, verdicts_of, verdict_by}
+use Rattle.ats_streams.specs.Traffic.{is_declared_size}
 use Rattle.ats_group.specs.Judge.{OnEligible, bucket_rule}
 use Rattle.ats_group_law.specs.Regulator.{IsEligibleSized, IsEligibleArrived, IsRule, IsDelayedBy, AtsIsRegulator}
 use Rattle.ats_group_law.specs.Shaping.{Passage, IsDelayed}

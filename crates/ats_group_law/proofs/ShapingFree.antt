@@ -7,10 +7,10 @@ use Rattle.std.proofs.lemmas.Bool.{cases_eq}
 use Rattle.std.proofs.lemmas.List.Elements.{All-head, All-tail}
 use Rattle.ats_num.specs.declared.time.TheConstants.{PS_PER_NS}
 use Rattle.ats_num.specs.declared.time.Ps.{Ps}
-use Rattle.ats_group.specs.declared.member.Declared.{Declared}
+use Rattle.ats_streams.specs.declared.traffic.Declared.{Declared}
 use Rattle.ats_group.specs.declared.verdict.Verdict.{Verdict}
 use Rattle.ats_group.specs.declared.verdict.Verdict.TheVariants.{Eligible}
-use Rattle.ats_group.specs.Group.{IsRuled, is_declared_size}
+use Rattle.ats_streams.specs.Traffic.{IsRuled, is_declared_size}
 use Rattle.ats_group_law.specs.Windows.{KeepsWindows}
 use Rattle.ats_group_law.specs.Full.{FullState, full_first, full_judged, full_state_by, full_next, full_verdicts}
 use Rattle.ats_group_law.specs.Shaping.{Passage, offers_of, frames_before, IsDelayed, IsEligibleAgain, ShapingIsFree}

@@ -5,9 +5,10 @@ use Rattle.std.proofs.lemmas.Bool.{and_parts}
 use Rattle.ats_num.specs.declared.time.TheConstants.{PS_PER_SECOND, PS_PER_NS}
 use Rattle.ats_num.specs.declared.time.Ps.{Ps}
 use Rattle.ats_num.specs.Wire.{bits_of}
-use Rattle.ats_group.specs.declared.member.Declared.{Declared}
+use Rattle.ats_streams.specs.declared.traffic.Declared.{Declared}
 use Rattle.ats_group.specs.declared.verdict.Verdict.TheVariants.{Eligible, Late, Size}
-use Rattle.ats_group.specs.Group.{Offer, IsRuled, is_declared_size, verdict_by}
+use Rattle.ats_group.specs.Group.{Offer, verdict_by}
+use Rattle.ats_streams.specs.Traffic.{IsRuled, is_declared_size}
 use Rattle.ats_group_law.specs.Full.{IsFullEligibility, full_eligibility, FullState, full_judged}
 use Rattle.ats_group_law.proofs.FullStep.{full_eligibility-least, full_eligibility-after_group}
 

@@ -3,10 +3,11 @@ use Rattle.ats_num.specs.declared.time.TheConstants.{PS_PER_SECOND, PS_PER_NS}
 use Rattle.ats_num.specs.Wire.{bits_of}
 use Rattle.ats_num.specs.Division.{ceiling}
 use Rattle.ats_bucket.specs.Conforming.{Frame}
-use Rattle.ats_group.specs.declared.member.Declared.{Declared}
+use Rattle.ats_streams.specs.declared.traffic.Declared.{Declared}
 use Rattle.ats_group.specs.declared.verdict.Verdict.{Verdict}
 use Rattle.ats_group.specs.declared.verdict.Verdict.TheVariants.{Eligible, Late, Size}
-use Rattle.ats_group.specs.Group.{Offer, is_declared_size, verdict_by}
+use Rattle.ats_group.specs.Group.{Offer, verdict_by}
+use Rattle.ats_streams.specs.Traffic.{is_declared_size}
 
 -- the step of a scheduler in whole numbers that are never negative: in place of the bucket-empty time it knows the
 -- bucket-full time, which is later by the burst; both are multiplied by the rate

@@ -4,10 +4,11 @@ use Rattle.ats_num.specs.declared.time.TheConstants.{PS_PER_SECOND}
 use Rattle.ats_num.specs.declared.time.Ps.{Ps}
 use Rattle.ats_num.specs.Wire.{bits_of}
 use Rattle.ats_bucket.specs.Conforming.{Frame, times_of, Conforms}
-use Rattle.ats_group.specs.declared.member.Declared.{Declared}
+use Rattle.ats_streams.specs.declared.traffic.Declared.{Declared}
 use Rattle.ats_group.specs.declared.verdict.Verdict.{Verdict}
 use Rattle.ats_group.specs.declared.verdict.Verdict.TheVariants.{Eligible, Late}
-use Rattle.ats_group.specs.Group.{Offer, IsRuled, first, judged, verdicts_of, state_after}
+use Rattle.ats_group.specs.Group.{Offer, first, judged, verdicts_of, state_after}
+use Rattle.ats_streams.specs.Traffic.{IsRuled}
 use Rattle.ats_group_law.specs.Windows.{ConformsByWindows}
 use Rattle.ats_group_law.specs.Accepted.{accepted, accepted_of}
 use Rattle.ats_group_law.specs.Full.{full_first, full_verdicts, full_state_after}

@@ -4,9 +4,10 @@ use Rattle.ats_num.specs.declared.time.TheConstants.{PS_PER_NS}
 use Rattle.ats_num.specs.Wire.{bits_of}
 use Rattle.std.specs.List.{AllZip}
 use Rattle.ats_bucket.specs.Conforming.{Frame, times_of, Conforms}
-use Rattle.ats_group.specs.declared.member.Declared.{Declared}
+use Rattle.ats_streams.specs.declared.traffic.Declared.{Declared}
 use Rattle.ats_group.specs.declared.verdict.Verdict.{Verdict}
-use Rattle.ats_group.specs.Group.{Offer, IsRuled, is_declared_size}
+use Rattle.ats_group.specs.Group.{Offer}
+use Rattle.ats_streams.specs.Traffic.{IsRuled, is_declared_size}
 use Rattle.ats_group.specs.Judge.{OnEligible, Judge, ats_judge, bucket_rule}
 use Rattle.ats_group_law.specs.Accepted.{accepted_of}
 use Rattle.ats_group_law.specs.Shaping.{Passage, offers_of, frames_before, IsEligibleAgain}

@@ -5,10 +5,11 @@ use Rattle.ats_num.specs.declared.time.TheConstants.{PS_PER_NS}
 use Rattle.ats_num.specs.declared.time.Ps.{Ps}
 use Rattle.ats_num.specs.Wire.{bits_of}
 use Rattle.ats_bucket.specs.Conforming.{Frame}
-use Rattle.ats_group.specs.declared.member.Declared.{Declared}
+use Rattle.ats_streams.specs.declared.traffic.Declared.{Declared}
 use Rattle.ats_group.specs.declared.verdict.Verdict.{Verdict}
 use Rattle.ats_group.specs.declared.verdict.Verdict.TheVariants.{Eligible}
-use Rattle.ats_group.specs.Group.{Offer, IsRuled, is_declared_size, first, verdicts_of}
+use Rattle.ats_group.specs.Group.{Offer, first, verdicts_of}
+use Rattle.ats_streams.specs.Traffic.{IsRuled, is_declared_size}
 use Rattle.ats_group_law.specs.Windows.{KeepsWindows}
 
 -- a frame that comes to a group from the hop before: the time at which it was eligible there, and the offer

@@ -4,14 +4,14 @@ use Rattle.ats_num.specs.declared.time.TheConstants.{PS_PER_NS}
 use Rattle.ats_streams.specs.Stream.{DeclaredStream}
 use Rattle.ats_network.specs.Network.{DeclaredNetwork}
 
--- where the bounds of a stream stand, in the order of its path, and its deadline in nanoseconds
+-- where the bounds of a stream stand, in the order of its path, and its deadline in picoseconds
 pub record RouteState : Type 0 where
   pub places : List ℕ
-  pub deadline_ns : ℕ
+  pub deadline : ℕ
 
 -- for places past the last route
 abbrev pub no_route : RouteState
-no_route = record { places = []; deadline_ns = 0 }
+no_route = record { places = []; deadline = 0 }
 
 -- the places of the ports of a path, with the class at each, at 8 * port + class
 abbrev pub places_along : List ℕ → List ℕ → List ℕ
@@ -21,7 +21,7 @@ places_along (port ∷ path) (class ∷ classes) = (8 * port + class) ∷ places
 
 -- the route of a stream, and those of a network's streams
 abbrev pub route_of : DeclaredStream → RouteState
-route_of s = record { places = places_along s.path s.classes; deadline_ns = s.deadline_ns }
+route_of s = record { places = places_along s.path s.classes; deadline = PS_PER_NS * s.deadline_ns }
 
 abbrev pub routes_of : DeclaredNetwork → List RouteState
 routes_of network = map route_of network.streams
@@ -39,7 +39,7 @@ sum_along bounds route = sum_by (λ place. slice_index_or bounds place 0) route.
 
 -- it is over the deadline
 abbrev pub is_late : List ℕ → RouteState → Bool
-is_late bounds route = nat_lt (PS_PER_NS * route.deadline_ns) (sum_along bounds route)
+is_late bounds route = nat_lt route.deadline (sum_along bounds route)
 
 -- a place has a bound of at most 36 digits
 pub record IsBounded (bounds : List ℕ) (place : ℕ) : Type 0 where

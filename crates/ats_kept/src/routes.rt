@@ -5,7 +5,7 @@ ghost use Rattle.std.specs.Prelude.{slice_index_or};
 ghost use Rattle.ats_streams.specs.Stream.{IsClass};
 ghost use Rattle.ats_kept.specs.Routes.{AreBounded, IsBounded, is_late, places_along, route_of, sum_along};
 
-use ats_num::time::PS_PER_NS;
+use ats_num::Ps;
 use ats_streams::Stream;
 use std::marker::Model;
 
@@ -13,7 +13,7 @@ use std::marker::Model;
 /// its stream. Contracts see these two.
 #[derive(Drop)]
 pub struct Route {
-    deadline_ns: u64,
+    deadline: Ps,
     places: [u16; 16],
     count: u8,
 }
@@ -24,7 +24,7 @@ impl Model for Route {
 
     ghost Value = { RouteState };
 
-    ghost view = { λ r. record { places = take r.count r.places; deadline_ns = r.deadline_ns } };
+    ghost view = { λ r. record { places = take r.count r.places; deadline = r.deadline.0 } };
 
     ghost invariant = { λ r. r.count ≤ 16 };
 }
@@ -36,7 +36,7 @@ impl Route {
         ensures { result ≡ route_of stream.now }
     {
         Route {
-            deadline_ns: stream.deadline_ns(),
+            deadline: stream.deadline(),
             places: places_along(stream.path(), stream.classes()),
             count: stream.path().len() as u8,
         }
@@ -55,7 +55,7 @@ impl Route {
         requires { AreBounded bounds.now self.now }
         ensures { result ≡ is_late bounds.now self.now }
     {
-        u128::from(PS_PER_NS) * u128::from(self.deadline_ns) < self.sum(bounds)
+        u128::from(self.deadline.0) < self.sum(bounds)
     }
 
     /// Whether the port before this hop is the given one.

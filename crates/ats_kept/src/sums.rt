@@ -14,7 +14,6 @@ ghost use Rattle.ats_kept.specs.Routes.{routes_of};
 use crate::late::find_late;
 use crate::routes::Route;
 use ats_network::Network;
-use ats_num::time::PS_PER_NS;
 use ats_port_users::PortUsers;
 use ats_streams::Stream;
 use ats_tally::Reason;
@@ -50,7 +49,7 @@ pub(crate) fn judge_sums(
 fn within_deadline(stream: &Stream, sum: u128) -> Result<u128, Reason>
     ensures { result ≡ unless (λ reason. reason) (late_by stream.now sum) sum }
 {
-    if sum <= u128::from(PS_PER_NS) * u128::from(stream.deadline_ns()) {
+    if sum <= u128::from(stream.deadline().0) {
         return Ok(sum);
     }
     Err(Reason::Deadline {

@@ -8,10 +8,10 @@ use Rattle.std.proofs.lemmas.List.Kept.{AllPairs-cons}
 use Rattle.std.proofs.lemmas.Option.{same_Some, none-some}
 use Rattle.ats_facts.proofs.Lists.{pairs_head, pairs_tail}
 use Rattle.ats_topology.specs.Port.{port_at}
-use Rattle.ats_topology.specs.Topology.{DeclaredTopology}
+use Rattle.ats_topology.specs.Topology.{DeclaredTopology, IsStationAt}
 use Rattle.ats_topology.specs.Walks.{IsPortFrom, IsWalk, ArePorts}
 use Rattle.ats_topology.specs.declared.port.Port.{Port}
-use Rattle.ats_network.specs.Path.{IsValidPath, IsStationAt}
+use Rattle.ats_network.specs.Path.{IsValidPath}
 use Rattle.ats_network.specs.PathSteps.{walk_end, ends_of, comes_to, part_ways}
 
 -- where a walk ends, as it is computed

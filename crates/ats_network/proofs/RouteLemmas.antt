@@ -1,6 +1,6 @@
 use Rattle.std.proofs.Common.{◌≡◌, ℕ, zero, suc, ◌<◌, ◌≤◌, Bool, true, false, cond, List, [], ◌∷◌, length, Option, Some}
 use Rattle.std.proofs.Common.{None, refl, sym, ap, subst, ◌∙◌, arith, eqb, ⊎_elim}
-use Rattle.std.specs.Prelude.{is_some, IsTrue, IfSome, IfNone, IfOk, Result, Ok, Err}
+use Rattle.std.specs.Prelude.{is_some, IsTrue, IfSome, IfNone, IfOk, OnOk, Result, Ok, Err}
 use Rattle.std.specs.Global.{Vec}
 use Rattle.std.specs.Option.{option_map}
 use Rattle.std.specs.Ordering.{nat_cmp, is_le, ordering_then}
@@ -170,3 +170,12 @@ pub result_is : (topology : DeclaredTopology) (a b : ℕ) (result : Result (Opti
     → IfOk result (λ found. option_map (λ (walk : Vec ℕ). walk.items) found ≡ shortest_of topology a b)
 result_is topology a b (Ok found) is in_a in_b walk none = found_is topology a b found is in_a in_b walk none
 result_is topology a b (Err e) is in_a in_b walk none = tt
+
+-- the same where the topology is known to be one only once the walk was found
+pub ok_result_is : (topology : DeclaredTopology) (a b : ℕ) (result : Result (Option (Vec ℕ)) AllocError)
+    → OnOk result (IsTopology topology) → a < length topology.nodes → b < length topology.nodes
+    → IfOk result (λ found. IfSome found (λ walk. IsLeastWalk topology.ports a b walk.items))
+    → IfOk result (λ found. IfNone found (NoWalk topology.ports a b))
+    → IfOk result (λ found. option_map (λ (walk : Vec ℕ). walk.items) found ≡ shortest_of topology a b)
+ok_result_is topology a b (Ok found) is in_a in_b walk none = found_is topology a b found is in_a in_b walk none
+ok_result_is topology a b (Err e) is in_a in_b walk none = tt

@@ -5,7 +5,7 @@ pub mod Network
 pub mod FaultText
 pub mod Bridges
 pub mod Senders
-pub mod StreamOrFlow
+pub mod SenderView
 pub mod Residence
 pub mod Pushes
 pub mod Tables

@@ -1,14 +1,8 @@
-use Rattle.std.specs.Prelude.{ℕ, ◌<◌, ◌≢◌, IsTrue, List, [], ◌∷◌, length, map, AllPairs}
-use Rattle.ats_topology.specs.Node.{is_station}
+use Rattle.std.specs.Prelude.{ℕ, ◌≢◌, List, [], ◌∷◌, map, AllPairs}
 use Rattle.ats_topology.specs.Port.{port_at}
-use Rattle.ats_topology.specs.Topology.{DeclaredTopology, node_at}
+use Rattle.ats_topology.specs.Topology.{DeclaredTopology, IsStationAt}
 use Rattle.ats_topology.specs.Walks.{IsWalk}
 use Rattle.ats_topology.specs.declared.port.Port.{Port}
-
--- the number is that of a station
-pub record IsStationAt (topology : DeclaredTopology) (node : ℕ) : Type 0 where
-  pub within : node < length topology.nodes
-  pub station : IsTrue (is_station (node_at topology.nodes node).kind)
 
 -- the nodes of a path, in order: the one that its first port leaves, and each to which a port leads
 abbrev pub nodes_along : List Port → List ℕ → List ℕ

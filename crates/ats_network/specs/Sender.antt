@@ -2,6 +2,8 @@ use Rattle.std.specs.Prelude.{ℕ, List, map}
 use Rattle.ats_num.specs.declared.wire.TheConstants.{MIN_OCTETS}
 use Rattle.ats_streams.specs.Stream.{DeclaredStream}
 use Rattle.ats_streams.specs.Flow.{DeclaredFlow}
+use Rattle.ats_streams.specs.Traffic.{declared_as}
+use Rattle.ats_streams.specs.declared.traffic.Declared.{Declared}
 
 -- what a network's ports and schedulers know of a declared stream or flow: its name's bytes, the numbers of its ports,
 -- its class at each of them, its committed rate in bits per second, its committed burst in bits, and its least and
@@ -38,3 +40,7 @@ flow_sender f = record {
   min_octets = MIN_OCTETS;
   max_octets = f.max_octets;
 }
+
+-- what a sender declares of its rate, burst and sizes
+abbrev pub declared_of : Sender → Declared
+declared_of s = declared_as s.rate s.burst_bits s.min_octets s.max_octets

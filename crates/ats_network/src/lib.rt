@@ -7,10 +7,11 @@ pub mod laws;
 pub mod network;
 pub mod paths;
 pub mod routes;
-mod sender;
+pub mod sender;
 mod stream_table;
 
 pub use fault::PushFault;
 pub use network::Network;
 pub use paths::is_valid_path;
 pub use routes::{shortest, shortest_kept};
+pub use sender::Sender;

@@ -1,7 +1,7 @@
 //! Networks.
 
 ghost use Rattle.std.specs.Prelude.{◌≡◌, ◌↔◌, ◌<◌, ◌≤◌, [], length, None, IsTrue, IsNone, IfSome, IfErr, IsErrOf, OnOk};
-ghost use Rattle.std.specs.Prelude.{OnErr, slice_index_or};
+ghost use Rattle.std.specs.Prelude.{OnErr, nat_lt, slice_index_or};
 ghost use Rattle.ats_num.specs.Failure.{IsDue};
 ghost use Rattle.ats_num.specs.Places.{place_of};
 ghost use Rattle.ats_streams.specs.Stream.{IsClass};
@@ -9,7 +9,7 @@ ghost use Rattle.ats_network.specs.Network.{IsNetwork, declared_network, senders
 ghost use Rattle.ats_network.specs.Path.{IsValidPath};
 ghost use Rattle.ats_network.specs.Class.{class_at};
 ghost use Rattle.ats_network.specs.Senders.{IsSender, sender_at};
-ghost use Rattle.ats_network.specs.StreamOrFlow.{sender_of};
+ghost use Rattle.ats_network.specs.SenderView.{sender_of, is_stream};
 ghost use Rattle.ats_network.specs.Residence.{residence_after, leads_to_station};
 ghost use Rattle.ats_network.specs.Pushes.{with_stream, with_flow, place_identified, is_identity_taken};
 ghost use Rattle.ats_network.specs.Pushes.{stream_push_fault, flow_push_fault};
@@ -18,7 +18,7 @@ ghost use Rattle.ats_network.specs.Edits.{IsLess, with_class_at, stream_named, w
 use crate::fault::PushFault;
 use crate::flow_table::FlowTable;
 use crate::paths::is_valid_path;
-use crate::sender::StreamOrFlow;
+use crate::sender::Sender;
 use crate::stream_table::StreamTable;
 use ats_num::{Failure, Name};
 use ats_streams::{Flow, Stream};
@@ -120,16 +120,29 @@ impl Network {
         self.stream_table.identified(address, vlan)
     }
 
+    /// The stream or the flow with a sender's number: a stream exactly where the number is below that of the streams.
+    pub fn sender(&self, sender: u32) -> Sender<'_>
+        requires { sender < length (senders_of self.now) }
+        ensures value { sender_of result ≡ sender_at self.now sender }
+        ensures kind { is_stream result ≡ nat_lt sender (length self.now.streams) }
+        ensures sender { IsSender self.now.topology (sender_at self.now sender) }
+        ensures rules { IsNetwork self.now }
+    {
+        let streams = self.stream_table.as_slice();
+        let place = sender as usize;
+        if place < streams.len() {
+            return Sender::Stream(&streams[place]);
+        }
+        Sender::Flow(&self.flow_table.as_slice()[place - streams.len()])
+    }
+
     /// The numbers of the ports of a sender's path, in order.
     pub fn sender_path(&self, sender: u32) -> &[u32]
         requires { sender < length (senders_of self.now) }
         ensures value { result.now ≡ (sender_at self.now sender).path }
         ensures rules { IsNetwork self.now }
     {
-        match self.sender(sender) {
-            StreamOrFlow::Stream(stream) => stream.path(),
-            StreamOrFlow::Flow(flow) => flow.path(),
-        }
+        self.sender(sender).path()
     }
 
     /// A sender's class at one hop of its path, counted from 0: 1 to 7 for a stream, 0 for a flow. A
@@ -141,10 +154,7 @@ impl Network {
             (slice_index_or (sender_at self.now sender).path hop 0) }
         ensures rules { IsNetwork self.now }
     {
-        match self.sender(sender) {
-            StreamOrFlow::Stream(stream) => stream.classes()[hop as usize],
-            StreamOrFlow::Flow(_) => 0,
-        }
+        self.sender(sender).class_at_hop(hop)
     }
 
     /// A sender's name.
@@ -153,25 +163,7 @@ impl Network {
         ensures value { result ≡ (sender_at self.now sender).name }
         ensures rules { IsNetwork self.now }
     {
-        match self.sender(sender) {
-            StreamOrFlow::Stream(stream) => stream.name(),
-            StreamOrFlow::Flow(flow) => flow.name(),
-        }
-    }
-
-    // The stream or the flow with a sender's number.
-    fn sender(&self, number: u32) -> StreamOrFlow<'_>
-        requires { number < length (senders_of self.now) }
-        ensures value { sender_of result ≡ sender_at self.now number }
-        ensures sender { IsSender self.now.topology (sender_at self.now number) }
-        ensures rules { IsNetwork self.now }
-    {
-        let streams = self.stream_table.as_slice();
-        let place = number as usize;
-        if place < streams.len() {
-            return StreamOrFlow::Stream(&streams[place]);
-        }
-        StreamOrFlow::Flow(&self.flow_table.as_slice()[place - streams.len()])
+        self.sender(sender).name()
     }
 
     /// Whether a stream or a flow of this network may have these ports as its path: each exists and
@@ -245,6 +237,7 @@ impl Network {
         ensures result { result ≡ stream_named self.old.streams name.now }
         ensures network { self.new ≡ without_named self.old name.now }
         ensures less { IfSome result (IsLess self.old.streams self.new.streams) }
+        ensures rules { IsNetwork self.old }
     {
         self.stream_table.take(name)
     }

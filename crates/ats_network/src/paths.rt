@@ -2,7 +2,8 @@
 
 ghost use Rattle.std.specs.Prelude.{◌≡◌, ◌↔◌, IsTrue};
 ghost use Rattle.ats_topology.specs.Walks.{ArePorts};
-ghost use Rattle.ats_network.specs.Path.{IsValidPath, IsStationAt};
+ghost use Rattle.ats_topology.specs.Topology.{IsStationAt};
+ghost use Rattle.ats_network.specs.Path.{IsValidPath};
 ghost use Rattle.ats_network.specs.PathSteps.{walk_end, ends_of, comes_to, part_ways};
 
 use ats_topology::{Port, Topology};

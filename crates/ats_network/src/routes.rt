@@ -1,9 +1,10 @@
 //! Routes between nodes, as the definitions compute them.
 
-ghost use Rattle.std.specs.Prelude.{◌≡◌, ◌<◌, ℕ, IfOk, length};
+ghost use Rattle.std.specs.Prelude.{◌≡◌, ◌<◌, ℕ, IfOk, OnOk, length};
 ghost use Rattle.std.specs.Global.{Vec};
 ghost use Rattle.std.specs.Option.{option_map};
 ghost use Rattle.ats_topology.specs.KeptWalks.{AreKeptFor};
+ghost use Rattle.ats_topology.specs.Topology.{IsTopology};
 ghost use Rattle.ats_network.specs.Shortest.{shortest_of};
 
 use ats_topology::{KeptWalks, Topology};
@@ -26,7 +27,6 @@ pub fn shortest(
     requires b { b < length topology.now.nodes }
     ensures { IfOk result (λ found. option_map (λ (walk : Vec ℕ). walk.items) found ≡ shortest_of topology.now a b) }
 {
-    let _nodes = topology.nodes(); // for what a topology keeps
     topology.shortest(alloc, a, b)
 }
 
@@ -48,8 +48,8 @@ pub fn shortest_kept(
     requires kept { AreKeptFor topology.now walks.old }
     ensures value { IfOk result
         (λ found. option_map (λ (walk : Vec ℕ). walk.items) found ≡ shortest_of topology.now a b) }
+    ensures rules { OnOk result (IsTopology topology.now) }
     ensures kept { AreKeptFor topology.now walks.new }
 {
-    let _nodes = topology.nodes(); // for what a topology keeps
     walks.shortest(alloc, topology, a, b)
 }

@@ -8,10 +8,10 @@ use Rattle.std.proofs.lemmas.Bool.{not-true, and_from}
 use Rattle.ats_facts.proofs.Lists.{pairs_head, pairs_tail}
 use Rattle.ats_topology.specs.Node.{is_station}
 use Rattle.ats_topology.specs.Port.{port_at}
-use Rattle.ats_topology.specs.Topology.{DeclaredTopology, IsTopology, node_at}
+use Rattle.ats_topology.specs.Topology.{DeclaredTopology, IsTopology, node_at, IsStationAt}
 use Rattle.ats_topology.specs.Walks.{IsWalk}
 use Rattle.ats_topology.specs.declared.port.Port.{Port}
-use Rattle.ats_network.specs.Path.{IsValidPath, IsStationAt, nodes_along}
+use Rattle.ats_network.specs.Path.{IsValidPath, nodes_along}
 use Rattle.ats_network.proofs.PathLemmas.{nodes_to}
 use Rattle.ats_network.proofs.SimpleWalks.{SimpleWalk, simple_short}
 use Rattle.ats_network_file.specs.Routes.{is_walk, last_node, is_station_at, are_apart, is_valid}

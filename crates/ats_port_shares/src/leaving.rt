@@ -73,11 +73,5 @@ fn seen_stream(stream: &Stream, hop: usize) -> SeenSender
     ensures seen { port_sender result ≡ seen_at (slice_index_or stream.now.path hop 0) (stream_sender stream.now) }
     ensures limits { KeepsLimits result }
 {
-    SeenSender {
-        class: stream.classes()[hop],
-        rate_bps: stream.rate().bps(),
-        burst_bits: stream.burst_bits(),
-        min_octets: stream.min_octets(),
-        max_octets: stream.max_octets(),
-    }
+    SeenSender::of_stream(stream, stream.classes()[hop])
 }

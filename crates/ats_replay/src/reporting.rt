@@ -65,9 +65,10 @@ fn write_sender(
 
 // What a sender is called.
 fn write_kind(out: &mut Vec<u8>, network: &Network, sender: u32) -> Result<(), AllocError>
+    requires { sender < length (senders_of network.now) }
     ensures { OnOk result (out.new.items ≡ out.old.items ++ kind_text network.now sender) }
 {
-    if (sender as usize) < network.streams().len() {
+    if network.sender(sender).is_stream() {
         return out.extend_from_slice(b"stream ");
     }
     out.extend_from_slice(b"flow ")
@@ -75,13 +76,13 @@ fn write_kind(out: &mut Vec<u8>, network: &Network, sender: u32) -> Result<(), A
 
 // The bound of a sender, where there is one.
 fn bound_of(network: &Network, sums: Option<&[u128]>, sender: u32) -> Option<u128>
+    requires { sender < length (senders_of network.now) }
     ensures { result ≡ bound_of network.now (option_copied sums.entry) sender }
 {
-    let place = sender as usize;
-    if place >= network.streams().len() {
-        return None;
+    if network.sender(sender).is_stream() {
+        return sums?.get(sender as usize).copied();
     }
-    sums?.get(place).copied()
+    None
 }
 
 // A bound, or that there is none.

@@ -1,6 +1,6 @@
 use Rattle.std.proofs.Common.{◌≡◌, ◌≢◌, ℕ, ◌<◌, ◌≤◌, Bool, true, false, ◌||◌, List, [], ◌∷◌, length, Option, Some, None}
 use Rattle.std.proofs.Common.{refl, sym, subst, arith, eqb}
-use Rattle.std.specs.Prelude.{IfSome, IfOk, Result, Ok, Err}
+use Rattle.std.specs.Prelude.{IfSome, IfOk, OnOk, Result, Ok, Err}
 use Rattle.std.specs.declared.alloc.AllocError.{AllocError}
 use Rattle.std.specs.List.{AllPairs}
 use Rattle.std.specs.Option.{option_map}
@@ -8,10 +8,10 @@ use Rattle.std.specs.Global.{Vec}
 use Rattle.std.proofs.lemmas.Bool.{eqb-true, false≢true}
 use Rattle.std.proofs.lemmas.List.Kept.{AllPairs-cons}
 use Rattle.ats_topology.specs.Port.{port_at}
-use Rattle.ats_topology.specs.Topology.{DeclaredTopology, IsTopology}
+use Rattle.ats_topology.specs.Topology.{DeclaredTopology, IsTopology, IsStationAt}
 use Rattle.ats_topology.specs.Walks.{IsWalk, IsLeastWalk}
 use Rattle.ats_topology.specs.declared.port.Port.{Port}
-use Rattle.ats_network.specs.Path.{IsValidPath, IsStationAt}
+use Rattle.ats_network.specs.Path.{IsValidPath}
 use Rattle.ats_network.specs.PathSteps.{comes_to}
 use Rattle.ats_network.specs.Shortest.{shortest_of}
 use Rattle.ats_network.proofs.PathLemmas.{nodes_to, away}
@@ -92,7 +92,7 @@ found_valid topology a b (Some walk) is begins ends differ same =
 
 -- and the one that a call answers
 pub answer_valid : (topology : DeclaredTopology) (a b : ℕ) (answer : Result (Option (Vec ℕ)) AllocError)
-    → IsTopology topology → IsStationAt topology a → IsStationAt topology b → a ≢ b
+    → OnOk answer (IsTopology topology) → IsStationAt topology a → IsStationAt topology b → a ≢ b
     → IfOk answer (λ found. option_map (λ (walk : Vec ℕ). walk.items) found ≡ shortest_of topology a b)
     → IfOk answer (λ found. IfSome found (λ walk. IsValidPath topology walk.items))
 answer_valid topology a b (Ok found) is begins ends differ same =

@@ -1,12 +1,9 @@
 use Rattle.std.specs.Prelude.{ℕ, ◌+◌, ◌==◌, nat_lt, List, [], ◌∷◌, ◌++◌, length, codes, Option, Some, None}
-use Rattle.std.specs.Prelude.{Result, Ok, Err, unwrap_or, option_and_then, if◌then◌else◌}
+use Rattle.std.specs.Prelude.{Result, Ok, Err, unwrap_or, if◌then◌else◌}
 use Rattle.std.specs.Str.{bytes_eq}
 use Rattle.ats_num.specs.Failure.{◌>>=◌, or_fault, ok_where, unless}
-use Rattle.ats_num.specs.Name.{name_of}
-use Rattle.ats_num.specs.Places.{place_of}
 use Rattle.ats_io.specs.Text.{lines_of, words_of}
-use Rattle.ats_topology.specs.Node.{names_of, is_station}
-use Rattle.ats_topology.specs.Topology.{DeclaredTopology, node_at}
+use Rattle.ats_topology.specs.Topology.{DeclaredTopology, station_named}
 use Rattle.ats_streams.specs.Stream.{DeclaredStream, declared_stream, classes_for, stream_fault}
 use Rattle.ats_network.specs.Shortest.{shortest_of}
 use Rattle.ats_requests.specs.declared.request.Request.{Request}
@@ -18,16 +15,6 @@ use Rattle.ats_request_file.specs.declared.fault.RequestFault.TheVariants.{BadLi
 use Rattle.ats_request_file.specs.declared.fault.RequestFault.TheVariants as faults
 use Rattle.ats_request_file.specs.declared.line.AdmitWords.{AdmitWords}
 
--- the number of a node, where it is a station
-abbrev pub if_station : DeclaredTopology → ℕ → Option ℕ
-if_station topology node = if is_station (node_at topology.nodes node).kind then Some node else None
-
--- the number of the station that a word names
-abbrev pub station_of : DeclaredTopology → List ℕ → Option ℕ
-station_of topology word =
-    option_and_then (if_station topology)
-    (option_and_then (λ name. place_of name (names_of topology.nodes)) (name_of word))
-
 -- the ports of the least walk from one station to another one
 abbrev pub path_between : DeclaredTopology → ℕ → ℕ → Option (List ℕ)
 path_between topology from to = if from == to then None else shortest_of topology from to
@@ -35,8 +22,8 @@ path_between topology from to = if from == to then None else shortest_of topolog
 -- the path between the stations that an `admit` line names
 abbrev pub path_in : DeclaredTopology → ℕ → List (List ℕ) → Result (List ℕ) RequestFault
 path_in topology n words = do
-  from ← or_fault (UnknownNode n) (station_of topology (word words 2))
-  to ← or_fault (UnknownNode n) (station_of topology (word words 3))
+  from ← or_fault (UnknownNode n) (station_named topology (word words 2))
+  to ← or_fault (UnknownNode n) (station_named topology (word words 3))
   or_fault (NoPath n) (path_between topology from to)
 
 -- the class that a stream is made with: 1 where the class is left open

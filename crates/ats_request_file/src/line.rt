@@ -7,10 +7,11 @@ ghost use Rattle.ats_num.specs.Failure.{Gives, GivesSeen};
 ghost use Rattle.ats_io.specs.Text.{words_of};
 ghost use Rattle.ats_streams.specs.Stream.{IsStream};
 ghost use Rattle.ats_topology.specs.KeptWalks.{AreKeptFor};
-ghost use Rattle.ats_network.specs.Path.{IsValidPath, IsStationAt};
+ghost use Rattle.ats_topology.specs.Topology.{IsStationAt};
+ghost use Rattle.ats_network.specs.Path.{IsValidPath};
 ghost use Rattle.ats_requests.specs.Requests.{MayAsk};
 ghost use Rattle.ats_request_file.specs.Words.{class_in, admit_in};
-ghost use Rattle.ats_request_file.specs.Reading.{station_of, path_between, path_in, made_class, stream_over};
+ghost use Rattle.ats_request_file.specs.Reading.{path_between, path_in, made_class, stream_over};
 ghost use Rattle.ats_request_file.specs.Reading.{stream_made, admit_line, withdraw_line, request_in, asked_in};
 
 use crate::fault::RequestFault;
@@ -161,25 +162,12 @@ fn path_in(
     ensures valid { IfOk result (λ path. IsValidPath topology.now path.items) }
     ensures kept { AreKeptFor topology.now walks.new }
 {
-    let from = station_of(topology, line.word(2)).ok_or(RequestFault::UnknownNode(n))?;
-    let to = station_of(topology, line.word(3)).ok_or(RequestFault::UnknownNode(n))?;
+    let unknown = RequestFault::UnknownNode(n);
+    let from = topology.station_named(line.word(2)).ok_or(unknown)?;
+    let to = topology.station_named(line.word(3)).ok_or(unknown)?;
     match path_between(alloc, topology, walks, from, to)? {
         Some(path) => Ok(path),
         None => Err(Failure::Fault(RequestFault::NoPath(n))),
-    }
-}
-
-// The number of the station that a word names.
-fn station_of(topology: &Topology, word: &[u8]) -> Option<u32>
-    ensures number { result ≡ station_of topology.now word.now }
-    ensures station { IfSome result (IsStationAt topology.now) }
-{
-    let name = Name::new(word)?;
-    let node = topology.node_named(&name)?;
-    if topology.nodes()[node as usize].kind.is_station() {
-        Some(node)
-    } else {
-        None
     }
 }
 
@@ -199,7 +187,6 @@ fn path_between(
     ensures valid { IfOk result (λ found. IfSome found (λ path. IsValidPath topology.now path.items)) }
     ensures kept { AreKeptFor topology.now walks.new }
 {
-    let _nodes = topology.nodes(); // for what a topology keeps
     if from == to {
         return Ok(None);
     }

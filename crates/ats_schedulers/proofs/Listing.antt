@@ -9,7 +9,7 @@ use Rattle.std.proofs.lemmas.List.Folds.{length-flat_map-take}
 use Rattle.std.proofs.lemmas.List.FromFn.{map-range_with_len_more}
 use Rattle.ats_facts.proofs.Lists.{all_left, all_unmapped}
 use Rattle.ats_group.specs.GroupsState.{IsMember}
-use Rattle.ats_group.specs.declared.member.Declared.{Declared}
+use Rattle.ats_streams.specs.declared.traffic.Declared.{Declared}
 use Rattle.ats_group.specs.declared.member.Member.{Member}
 use Rattle.ats_group.specs.declared.member.TheConstants.{MAX_RESIDENCE_NS}
 use Rattle.ats_topology.specs.Topology.{DeclaredTopology, IsTopology, HasLawfulPorts}
@@ -17,13 +17,13 @@ use Rattle.ats_topology.proofs.Rules.{ports_are_lawful}
 use Rattle.ats_streams.specs.Stream.{DeclaredStream, IsStream}
 use Rattle.ats_streams.specs.declared.stream.TheConstants.{MAX_CLASS}
 use Rattle.ats_network.specs.Network.{DeclaredNetwork, IsNetwork}
-use Rattle.ats_network.specs.Sender.{Sender, stream_sender, flow_sender}
+use Rattle.ats_network.specs.Sender.{Sender, stream_sender, flow_sender, declared_of}
 use Rattle.ats_network.specs.Senders.{IsSender}
 use Rattle.ats_network.specs.Class.{class_at}
 use Rattle.ats_network.proofs.ClassLemmas.{class_along-at, class_at-le}
 use Rattle.ats_network.proofs.SenderLemmas.{each_is_sender}
 use Rattle.ats_schedulers.specs.Inside.{IsListable}
-use Rattle.ats_schedulers.specs.Schedulers.{declared_of, first_of, member_behind, residence_of}
+use Rattle.ats_schedulers.specs.Schedulers.{first_of, member_behind, residence_of}
 use Rattle.ats_schedulers.specs.Schedulers.{members_of, stream_members}
 
 -- one residence more

@@ -1,12 +1,11 @@
 use Rattle.std.specs.Prelude.{ℕ, ◌+◌, ◌-◌, ◌*◌, ◌/◌, ◌<◌, ◌≤◌, List, length, map, take, unwrap_or}
 use Rattle.std.specs.List.{flat_map, range_with_len}
-use Rattle.ats_group.specs.declared.member.Declared.{Declared}
 use Rattle.ats_group.specs.declared.member.Member.{Member}
 use Rattle.ats_streams.specs.Stream.{DeclaredStream}
 use Rattle.ats_network.specs.Class.{class_at}
 use Rattle.ats_network.specs.Network.{DeclaredNetwork}
 use Rattle.ats_network.specs.Residence.{residence_after}
-use Rattle.ats_network.specs.Sender.{Sender, stream_sender}
+use Rattle.ats_network.specs.Sender.{Sender, declared_of, stream_sender}
 use Rattle.ats_network.specs.Senders.{sender_at}
 
 -- the number of the group behind a port for a class
@@ -21,11 +20,6 @@ residence_of network group = unwrap_or (residence_after network.topology (group 
 -- those of all groups
 abbrev pub residences_of : DeclaredNetwork → List ℕ
 residences_of network = map (residence_of network) (range_with_len 0 (8 * length network.topology.ports))
-
--- what a sender declares of its rate, burst and sizes
-abbrev pub declared_of : Sender → Declared
-declared_of s =
-    record { rate = s.rate; burst_bits = s.burst_bits; min_octets = s.min_octets; max_octets = s.max_octets }
 
 -- the scheduler of a sender behind a port: in the group of its class at this port
 abbrev pub member_behind : Sender → ℕ → Member

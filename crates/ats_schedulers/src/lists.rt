@@ -2,14 +2,13 @@
 
 ghost use Rattle.std.specs.Prelude.{◌≡◌, ℕ, ◌-◌, ◌*◌, ◌++◌, ◌<◌, ◌≤◌, length, All, IfOk, OnOk, slice_index_or};
 ghost use Rattle.std.specs.List.{flat_map};
-ghost use Rattle.ats_group.specs.Group.{IsRuled};
 ghost use Rattle.ats_group.specs.declared.member.TheConstants.{MAX_RESIDENCE_NS};
 ghost use Rattle.ats_network.specs.Sender.{stream_sender};
 ghost use Rattle.ats_schedulers.specs.Inside.{AreListed, IsListable};
-ghost use Rattle.ats_schedulers.specs.Schedulers.{declared_of, member_behind, residence_of, residences_of};
+ghost use Rattle.ats_schedulers.specs.Schedulers.{member_behind, residence_of, residences_of};
 ghost use Rattle.ats_schedulers.specs.Schedulers.{stream_members};
 
-use ats_group::{Declared, Member};
+use ats_group::Member;
 use ats_network::Network;
 use ats_streams::Stream;
 use std::alloc::{AllocError, Global};
@@ -39,19 +38,6 @@ pub(crate) fn residences_of(alloc: Global, network: &Network) -> Result<Vec<u32>
     Ok(residences)
 }
 
-// What a stream declares of its rate, burst and sizes.
-fn declared(stream: &Stream) -> Declared
-    ensures value { result ≡ declared_of (stream_sender stream.now) }
-    ensures ruled { IsRuled result }
-{
-    Declared {
-        rate: stream.rate(),
-        burst_bits: stream.burst_bits(),
-        min_octets: stream.min_octets(),
-        max_octets: stream.max_octets(),
-    }
-}
-
 // The scheduler of a stream behind the port of a hop.
 fn member(stream: &Stream, hop: usize) -> Member
     requires stream { IsListable stream.now }
@@ -61,7 +47,7 @@ fn member(stream: &Stream, hop: usize) -> Member
     let class = stream.classes()[hop];
     Member {
         group: CLASSES * stream.path()[hop] + u32::from(class),
-        declared: declared(stream),
+        declared: stream.declared(),
     }
 }
 

@@ -9,10 +9,9 @@ ghost use Rattle.ats_shape.specs.Reading.{residence_line, stream_in, frame_in, r
 use crate::fault::ShapeFault;
 use crate::shape::{ShapeFrame, ShapeStream};
 use crate::words::{named, numbered};
-use ats_group::Declared;
+use ats_num::Name;
 use ats_num::wire::{MAX_OCTETS, MIN_OCTETS};
-use ats_num::{Name, Rate};
-use ats_streams::declared_fault;
+use ats_streams::Declared;
 use ats_words::WordLine;
 
 /// The greatest residence, in nanoseconds.
@@ -117,19 +116,13 @@ pub(crate) fn ruled(n: u32, words: &StreamWords) -> Result<ShapeStream, ShapeFau
     let burst_bits = narrowed(words.burst_bits);
     let min_octets = narrowed(words.min_octets);
     let max_octets = narrowed(words.max_octets);
-    if let Some(fault) = declared_fault(rate_bps, burst_bits, min_octets, max_octets) {
-        return Err(ShapeFault::Stream(n, fault));
+    match Declared::new(rate_bps, burst_bits, min_octets, max_octets) {
+        Ok(declared) => Ok(ShapeStream {
+            name: words.name,
+            declared,
+        }),
+        Err(fault) => Err(ShapeFault::Stream(n, fault)),
     }
-    let rate = Rate::new(rate_bps).unwrap();
-    Ok(ShapeStream {
-        name: words.name,
-        declared: Declared {
-            rate,
-            burst_bits,
-            min_octets: min_octets as u32,
-            max_octets: max_octets as u32,
-        },
-    })
 }
 
 /// The number, or the greatest `u64` where it is greater.

@@ -2,8 +2,8 @@
 
 ghost use Rattle.std.specs.Prelude.{◌≡◌};
 
-use ats_group::Declared;
 use ats_num::{Name, Ps};
+use ats_streams::Declared;
 use std::marker::Model;
 
 /// A stream of a shape file.

@@ -15,7 +15,7 @@ use Rattle.ats_port_rule.specs.PortRule.{KeepsPortRule, AreApart}
 use Rattle.ats_port_law.specs.PortLaw.{IsOffered}
 use Rattle.ats_port_law.proofs.Pairs.{TakesTime, eligible_no_later}
 use Rattle.ats_bucket.specs.Conforming.{Frame}
-use Rattle.ats_group.specs.declared.member.Declared.{Declared}
+use Rattle.ats_streams.specs.declared.traffic.Declared.{Declared}
 use Rattle.ats_trace.specs.Journey.{Travel}
 use Rattle.ats_trace.specs.Projections.{Hop, Crossing, Handed, hops_from, crossings_from, handed_from, sent_by}
 use Rattle.ats_trace.specs.Projections.{crossings_by, handed_by}

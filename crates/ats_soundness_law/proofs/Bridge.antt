@@ -8,14 +8,16 @@ use Rattle.std.proofs.lemmas.List.Sorted.{sum_by-IsPermutation}
 use Rattle.ats_num.specs.Wire.{bits_of}
 use Rattle.ats_topology.specs.Port.{port_at}
 use Rattle.ats_network.specs.Sender.{Sender}
-use Rattle.ats_network.specs.Path.{IsStationAt, IsValidPath}
+use Rattle.ats_topology.specs.Topology.{IsStationAt}
+use Rattle.ats_network.specs.Path.{IsValidPath}
 use Rattle.ats_network.specs.Bridges.{IsBridgeAt, MeetAtBridge}
 use Rattle.ats_network.specs.Network.{DeclaredNetwork, IsNetwork, senders_of}
 use Rattle.ats_network.specs.Senders.{sender_at, IsSender, AllNeighbours}
 use Rattle.ats_bucket.specs.Conforming.{Frame}
 use Rattle.ats_certificate.specs.PortSums.{uses}
-use Rattle.ats_group.specs.Group.{Offer, IsRuled, is_declared_size}
-use Rattle.ats_group.specs.declared.member.Declared.{Declared}
+use Rattle.ats_group.specs.Group.{Offer}
+use Rattle.ats_streams.specs.Traffic.{IsRuled, is_declared_size}
+use Rattle.ats_streams.specs.declared.traffic.Declared.{Declared}
 use Rattle.ats_group.specs.declared.verdict.Verdict.{Verdict}
 use Rattle.ats_group_law.specs.Accepted.{accepted_of}
 use Rattle.ats_group.specs.Judge.{OnEligible, Judge}

@@ -8,7 +8,7 @@ use Rattle.ats_network.specs.Bridges.{IsBridgeAt, MeetAtBridge}
 use Rattle.ats_network.specs.Network.{DeclaredNetwork, IsNetwork, senders_of}
 use Rattle.ats_network.specs.Senders.{sender_at, IsSender}
 use Rattle.ats_certificate.specs.PortSums.{uses}
-use Rattle.ats_group.specs.Group.{is_declared_size}
+use Rattle.ats_streams.specs.Traffic.{is_declared_size}
 use Rattle.ats_trace.specs.Journey.{Travel, IsJourney, class_at}
 use Rattle.ats_trace.specs.Projections.{Hop, Handed, journey_hops, journey_handed, hops_from, handed_from}
 use Rattle.ats_trace.specs.Eligibility.{declared_by}
@@ -17,7 +17,7 @@ use Rattle.ats_group.specs.Judge.{Judge, ats_judge, bucket_rule}
 use Rattle.ats_group_law.specs.Regulator.{IsRule, IsRegulator}
 use Rattle.ats_group_law.proofs.Regulator.{ats_is_regulator}
 use Rattle.ats_bucket.specs.Conforming.{Frame}
-use Rattle.ats_group.specs.declared.member.Declared.{Declared}
+use Rattle.ats_streams.specs.declared.traffic.Declared.{Declared}
 use Rattle.ats_soundness_law.proofs.Along.{AtPorts, all_hops, all_handed}
 use Rattle.ats_soundness_law.proofs.Lifts.{run_hops, run_handed}
 use Rattle.ats_soundness_law.proofs.Paths.{sender_is, uses_own, neighbours_with}

@@ -6,7 +6,7 @@ use Rattle.std.proofs.lemmas.List.{get_or-map, length-map}
 use Rattle.std.proofs.lemmas.List.Kept.{IsNonDecreasingBy-filter}
 use Rattle.std.proofs.lemmas.List.Sorted.{sum_by-IsPermutation}
 use Rattle.ats_bucket.specs.Conforming.{Frame, times_of}
-use Rattle.ats_group.specs.declared.member.Declared.{Declared}
+use Rattle.ats_streams.specs.declared.traffic.Declared.{Declared}
 use Rattle.ats_network.specs.Network.{DeclaredNetwork}
 use Rattle.ats_network.specs.Senders.{sender_at}
 use Rattle.ats_group_law.specs.Shaping.{Passage, offers_of, frame_before, frames_before}

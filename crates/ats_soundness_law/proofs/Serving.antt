@@ -14,7 +14,7 @@ use Rattle.ats_port_rule.specs.Transmission.{Transmission}
 use Rattle.ats_port_law.specs.PortLaw.{IsWithinBound}
 use Rattle.ats_port_law.proofs.Law.{law}
 use Rattle.ats_bucket.specs.Conforming.{Frame}
-use Rattle.ats_group.specs.declared.member.Declared.{Declared}
+use Rattle.ats_streams.specs.declared.traffic.Declared.{Declared}
 use Rattle.ats_trace.specs.Journey.{Travel}
 use Rattle.ats_trace.specs.Projections.{Crossing, Handed, sent_by, crossings_by, handed_by}
 use Rattle.ats_trace.specs.Links.{KeepsLinkRule}

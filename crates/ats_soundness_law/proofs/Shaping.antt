@@ -23,7 +23,8 @@ use Rattle.ats_network.specs.Senders.{sender_at, no_sender}
 use Rattle.ats_certificate.specs.Certificate.{RowHolds, residence_needed}
 use Rattle.ats_certificate.specs.PortSums.{is_of, is_used, shortest}
 use Rattle.ats_certificate.specs.declared.row.Row.{Row}
-use Rattle.ats_group.specs.Group.{Offer, IsRuled, is_declared_size}
+use Rattle.ats_group.specs.Group.{Offer}
+use Rattle.ats_streams.specs.Traffic.{IsRuled, is_declared_size}
 use Rattle.ats_group.specs.declared.verdict.Verdict.{Verdict}
 use Rattle.ats_group.specs.declared.verdict.Verdict.TheVariants.{Eligible}
 use Rattle.ats_group_law.specs.Shaping.{Passage, frames_before, IsEligibleAgain}
@@ -37,7 +38,7 @@ use Rattle.ats_port_law.proofs.Law.{law}
 use Rattle.ats_port_law.proofs.Totals.{least_reaches}
 use Rattle.ats_port_law.proofs.Used.{IsPlace, used_place}
 use Rattle.ats_bucket.specs.Conforming.{Frame}
-use Rattle.ats_group.specs.declared.member.Declared.{Declared}
+use Rattle.ats_streams.specs.declared.traffic.Declared.{Declared}
 use Rattle.ats_trace.specs.Journey.{Travel, class_at}
 use Rattle.ats_trace.specs.Projections.{Crossing, Handed, sent_by, crossings_by, handed_by}
 use Rattle.ats_trace.specs.Links.{ArrivesWithin, KeepsLinkRule}

@@ -14,7 +14,7 @@ use Rattle.ats_certificate.specs.declared.row.Row.{Row}
 use Rattle.ats_group.specs.declared.verdict.Verdict.{Verdict}
 use Rattle.ats_port_rule.specs.Transmission.{Transmission}
 use Rattle.ats_bucket.specs.Conforming.{Frame}
-use Rattle.ats_group.specs.declared.member.Declared.{Declared}
+use Rattle.ats_streams.specs.declared.traffic.Declared.{Declared}
 use Rattle.ats_trace.specs.Journey.{Travel, IsJourney, IsOfStream, IsReleased, IsWay, class_at}
 use Rattle.ats_trace.specs.Projections.{Hop, Crossing, Handed, crossings_along, handed_along, crossing_at, handed_at}
 use Rattle.ats_trace.specs.Projections.{transmission_of, crossings_from, handed_from, crossings_by, handed_by}

@@ -8,16 +8,16 @@ use Rattle.std.proofs.lemmas.List.Sums.{sum_by-append}
 use Rattle.ats_num.specs.declared.time.Ps.{Ps}
 use Rattle.ats_topology.specs.Port.{port_at}
 use Rattle.ats_network.specs.Sender.{Sender}
-use Rattle.ats_network.specs.Path.{IsStationAt}
+use Rattle.ats_topology.specs.Topology.{IsStationAt}
 use Rattle.ats_network.specs.Bridges.{IsBridgeAt, MeetAtBridge}
 use Rattle.ats_network.specs.Network.{DeclaredNetwork, senders_of}
 use Rattle.ats_network.specs.Senders.{sender_at, IsSender, AllNeighbours}
 use Rattle.ats_certificate.specs.PortSums.{uses}
-use Rattle.ats_group.specs.Group.{is_declared_size}
+use Rattle.ats_streams.specs.Traffic.{is_declared_size}
 use Rattle.ats_port_law.specs.PortLaw.{IsDeclared, frames_by}
 use Rattle.ats_port_law.proofs.Sums.{sum_by-none}
 use Rattle.ats_bucket.specs.Conforming.{Frame}
-use Rattle.ats_group.specs.declared.member.Declared.{Declared}
+use Rattle.ats_streams.specs.declared.traffic.Declared.{Declared}
 use Rattle.ats_trace.specs.Journey.{Travel, IsJourney, IsReleased, class_at}
 use Rattle.ats_trace.specs.Projections.{Hop, hops_along, journey_hops, sent_by, hop_at, transmission_of}
 use Rattle.ats_trace.specs.Eligibility.{declared_by}

@@ -3,16 +3,16 @@ use Rattle.std.proofs.Common.{get_or, map, filter, refl, subst, sym, ap, ◌∙�
 use Rattle.std.specs.List.{list_any}
 use Rattle.std.proofs.lemmas.Bool.{cases_Bool, or_left, or_right, eq-eqb}
 use Rattle.std.proofs.lemmas.List.{length-map, get_or_append_left}
-use Rattle.ats_network.specs.Sender.{Sender, stream_sender, flow_sender}
+use Rattle.ats_network.specs.Sender.{Sender, stream_sender, flow_sender, declared_of}
 use Rattle.ats_streams.specs.Stream.{IsClass}
 use Rattle.ats_network.specs.Class.{class_at, seen_at}
 use Rattle.ats_network.proofs.ClassLemmas.{class_at-stream}
 use Rattle.ats_network.specs.Network.{DeclaredNetwork, IsNetwork, senders_of}
 use Rattle.ats_network.specs.Senders.{sender_at, no_sender}
 use Rattle.ats_certificate.specs.PortSums.{uses, is_of, is_used}
-use Rattle.ats_group.specs.Group.{IsRuled}
+use Rattle.ats_streams.specs.Traffic.{IsRuled}
 use Rattle.ats_port_law.proofs.Senders.{no_stream, stream_at}
-use Rattle.ats_trace.specs.Eligibility.{declared_of, declared_by}
+use Rattle.ats_trace.specs.Eligibility.{declared_by}
 use Rattle.ats_soundness_law.proofs.Paths.{sender_is}
 
 -- the first senders are the streams

@@ -1,7 +1,7 @@
 use Rattle.std.specs.Prelude.{ℕ, ◌+◌, ◌<◌, IsTrue, List, length, All}
 use Rattle.ats_topology.specs.Port.{port_at}
 use Rattle.ats_network.specs.Network.{DeclaredNetwork, IsNetwork}
-use Rattle.ats_network.specs.Path.{IsStationAt}
+use Rattle.ats_topology.specs.Topology.{IsStationAt}
 use Rattle.ats_network.specs.Bridges.{IsBridgeAt}
 use Rattle.ats_certificate.specs.PortSums.{is_used}
 use Rattle.ats_certificate.specs.Certificate.{RowHolds, Holds}

@@ -1,10 +1,6 @@
 //! What a node decides on a frame that comes to it.
 
-ghost use Rattle.std.specs.Prelude.{◌≡◌, ◌-◌, ◌<◌, ◌≤◌, length};
-ghost use Rattle.ats_num.specs.declared.time.TheConstants.{PS_PER_SECOND, END};
-ghost use Rattle.ats_network.specs.Network.{senders_of};
-ghost use Rattle.ats_group.specs.Group.{is_declared_size};
-ghost use Rattle.ats_trace.specs.Eligibility.{declared_by};
+ghost use Rattle.std.specs.Prelude.{◌≡◌};
 ghost use Rattle.ats_records.specs.Progress.{progress_at};
 ghost use Rattle.ats_steps.specs.Conditions.{MayCome};
 ghost use Rattle.ats_steps.specs.Steps.{verdict_now, groups_now};
@@ -12,24 +8,8 @@ ghost use Rattle.ats_steps.specs.Steps.{verdict_now, groups_now};
 use ats_group::{Groups, Verdict};
 use ats_network::Network;
 use ats_num::Ps;
-use ats_num::wire::MIN_OCTETS;
 use ats_records::Records;
 use ats_schedulers::Schedulers;
-
-/// Whether a sender declares frames of so many octets.
-fn allows(net: &Network, sender: u32, octets: u32) -> bool
-    requires { sender < length (senders_of net.now) }
-    ensures { result ≡ is_declared_size (declared_by net.now sender) octets }
-{
-    let streams = net.streams();
-    let place = sender as usize;
-    if place < streams.len() {
-        let stream = &streams[place];
-        return octets >= stream.min_octets() && octets <= stream.max_octets();
-    }
-    let flow = &net.flows()[place - streams.len()];
-    octets >= MIN_OCTETS && octets <= flow.max_octets()
-}
 
 /// The verdict on a frame that comes now to the next port of its path, by the group behind the port
 /// before.
@@ -55,7 +35,7 @@ pub(crate) fn judge(
         let member = schedulers.scheduler(release.sender, hops);
         return groups.process(member, now, release.octets);
     }
-    if allows(net, release.sender, release.octets) {
+    if net.sender(release.sender).allows(release.octets) {
         Verdict::Eligible(now)
     } else {
         Verdict::Size

@@ -3,3 +3,4 @@ pub mod Path
 pub mod Stream
 pub mod Flow
 pub mod Rules
+pub mod Traffic

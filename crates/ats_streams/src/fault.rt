@@ -1,11 +1,8 @@
 //! The rules that a stream or a flow can break.
 
-ghost use Rattle.std.specs.Prelude.{◌≡◌, ◌↔◌, IsNone, Some};
-ghost use Rattle.ats_streams.specs.Rules.{KeepsRules};
-ghost use Rattle.ats_streams.specs.Fault.{rules_fault, text_of};
+ghost use Rattle.std.specs.Prelude.{◌≡◌, Some};
+ghost use Rattle.ats_streams.specs.Fault.{text_of};
 
-use crate::rules::{are_sizes, covers_longest, is_burst};
-use ats_num::Rate;
 use std::error::Error;
 use std::fmt;
 
@@ -48,30 +45,3 @@ impl fmt::Display for StreamFault {
 }
 
 impl Error for StreamFault {}
-
-/// The first rule on rate (bits per second), burst (bits) and sizes (octets) that these numbers
-/// break, or `None` exactly where they keep each. It is for files that give a stream no class, path
-/// or deadline.
-pub fn declared_fault(
-    rate_bps: u64,
-    burst_bits: u64,
-    min_octets: u64,
-    max_octets: u64,
-) -> Option<StreamFault>
-    ensures fault { result ≡ rules_fault rate_bps burst_bits min_octets max_octets }
-    ensures rules { IsNone result ↔ KeepsRules rate_bps burst_bits min_octets max_octets }
-{
-    if Rate::new(rate_bps).is_none() {
-        return Some(StreamFault::BadRate);
-    }
-    if !are_sizes(min_octets, max_octets) {
-        return Some(StreamFault::BadSizes);
-    }
-    if !covers_longest(burst_bits, max_octets) {
-        return Some(StreamFault::BurstBelowFrame);
-    }
-    if !is_burst(burst_bits) {
-        return Some(StreamFault::Limit);
-    }
-    None
-}

@@ -8,8 +8,10 @@ pub mod laws;
 pub mod path;
 pub mod rules;
 pub mod stream;
+pub mod traffic;
 
-pub use fault::{StreamFault, declared_fault};
+pub use fault::StreamFault;
 pub use flow::Flow;
 pub use rules::{are_sizes, covers_longest, is_burst, is_frame_size, keeps_rules};
 pub use stream::{Stream, is_identity};
+pub use traffic::Declared;

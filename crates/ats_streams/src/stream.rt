@@ -1,17 +1,21 @@
 //! Declared streams.
 
-ghost use Rattle.std.specs.Prelude.{◌≡◌, ◌↔◌, length, IsTrue, IsNone, IfOk};
+ghost use Rattle.std.specs.Prelude.{◌≡◌, ◌↔◌, ◌*◌, length, IsTrue, IsNone, IfOk};
 ghost use Rattle.std.specs.Result.{result_err};
 ghost use Rattle.ats_num.specs.Rate.{IsRate};
+ghost use Rattle.ats_num.specs.declared.time.TheConstants.{PS_PER_NS};
 ghost use Rattle.ats_streams.specs.Rules.{KeepsRules};
 ghost use Rattle.ats_streams.specs.Path.{IsPath};
 ghost use Rattle.ats_streams.specs.Stream.{IsDeadline, IsIdentity, MayIdentify, IsStream, declared_stream};
 ghost use Rattle.ats_streams.specs.Stream.{IsClass, classes_for, with_class, limit_fault, stream_fault};
+ghost use Rattle.ats_streams.specs.Traffic.{IsRuled, traffic_of};
 
 use crate::classes::{are_bad_classes, classes_for};
-use crate::fault::{StreamFault, declared_fault};
+use crate::fault::StreamFault;
 use crate::path::is_path;
-use ats_num::{Name, Rate};
+use crate::traffic::Declared;
+use ats_num::time::PS_PER_NS;
+use ats_num::{Name, Ps, Rate};
 use std::marker::Model;
 
 /// The highest class of a stream.
@@ -37,10 +41,7 @@ pub struct Stream {
     name: Name,
     path: Vec<u32>,
     classes: [u8; 16],
-    rate: Rate,
-    burst_bits: u64,
-    min_octets: u32,
-    max_octets: u32,
+    declared: Declared,
     deadline_ns: u64,
     identity: Option<(u64, u16)>,
 }
@@ -51,11 +52,11 @@ impl Model for Stream {
 
     ghost Value = { DeclaredStream };
 
-    ghost view = { λ s. declared_stream s.name s.path.items (take (length s.path.items) s.classes) s.rate
-        s.burst_bits s.min_octets s.max_octets s.deadline_ns s.identity };
+    ghost view = { λ s. declared_stream s.name s.path.items (take (length s.path.items) s.classes) s.declared.rate
+        s.declared.burst_bits s.declared.min_octets s.declared.max_octets s.deadline_ns s.identity };
 
     ghost invariant = { λ s. IsStream (declared_stream s.name s.path.items (take (length s.path.items) s.classes)
-        s.rate s.burst_bits s.min_octets s.max_octets s.deadline_ns s.identity)
+        s.declared.rate s.declared.burst_bits s.declared.min_octets s.declared.max_octets s.deadline_ns s.identity)
         × HasZerosBehind (length s.path.items) s.classes };
 }
 
@@ -99,9 +100,7 @@ impl Stream {
         if are_bad_classes(path.len(), classes) {
             return Err(StreamFault::BadClass);
         }
-        if let Some(fault) = declared_fault(rate_bps, burst_bits, min_octets, max_octets) {
-            return Err(fault);
-        }
+        let declared = Declared::new(rate_bps, burst_bits, min_octets, max_octets)?;
         if let Some(fault) = limit_fault(&path, deadline_ns) {
             return Err(fault);
         }
@@ -110,10 +109,7 @@ impl Stream {
             name,
             path,
             classes,
-            rate: Rate::new(rate_bps).unwrap(),
-            burst_bits,
-            min_octets: min_octets as u32,
-            max_octets: max_octets as u32,
+            declared,
             deadline_ns,
             identity,
         })
@@ -142,12 +138,20 @@ impl Stream {
         &self.classes[..self.path.len()]
     }
 
+    /// Its committed rate and burst, and the least and greatest octets of its frames.
+    pub fn declared(&self) -> Declared
+        ensures value { result ≡ traffic_of self.now }
+        ensures rules { IsRuled result }
+    {
+        self.declared
+    }
+
     /// Its committed rate.
     pub fn rate(&self) -> Rate
         ensures value { result ≡ self.now.rate }
         ensures rules { KeepsRules self.now.rate self.now.burst_bits self.now.min_octets self.now.max_octets }
     {
-        self.rate
+        self.declared.rate
     }
 
     /// Its committed burst, in bits.
@@ -155,7 +159,7 @@ impl Stream {
         ensures value { result ≡ self.now.burst_bits }
         ensures rules { KeepsRules self.now.rate self.now.burst_bits self.now.min_octets self.now.max_octets }
     {
-        self.burst_bits
+        self.declared.burst_bits
     }
 
     /// The fewest octets of its frames, counted with the frame check sequence.
@@ -163,7 +167,7 @@ impl Stream {
         ensures value { result ≡ self.now.min_octets }
         ensures rules { KeepsRules self.now.rate self.now.burst_bits self.now.min_octets self.now.max_octets }
     {
-        self.min_octets
+        self.declared.min_octets
     }
 
     /// The most octets of its frames, counted with the frame check sequence.
@@ -171,7 +175,7 @@ impl Stream {
         ensures value { result ≡ self.now.max_octets }
         ensures rules { KeepsRules self.now.rate self.now.burst_bits self.now.min_octets self.now.max_octets }
     {
-        self.max_octets
+        self.declared.max_octets
     }
 
     /// Its deadline from release to its listener, in nanoseconds: 1 to 1,000,000,000.
@@ -180,6 +184,14 @@ impl Stream {
         ensures valid { IsDeadline self.now.deadline_ns }
     {
         self.deadline_ns
+    }
+
+    /// The same as a time, in picoseconds.
+    pub fn deadline(&self) -> Ps
+        ensures value { result.0 ≡ PS_PER_NS * self.now.deadline_ns }
+        ensures valid { IsDeadline self.now.deadline_ns }
+    {
+        Ps(PS_PER_NS * self.deadline_ns)
     }
 
     /// The destination address, below `2^48`, and the VLAN identifier, 1 to 4094, of its frames,

@@ -87,7 +87,7 @@ pub fn first_late(delays: &Delays) -> Option<Reason>
 fn late(stream: &Stream, sum: u128) -> Option<Reason>
     ensures { result ≡ late_by stream.now sum }
 {
-    if sum <= u128::from(PS_PER_NS) * u128::from(stream.deadline_ns()) {
+    if sum <= u128::from(stream.deadline().0) {
         return None;
     }
     Some(Reason::Deadline {

@@ -6,7 +6,7 @@ ghost use Rattle.ats_network.specs.Senders.{sender_at};
 ghost use Rattle.ats_network.specs.Class.{seen_at};
 ghost use Rattle.ats_tally.specs.SenderAtPort.{port_sender, KeepsLimits};
 
-use ats_network::Network;
+use ats_network::{Network, Sender};
 use ats_num::wire::MIN_OCTETS;
 use ats_streams::{Flow, Stream};
 
@@ -34,17 +34,16 @@ impl SeenSender {
             ≡ seen_at (slice_index_or (sender_at network.now sender).path hop 0) (sender_at network.now sender) }
         ensures limits { KeepsLimits result }
     {
-        let class = network.sender_class(sender, hop);
-        let streams = network.streams();
-        let place = sender as usize;
-        if place < streams.len() {
-            return SeenSender::of_stream(&streams[place], class);
+        match network.sender(sender) {
+            Sender::Stream(stream) => {
+                SeenSender::of_stream(stream, network.sender_class(sender, hop))
+            }
+            Sender::Flow(flow) => SeenSender::of_flow(flow),
         }
-        SeenSender::of_flow(&network.flows()[place - streams.len()])
     }
 
-    // A stream that has this class at the port.
-    fn of_stream(stream: &Stream, class: u8) -> Self
+    /// A stream that has this class at the port.
+    pub fn of_stream(stream: &Stream, class: u8) -> Self
         ensures class { result.class ≡ class }
         ensures rate { result.rate_bps ≡ stream.now.rate }
         ensures burst { result.burst_bits ≡ stream.now.burst_bits }
@@ -52,12 +51,13 @@ impl SeenSender {
         ensures longest { result.max_octets ≡ stream.now.max_octets }
         ensures limits { KeepsLimits result }
     {
+        let declared = stream.declared();
         SeenSender {
             class,
-            rate_bps: stream.rate().bps(),
-            burst_bits: stream.burst_bits(),
-            min_octets: stream.min_octets(),
-            max_octets: stream.max_octets(),
+            rate_bps: declared.rate.bps(),
+            burst_bits: declared.burst_bits,
+            min_octets: declared.min_octets,
+            max_octets: declared.max_octets,
         }
     }
 

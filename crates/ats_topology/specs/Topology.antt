@@ -1,6 +1,7 @@
 use Rattle.std.specs.Prelude.{◌≡◌, ℕ, ◌+◌, ◌*◌, ◌<◌, ◌≤◌, ◌≢◌, IsTrue, IsSome, List, [], ◌∷◌, length, slice_index_or}
-use Rattle.std.specs.Prelude.{unwrap_or, count_by, All}
+use Rattle.std.specs.Prelude.{unwrap_or, count_by, All, Option, Some, None, option_and_then, if◌then◌else◌}
 use Rattle.std.specs.List.{flat_map}
+use Rattle.ats_num.specs.Name.{name_of}
 use Rattle.ats_num.specs.Places.{place_of}
 use Rattle.ats_num.specs.declared.pace.TheConstants.{MAX_SPREAD}
 use Rattle.ats_topology.specs.Node.{names_of, is_station, least_processing_of, greatest_processing_of, residence_of}
@@ -57,6 +58,21 @@ pub record DeclaredTopology : Type 0 where
   pub nodes : List Node
   pub links : List Link
   pub ports : List Port
+
+-- the number is that of a station
+pub record IsStationAt (topology : DeclaredTopology) (node : ℕ) : Type 0 where
+  pub within : node < length topology.nodes
+  pub station : IsTrue (is_station (node_at topology.nodes node).kind)
+
+-- the number of a node, where it is a station
+abbrev pub if_station : DeclaredTopology → ℕ → Option ℕ
+if_station topology node = if is_station (node_at topology.nodes node).kind then Some node else None
+
+-- the number of the station that a word names, if it names one
+abbrev pub station_named : DeclaredTopology → List ℕ → Option ℕ
+station_named topology word =
+    option_and_then (if_station topology)
+    (option_and_then (λ name. place_of name (names_of topology.nodes)) (name_of word))
 
 -- the topology of nodes and links
 abbrev pub topology_of : List Node → List Link → DeclaredTopology

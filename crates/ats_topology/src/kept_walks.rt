@@ -2,6 +2,7 @@
 
 ghost use Rattle.std.specs.Prelude.{◌≡◌, ◌<◌, ℕ, All, IfOk, IfSome, IfNone, IsSome, OnOk, length, None, Option};
 ghost use Rattle.std.specs.Global.{Vec};
+ghost use Rattle.ats_topology.specs.Topology.{IsTopology};
 ghost use Rattle.ats_topology.specs.Walks.{IsLeastWalk, NoWalk, ArePorts};
 ghost use Rattle.ats_topology.specs.KeptWalks.{AreKeptFor, kept_for};
 
@@ -47,6 +48,7 @@ impl KeptWalks {
         ensures walk { IfOk result (λ found. IfSome found (λ walk. IsLeastWalk topology.now.ports a b walk.items)) }
         ensures ports { IfOk result (λ found. IfSome found (λ walk. ArePorts topology.now.ports walk.items)) }
         ensures none { IfOk result (λ found. IfNone found (NoWalk topology.now.ports a b)) }
+        ensures rules { OnOk result (IsTopology topology.now) }
         ensures kept { AreKeptFor topology.now self.new }
     {
         self.search(alloc, topology, b)?;

@@ -6,7 +6,7 @@ ghost use Rattle.ats_num.specs.Places.{place_of};
 ghost use Rattle.ats_topology.specs.Node.{names_of};
 ghost use Rattle.ats_topology.specs.Port.{port_between, GoesBetween};
 ghost use Rattle.ats_topology.specs.Faults.{topology_fault};
-ghost use Rattle.ats_topology.specs.Topology.{topology_of, IsTopology, HasLawfulPorts};
+ghost use Rattle.ats_topology.specs.Topology.{topology_of, station_named, IsTopology, HasLawfulPorts, IsStationAt};
 ghost use Rattle.ats_topology.specs.Walks.{IsLeastWalk, NoWalk, ArePorts};
 ghost use Rattle.ats_topology.specs.KeptWalks.{AreDistancesTo};
 
@@ -106,6 +106,20 @@ impl Topology {
         self.names.place(name)
     }
 
+    /// The number of the station that a word names; `None` exactly where the word is the name of no station.
+    pub fn station_named(&self, word: &[u8]) -> Option<u32>
+        ensures number { result ≡ station_named self.now word.now }
+        ensures station { IfSome result (IsStationAt self.now) }
+    {
+        let name = Name::new(word)?;
+        let node = self.node_named(&name)?;
+        if self.node_list[node as usize].kind.is_station() {
+            Some(node)
+        } else {
+            None
+        }
+    }
+
     /// The number of the port from node `a` to node `b`; `None` for two nodes without a link, and for no others.
     pub fn port_between(&self, a: u32, b: u32) -> Option<u32>
         ensures number { result ≡ port_between a b self.now.ports }
@@ -128,6 +142,7 @@ impl Topology {
         ensures walk { IfOk result (λ found. IfSome found (λ walk. IsLeastWalk self.now.ports a b walk.items)) }
         ensures ports { IfOk result (λ found. IfSome found (λ walk. ArePorts self.now.ports walk.items)) }
         ensures none { IfOk result (λ found. IfNone found (NoWalk self.now.ports a b)) }
+        ensures rules { IsTopology self.now }
     {
         least_walk(alloc, &self.table, a, b)
     }
@@ -153,6 +168,7 @@ impl Topology {
         ensures walk { IfOk result (λ found. IfSome found (λ walk. IsLeastWalk self.now.ports a b walk.items)) }
         ensures ports { IfOk result (λ found. IfSome found (λ walk. ArePorts self.now.ports walk.items)) }
         ensures none { IfOk result (λ found. IfNone found (NoWalk self.now.ports a b)) }
+        ensures rules { IsTopology self.now }
     {
         least_walk_by(alloc, &self.table, distances, a, b)
     }

@@ -1,21 +1,17 @@
 use Rattle.std.specs.Prelude.{◌≡◌, ℕ, List, map, IsPermutation, unwrap_or, if◌then◌else◌}
 use Rattle.std.specs.List.Sorted.{IsNonDecreasing}
-use Rattle.ats_network.specs.Sender.{Sender}
+use Rattle.ats_network.specs.Sender.{declared_of}
 use Rattle.ats_network.specs.Network.{DeclaredNetwork}
 use Rattle.ats_network.specs.Senders.{sender_at}
 use Rattle.ats_network.specs.Residence.{residence_after}
-use Rattle.ats_group.specs.Group.{Offer, is_declared_size}
+use Rattle.ats_group.specs.Group.{Offer}
+use Rattle.ats_streams.specs.Traffic.{is_declared_size}
 use Rattle.ats_group.specs.Judge.{Judge}
-use Rattle.ats_group.specs.declared.member.Declared.{Declared}
+use Rattle.ats_streams.specs.declared.traffic.Declared.{Declared}
 use Rattle.ats_group.specs.declared.verdict.Verdict.TheVariants.{Eligible, Size}
 use Rattle.ats_trace.specs.Projections.{Handed}
 
--- what a sender declares of its rate, burst and sizes
-abbrev pub declared_of : Sender → Declared
-declared_of s =
-    record { rate = s.rate; burst_bits = s.burst_bits; min_octets = s.min_octets; max_octets = s.max_octets }
-
--- the same of the sender with a number, by which its scheduler in each group is known
+-- what the sender with a number declares of its rate, burst and sizes, by which its scheduler in each group is known
 abbrev pub declared_by : DeclaredNetwork → ℕ → Declared
 declared_by network i = declared_of (sender_at network i)
 

@@ -24,7 +24,7 @@ renew-requires-clause-ports c =
     c.take_stream.ensures.network ∙ named_at network c.args.name.now n c.requires.named in
     subst (λ (t : DeclaredNetwork). All (λ p. p < length t.topology.ports) c.path.result.now) (sym new_is)
     (subst (All (λ p. p < length network.topology.ports)) (sym path_is)
-    (paths_inside network c.streams-rules.ensures.rules n no_stream (omega (arith, c.requires.pending.last))))
+    (paths_inside network c.take_stream.ensures.rules n no_stream (omega (arith, c.requires.pending.last))))
 
 pub renew-requires-clause-beside : goal.renew-requires-clause-beside
 renew-requires-clause-beside c =
@@ -48,7 +48,7 @@ returns-in-Some-clause-session c =
     record {
       certified = record {
         rules = subst IsNetwork (sym c.take_stream.ensures.network)
-            (without_network network c.args.name.now c.streams-rules.ensures.rules);
+            (without_network network c.args.name.now c.take_stream.ensures.rules);
         free = ap reason_of new_is ∙ c.requires.pending.free;
       };
       kept = c.renew.ensures;

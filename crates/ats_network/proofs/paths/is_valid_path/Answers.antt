@@ -1,7 +1,7 @@
 use Rattle.std.proofs.Common.{◌≡◌, false, ℕ, List, Some, None, sym, ap, subst, ◌∙◌}
 use Rattle.std.proofs.lemmas.Bool.{false≢true}
 use Rattle.ats_topology.specs.declared.port.Port.{Port}
-use Rattle.ats_network.specs.Path.{IsStationAt}
+use Rattle.ats_topology.specs.Topology.{IsStationAt}
 use Rattle.ats_network.specs.PathSteps.{ends_of, comes_to, part_ways}
 use Rattle.ats_network.proofs.PathLemmas.{AreEnds, ends_are, walk_ports, no_ends, talker_is, listener_is}
 use Rattle.ats_network.proofs.PathLemmas.{valid_from_parts, valid_parts, valid_never_back}

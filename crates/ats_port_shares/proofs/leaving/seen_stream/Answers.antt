@@ -13,9 +13,9 @@ returns-clause-seen c =
     c.classes.ensures.rules.each_port c.requires.hop) in
     cc (
       class,
-      c.bps.ensures.value,
-      c.rate.ensures.value,
-      c.burst_bits.ensures.value,
-      c.min_octets.ensures.value,
-      c.max_octets.ensures.value,
+      c.of_stream.ensures.class,
+      c.of_stream.ensures.rate,
+      c.of_stream.ensures.burst,
+      c.of_stream.ensures.shortest,
+      c.of_stream.ensures.longest,
     )

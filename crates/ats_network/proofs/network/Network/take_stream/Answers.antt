@@ -1,4 +1,5 @@
-use Rattle.ats_network.specs.Network.{declared_network}
+use Rattle.std.proofs.Common.{subst}
+use Rattle.ats_network.specs.Network.{IsNetwork, declared_network}
 use Rattle.ats_network.proofs.Edited.{streams_apart, without_network}
 use Rattle.ats_network.proofs.network.Network.take_stream.Goals as goal
 
@@ -12,3 +13,6 @@ invariant_of-self c =
     rw c.take.ensures.streams
     (without_network (declared_network c.self.inside.shape c.self.inside.stream_table c.self.inside.flow_table)
     c.args.name.now c.self.invariant)
+
+pub returns-clause-rules : goal.returns-clause-rules
+returns-clause-rules c = subst IsNetwork c.self.view_is c.self.invariant

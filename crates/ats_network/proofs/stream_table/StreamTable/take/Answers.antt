@@ -1,5 +1,6 @@
-use Rattle.std.proofs.Common.{◌≡◌, ◌<◌, None, List, length, get_or, sym, ap, subst, ◌∙◌, arith}
-use Rattle.std.proofs.lemmas.List.{get_or_default}
+use Rattle.std.proofs.Common.{◌≡◌, ℕ, ◌+◌, ◌<◌, None, List, ◌∷◌, ◌++◌, length, take, drop, get_or, sym, ap, subst, ◌∙◌}
+use Rattle.std.proofs.Common.{arith}
+use Rattle.std.proofs.lemmas.List.{get_or_default, take-append-drop, drop_more}
 use Rattle.ats_topology.specs.Node.{AreApart}
 use Rattle.ats_streams.specs.Stream.{DeclaredStream}
 use Rattle.ats_network.specs.Edits.{no_stream}
@@ -24,3 +25,20 @@ invariant_of-self c =
     (subst (λ (s : DeclaredStream). Names c.self.inside.names c.forget.new.names s.name None) it c.forget.ensures.names)
     (subst (λ (s : DeclaredStream). Identifies c.self.inside.identities c.forget.new.identities s.identity None) it
     c.forget.ensures.identities))
+
+pub returns-clause-less : goal.returns-clause-less
+returns-clause-less c =
+    let streams : List DeclaredStream = c.self.inside.streams.items in
+    let i : ℕ = c.in_ok-place.field-0 in
+    let it : DeclaredStream = c.remove-stream.result in
+    let long : length streams ≡ length c.args.self.now = ap length c.self.view_is in
+    let rest : drop i streams ≡ it ∷ drop (i + 1) streams =
+    drop_more streams i it (omega (arith, long, c.in_ok-place.ensures.within))
+    ∙ ap (λ (s : DeclaredStream). s ∷ drop (i + 1) streams) (sym c.remove-stream.ensures.value) in
+    record {
+      front = take i streams;
+      back = drop (i + 1) streams;
+      old_is = sym c.self.view_is ∙ sym (take-append-drop i streams)
+          ∙ ap (λ (xs : List DeclaredStream). take i streams ++ xs) rest;
+      new_is = c.remove-stream.ensures.by_index.2;
+    }
