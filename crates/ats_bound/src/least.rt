@@ -11,7 +11,7 @@ use crate::listing::least_rows;
 use ats_certificate::Certificate;
 use ats_network::Network;
 use ats_num::Failure;
-use ats_tally::{Delays, Reason, first_late, first_overstay};
+use ats_tally::{Delays, Reason, Tallies, first_late, first_overstay};
 use std::alloc::{AllocError, Global};
 
 /// The certificate of a network with the least waits, which holds. It takes time and memory linear
@@ -30,7 +30,8 @@ pub fn make(alloc: Global, network: &Network) -> Result<Certificate, Failure<Rea
     ensures holds { OnOk result (Holds network.now (least_certificate network.now)) }
     ensures reason { IfErr result (λ answer. IsDue answer (reason_of network.now)) }
 {
-    let certificate = least_rows(alloc, network)?;
+    let tallies = Tallies::new(alloc, network)?;
+    let certificate = least_rows(alloc, &tallies)?;
     if let Some(reason) = first_overstay(network, certificate.rows()) {
         return Err(Failure::Fault(reason));
     }

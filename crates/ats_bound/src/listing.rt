@@ -11,7 +11,6 @@ ghost use Rattle.ats_bound.specs.Reason.{overload};
 
 use crate::rows::row_of;
 use ats_certificate::Certificate;
-use ats_network::Network;
 use ats_num::Failure;
 use ats_tally::{Reason, Tallies};
 use std::alloc::Global;
@@ -19,17 +18,17 @@ use std::alloc::Global;
 /// The classes of streams.
 const CLASSES: [u8; 7] = [1, 2, 3, 4, 5, 6, 7];
 
-/// The rows of all ports and classes that some stream uses, with the least waits, or the first that is overloaded.
-pub fn least_rows(alloc: Global, network: &Network) -> Result<Certificate, Failure<Reason>>
-    ensures rules { OnOk result (IsNetwork network.now) }
-    ensures ok { IfOk result (λ certificate. certificate ≡ least_certificate network.now) }
-    ensures fits { OnOk result (first_some (overload network.now) (places_of network.now) ≡ None) }
-    ensures err { IfErr result (λ answer. IsDue answer (first_some (overload network.now) (places_of network.now))) }
+/// The rows of all ports and classes that some stream uses, with the least waits, or the first that is overloaded, from
+/// what the senders of a network make of each.
+pub fn least_rows(alloc: Global, tallies: &Tallies) -> Result<Certificate, Failure<Reason>>
+    ensures rules { OnOk result (IsNetwork tallies.now) }
+    ensures ok { IfOk result (λ certificate. certificate ≡ least_certificate tallies.now) }
+    ensures fits { OnOk result (first_some (overload tallies.now) (places_of tallies.now) ≡ None) }
+    ensures err { IfErr result (λ answer. IsDue answer (first_some (overload tallies.now) (places_of tallies.now))) }
 {
-    let tallies = Tallies::new(alloc, network)?;
     let mut certificate = Certificate::new(alloc);
-    for port in 0..network.topology().ports().len() as u32 {
-        push_port(&mut certificate, &tallies, port)?;
+    for port in 0..tallies.network().topology().ports().len() as u32 {
+        push_port(&mut certificate, tallies, port)?;
     }
     Ok(certificate)
 }

@@ -1,28 +1,25 @@
 -- The ports and classes of the hops of streams.
-use Rattle.std.proofs.Common.{◌≡◌, ◌≤◌, ℕ, Bool, true, get_or, map, filter, refl, sym, ◌∙◌}
-use Rattle.std.proofs.Common.{Err, eqb, arith}
-use Rattle.std.specs.Prelude.{◌&&◌}
+use Rattle.std.proofs.Common.{◌≡◌, ◌≤◌, ℕ, Bool, true, get_or, map, filter, refl, ◌∙◌}
+use Rattle.std.proofs.Common.{eqb, arith}
+use Rattle.std.specs.Prelude.{List, ◌&&◌, ◌||◌}
 use Rattle.std.specs.List.{All, list_any}
 use Rattle.std.proofs.lemmas.Bool.{and_from, and_parts, eq-eqb, eqb-true}
 use Rattle.std.proofs.lemmas.List.Folds.{list_any_at}
-use Rattle.std.proofs.lemmas.Option.{none-some}
 use Rattle.ats_streams.specs.Stream.{DeclaredStream}
 use Rattle.ats_network.specs.Sender.{Sender, stream_sender}
-use Rattle.ats_network.specs.Class.{class_at, seen_at}
+use Rattle.ats_network.specs.Class.{PortSender, class_at, seen_at}
 use Rattle.ats_network.specs.Network.{DeclaredNetwork, IsNetwork, senders_of}
-use Rattle.ats_certificate.specs.PortSums.{is_of, is_used, senders_at, uses}
+use Rattle.ats_certificate.specs.PortSums.{greatest_where, is_above, is_below, is_of, is_used, longest, senders_at}
+use Rattle.ats_certificate.specs.PortSums.{shortest, sum_where, uses}
 use Rattle.ats_certificate.specs.Used.{places_of}
-use Rattle.ats_tally.specs.Tally.{IsTally}
+use Rattle.ats_tally.specs.Tally.{IsTally, least_known}
 use Rattle.ats_tally.specs.declared.tally.Tally.{Tally}
-use Rattle.ats_tally.specs.declared.reason.Reason.TheVariants.{Overloaded}
 use Rattle.ats_tally.proofs.Lists.{any_gives, list_any-map, list_any-filter, none_first}
 use Rattle.ats_tally.proofs.Network.{all_within}
 use Rattle.ats_tally.proofs.Places.{is_at, places_have, used_class}
 use Rattle.ats_bound.specs.Least.{least_row}
 use Rattle.ats_bound.specs.Reason.{overload}
-use Rattle.ats_bound.specs.Row.{row_or_load}
-use Rattle.ats_bound.proofs.Beginnings.{overload-of_load}
-use Rattle.ats_bound.proofs.Reasons.{fits_from, overload-none}
+use Rattle.ats_bound.proofs.Reasons.{fits_from}
 use Rattle.ats_bound.proofs.Waits.{Fits}
 use Rattle.ats_explain.specs.Laws.{Carries}
 use Rattle.ats_explain.specs.Parts.{HopIsUsed}
@@ -66,18 +63,24 @@ fits_used network port class is carries used =
     rw (eqb-true at.0 port parts.0, eqb-true at.1 class parts.1) at fits))
     (places_have network port class is used)
 
--- so it has a row, and no load
-pub no_load : (network : DeclaredNetwork) (port class load : ℕ) → IsNetwork network → Carries network
-    → is_used network port class ≡ true → row_or_load network (port, class) ≡ Err load → ⊥
-no_load network port class load is carries used h =
-    none-some (Overloaded port class load)
-    (sym (overload-none network port class (fits_used network port class is carries used))
-    ∙ overload-of_load network (port, class) load h)
-
 -- the bursts of a row are those of 5120 senders at most
-pub bursts_most : (network : DeclaredNetwork) (port class : ℕ) (tally : Tally) → IsNetwork network
-    → is_used network port class ≡ true → IsTally class (senders_at port (senders_of network)) tally
-    → (least_row network (port, class)).bursts ≤ 5120000000000
-bursts_most network port class tally is used h =
-    let within = all_within network port class tally is (used_class network port class is used) h in
-    omega (arith, within.bursts, h.bursts)
+pub bursts_most : (network : DeclaredNetwork) (port class : ℕ) → IsNetwork network
+    → is_used network port class ≡ true → (least_row network (port, class)).bursts ≤ 5120000000000
+bursts_most network port class is used =
+    let within = all_within network port class tally is (used_class network port class is used) counted in
+    omega (arith, within.bursts)
+  where
+    senders : List PortSender
+    senders = senders_at port (senders_of network)
+
+    tally : Tally
+    tally = record {
+      above = sum_where (is_above class) (λ s. s.rate) senders;
+      equal = sum_where (is_of class) (λ s. s.rate) senders;
+      bursts = sum_where (λ s. is_above class s || is_of class s) (λ s. s.burst_bits) senders;
+      lower = greatest_where (is_below class) longest senders;
+      least = least_known (map shortest (filter (is_of class) senders));
+    }
+
+    counted : IsTally class senders tally
+    counted = record { above = refl; equal = refl; bursts = refl; lower = refl; least = refl }

@@ -1,6 +1,7 @@
 pub mod Hops
 mod Rates
 mod Named
+mod PlacedRows
 mod Tightness
 mod Sums
 mod Clearance

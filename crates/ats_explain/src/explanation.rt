@@ -5,23 +5,26 @@ ghost use Rattle.std.specs.Prelude.{◌≢◌, All, AllPairs};
 ghost use Rattle.std.specs.Option.{option_map};
 ghost use Rattle.ats_num.specs.Failure.{IsDue};
 ghost use Rattle.ats_network.specs.Network.{IsNetwork};
+ghost use Rattle.ats_certificate.specs.Form.{IsRow};
 ghost use Rattle.ats_certificate.specs.PortSums.{is_used};
 ghost use Rattle.ats_certificate.specs.Used.{places_of};
 ghost use Rattle.ats_tally.specs.Reason.{first_some};
+ghost use Rattle.ats_bound.specs.Least.{least_row};
 ghost use Rattle.ats_bound.specs.Reason.{overload};
 ghost use Rattle.ats_explain.specs.Parts.{parts_at, HopIsUsed};
-ghost use Rattle.ats_explain.specs.Senders.{lower_name};
 ghost use Rattle.ats_explain.specs.Margins.{margins_of, tightest_stream};
 ghost use Rattle.ats_explain.specs.Loads.{has_stream, port_load};
 ghost use Rattle.ats_explain.specs.Totals.{late_count, over_among, over_count, tightest_with, totals_of};
 
 use crate::loads::{load, uses};
 use crate::margin::{Margin, margins_of, tightest};
-use crate::names::{names_of, place};
+use crate::names::names_of;
 use crate::parts::Parts;
-use crate::rows::parts_with;
+use crate::rows::places_of;
 use crate::totals::{Tightest, Totals};
 use ats_bound::least_rows;
+use ats_certificate::{Certificate, Row};
+use ats_class_table::PortClassTable;
 use ats_network::Network;
 use ats_num::{Failure, Name};
 use ats_streams::Stream;
@@ -33,7 +36,9 @@ use std::marker::Model;
 #[derive(Drop)]
 pub struct Explanation<'a> {
     tallies: Tallies<'a>,
-    names: Vec<Option<Name>>,
+    certificate: Certificate,
+    places: PortClassTable<usize>,
+    names: PortClassTable<Option<Name>>,
     margin_list: Vec<Margin>,
 }
 
@@ -45,7 +50,7 @@ impl<'a> Model for Explanation<'a> {
 
     ghost view = { λ e. e.tallies };
 
-    ghost invariant = { λ e. IsExplained e.tallies e.names.items e.margin_list.items };
+    ghost invariant = { λ e. IsExplained e.tallies e.certificate e.places e.names e.margin_list.items };
 }
 
 impl<'a> Explanation<'a> {
@@ -62,12 +67,15 @@ impl<'a> Explanation<'a> {
         ensures reason { IfErr result
             (λ answer. IsDue answer (first_some (overload network.now) (places_of network.now))) }
     {
-        let certificate = least_rows(alloc, network)?;
-        let margin_list = margins_of(alloc, network, &certificate)?;
         let tallies = Tallies::new(alloc, network)?;
+        let certificate = least_rows(alloc, &tallies)?;
+        let places = places_of(alloc, network, &certificate)?;
         let names = names_of(alloc, &tallies)?;
+        let margin_list = margins_of(alloc, network, &certificate)?;
         Ok(Explanation {
             tallies,
+            certificate,
+            places,
             names,
             margin_list,
         })
@@ -93,15 +101,23 @@ impl<'a> Explanation<'a> {
         requires { IsTrue (is_used self.now port class) }
         ensures { result ≡ parts_at self.now port class }
     {
-        parts_with(&self.tallies, port, class, self.sender(port, class))
+        let network = self.network();
+        Parts::of(
+            &network.topology().ports()[port as usize],
+            self.row(port, class),
+            self.names.get(port, class),
+            network.residence(port),
+        )
     }
 
-    // The name of the first sender whose longest frame is the longest of a lower class.
-    fn sender(&self, port: u32, class: u8) -> Option<Name>
+    // The least row of a port and a class.
+    fn row(&self, port: u32, class: u8) -> &Row
         requires { IsTrue (is_used self.now port class) }
-        ensures { result ≡ lower_name self.now port class }
+        ensures row { result.now ≡ least_row self.now (port, class) }
+        ensures form { IsRow result.now }
+        ensures bursts { result.now.bursts ≤ 5120000000000 }
     {
-        self.names[place(port, class)]
+        &self.certificate.rows()[self.places.get(port, class)]
     }
 
     /// Whether some stream's path has the port.

@@ -54,14 +54,14 @@ loop-hop-preserved c =
     let named : c.sender_name-name.result ≡ sender.name =
     c.sender_name-name.ensures.value
     ∙ ap (λ (n : DeclaredNetwork). (sender_at n c.args.sender).name) c.network-network.ensures.value in
-    along_more network sender hop c.args.names.now.items c.loop-hop.names.items c.name_at.new.names.items
+    along_more network sender hop c.args.names.now c.loop-hop.names c.name_at.new.names
     (omega (arith, long)) c.loop-hop.invariant
     (subst (λ (port : ℕ). NamesAt network port (seen_at (slice_index_or sender.path hop 0) sender) sender.name 8
-    c.loop-hop.names.items c.name_at.new.names.items) here
+    c.loop-hop.names c.name_at.new.names) here
     (subst (λ (s : PortSender). NamesAt network (slice_index_or c.sender_path-port-items.result.now hop 0) s sender.name
-    8 c.loop-hop.names.items c.name_at.new.names.items) seen
+    8 c.loop-hop.names c.name_at.new.names) seen
     (subst (λ (name : List ℕ). NamesAt network (slice_index_or c.sender_path-port-items.result.now hop 0)
-    (port_sender c.at-seen.result) name 8 c.loop-hop.names.items c.name_at.new.names.items) named
+    (port_sender c.at-seen.result) name 8 c.loop-hop.names c.name_at.new.names) named
     c.name_at.ensures)))
 
 pub returns : goal.returns
@@ -73,7 +73,7 @@ returns c =
     ∙ ap (λ (n : DeclaredNetwork). (sender_at n c.args.sender).path) c.network-network.ensures.value in
     let long : length c.sender_path-port-items.result.now ≡ length sender.path =
     ap (λ (ports : List ℕ). length ports) same in
-    named_more network c.args.sender c.args.names.now.items c.loop-hop.names.items c.requires.sender
+    named_more network c.args.sender c.args.names.now c.loop-hop.names c.requires.sender
     c.requires.before
-    (subst (λ (ports : List ℕ). NamesAlong network sender ports c.args.names.now.items c.loop-hop.names.items)
+    (subst (λ (ports : List ℕ). NamesAlong network sender ports c.args.names.now c.loop-hop.names)
     (take_all c.loop-hop.hop sender.path (omega (arith, long))) c.loop-hop.invariant)

@@ -3,4 +3,4 @@ use Rattle.ats_explain.proofs.names.names_of.Given as goal
 
 -- the senders from this one on are named
 abbrev pub invariant-loop-sender : goal.invariant-loop-sender
-invariant-loop-sender l = NamesFrom l.tallies l.sender l.names.items
+invariant-loop-sender l = NamesFrom l.tallies l.sender l.names
