@@ -208,7 +208,7 @@ fn certify(alloc: Global, network: &Network) -> Result<Kept, Failure<Reason>>
     ensures reason { IfErr result (λ failure. IsDue failure (reason_of network.now)) }
 {
     let _rules = network.streams(); // for what a network keeps
-    let _certificate = make(alloc, network)?;
-    let kept = Kept::new(alloc, network)?;
+    let certificate = make(alloc, network)?;
+    let kept = Kept::new(alloc, network, &certificate)?;
     Ok(kept)
 }

@@ -1,8 +1,15 @@
 -- Bounds by port and class, where those of some ports are made anew.
 use Rattle.std.proofs.Common.{◌≡◌, ℕ, ◌+◌, ◌*◌, ◌<◌, ◌≤◌, true, List, [], ◌∷◌, length, get_or, set}
 use Rattle.std.proofs.Common.{refl, sym, ap, ◌∙◌, inl, inr, arith, length-set, get_or-set_same, get_or-set_other}
-use Rattle.std.proofs.lemmas.Bool.{cases_eq, ne_eqb, or_from, true≢false}
+use Rattle.std.proofs.Common.{Bool, false, cond, eqb, replicate, Some}
+use Rattle.std.specs.Prelude.{unwrap_or}
+use Rattle.std.specs.List.{find}
+use Rattle.std.specs.Option.{option_map}
+use Rattle.std.proofs.lemmas.Bool.{and_from, and_parts, cases_eq, eq-eqb, eqb-true, ne_eqb, or_from, true≢false}
+use Rattle.std.proofs.lemmas.List.{length-replicate, get_or-replicate}
 use Rattle.ats_network.specs.Network.{DeclaredNetwork}
+use Rattle.ats_certificate.specs.Certificate.{bound_at, is_row_of}
+use Rattle.ats_certificate.specs.declared.row.Row.{Row}
 use Rattle.ats_port_users.specs.Users.{has_port}
 use Rattle.ats_kept.specs.Judging.{KeepsOthers, SetsBelow}
 use Rattle.ats_kept.specs.Kept.{AreLeast, AreLeastBeside, least_bound}
@@ -82,21 +89,53 @@ least_beside network path bounds are = record {
   each = λ port class d within some most off. are.each port class d within some most;
 }
 
--- the bounds of the ports below this one are the least
-pub record AreLeastBelow (network : DeclaredNetwork) (below : ℕ) (bounds : List ℕ) : Type 0 where
-  pub count : length bounds ≡ 8 * length network.topology.ports
-  pub each : (port class : ℕ) (d : ℕ) → port < below → 1 ≤ class → class ≤ 7
-      → get_or bounds (8 * port + class) d ≡ least_bound network port class
+-- a list has the bounds of rows, that of each port and class at 8 * port + class, and 0 where there is no row
+pub record AreBoundsOf (ports : ℕ) (rows : List Row) (bounds : List ℕ) : Type 0 where
+  pub count : length bounds ≡ 8 * ports
+  pub each : (port class : ℕ) (d : ℕ) → port < ports → class ≤ 7
+      → get_or bounds (8 * port + class) d ≡ bound_at rows port class
 
-pub below_more : (network : DeclaredNetwork) (port : ℕ) (old new : List ℕ) → SetsBelow network port 8 old new
-    → AreLeastBelow network port old → AreLeastBelow network (port + 1) new
-below_more network port old new sets before = record {
-  count = sets.kept.count ∙ before.count;
-  each = λ p class d below some most. (
-      elim (cases_eq p port) as (λ _. get_or new (8 * p + class) d ≡ least_bound network p class) [
-        | inl same ↦ ap (λ (n : ℕ). get_or new (8 * n + class) d) same ∙ sets.least class d some (omega (arith, most))
-            ∙ sym (ap (λ (n : ℕ). least_bound network n class) same)
-        | inr other ↦ sets.kept.others p class d other most
-            ∙ before.each p class d (omega (arith, below, other)) some most
-      ]);
+pub filled_none : (ports : ℕ) (bounds : List ℕ) → bounds ≡ replicate (8 * ports) 0 → AreBoundsOf ports [] bounds
+filled_none ports bounds e = record {
+  count = ap (λ (b : List ℕ). length b) e ∙ length-replicate (8 * ports) 0;
+  each = λ port class d within most. ap (λ (b : List ℕ). get_or b (8 * port + class) d) e
+      ∙ get_or-replicate (8 * ports) (8 * port + class) 0 d (omega arith);
 }
+
+-- with one row more before the others
+pub filled_row : (ports : ℕ) (row : Row) (rows : List Row) (bounds : List ℕ) → row.port < ports → row.class ≤ 7
+    → AreBoundsOf ports rows bounds
+    → AreBoundsOf ports (row ∷ rows) (set bounds (8 * row.port + row.class) row.bound)
+filled_row ports row rows bounds inside low before = record {
+  count = length-set bounds at row.bound ∙ before.count;
+  each = λ port class d within most. by port class d within most (is_row_of port class row) refl;
+}
+  where
+    at : ℕ
+    at = 8 * row.port + row.class
+
+    more : (port class : ℕ) (b : Bool) → is_row_of port class row ≡ b
+        → bound_at (row ∷ rows) port class ≡ cond b row.bound (bound_at rows port class)
+    more port class true e = ap (λ (t : Bool).
+        unwrap_or (option_map (λ (row : Row). row.bound) (cond t (Some row) (find (is_row_of port class) rows))) 0) e
+    more port class false e = ap (λ (t : Bool).
+        unwrap_or (option_map (λ (row : Row). row.bound) (cond t (Some row) (find (is_row_of port class) rows))) 0) e
+
+    by : (port class : ℕ) (d : ℕ) → port < ports → class ≤ 7 → (b : Bool) → is_row_of port class row ≡ b
+        → get_or (set bounds at row.bound) (8 * port + class) d ≡ bound_at (row ∷ rows) port class
+    by port class d within most true e =
+        let parts = and_parts (eqb row.port port) (eqb row.class class) e in
+        let p : row.port ≡ port = eqb-true row.port port parts.0 in
+        let c : row.class ≡ class = eqb-true row.class class parts.1 in
+        let same : 8 * port + class ≡ at = omega (arith, p, c) in
+        ap (λ (n : ℕ). get_or (set bounds at row.bound) n d) same
+        ∙ get_or-set_same bounds at row.bound d (omega (arith, before.count, inside, low))
+        ∙ sym (more port class true e)
+    by port class d within most false e =
+        get_or-set_other bounds at (8 * port + class) row.bound d (λ same. (
+        let p : row.port ≡ port = omega (arith, same, low, most) in
+        let c : row.class ≡ class = omega (arith, same, low, most) in
+        true≢false (sym (and_from (eqb row.port port) (eqb row.class class) (eq-eqb row.port port p)
+        (eq-eqb row.class class c)) ∙ e)))
+        ∙ before.each port class d within most
+        ∙ sym (more port class false e)

@@ -2,15 +2,17 @@
 
 ghost use Rattle.std.specs.Prelude.{◌≡◌, ◌+◌, ◌<◌, length, All, None, IfOk, OnOk, OnErr};
 ghost use Rattle.ats_num.specs.Failure.{Gives};
+ghost use Rattle.ats_bound.specs.Least.{least_certificate};
 ghost use Rattle.ats_bound.specs.Reason.{reason_of};
 ghost use Rattle.ats_port_shares.specs.PortShares.{stream_at, without_at};
 ghost use Rattle.ats_kept.specs.Judged.{judged};
 ghost use Rattle.ats_kept.specs.Kept.{IsKept, IsKeptBeside, WasKept};
 
 use crate::entering::{enter, leave};
-use crate::opening::{least_bounds, stream_routes, stream_users};
+use crate::opening::{certified_bounds, stream_routes, stream_users};
 use crate::routes::Route;
 use crate::walks::{judge_stream, renew_path};
+use ats_certificate::Certificate;
 use ats_network::Network;
 use ats_num::Failure;
 use ats_port_shares::PortShares;
@@ -40,16 +42,20 @@ impl Model for Kept {
 }
 
 impl Kept {
-    /// What is kept of a network against which there is no reason. It takes time and memory linear in the number of
-    /// ports and the sum of the paths' lengths. `AllocError` where memory runs out.
-    pub fn new(alloc: Global, network: &Network) -> Result<Self, AllocError>
-        requires { reason_of network.now ≡ None }
+    /// What is kept of a network with this least certificate. It takes time and memory linear in the number of ports and
+    /// the sum of the paths' lengths. `AllocError` where memory runs out.
+    pub fn new(
+        alloc: Global,
+        network: &Network,
+        certificate: &Certificate,
+    ) -> Result<Self, AllocError>
+        requires { certificate.now ≡ least_certificate network.now }
         ensures { IfOk result (λ kept. IsKept network.now kept) }
     {
         let streams = stream_users(alloc, network)?;
         let shares = PortShares::new(alloc, network)?;
         let routes = stream_routes(alloc, network)?;
-        let bounds = least_bounds(alloc, network, &shares)?;
+        let bounds = certified_bounds(alloc, network, certificate)?;
         Ok(Kept {
             streams,
             shares,

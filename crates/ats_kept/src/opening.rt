@@ -1,16 +1,16 @@
-//! What is kept of a network, made from nothing.
+//! What is kept of a network, made from it and its least certificate.
 
-ghost use Rattle.std.specs.Prelude.{◌≡◌, length, None, IfOk};
-ghost use Rattle.ats_bound.specs.Reason.{reason_of};
+ghost use Rattle.std.specs.Prelude.{◌≡◌, length, IfOk};
+ghost use Rattle.ats_bound.specs.Least.{least_certificate};
 ghost use Rattle.ats_port_users.specs.Users.{ListsPaths};
-ghost use Rattle.ats_port_shares.specs.PortShares.{AreSharesOf, stream_paths};
+ghost use Rattle.ats_port_shares.specs.PortShares.{stream_paths};
 ghost use Rattle.ats_kept.specs.Kept.{AreLeast};
 ghost use Rattle.ats_kept.specs.Routes.{routes_of};
 
-use crate::ports::renew_port;
+use crate::ports::place;
 use crate::routes::Route;
+use ats_certificate::Certificate;
 use ats_network::Network;
-use ats_port_shares::PortShares;
 use ats_port_users::PortUsers;
 use std::alloc::{AllocError, Global};
 
@@ -37,20 +37,19 @@ pub(crate) fn stream_routes(alloc: Global, network: &Network) -> Result<Vec<Rout
     Ok(routes)
 }
 
-/// The least bounds of all ports and classes, where no certificate is refused for the network.
-pub(crate) fn least_bounds(
+/// The bounds of the least certificate of a network, by port and class; 0 where no stream uses the class there.
+pub(crate) fn certified_bounds(
     alloc: Global,
     network: &Network,
-    shares: &PortShares,
+    certificate: &Certificate,
 ) -> Result<Vec<u128>, AllocError>
-    requires free { reason_of network.now ≡ None }
-    requires shares { AreSharesOf network.now shares.now }
+    requires { certificate.now ≡ least_certificate network.now }
     ensures { IfOk result (λ bounds. AreLeast network.now bounds.items) }
 {
-    let ports = network.topology().ports().len();
-    let mut bounds = vec![in alloc; 0; 8 * ports]?;
-    for port in 0..ports as u32 {
-        renew_port(&mut bounds, network, port, &shares.tallies(network, port));
+    let rows = certificate.rows();
+    let mut bounds = vec![in alloc; 0; 8 * network.topology().ports().len()]?;
+    for i in (0..rows.len()).rev() {
+        bounds[place(rows[i].port, rows[i].class)] = rows[i].bound;
     }
     Ok(bounds)
 }
