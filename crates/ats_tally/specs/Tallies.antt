@@ -1,4 +1,5 @@
-use Rattle.std.specs.Prelude.{◌≡◌, ℕ, ◌+◌, ◌*◌, ◌-◌, ◌<◌, ◌≤◌, ◌⊎◌, List, length, slice_index_or, take}
+use Rattle.std.specs.Prelude.{◌≡◌, ◌≢◌, ℕ, ◌<◌, ◌≤◌, ◌⊎◌, List, length, Option, Some, take}
+use Rattle.ats_class_table.specs.Table.{Table, value_at}
 use Rattle.ats_network.specs.Sender.{Sender}
 use Rattle.ats_network.specs.Class.{PortSender}
 use Rattle.ats_network.specs.Network.{DeclaredNetwork, IsNetwork, senders_of}
@@ -7,29 +8,36 @@ use Rattle.ats_tally.specs.Tally.{tally_with, IsTally, IsWithin}
 use Rattle.ats_tally.specs.declared.tally.Tally.{Tally}
 use Rattle.ats_tally.specs.declared.tally.TheConstants.{MAX_SENDERS}
 
--- a list has what these senders make of each class from 1 to 7 at so many ports, at 8 * port + class
-pub record AreTallies (ports : ℕ) (senders : List Sender) (tallies : List Tally) : Type 0 where
-  pub count : length tallies ≡ 8 * ports
-  pub each : (port class : ℕ) (d : Tally) → port < ports → 1 ≤ class → class ≤ 7
-      → IsTally class (senders_at port senders) (slice_index_or tallies (8 * port + class) d)
+-- there is a tally, of what these senders make of a class
+pub record IsTallied (class : ℕ) (senders : List PortSender) (found : Option Tally) : Type 0 where
+  pub tally : Tally
+  pub there : found ≡ Some tally
+  pub is : IsTally class senders tally
 
--- such a list of the first senders of a network
-abbrev pub AreFirst : DeclaredNetwork → ℕ → List Tally → Type 0
+-- a table has what these senders make of each class from 1 to 7 at so many ports
+pub record AreTallies (ports : ℕ) (senders : List Sender) (tallies : Table Tally) : Type 0 where
+  pub count : tallies.ports ≡ ports
+  pub each : (port class : ℕ) → port < ports → 1 ≤ class → class ≤ 7
+      → IsTallied class (senders_at port senders) (value_at tallies port class)
+
+-- such a table of the first senders of a network
+abbrev pub AreFirst : DeclaredNetwork → ℕ → Table Tally → Type 0
 AreFirst network count = AreTallies (length network.topology.ports) (take count (senders_of network))
 
--- a network with such a list
-pub record AreCounted (network : DeclaredNetwork) (tallies : List Tally) : Type 0 where
+-- a network with such a table
+pub record AreCounted (network : DeclaredNetwork) (tallies : Table Tally) : Type 0 where
   pub rules : IsNetwork network
   pub counted : AreTallies (length network.topology.ports) (senders_of network) tallies
 
--- the classes below one, of those that stand from a place on, have a sender more
-pub record AddsSender (sender : PortSender) (from below : ℕ) (old new : List Tally) : Type 0 where
-  pub count : length new ≡ length old
-  pub added : (i : ℕ) (d : Tally) → from + 1 ≤ i → i < from + below
-      → slice_index_or new i d ≡ tally_with (i - from) sender (slice_index_or old i d)
-  pub kept : (i : ℕ) (d : Tally) → (i < from + 1) ⊎ (from + below ≤ i) → slice_index_or new i d ≡ slice_index_or old i d
+-- at a port, the classes below one have a sender more
+pub record AddsSender (sender : PortSender) (port below : ℕ) (old new : Table Tally) : Type 0 where
+  pub count : new.ports ≡ old.ports
+  pub added : (class : ℕ) (tally : Tally) → 1 ≤ class → class < below → value_at old port class ≡ Some tally
+      → value_at new port class ≡ Some (tally_with class sender tally)
+  pub kept : (p class : ℕ) → (p ≢ port) ⊎ (below ≤ class) → value_at new p class ≡ value_at old p class
 
--- the classes from 1 to 7 of those that stand from a place on have room for one more
-abbrev pub HaveRoom : ℕ → List Tally → Type 0
-HaveRoom from tallies =
-    (class : ℕ) (d : Tally) → 1 ≤ class → class ≤ 7 → IsWithin MAX_SENDERS (slice_index_or tallies (from + class) d)
+-- the classes of a port from 1 to 7 have room for one more
+abbrev pub HaveRoom : ℕ → Table Tally → Type 0
+HaveRoom port tallies =
+    (class : ℕ) (tally : Tally) → 1 ≤ class → class ≤ 7 → value_at tallies port class ≡ Some tally
+    → IsWithin MAX_SENDERS tally

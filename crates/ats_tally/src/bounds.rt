@@ -1,12 +1,12 @@
 //! The bounds of a certificate, by port and class.
 
-ghost use Rattle.std.specs.Prelude.{◌≡◌, ◌≢◌, ◌+◌, ◌*◌, ◌<◌, ◌≤◌, length, All, AllPairs, IfOk};
+ghost use Rattle.std.specs.Prelude.{◌≡◌, ◌≢◌, ◌<◌, ◌≤◌, length, All, AllPairs, IfOk};
 ghost use Rattle.ats_certificate.specs.Certificate.{bound_along};
 ghost use Rattle.ats_certificate.specs.Form.{AreRows};
 ghost use Rattle.ats_tally.specs.Bounds.{AreBounds, bound_given, rows_at};
 
-use crate::place_index::place;
 use ats_certificate::{Certificate, Row};
+use ats_class_table::PortClassTable;
 use ats_streams::Stream;
 use ats_topology::Topology;
 use std::alloc::{AllocError, Global};
@@ -18,7 +18,7 @@ use std::marker::Model;
 pub struct Bounds<'a> {
     certificate: &'a Certificate,
     ports: usize,
-    table: Vec<Option<u128>>,
+    table: PortClassTable<Option<u128>>,
 }
 
 impl<'a> Model for Bounds<'a> {
@@ -28,7 +28,7 @@ impl<'a> Model for Bounds<'a> {
 
     ghost view = { λ b. rows_at b.ports b.certificate.now };
 
-    ghost invariant = { λ b. AreTabled b.ports b.certificate.now b.table.items };
+    ghost invariant = { λ b. AreTabled b.ports b.certificate.now b.table };
 }
 
 impl<'a> Bounds<'a> {
@@ -65,7 +65,7 @@ impl<'a> Bounds<'a> {
         ensures value { result ≡ bound_given self.now.rows port class }
         ensures form { AreRows self.now.rows }
     {
-        self.table[place(port, class)]
+        self.table.get(port, class)
     }
 
     /// The sum, in picoseconds, of the bounds along a stream's path, which has no port twice: at each port that of the
@@ -85,16 +85,20 @@ impl<'a> Bounds<'a> {
 }
 
 // The bounds of rows at so many ports. The last row comes first, so that of rows with one place the first one stays.
-fn table_of(alloc: Global, ports: usize, rows: &[Row]) -> Result<Vec<Option<u128>>, AllocError>
+fn table_of(
+    alloc: Global,
+    ports: usize,
+    rows: &[Row],
+) -> Result<PortClassTable<Option<u128>>, AllocError>
     requires few { ports ≤ 4096 }
     requires form { AreRows rows.now }
-    ensures { IfOk result (λ table. AreBounds ports rows.now table.items) }
+    ensures { IfOk result (AreBounds ports rows.now) }
 {
-    let mut table = vec![in alloc; None; 8 * ports]?;
+    let mut table = PortClassTable::new(alloc, ports, None)?;
     for i in (0..rows.len()).rev() {
         let row = &rows[i];
         if (row.port as usize) < ports {
-            table[place(row.port, row.class)] = Some(row.bound);
+            table.set(row.port, row.class, Some(row.bound));
         }
     }
     Ok(table)

@@ -5,7 +5,6 @@
 pub mod bounds;
 pub mod class_sums;
 pub mod delays;
-mod place_index;
 pub mod reason;
 pub mod searches;
 pub mod seen;

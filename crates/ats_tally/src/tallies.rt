@@ -1,6 +1,6 @@
 //! What the senders make of each port and class.
 
-ghost use Rattle.std.specs.Prelude.{◌≡◌, ◌+◌, ◌*◌, ◌<◌, ◌≤◌, length, IfOk};
+ghost use Rattle.std.specs.Prelude.{◌≡◌, ◌+◌, ◌<◌, ◌≤◌, length, IfOk};
 ghost use Rattle.ats_network.specs.Network.{IsNetwork, senders_of};
 ghost use Rattle.ats_tally.specs.Tally.{IsTally};
 ghost use Rattle.ats_certificate.specs.PortSums.{is_used, port_sums, senders_at};
@@ -9,9 +9,9 @@ ghost use Rattle.ats_tally.specs.SenderAtPort.{port_sender, KeepsLimits};
 ghost use Rattle.ats_tally.specs.Tallies.{AddsSender, AreCounted, AreFirst, HaveRoom};
 
 use crate::class_sums::ClassSums;
-use crate::place_index::place;
 use crate::seen::SeenSender;
 use crate::tally::Tally;
+use ats_class_table::PortClassTable;
 use ats_network::Network;
 use std::alloc::{AllocError, Global};
 use std::marker::Model;
@@ -20,7 +20,7 @@ use std::marker::Model;
 #[derive(Drop)]
 pub struct Tallies<'a> {
     network: &'a Network,
-    table: Vec<Tally>,
+    table: PortClassTable<Tally>,
 }
 
 impl<'a> Model for Tallies<'a> {
@@ -31,7 +31,7 @@ impl<'a> Model for Tallies<'a> {
 
     ghost view = { λ t. t.network.now };
 
-    ghost invariant = { λ t. AreCounted t.network.now t.table.items };
+    ghost invariant = { λ t. AreCounted t.network.now t.table };
 }
 
 impl<'a> Tallies<'a> {
@@ -58,7 +58,7 @@ impl<'a> Tallies<'a> {
         requires class_most { class ≤ 7 }
         ensures { IsTally class (senders_at port (senders_of self.now)) result }
     {
-        self.table[place(port, class)]
+        self.table.get(port, class)
     }
 
     /// The sums of a port and a class.
@@ -86,10 +86,10 @@ impl<'a> Tallies<'a> {
 }
 
 // What the senders make of each class at each port.
-fn table_of(alloc: Global, network: &Network) -> Result<Vec<Tally>, AllocError>
-    ensures { IfOk result (λ table. AreCounted network.now table.items) }
+fn table_of(alloc: Global, network: &Network) -> Result<PortClassTable<Tally>, AllocError>
+    ensures { IfOk result (AreCounted network.now) }
 {
-    let mut table = vec![in alloc; Tally::new(); 8 * network.topology().ports().len()]?;
+    let mut table = PortClassTable::new(alloc, network.topology().ports().len(), Tally::new())?;
     for sender in 0..network.senders() {
         count_sender(&mut table, network, sender);
     }
@@ -97,10 +97,10 @@ fn table_of(alloc: Global, network: &Network) -> Result<Vec<Tally>, AllocError>
 }
 
 // Counts a sender at each port of its path.
-fn count_sender(table: &mut Vec<Tally>, network: &Network, sender: u32)
+fn count_sender(table: &mut PortClassTable<Tally>, network: &Network, sender: u32)
     requires sender { sender < length (senders_of network.now) }
-    requires before { AreFirst network.now sender table.old.items }
-    ensures { AreFirst network.now (sender + 1) table.new.items }
+    requires before { AreFirst network.now sender table.old }
+    ensures { AreFirst network.now (sender + 1) table.new }
 {
     for (hop, port) in network.sender_path(sender).iter().enumerate() {
         count_at(table, *port, &SeenSender::at(network, sender, hop as u32));
@@ -108,13 +108,14 @@ fn count_sender(table: &mut Vec<Tally>, network: &Network, sender: u32)
 }
 
 // Counts a sender that a port sees, in each class.
-fn count_at(table: &mut Vec<Tally>, port: u32, sender: &SeenSender)
+fn count_at(table: &mut PortClassTable<Tally>, port: u32, sender: &SeenSender)
     requires limits { KeepsLimits sender.now }
-    requires port { 8 * port + 8 ≤ length table.old.items }
-    requires room { HaveRoom (8 * port) table.old.items }
-    ensures { AddsSender (port_sender sender.now) (8 * port) 8 table.old.items table.new.items }
+    requires port { port < table.old.ports }
+    requires room { HaveRoom port table.old }
+    ensures { AddsSender (port_sender sender.now) port 8 table.old table.new }
 {
     for class in 1..8 {
-        table[place(port, class)].count(class, sender);
+        let tally = table.get(port, class);
+        table.set(port, class, tally.with_sender(class, sender));
     }
 }

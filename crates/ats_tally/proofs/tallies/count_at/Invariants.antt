@@ -1,8 +1,7 @@
-use Rattle.std.proofs.Common.{◌*◌}
 use Rattle.ats_tally.specs.SenderAtPort.{port_sender}
 use Rattle.ats_tally.specs.Tallies.{AddsSender}
 use Rattle.ats_tally.proofs.tallies.count_at.Given as goal
 
 -- the classes so far have the sender
 abbrev pub invariant-loop-class : goal.invariant-loop-class
-invariant-loop-class l = AddsSender (port_sender l.sender) (8 * l.port) l.class l.initial.table.items l.table.items
+invariant-loop-class l = AddsSender (port_sender l.sender) l.port l.class l.initial.table l.table

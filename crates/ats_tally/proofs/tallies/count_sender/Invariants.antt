@@ -7,4 +7,4 @@ use Rattle.ats_tally.proofs.tallies.count_sender.Given as goal
 -- the sender is counted at the hops so far
 abbrev pub invariant-loop-hop : goal.invariant-loop-hop
 invariant-loop-hop l = AreCounting (length l.network.topology.ports) (take l.sender (senders_of l.network))
-    (sender_at l.network l.sender) (take l.hop (sender_at l.network l.sender).path) l.table.items
+    (sender_at l.network l.sender) (take l.hop (sender_at l.network l.sender).path) l.table

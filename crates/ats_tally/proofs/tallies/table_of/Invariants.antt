@@ -6,4 +6,4 @@ use Rattle.ats_tally.proofs.tallies.table_of.Given as goal
 -- the senders so far are counted
 abbrev pub invariant-loop-sender : goal.invariant-loop-sender
 invariant-loop-sender l =
-    AreTallies (length l.network.topology.ports) (take l.sender (senders_of l.network)) l.table.items
+    AreTallies (length l.network.topology.ports) (take l.sender (senders_of l.network)) l.table
