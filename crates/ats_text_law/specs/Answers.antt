@@ -1,0 +1,49 @@
+use Rattle.std.specs.Prelude.{◌≡◌, ℕ, ◌<◌, IsTrue, List, length, All}
+use Rattle.ats_num.specs.Name.{is_name}
+use Rattle.ats_topology.specs.Topology.{ports_of, topology_of}
+use Rattle.ats_topology.specs.declared.node.Node.{Node}
+use Rattle.ats_topology.specs.declared.link.Link.{Link}
+use Rattle.ats_port_names.specs.Laws.{AreSound}
+use Rattle.ats_tally.specs.declared.reason.Reason.{Reason}
+use Rattle.ats_tally.specs.declared.reason.Reason.TheVariants as reason
+use Rattle.ats_requests.specs.declared.answer.Answer.{Answer}
+use Rattle.ats_requests.specs.declared.answer.Answer.TheVariants.{Admitted, Withdrawn, Refused}
+use Rattle.ats_requests.specs.declared.denied.Denied.{Denied}
+use Rattle.ats_requests.specs.declared.denied.Denied.TheVariants.{NameTaken, NameUnknown, Limit, Because, NoClass}
+use Rattle.ats_requests.specs.declared.request.Request.{Request}
+use Rattle.ats_admission_text.specs.Text.{lines_of}
+use Rattle.ats_text_law.specs.Short.{IsShort}
+
+-- a reason names a port that is there, or a stream, and its numbers have at most 64 digits
+abbrev pub IsShortReason : ℕ → Reason → Type 0
+IsShortReason ports (reason.Overloaded port class load) = (port < ports) × IsShort class × IsShort load
+IsShortReason ports (reason.Residence port class need) = (port < ports) × IsShort class × IsShort need
+IsShortReason ports (reason.Deadline stream sum) = IsTrue (is_name stream) × IsShort sum
+
+-- so does what a denial says; where no class will do, there is a reason for each of the seven
+abbrev pub IsShortDenied : ℕ → Denied → Type 0
+IsShortDenied ports NameTaken = Unit {0}
+IsShortDenied ports NameUnknown = Unit {0}
+IsShortDenied ports Limit = Unit {0}
+IsShortDenied ports (Because reason) = IsShortReason ports reason
+IsShortDenied ports (NoClass reasons) = (length reasons ≡ 7) × All (IsShortReason ports) reasons
+
+-- and what an answer says
+abbrev pub IsShortAnswer : ℕ → Answer → Type 0
+IsShortAnswer ports (Admitted class sum) = IsShort class × IsShort sum
+IsShortAnswer ports Withdrawn = Unit {0}
+IsShortAnswer ports (Refused denied) = IsShortDenied ports denied
+
+-- answers to requests, one to each, that a text can hold
+pub record AreAnswersTo (ports : ℕ) (asked : List Request) (given : List Answer) : Type 0 where
+  pub one_each : length given ≡ length asked
+  pub short : All (IsShortAnswer ports) given
+
+-- over one topology, what is printed of two lists of answers to the same requests is the same only where the answers
+-- are
+abbrev pub AnswersTellAll : Type 0
+AnswersTellAll = (nodes : List Node) (links : List Link) → AreSound nodes links
+    → (asked : List Request) (given others : List Answer) → AreAnswersTo (length (ports_of nodes links)) asked given
+    → AreAnswersTo (length (ports_of nodes links)) asked others
+    → lines_of (topology_of nodes links) asked given ≡ lines_of (topology_of nodes links) asked others
+    → given ≡ others

@@ -1,0 +1,4 @@
+pub mod Short
+pub mod Laws
+pub mod Answers
+pub mod Explained

@@ -1,0 +1,4 @@
+//! That a text tells what it was made of.
+#![tactic(auto)]
+
+pub mod laws;
