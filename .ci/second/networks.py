@@ -1,0 +1,435 @@
+"""Network files: the form of the tables, nodes and links, paths, and the first fault of all these; what `show` prints.
+
+The text is parsed by `tomllib` of Python, which knows TOML 1.0. A text that it refuses is not judged where something
+stands in it that TOML 1.1 may allow: an inline table, the escapes `\\e` and `\\x`, a time without seconds (from memory,
+not looked up)."""
+
+import re
+import tomllib
+from collections import Counter
+from dataclasses import dataclass, field
+from functools import cached_property, lru_cache
+
+from second.common import MOST_BYTES, Fault, Unjudged, first_of, is_name, rules_of_stream
+
+MBPS = (10, 100, 1000, 2500, 5000, 10000, 25000, 40000, 50000, 100000)
+ARRAYS = ("station", "bridge", "link", "stream", "flow")
+MOST = {"station": 1024, "bridge": 1024, "link": 2048, "stream": 4096, "flow": 1024}
+STREAM = "name path from to class classes rate_bps burst_bits min_octets max_octets deadline_ns address vlan"
+KEYS = {
+    "top": ["format", *ARRAYS],
+    "station": ["name"],
+    "link": ["a", "b", "mbps", "propagation_ns"],
+    "stream": STREAM.split(),
+    "flow": ["name", "path", "from", "to", "max_octets"],
+}
+BRIDGES = {
+    1: ["name", "processing_ns", "residence_ns"],
+    2: ["name", "processing_min_ns", "processing_max_ns", "residence_ns"],
+}
+PARTNER = {"from": "to", "to": "from", "address": "vlan", "vlan": "address"}
+NARROW = ("processing_ns", "processing_min_ns", "processing_max_ns", "residence_ns", "mbps", "propagation_ns")
+ADDRESS = re.compile("[0-9A-Fa-f]{2}(?::[0-9A-Fa-f]{2}){5}")
+NEWER = re.compile(r"\\[ex]|\{|(?<![:\w])\d\d:\d\d(?![:\w])")
+MOST_NESTED = 80
+MOST_DEADLINE = 10**9  # nanoseconds
+
+
+@dataclass(frozen=True)
+class Port:
+    """A port: its times are in picoseconds, and the residence is None where it leads to a station."""
+
+    number: int
+    leaves: str
+    leads_to: str
+    ps_per_bit: int
+    latency: int
+    earliest: int
+    residence: int | None
+
+    @property
+    def name(self):
+        """The port as it is written."""
+        return f"{self.leaves}>{self.leads_to}"
+
+    @property
+    def spread(self):
+        """The greatest latency less the least."""
+        return self.latency - self.earliest
+
+
+@dataclass(frozen=True)
+class Sender:
+    """A stream, or a flow, which has class 0 at each port, no rate and no burst; the deadline is in picoseconds."""
+
+    name: str
+    ports: tuple
+    classes: tuple
+    least: int
+    greatest: int
+    rate: int = 0
+    burst: int = 0
+    deadline: int = 0
+    identity: tuple | None = None
+
+    @property
+    def hops(self):
+        """The ports of the path, each with the class there."""
+        return list(zip(self.ports, self.classes))
+
+    @property
+    def is_flow(self):
+        """Whether this is a flow."""
+        return self.rate == 0
+
+
+@dataclass
+class Topology:
+    """Stations, and the ports between nodes."""
+
+    stations: set
+    ports: list
+    distances: dict = field(default_factory=dict)
+
+    @cached_property
+    def between(self):
+        """The number of the port from one node to another, for each two that a link joins."""
+        return {(port.leaves, port.leads_to): port.number for port in self.ports}
+
+    @cached_property
+    def joined(self):
+        """For each node the ports that leave it, by number."""
+        found = {}
+        for port in self.ports:
+            found.setdefault(port.leaves, []).append(port)
+        return found
+
+    def distances_to(self, end):
+        """The fewest ports from each node to this one, for each node that a walk leads from."""
+        if end in self.distances:
+            return self.distances[end]
+        found, edge = {end: 0}, [end]
+        for node in edge:
+            new = [port.leads_to for port in self.joined.get(node, []) if port.leads_to not in found]
+            found.update(dict.fromkeys(new, found[node] + 1))
+            edge.extend(new)
+        self.distances[end] = found
+        return found
+
+    def route(self, start, end):
+        """The ports of the walk of fewest ports, and of those the first by port numbers, or None without a walk."""
+        distances, node, walk = self.distances_to(end), start, []
+        while node in distances and node != end:
+            port = next(it for it in self.joined[node] if distances.get(it.leads_to) == distances[node] - 1)
+            walk.append(port.number)
+            node = port.leads_to
+        return tuple(walk) if node == end else None
+
+    def is_valid(self, nodes):
+        """Whether a path over these nodes begins and ends at different stations and visits no node twice."""
+        ends = {nodes[0], nodes[-1]}
+        return len(ends) == 2 and ends <= self.stations and len(set(nodes)) == len(nodes)
+
+    def nodes_of(self, walk):
+        """The nodes that a walk of one port or more visits."""
+        return [self.ports[walk[0]].leaves, *(self.ports[number].leads_to for number in walk)]
+
+
+@dataclass
+class Network:
+    """A topology with streams and flows over it."""
+
+    topology: Topology
+    streams: list
+    flows: list
+
+    @property
+    def ports(self):
+        """The ports, by number."""
+        return self.topology.ports
+
+    @property
+    def senders(self):
+        """The streams, and then the flows."""
+        return [*self.streams, *self.flows]
+
+    @cached_property
+    def users(self):
+        """For each port that a path has, the senders whose path has it, each with its class there."""
+        found = {}
+        for sender, (number, traffic_class) in ((it, hop) for it in self.senders for hop in it.hops):
+            found.setdefault(number, []).append((sender, traffic_class))
+        return found
+
+
+def parts_of(value):
+    """The values of an array or a table; none of another value."""
+    if isinstance(value, dict):
+        return value.values()
+    return value if isinstance(value, list) else ()
+
+
+def depth(value, kinds):
+    """How deep values of these kinds are nested in a value."""
+    return isinstance(value, kinds) + max((depth(part, kinds) for part in parts_of(value)), default=0)
+
+
+def has_long_integer(value):
+    """Whether a whole number in a value does not fit 64 bits."""
+    return type(value) is int and not -(2**63) <= value < 2**63 or any(map(has_long_integer, parts_of(value)))
+
+
+def parsed(text):
+    """The tree of tables that a text declares, as far as TOML 1.0 tells."""
+    try:
+        return tomllib.loads(text.removeprefix("\ufeff"))
+    except ValueError:
+        if NEWER.search(text):
+            raise Unjudged("TOML 1.1 may allow what TOML 1.0 does not") from None
+        raise Fault("not-toml") from None
+
+
+def tree_of(data):
+    """The tree of tables that the bytes of a file declare, or their first fault."""
+    if len(data) > MOST_BYTES:
+        raise Fault("too-long")
+    try:
+        tree = parsed(data.decode("utf-8"))
+        judge_nesting(tree)
+        if has_long_integer(tree):
+            raise Fault("not-toml")
+    except UnicodeDecodeError:
+        raise Fault("not-toml") from None
+    except RecursionError:
+        raise Unjudged("arrays or tables are nested more deeply than Python follows") from None
+    return tree
+
+
+def judge_nesting(tree):
+    """Names arrays that are nested too deeply; not judged where it matters whether tables count."""
+    deep = [value for value in tree.values() if depth(value, (list, dict)) >= MOST_NESTED]
+    if any(depth(value, list) - are_tables(value) > MOST_NESTED for value in deep):
+        raise Fault("not-toml")
+    if any(depth(value, dict) for value in deep):
+        raise Unjudged("arrays and tables are nested in each other about as deeply as may be")
+
+
+def is_whole(value, least, greatest):
+    """Whether a value is a whole number within a range."""
+    return type(value) is int and least <= value <= greatest
+
+
+def are(value, test):
+    """Whether a value is an array whose values all pass a test."""
+    return isinstance(value, list) and all(map(test, value))
+
+
+def are_tables(value):
+    """Whether a value is an array of tables."""
+    return are(value, lambda it: isinstance(it, dict))
+
+
+def is_named(value):
+    """Whether a value is a string that is a name."""
+    return isinstance(value, str) and is_name(value)
+
+
+def is_of_kind(key, entry):
+    """Whether what stands with a key of a table is of the kind that is asked there."""
+    value = entry[key]
+    if key in ARRAYS:
+        return are_tables(value)
+    if key in ("name", "a", "b", "from", "to"):
+        return is_named(value)
+    if key == "path":
+        return are(value, is_named) and len(value) >= 2 and not {"from", "to"} & set(entry)
+    if key == "classes":
+        return are(value, lambda it: is_whole(it, 0, 2**63 - 1)) and "class" not in entry
+    if key == "address":
+        return isinstance(value, str) and bool(ADDRESS.fullmatch(value))
+    ranges = {"format": (1, 2), "vlan": (1, 4094)}
+    return is_whole(value, *ranges.get(key, (0, 2**32 - 1 if key in NARROW else 2**63 - 1)))
+
+
+def is_missing(key, table, entry):
+    """Whether a key has to stand in a table and does not."""
+    if key in entry or key in ("classes", "deadline_ns") or table == "top" and key != "format":
+        return False
+    if key in PARTNER:
+        return PARTNER[key] in entry
+    if key == "path":
+        return not {"from", "to"} & set(entry)
+    return key != "class" or "classes" not in entry
+
+
+def judge_form(table, count, entry, keys):
+    """Names the first fault of form of one table, if it has one."""
+    missing = next((key for key in keys if is_missing(key, table, entry)), None)
+    if missing:
+        raise Fault(f"missing {table} {count} {missing}")
+    if set(entry) - set(keys):
+        raise Fault(f"unknown {table} {count}")
+    wrong = next((key for key in keys if key in entry and not is_of_kind(key, entry)), None)
+    if wrong:
+        raise Fault(f"kind {table} {count} {wrong}")
+
+
+def judge_array(table, tree):
+    """Names the first fault of form of an array of tables, if it has one."""
+    entries = tree.get(table, [])
+    if len(entries) + (len(tree.get("station", [])) if table == "bridge" else 0) > MOST[table]:
+        raise Fault(f"limit {table}")
+    for count, entry in enumerate(entries, 1):
+        judge_form(table, count, entry, BRIDGES[tree["format"]] if table == "bridge" else KEYS[table])
+
+
+def judge_forms(tree):
+    """Names the first fault of form of all tables, if they have one."""
+    judge_form("top", 0, tree, KEYS["top"])
+    for table in ARRAYS:
+        judge_array(table, tree)
+
+
+def again(values):
+    """The place, counted from 1, of the first value that stands earlier too, or None."""
+    seen = set()
+    return next((place for place, it in enumerate(values, 1) if it in seen or seen.add(it)), None)
+
+
+def place_of(truths):
+    """The place, counted from 1, of the first that is true, or None."""
+    return next((place for place, it in enumerate(truths, 1) if it), None)
+
+
+def processing_of(bridge):
+    """The least and the greatest processing of a bridge."""
+    one = bridge.get("processing_ns")
+    return (bridge["processing_min_ns"], bridge["processing_max_ns"]) if one is None else (one, one)
+
+
+def judge_topology(stations, bridges, links):
+    """Names the first fault of nodes and links, if there is one."""
+    nodes = [node["name"] for node in (*stations, *bridges)]
+    known, ends = set(nodes), Counter(end for link in links for end in (link["a"], link["b"]))
+    places = [
+        ("node-twice", again(nodes)),
+        ("link-twice", again(frozenset((link["a"], link["b"])) for link in links)),
+        ("self-link", place_of(link["a"] == link["b"] for link in links)),
+        ("unknown-node", place_of(not {link["a"], link["b"]} <= known for link in links)),
+        ("station-links", place_of(ends[node["name"]] != 1 for node in stations)),
+        ("bad-rate", place_of(link["mbps"] not in MBPS for link in links)),
+        ("limit", place_of(link["propagation_ns"] > 10**6 for link in links)),
+        ("limit", place_of(processing_of(it)[1] > 10**6 or it["residence_ns"] > 10**9 for it in bridges)),
+        ("bad-processing", place_of(processing_of(it)[0] > processing_of(it)[1] for it in bridges)),
+    ]
+    fault, place = next(((fault, place) for fault, place in places if place), (None, None))
+    if fault == "limit":
+        raise Fault("limit")
+    if fault:
+        raise Fault(f"{fault} {place + (len(stations) if fault == 'bad-processing' else 0)}")
+
+
+def topology_of(tree):
+    """The topology of a tree without faults of form, or the first fault of its nodes and links."""
+    stations, bridges, links = (tree.get(table, []) for table in ("station", "bridge", "link"))
+    judge_topology(stations, bridges, links)
+    times = {it["name"]: (*processing_of(it), it["residence_ns"]) for it in bridges}
+    ports = []
+    for link, way in ((link, way) for link in links for way in (("a", "b"), ("b", "a"))):
+        leaves, leads_to = (link[end] for end in way)
+        least, greatest, residence = times.get(leads_to, (0, 0, None))
+        latencies = [1000 * (link["propagation_ns"] + it) for it in (greatest, least)]
+        stay = None if residence is None else 1000 * residence
+        ports.append(Port(len(ports), leaves, leads_to, 10**6 // link["mbps"], *latencies, stay))
+    return Topology({node["name"] for node in stations}, ports)
+
+
+def path_of(topology, entry):
+    """The ports of the path that an entry declares, or None where it declares no valid one."""
+    nodes = entry.get("path")
+    if nodes is None:
+        walk = topology.route(entry["from"], entry["to"])
+        return walk if walk and topology.is_valid(topology.nodes_of(walk)) else None
+    walk = [topology.between.get(pair) for pair in zip(nodes, nodes[1:])]
+    return tuple(walk) if None not in walk and topology.is_valid(nodes) else None
+
+
+def stream_fault(ports, classes, sender, deadline):
+    """The first rule that a stream breaks, or None; its classes are as they are given, its deadline in nanoseconds."""
+    numbers = rules_of_stream(sender.rate, sender.burst, sender.least, sender.greatest)
+    right = len(classes) in (1, len(ports)) and all(1 <= it <= 7 for it in classes)
+    limits = [("limit", len(ports) > 16), ("limit", not 1 <= deadline <= MOST_DEADLINE)]
+    return first_of([("bad-class", not right), *numbers, *limits])
+
+
+def stream_of(topology, entry):
+    """The stream that a table declares, and the first rule that it breaks, if it breaks one."""
+    ports = path_of(topology, entry)
+    if ports is None:
+        return None, "bad-path"
+    given = entry.get("classes", [entry.get("class")])
+    classes = tuple(given) if len(given) == len(ports) else tuple(given[:1]) * len(ports)
+    deadline = entry.get("deadline_ns", MOST_DEADLINE)
+    identity = (int(entry["address"].replace(":", ""), 16), entry["vlan"]) if "address" in entry else None
+    numbers = (entry[key] for key in ("min_octets", "max_octets", "rate_bps", "burst_bits"))
+    sender = Sender(entry["name"], ports, classes, *numbers, 1000 * deadline, identity)
+    return sender, stream_fault(ports, given, sender, deadline)
+
+
+def flow_of(topology, entry):
+    """The flow that a table declares, and the first rule that it breaks, if it breaks one."""
+    ports = path_of(topology, entry)
+    if ports is None:
+        return None, "bad-path"
+    greatest = entry["max_octets"]
+    rules = [("bad-sizes", not 64 <= greatest <= 2000), ("limit", len(ports) > 16)]
+    return Sender(entry["name"], ports, (0,) * len(ports), 64, greatest), first_of(rules)
+
+
+def senders_of(topology, table, entries, names, read):
+    """The senders of an array, whose names are added to those that are taken, or the first fault of one."""
+    found, identities = [], set()
+    for count, entry in enumerate(entries, 1):
+        sender, fault = read(topology, entry)
+        if fault:
+            raise Fault(f"bad-path {table} {count}" if fault == "bad-path" else f"{table} {count} {fault}")
+        if sender.name in names:
+            raise Fault(f"sender-twice {table} {count}")
+        if sender.identity in identities:
+            raise Fault(f"identity-twice {count}")
+        names.add(sender.name)
+        identities |= {sender.identity} - {None}
+        found.append(sender)
+    return found
+
+
+@lru_cache(maxsize=2)
+def network_of(data):
+    """The network that the bytes of a file declare, or their first fault."""
+    tree = tree_of(data)
+    judge_forms(tree)
+    topology, names = topology_of(tree), set()
+    streams = senders_of(topology, "stream", tree.get("stream", []), names, stream_of)
+    return Network(topology, streams, senders_of(topology, "flow", tree.get("flow", []), names, flow_of))
+
+
+def port_text(port):
+    """What `show` prints of a port."""
+    earliest = f" {port.earliest}" if port.spread else ""
+    return f"port {port.number} {port.name} {port.ps_per_bit} {port.latency}{earliest}"
+
+
+def sender_text(network, kind, sender):
+    """What `show` prints of a stream or flow."""
+    classes = sender.classes[:1] if len(set(sender.classes)) == 1 else sender.classes
+    path = " ".join(network.ports[number].name for number in sender.ports)
+    return f"{kind} {sender.name} {','.join(map(str, classes))} {path}"
+
+
+def shown(network):
+    """What `show` prints."""
+    streams, flows = network.streams, network.flows
+    yield from map(port_text, network.ports)
+    yield from (sender_text(network, "stream", it) for it in streams)
+    yield from (sender_text(network, "flow", it) for it in flows)
+    yield f"total ports {len(network.ports)} streams {len(streams)} flows {len(flows)}"
