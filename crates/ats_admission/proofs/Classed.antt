@@ -14,7 +14,7 @@ use Rattle.ats_network.specs.Pushes.{with_stream}
 use Rattle.ats_network.specs.Tables.{stream_names}
 use Rattle.ats_network.proofs.Edited.{streams_apart}
 use Rattle.ats_admission.specs.Judged.{AreSameBut}
-use Rattle.ats_port_shares.specs.PortShares.{without_at}
+use Rattle.ats_admission_shares.specs.PortShares.{without_at}
 
 abbrev name : DeclaredStream → List ℕ
 name s = s.name

@@ -24,9 +24,9 @@ use Rattle.ats_requests.specs.Laws.{IsCertified}
 use Rattle.ats_requests.specs.Requests.{MayEnter}
 use Rattle.ats_requests.specs.declared.denied.Denied.{Denied}
 use Rattle.ats_requests.specs.declared.denied.Denied.TheVariants.{Because, NoClass}
-use Rattle.ats_kept.specs.Judged.{judged, sum_at}
+use Rattle.ats_admission_state.specs.Judged.{judged, sum_at}
 use Rattle.ats_admission.specs.Judged.{AreSameBut, IsGiven, lowest_at, no_class}
-use Rattle.ats_port_shares.specs.PortShares.{without_at}
+use Rattle.ats_admission_shares.specs.PortShares.{without_at}
 use Rattle.ats_admission.proofs.Classed.{classed_last, still_found, undone}
 use Rattle.ats_admission.proofs.Judgements.{judged_err, judged_ok}
 

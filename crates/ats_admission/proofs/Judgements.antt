@@ -4,7 +4,7 @@ use Rattle.ats_num.specs.Failure.{unless}
 use Rattle.ats_network.specs.Network.{DeclaredNetwork}
 use Rattle.ats_tally.specs.declared.reason.Reason.{Reason}
 use Rattle.ats_bound.specs.Reason.{reason_of}
-use Rattle.ats_kept.specs.Judged.{judged, sum_at}
+use Rattle.ats_admission_state.specs.Judged.{judged, sum_at}
 
 -- a sum is given where there is no reason, and it is the stream's
 pub record IsFree (network : DeclaredNetwork) (n sum : ℕ) : Type 0 where

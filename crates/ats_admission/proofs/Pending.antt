@@ -17,10 +17,10 @@ use Rattle.ats_network.specs.Tables.{stream_names}
 use Rattle.ats_network.proofs.SenderLemmas.{each_is_sender}
 use Rattle.ats_bound.specs.Reason.{reason_of}
 use Rattle.ats_admission_law.proofs.NoneRises.{less_has_no_reason}
-use Rattle.ats_port_shares.specs.PortShares.{stream_at, without_at}
-use Rattle.ats_kept.specs.Kept.{AreLeastBeside, IsKept, IsKeptBeside, KeptState, WasKept}
-use Rattle.ats_kept.proofs.Beside.{bounds_stay_beside}
-use Rattle.ats_kept.proofs.Last.{less_by}
+use Rattle.ats_admission_shares.specs.PortShares.{stream_at, without_at}
+use Rattle.ats_admission_state.specs.Kept.{AreLeastBeside, IsKept, IsKeptBeside, KeptState, WasKept}
+use Rattle.ats_admission_state.proofs.Beside.{bounds_stay_beside}
+use Rattle.ats_admission_state.proofs.Last.{less_by}
 use Rattle.ats_admission.specs.Sessions.{IsPending, IsSession}
 use Rattle.ats_admission.proofs.Classed.{over, remove-set, without_last}
 

@@ -7,8 +7,8 @@ use Rattle.ats_network.specs.Tables.{stream_names}
 use Rattle.ats_certificate.specs.Used.{stream_classes}
 use Rattle.ats_tally.specs.declared.reason.Reason.{Reason}
 use Rattle.ats_bound.specs.Reason.{reason_of}
-use Rattle.ats_port_shares.specs.PortShares.{stream_paths}
-use Rattle.ats_kept.specs.Judged.{sum_at}
+use Rattle.ats_admission_shares.specs.PortShares.{stream_paths}
+use Rattle.ats_admission_state.specs.Judged.{sum_at}
 use Rattle.ats_requests.specs.Admission.{first_class}
 use Rattle.ats_requests.specs.declared.denied.Denied.{Denied}
 use Rattle.ats_requests.specs.declared.denied.Denied.TheVariants.{NoClass}

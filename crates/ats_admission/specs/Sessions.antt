@@ -2,8 +2,8 @@ use Rattle.std.specs.Prelude.{◌≡◌, ℕ, ◌+◌, length, None}
 use Rattle.ats_network.specs.Network.{DeclaredNetwork}
 use Rattle.ats_bound.specs.Reason.{reason_of}
 use Rattle.ats_requests.specs.Laws.{IsCertified}
-use Rattle.ats_port_shares.specs.PortShares.{stream_at, without_at}
-use Rattle.ats_kept.specs.Kept.{IsKept, IsKeptBeside, KeptState}
+use Rattle.ats_admission_shares.specs.PortShares.{stream_at, without_at}
+use Rattle.ats_admission_state.specs.Kept.{IsKept, IsKeptBeside, KeptState}
 
 -- a certificate holds for the network, and what is kept is that of it
 pub record IsSession (network : DeclaredNetwork) (state : KeptState) : Type 0 where

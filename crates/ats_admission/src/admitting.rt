@@ -11,7 +11,7 @@ ghost use Rattle.ats_admission.specs.Sessions.{IsSession};
 
 use crate::entering::{enter, leave};
 use crate::judging::lowest;
-use ats_kept::Kept;
+use ats_admission_state::Kept;
 use ats_network::Network;
 use ats_num::Failure;
 use ats_requests::Denied;

@@ -9,10 +9,10 @@ ghost use Rattle.ats_requests.specs.Admission.{entry_fault};
 ghost use Rattle.ats_requests.specs.Entry.{by_fault};
 ghost use Rattle.ats_requests.specs.Requests.{MayEnter};
 ghost use Rattle.ats_requests.specs.declared.denied.Denied.TheVariants.{NameTaken, Limit};
-ghost use Rattle.ats_port_shares.specs.PortShares.{without_at};
+ghost use Rattle.ats_admission_shares.specs.PortShares.{without_at};
 ghost use Rattle.ats_admission.specs.Sessions.{IsPending, IsSession};
 
-use ats_kept::Kept;
+use ats_admission_state::Kept;
 use ats_network::{Network, PushFault};
 use ats_num::{Failure, Name};
 use ats_requests::Denied;

@@ -4,11 +4,11 @@ ghost use Rattle.std.specs.Prelude.{◌≡◌, IfOk, IfErr, OnOk, OnErr};
 ghost use Rattle.ats_num.specs.Failure.{IsDue};
 ghost use Rattle.ats_network.specs.Edits.{with_class_at};
 ghost use Rattle.ats_certificate.specs.Used.{stream_classes};
-ghost use Rattle.ats_kept.specs.Kept.{IsKept};
+ghost use Rattle.ats_admission_state.specs.Kept.{IsKept};
 ghost use Rattle.ats_admission.specs.Judged.{AreSameBut, IsGiven, lowest_at, no_class};
 ghost use Rattle.ats_admission.specs.Sessions.{IsPending};
 
-use ats_kept::Kept;
+use ats_admission_state::Kept;
 use ats_network::Network;
 use ats_num::Failure;
 use ats_requests::Denied;

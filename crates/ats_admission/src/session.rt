@@ -17,9 +17,9 @@ ghost use Rattle.ats_admission.specs.Sessions.{IsSession};
 
 use crate::admitting::{admit_stream, admit_with_lowest};
 use crate::entering::{stream_named, take_out};
+use ats_admission_state::Kept;
 use ats_bound::make;
 use ats_certificate::Certificate;
-use ats_kept::Kept;
 use ats_network::Network;
 use ats_num::{Failure, Name};
 use ats_requests::{Answer, Denied, Request};

@@ -1,8 +1,8 @@
 //! Whole calls over files and a sink in memory: each read and each write failing in turn, a sink that
 //! takes few bytes at a time, one without room for the text, and files and a sink that never fail.
 
-use ats_answer::Status;
 use ats_command::ats;
+use ats_command_input::Status;
 use ats_command_law::ats_surely;
 use ats_io::{MemFiles, MemSink, SureFiles, SureSink};
 use std::alloc::AllocGlobal;

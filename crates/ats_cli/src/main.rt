@@ -5,8 +5,8 @@
 
 ghost use Rattle.std.specs.Prelude.{◌≡◌, ◌≢◌, ◌⊎◌, IfErr};
 
-use ats_answer::Status;
 use ats_command::ats;
+use ats_command_input::Status;
 use ats_system::{RealFiles, RealSink};
 use std::env;
 use std::io::ErrorKind;

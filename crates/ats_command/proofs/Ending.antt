@@ -4,17 +4,19 @@ use Rattle.std.specs.Prelude.{IfSome, IfOk, ◌⊎◌, codes}
 use Rattle.std.specs.Global.{Vec}
 use Rattle.std.proofs.lemmas.Option.{same_Some, none-some}
 use Rattle.ats_io.specs.Outside.{Rose, TakesPrefix}
-use Rattle.ats_answer.specs.Command.{Command, Shape, Show, Bound, Explain, Check, Replay, Unknown, Capture, Conform}
-use Rattle.ats_answer.specs.Command.{Admit, Generate}
-use Rattle.ats_answer.specs.Answer.{Answer, HasText, words_answer}
-use Rattle.ats_due.specs.Due.{IsAnswer, IsDueAnswer, IsTold, told_bytes}
-use Rattle.ats_due.specs.Calls.{Answers, Printed, PrintedPrefix, ReadRose, IsCalm, StatusIsDue}
-use Rattle.ats_answer.specs.Outcome.{Prints, PrintsFront, answer_of}
-use Rattle.ats_answer.specs.declared.outcome.Stop.{Stop}
-use Rattle.ats_answer.specs.declared.outcome.Stop.TheVariants as stop
-use Rattle.ats_answer.specs.declared.status.Status.{Status}
-use Rattle.ats_answer.specs.declared.status.Status.TheVariants.{Done, Words, Input, Refused, ReadFailed, WriteFailed}
-use Rattle.ats_answer.specs.declared.status.Status.TheVariants.{NoMemory}
+use Rattle.ats_command_input.specs.Command.{Command, Shape, Show, Bound, Explain, Check, Replay, Unknown, Capture}
+use Rattle.ats_command_input.specs.Command.{Conform}
+use Rattle.ats_command_input.specs.Command.{Admit, Generate}
+use Rattle.ats_command_input.specs.Answer.{Answer, HasText, words_answer}
+use Rattle.ats_command_due.specs.Due.{IsAnswer, IsDueAnswer, IsTold, told_bytes}
+use Rattle.ats_command_due.specs.Calls.{Answers, Printed, PrintedPrefix, ReadRose, IsCalm, StatusIsDue}
+use Rattle.ats_command_input.specs.Outcome.{Prints, PrintsFront, answer_of}
+use Rattle.ats_command_input.specs.declared.outcome.Stop.{Stop}
+use Rattle.ats_command_input.specs.declared.outcome.Stop.TheVariants as stop
+use Rattle.ats_command_input.specs.declared.status.Status.{Status}
+use Rattle.ats_command_input.specs.declared.status.Status.TheVariants.{Done, Words, Input, Refused, ReadFailed}
+use Rattle.ats_command_input.specs.declared.status.Status.TheVariants.{WriteFailed}
+use Rattle.ats_command_input.specs.declared.status.Status.TheVariants.{NoMemory}
 
 -- the answer that an outcome makes is due, where the files tell their bytes
 made_due : (told : List ℕ → Option (List ℕ)) (command : Command) (outcome : Result (Vec ℕ) Stop) (answer : Answer)

@@ -5,12 +5,13 @@ use Rattle.std.specs.Option.{option_and_then}
 use Rattle.std.specs.Str.{bytes_eq}
 use Rattle.ats_num.specs.Number.{number_of}
 use Rattle.ats_trace.specs.declared.run.TheConstants.{MAX_FRAMES}
-use Rattle.ats_answer.specs.Command.{Command, Shape, Show, Bound, Explain, Check, Conform, Admit, Unknown, command_of}
-use Rattle.ats_answer.specs.Command.{capture_in, command_on, command_on_two, generate_in, replay_in}
-use Rattle.ats_answer.specs.Making.{count_by, count_named, seed_named}
-use Rattle.ats_answer.specs.Order.{order_named}
-use Rattle.ats_answer.specs.declared.order.Order.{Order}
-use Rattle.ats_due.specs.Generated.{HasFewFrames}
+use Rattle.ats_command_input.specs.Command.{Command, Shape, Show, Bound, Explain, Check, Conform, Admit, Unknown}
+use Rattle.ats_command_input.specs.Command.{command_of}
+use Rattle.ats_command_input.specs.Command.{capture_in, command_on, command_on_two, generate_in, replay_in}
+use Rattle.ats_command_input.specs.Making.{count_by, count_named, seed_named}
+use Rattle.ats_command_input.specs.Order.{order_named}
+use Rattle.ats_command_input.specs.declared.order.Order.{Order}
+use Rattle.ats_command_due.specs.Generated.{HasFewFrames}
 
 -- of either of two commands
 either : (b : Bool) (one other : Command) → HasFewFrames one → HasFewFrames other

@@ -2,16 +2,16 @@
 
 ghost use Rattle.std.specs.Prelude.{◌≡◌, ◌≤◌, ◌⊎◌, IfOk, IsErrOf};
 ghost use Rattle.ats_io.specs.Outside.{Rose, Continues};
-ghost use Rattle.ats_answer.specs.Command.{command_of};
-ghost use Rattle.ats_answer.specs.Command as table;
-ghost use Rattle.ats_answer.specs.Named.{texts_of, view};
-ghost use Rattle.ats_answer.specs.Answer.{HasText};
-ghost use Rattle.ats_due.specs.Due.{IsTold};
-ghost use Rattle.ats_due.specs.Generated.{HasFewFrames};
-ghost use Rattle.ats_due.specs.Soundness.{IsSoundCheck, PrintsSoundly};
-ghost use Rattle.ats_due.specs.Calls.{Answers, Printed, PrintedPrefix, ReadRose, IsCalm, StatusIsDue};
+ghost use Rattle.ats_command_input.specs.Command.{command_of};
+ghost use Rattle.ats_command_input.specs.Command as table;
+ghost use Rattle.ats_command_input.specs.Named.{texts_of, view};
+ghost use Rattle.ats_command_input.specs.Answer.{HasText};
+ghost use Rattle.ats_command_due.specs.Due.{IsTold};
+ghost use Rattle.ats_command_due.specs.Generated.{HasFewFrames};
+ghost use Rattle.ats_command_due.specs.Soundness.{IsSoundCheck, PrintsSoundly};
+ghost use Rattle.ats_command_due.specs.Calls.{Answers, Printed, PrintedPrefix, ReadRose, IsCalm, StatusIsDue};
 
-use ats_answer::{Command, Status, Stop, finish, named_by, print};
+use ats_command_input::{Command, Status, Stop, finish, named_by, print};
 use ats_io::{Files, Sink};
 use ats_run_commands::{capture, generate, replay};
 use ats_verdict_commands::{admit, bound, check, conform, explain, shape, show};

@@ -33,13 +33,13 @@ use Rattle.ats_request_file.specs.Reading.{requests_of}
 use Rattle.ats_request_file.specs.FaultText as file
 use Rattle.ats_admission_text.specs.Text.{admission_text}
 use Rattle.ats_num.specs.Failure.{◌>>=◌, unless}
-use Rattle.ats_answer.specs.Answer.{Answer, settled}
-use Rattle.ats_answer.specs.Input.{network_in, requests_in}
-use Rattle.ats_answer.proofs.Requested.{requests_may}
+use Rattle.ats_command_input.specs.Answer.{Answer, settled}
+use Rattle.ats_command_input.specs.Input.{network_in, requests_in}
+use Rattle.ats_command_input.proofs.Requested.{requests_may}
 use Rattle.ats_command_law.specs.AdmitMeaning.{AdmitMeans, AdmitSays, HasLastSum, IsSoundlyBounded, SumsAreOfTheLast}
 use Rattle.ats_command_law.specs.AdmitMeaning.{after_first}
-use Rattle.ats_due.specs.Due as due
-use Rattle.ats_due.specs.Judged.{admission_judged, judged}
+use Rattle.ats_command_due.specs.Due as due
+use Rattle.ats_command_due.specs.Judged.{admission_judged, judged}
 use Rattle.ats_command_law.proofs.Meanings.{IsInput, file_gives, network_gives, none_declared}
 use Rattle.ats_command_law.proofs.OneClass.{AsksOneClass, IsOfOneClass, requests_one}
 

@@ -12,12 +12,12 @@ use Rattle.ats_capture.specs.declared.fault.JoinFault.TheVariants.{Limit}
 use Rattle.ats_capture_law.specs.Counted.{counted, first_over}
 use Rattle.ats_capture_law.proofs.Counting.{traffic_is_counted}
 use Rattle.ats_num.specs.Failure.{◌>>=◌, or_fault, unless}
-use Rattle.ats_answer.specs.Answer.{Answer}
-use Rattle.ats_answer.specs.Input.{declared_in, network_in, records_in, traffic_in}
-use Rattle.ats_answer.specs.Station.{station_answer, station_in}
-use Rattle.ats_answer.specs.declared.order.Order.{Order}
-use Rattle.ats_due.specs.Captured.{IsCaptured, captured_in}
-use Rattle.ats_due.specs.Replayed.{IsOneOf}
+use Rattle.ats_command_input.specs.Answer.{Answer}
+use Rattle.ats_command_input.specs.Input.{declared_in, network_in, records_in, traffic_in}
+use Rattle.ats_command_input.specs.Station.{station_answer, station_in}
+use Rattle.ats_command_input.specs.declared.order.Order.{Order}
+use Rattle.ats_command_due.specs.Captured.{IsCaptured, captured_in}
+use Rattle.ats_command_due.specs.Replayed.{IsOneOf}
 use Rattle.ats_command_law.proofs.Meanings.{IsInput, network_gives, none_declared}
 use Rattle.ats_command_law.specs.CaptureMeaning.{CaptureMeans, CaptureSays, IsCounted}
 

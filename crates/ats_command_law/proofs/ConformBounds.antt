@@ -5,14 +5,14 @@ use Rattle.ats_trace.specs.Talker.{talker_of}
 use Rattle.ats_trace.specs.declared.journey.Release.{Release}
 use Rattle.ats_num.specs.Failure.{◌>>=◌}
 use Rattle.ats_conform.specs.Releases.{AllKeepBuckets}
-use Rattle.ats_answer.specs.Answer.{Answer}
-use Rattle.ats_answer.specs.Input.{network_in, releases_in}
-use Rattle.ats_answer.specs.declared.status.Status.{Status}
-use Rattle.ats_answer.specs.declared.status.Status.TheVariants.{Done, Refused}
-use Rattle.ats_due.specs.Conformed.{IsAnswerTo, JudgesReleases, JudgesScheduled}
+use Rattle.ats_command_input.specs.Answer.{Answer}
+use Rattle.ats_command_input.specs.Input.{network_in, releases_in}
+use Rattle.ats_command_input.specs.declared.status.Status.{Status}
+use Rattle.ats_command_input.specs.declared.status.Status.TheVariants.{Done, Refused}
+use Rattle.ats_command_due.specs.Conformed.{IsAnswerTo, JudgesReleases, JudgesScheduled}
 use Rattle.ats_command_law.specs.ConformBounds.{ConformKeepsBounds}
-use Rattle.ats_due.specs.Due.{told_bytes}
-use Rattle.ats_due.specs.Replayed.{scheduled_in}
+use Rattle.ats_command_due.specs.Due.{told_bytes}
+use Rattle.ats_command_due.specs.Replayed.{scheduled_in}
 use Rattle.ats_command_law.proofs.ReplayMeanings.{replay_keeps_bounds}
 
 done_is_not_refused : (text : List ℕ) (answer : Answer) → answer ≡ record { status = Refused; text = text }

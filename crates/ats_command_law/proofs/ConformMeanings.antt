@@ -7,10 +7,10 @@ use Rattle.ats_conform.proofs.Prefix.{one-breaks}
 use Rattle.ats_schedule.specs.Reading.{releases_of}
 use Rattle.ats_schedule.specs.FaultText as schedule
 use Rattle.ats_num.specs.Failure.{◌>>=◌}
-use Rattle.ats_answer.specs.Answer.{Answer}
-use Rattle.ats_answer.specs.Input.{network_in, releases_in}
-use Rattle.ats_due.specs.Conformed.{IsAnswerTo, JudgesReleases, JudgesScheduled}
-use Rattle.ats_due.specs.Replayed.{scheduled_in}
+use Rattle.ats_command_input.specs.Answer.{Answer}
+use Rattle.ats_command_input.specs.Input.{network_in, releases_in}
+use Rattle.ats_command_due.specs.Conformed.{IsAnswerTo, JudgesReleases, JudgesScheduled}
+use Rattle.ats_command_due.specs.Replayed.{scheduled_in}
 use Rattle.ats_command_law.proofs.Meanings.{IsInput, file_gives, network_gives, none_declared}
 use Rattle.ats_command_law.specs.ConformMeaning.{ConformMeans, ConformSays}
 

@@ -13,10 +13,10 @@ use Rattle.ats_explain.specs.Laws.{ClearWhereOneHolds, EachStreamAddsUp}
 use Rattle.ats_explain_text.specs.Text.{explain_text}
 use Rattle.ats_verdict_text.specs.Text.{reason_text}
 use Rattle.ats_num.specs.Failure.{◌>>=◌}
-use Rattle.ats_answer.specs.Answer.{Answer, settled}
-use Rattle.ats_answer.specs.Input.{network_in}
-use Rattle.ats_due.specs.Due.{explain_answer}
-use Rattle.ats_due.specs.Judged.{explain_judged, judged}
+use Rattle.ats_command_input.specs.Answer.{Answer, settled}
+use Rattle.ats_command_input.specs.Input.{network_in}
+use Rattle.ats_command_due.specs.Due.{explain_answer}
+use Rattle.ats_command_due.specs.Judged.{explain_judged, judged}
 use Rattle.ats_command_law.proofs.Meanings.{IsInput, network_gives, none_declared}
 use Rattle.ats_command_law.specs.ExplainMeaning.{ExplainMeans, ExplainSays}
 

@@ -20,11 +20,11 @@ use Rattle.ats_gen.specs.declared.fault.GenFault.TheVariants.{NoStream}
 use Rattle.ats_gen.proofs.Sorted.{made-keeps}
 use Rattle.ats_gen.proofs.Streams.{streams-ruled}
 use Rattle.ats_num.specs.Failure.{◌>>=◌}
-use Rattle.ats_answer.specs.Answer.{Answer}
-use Rattle.ats_answer.specs.Input.{network_in}
-use Rattle.ats_answer.specs.declared.order.Order.TheVariants.{Early}
-use Rattle.ats_due.specs.Generated.{IsGenerated, generated_in, made_for, network_unless}
-use Rattle.ats_due.specs.Replayed.{IsOneOf, IsRunIn}
+use Rattle.ats_command_input.specs.Answer.{Answer}
+use Rattle.ats_command_input.specs.Input.{network_in}
+use Rattle.ats_command_input.specs.declared.order.Order.TheVariants.{Early}
+use Rattle.ats_command_due.specs.Generated.{IsGenerated, generated_in, made_for, network_unless}
+use Rattle.ats_command_due.specs.Replayed.{IsOneOf, IsRunIn}
 use Rattle.ats_command_law.proofs.Meanings.{IsInput, network_gives, none_declared}
 use Rattle.ats_command_law.specs.GenerateMeaning.{AreWithinLeast, GenerateMeans, GenerateSays}
 

@@ -25,12 +25,12 @@ use Rattle.ats_verdict_text.specs.Text.{accepted_text, reason_text, refusal_text
 use Rattle.ats_soundness_law.proofs.Soundness.{certificate_is_sound}
 use Rattle.ats_checker.proofs.InTime.{holding_is_in_time}
 use Rattle.ats_num.specs.Failure.{◌>>=◌}
-use Rattle.ats_answer.specs.Answer.{Answer, input_answer, settled}
-use Rattle.ats_due.specs.Due.{bound_answer, check_answer}
-use Rattle.ats_answer.specs.Input.{bytes_in, declared_in, network_in, rows_in}
-use Rattle.ats_due.specs.Judged.{judged, bound_judged, check_judged}
+use Rattle.ats_command_input.specs.Answer.{Answer, input_answer, settled}
+use Rattle.ats_command_due.specs.Due.{bound_answer, check_answer}
+use Rattle.ats_command_input.specs.Input.{bytes_in, declared_in, network_in, rows_in}
+use Rattle.ats_command_due.specs.Judged.{judged, bound_judged, check_judged}
 use Rattle.ats_command_law.specs.Meaning.{BoundSays, BoundMeans, CheckSays, CheckMeans}
-use Rattle.ats_answer.specs.declared.status.Status.TheVariants.{Input}
+use Rattle.ats_command_input.specs.declared.status.Status.TheVariants.{Input}
 use Rattle.ats_command_law.proofs.RowOrder.{rows_ascend}
 
 -- a fault of a file is answered so

@@ -1,14 +1,15 @@
 use Rattle.std.proofs.Common.{◌≡◌, ℕ, List, Option, Result, Ok, Err, refl, sym, ap, ◌∙◌}
 use Rattle.std.specs.Prelude.{IsErr}
-use Rattle.ats_answer.specs.Command.{Command, Shape, Show, Bound, Explain, Check, Replay, Unknown, command_of}
-use Rattle.ats_answer.specs.Command.{Capture, Conform, Admit, Generate}
-use Rattle.ats_answer.specs.Answer.{Answer, words_answer}
-use Rattle.ats_due.specs.Due.{IsDueAnswer, IsTold, told_bytes}
-use Rattle.ats_due.specs.Due.{admit_answer, bound_answer, check_answer, explain_answer, shape_answer, show_answer}
+use Rattle.ats_command_input.specs.Command.{Command, Shape, Show, Bound, Explain, Check, Replay, Unknown, command_of}
+use Rattle.ats_command_input.specs.Command.{Capture, Conform, Admit, Generate}
+use Rattle.ats_command_input.specs.Answer.{Answer, words_answer}
+use Rattle.ats_command_due.specs.Due.{IsDueAnswer, IsTold, told_bytes}
+use Rattle.ats_command_due.specs.Due.{admit_answer, bound_answer, check_answer, explain_answer, shape_answer}
+use Rattle.ats_command_due.specs.Due.{show_answer}
 use Rattle.ats_command_law.specs.Laws.{HasOneAnswer, OneAnswerIsDue, OneStatusIsDue}
-use Rattle.ats_due.specs.Captured.{IsCaptured, captured_in}
-use Rattle.ats_due.specs.Generated.{IsGenerated, generated_in}
-use Rattle.ats_due.specs.Replayed.{IsOneOf, IsReplayed, scheduled_in}
+use Rattle.ats_command_due.specs.Captured.{IsCaptured, captured_in}
+use Rattle.ats_command_due.specs.Generated.{IsGenerated, generated_in}
+use Rattle.ats_command_due.specs.Replayed.{IsOneOf, IsReplayed, scheduled_in}
 use Rattle.ats_command_law.proofs.OneJudgement.{one_judgement, same_judgement}
 use Rattle.ats_command_law.proofs.Scheduled.{scheduled_may}
 

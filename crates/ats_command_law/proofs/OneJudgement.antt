@@ -11,10 +11,10 @@ use Rattle.ats_conform.proofs.Prefix.{one-breaks}
 use Rattle.ats_conform.proofs.Either.{keep-or_break}
 use Rattle.ats_conform.proofs.OneBroken.{broken-one}
 use Rattle.ats_verdict_text.specs.Text.{refused_text}
-use Rattle.ats_answer.specs.Answer.{Answer}
-use Rattle.ats_answer.specs.declared.status.Status.TheVariants as status
-use Rattle.ats_due.specs.Conformed.{IsAnswerTo, JudgesReleases, JudgesScheduled, broken_text, conforms_text}
-use Rattle.ats_due.specs.Replayed.{Scheduled}
+use Rattle.ats_command_input.specs.Answer.{Answer}
+use Rattle.ats_command_input.specs.declared.status.Status.TheVariants as status
+use Rattle.ats_command_due.specs.Conformed.{IsAnswerTo, JudgesReleases, JudgesScheduled, broken_text, conforms_text}
+use Rattle.ats_command_due.specs.Replayed.{Scheduled}
 
 -- two answers that judge releases are the same
 same_judged : (network : DeclaredNetwork) (releases : List Release) (one other : Answer)

@@ -11,14 +11,14 @@ use Rattle.ats_trace.specs.declared.journey.Release.{Release}
 use Rattle.ats_schedule.specs.Reading.{releases_of}
 use Rattle.ats_schedule.specs.FaultText as schedule
 use Rattle.ats_num.specs.Failure.{◌>>=◌}
-use Rattle.ats_answer.specs.Answer.{Answer}
-use Rattle.ats_answer.specs.Input.{network_in, releases_in}
-use Rattle.ats_answer.specs.declared.order.Order.{Order}
-use Rattle.ats_answer.specs.declared.status.Status.TheVariants.{Done}
-use Rattle.ats_due.specs.Due.{told_bytes}
+use Rattle.ats_command_input.specs.Answer.{Answer}
+use Rattle.ats_command_input.specs.Input.{network_in, releases_in}
+use Rattle.ats_command_input.specs.declared.order.Order.{Order}
+use Rattle.ats_command_input.specs.declared.status.Status.TheVariants.{Done}
+use Rattle.ats_command_due.specs.Due.{told_bytes}
 use Rattle.ats_command_law.specs.Meaning.{CheckSays, IsAccepted}
 use Rattle.ats_command_law.specs.ReplayMeaning.{DelaysAreWithin, IsRunOut, ReplaySays, ReplayMeans, ReplayKeepsBounds}
-use Rattle.ats_due.specs.Replayed.{IsOneOf, IsReplay, IsReplayed, scheduled_in}
+use Rattle.ats_command_due.specs.Replayed.{IsOneOf, IsReplay, IsReplayed, scheduled_in}
 use Rattle.ats_command_law.proofs.Meanings.{IsInput, file_gives, network_gives, none_declared, check_means}
 
 -- where a schedule's file declares no releases, it has a fault

@@ -11,7 +11,7 @@ use Rattle.ats_certificate.specs.declared.row.Row.{Row}
 use Rattle.ats_certificate.proofs.Rows.{after_each}
 use Rattle.ats_certificate_file.specs.Reading.{row_in, is_before, comes_after, row_after, rows_of}
 use Rattle.ats_certificate_file.specs.declared.fault.CertFault.TheVariants.{RowOrder}
-use Rattle.ats_answer.proofs.RowSteps.{always, followed, where_passed, rows_keep}
+use Rattle.ats_command_input.proofs.RowSteps.{always, followed, where_passed, rows_keep}
 
 -- a row that passes the test comes before the other
 before_passed : (a b : Row) → is_before a b ≡ true → IsBefore a b

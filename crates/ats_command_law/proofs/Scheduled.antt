@@ -24,8 +24,8 @@ use Rattle.ats_schedule.specs.declared.fault.ScheduleFault.TheVariants.{BadRow, 
 use Rattle.ats_csv.specs.Reading.{field_of, records_of, same_fields}
 use Rattle.ats_schedule.specs.Releases.{Follows, last_time}
 use Rattle.ats_schedule.proofs.Releases.{no_release, one_more}
-use Rattle.ats_answer.specs.Input.{bytes_in, declared_in, network_in, releases_in}
-use Rattle.ats_due.specs.Replayed.{Scheduled, scheduled_in}
+use Rattle.ats_command_input.specs.Input.{bytes_in, declared_in, network_in, releases_in}
+use Rattle.ats_command_due.specs.Replayed.{Scheduled, scheduled_in}
 
 -- what each value of a step keeps goes on
 goes : {A B F : Type 0} (P : A → Type 0) (Q : B → Type 0) (due : Result A F) (next : A → Result B F) → IfOk due P

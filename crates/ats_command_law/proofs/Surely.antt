@@ -1,9 +1,9 @@
 use Rattle.std.proofs.Common.{◌≡◌, ℕ, List, Option, Some, get_or, refl, arith}
 use Rattle.std.specs.Prelude.{IsSome}
 use Rattle.ats_io.specs.Outside.{Rose}
-use Rattle.ats_answer.specs.Command.{Command, file_words}
-use Rattle.ats_due.specs.Due.{IsTold}
-use Rattle.ats_due.specs.Calls.{IsCalm}
+use Rattle.ats_command_input.specs.Command.{Command, file_words}
+use Rattle.ats_command_due.specs.Due.{IsTold}
+use Rattle.ats_command_due.specs.Calls.{IsCalm}
 
 told_some : (o : Option (List ℕ)) (bytes : List ℕ) → o ≡ Some bytes → IsSome o
 told_some o bytes h = rw h refl

@@ -13,11 +13,12 @@ use Rattle.ats_requests.specs.declared.answer.Answer.TheVariants.{Admitted}
 use Rattle.ats_requests.specs.declared.request.Request.{Request}
 use Rattle.ats_verdict_text.specs.Text.{reason_text, refused_text}
 use Rattle.ats_admission_text.specs.Text.{admission_text}
-use Rattle.ats_answer.specs.Input.{network_in, requests_in}
-use Rattle.ats_due.specs.Due.{admit_answer}
-use Rattle.ats_answer.specs.declared.status.Status.{Status}
-use Rattle.ats_answer.specs.declared.status.Status.TheVariants.{Done, Words, Input, Refused, ReadFailed, WriteFailed}
-use Rattle.ats_answer.specs.declared.status.Status.TheVariants.{NoMemory}
+use Rattle.ats_command_input.specs.Input.{network_in, requests_in}
+use Rattle.ats_command_due.specs.Due.{admit_answer}
+use Rattle.ats_command_input.specs.declared.status.Status.{Status}
+use Rattle.ats_command_input.specs.declared.status.Status.TheVariants.{Done, Words, Input, Refused, ReadFailed}
+use Rattle.ats_command_input.specs.declared.status.Status.TheVariants.{WriteFailed}
+use Rattle.ats_command_input.specs.declared.status.Status.TheVariants.{NoMemory}
 
 -- the least certificate of a network holds and is sound, and by it frames are in time
 pub record IsSoundlyBounded (network : DeclaredNetwork) : Type 0 where

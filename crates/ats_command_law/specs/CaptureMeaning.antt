@@ -4,15 +4,16 @@ use Rattle.ats_trace.specs.Journey.{Travel}
 use Rattle.ats_pcap.specs.declared.record.Record.{Record}
 use Rattle.ats_capture.specs.Traffic.{Traffic}
 use Rattle.ats_capture_law.specs.Counted.{counted, first_over}
-use Rattle.ats_answer.specs.Answer.{Answer}
-use Rattle.ats_answer.specs.Input.{network_in, records_in, traffic_in}
-use Rattle.ats_answer.specs.Station.{station_in}
-use Rattle.ats_answer.specs.declared.order.Order.{Order}
-use Rattle.ats_due.specs.Captured.{IsCaptureReplay}
-use Rattle.ats_due.specs.Due.{IsCaptureAnswer}
-use Rattle.ats_answer.specs.declared.status.Status.{Status}
-use Rattle.ats_answer.specs.declared.status.Status.TheVariants.{Done, Words, Input, Refused, ReadFailed, WriteFailed}
-use Rattle.ats_answer.specs.declared.status.Status.TheVariants.{NoMemory}
+use Rattle.ats_command_input.specs.Answer.{Answer}
+use Rattle.ats_command_input.specs.Input.{network_in, records_in, traffic_in}
+use Rattle.ats_command_input.specs.Station.{station_in}
+use Rattle.ats_command_input.specs.declared.order.Order.{Order}
+use Rattle.ats_command_due.specs.Captured.{IsCaptureReplay}
+use Rattle.ats_command_due.specs.Due.{IsCaptureAnswer}
+use Rattle.ats_command_input.specs.declared.status.Status.{Status}
+use Rattle.ats_command_input.specs.declared.status.Status.TheVariants.{Done, Words, Input, Refused, ReadFailed}
+use Rattle.ats_command_input.specs.declared.status.Status.TheVariants.{WriteFailed}
+use Rattle.ats_command_input.specs.declared.status.Status.TheVariants.{NoMemory}
 
 -- a file of these bytes has these records, none of them over a limit, and all of them come to this traffic at a station
 pub record IsCounted (file bytes : List ℕ) (network : DeclaredNetwork) (place : ℕ) (traffic : Traffic)

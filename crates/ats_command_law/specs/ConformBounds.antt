@@ -5,10 +5,10 @@ use Rattle.ats_certificate.specs.declared.row.Row.{Row}
 use Rattle.ats_trace.specs.Journey.{Travel}
 use Rattle.ats_trace.specs.declared.journey.Release.{Release}
 use Rattle.ats_conform.specs.Releases.{AllKeepBuckets}
-use Rattle.ats_answer.specs.Command.{Check, Conform, Replay}
-use Rattle.ats_answer.specs.declared.order.Order.{Order}
-use Rattle.ats_answer.specs.declared.status.Status.TheVariants.{Done}
-use Rattle.ats_due.specs.Due.{IsDueAnswer}
+use Rattle.ats_command_input.specs.Command.{Check, Conform, Replay}
+use Rattle.ats_command_input.specs.declared.order.Order.{Order}
+use Rattle.ats_command_input.specs.declared.status.Status.TheVariants.{Done}
+use Rattle.ats_command_due.specs.Due.{IsDueAnswer}
 use Rattle.ats_command_law.specs.ReplayMeaning.{AreTextsOf, IsWithinBounds}
 
 -- each frame of a stream is within the bounds of these rows, whichever

@@ -5,14 +5,15 @@ use Rattle.ats_conform.specs.Broken.{Breaks}
 use Rattle.ats_conform.specs.Releases.{AllKeepBuckets}
 use Rattle.ats_conform.specs.declared.broken.Broken.{Broken}
 use Rattle.ats_verdict_text.specs.Text.{refused_text}
-use Rattle.ats_answer.specs.Answer.{Answer}
-use Rattle.ats_answer.specs.Input.{network_in, releases_in}
-use Rattle.ats_due.specs.Conformed.{broken_text, conforms_text}
-use Rattle.ats_due.specs.Due.{IsConformAnswer}
+use Rattle.ats_command_input.specs.Answer.{Answer}
+use Rattle.ats_command_input.specs.Input.{network_in, releases_in}
+use Rattle.ats_command_due.specs.Conformed.{broken_text, conforms_text}
+use Rattle.ats_command_due.specs.Due.{IsConformAnswer}
 use Rattle.ats_command_law.specs.ReplayMeaning.{HasNoReleases}
-use Rattle.ats_answer.specs.declared.status.Status.{Status}
-use Rattle.ats_answer.specs.declared.status.Status.TheVariants.{Done, Words, Input, Refused, ReadFailed, WriteFailed}
-use Rattle.ats_answer.specs.declared.status.Status.TheVariants.{NoMemory}
+use Rattle.ats_command_input.specs.declared.status.Status.{Status}
+use Rattle.ats_command_input.specs.declared.status.Status.TheVariants.{Done, Words, Input, Refused, ReadFailed}
+use Rattle.ats_command_input.specs.declared.status.Status.TheVariants.{WriteFailed}
+use Rattle.ats_command_input.specs.declared.status.Status.TheVariants.{NoMemory}
 
 -- two files of these bytes declare this network and these releases, by which every station keeps its buckets, and the
 -- text gives their number

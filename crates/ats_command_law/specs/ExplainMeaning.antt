@@ -9,11 +9,12 @@ use Rattle.ats_bound.specs.Reason.{overload}
 use Rattle.ats_explain.specs.Laws.{Carries, IsClear, StreamAddsUp}
 use Rattle.ats_explain_text.specs.Text.{explain_text}
 use Rattle.ats_verdict_text.specs.Text.{reason_text, refused_text}
-use Rattle.ats_answer.specs.Input.{network_in}
-use Rattle.ats_due.specs.Due.{explain_answer}
-use Rattle.ats_answer.specs.declared.status.Status.{Status}
-use Rattle.ats_answer.specs.declared.status.Status.TheVariants.{Done, Words, Input, Refused, ReadFailed, WriteFailed}
-use Rattle.ats_answer.specs.declared.status.Status.TheVariants.{NoMemory}
+use Rattle.ats_command_input.specs.Input.{network_in}
+use Rattle.ats_command_due.specs.Due.{explain_answer}
+use Rattle.ats_command_input.specs.declared.status.Status.{Status}
+use Rattle.ats_command_input.specs.declared.status.Status.TheVariants.{Done, Words, Input, Refused, ReadFailed}
+use Rattle.ats_command_input.specs.declared.status.Status.TheVariants.{WriteFailed}
+use Rattle.ats_command_input.specs.declared.status.Status.TheVariants.{NoMemory}
 
 -- a file of these bytes declares this network, of which no port and class is overloaded, and the text gives the parts
 -- of the least bounds: they add up at each hop to the bound, and along each path to the sum; and no stream is late and

@@ -9,14 +9,15 @@ use Rattle.ats_conform.specs.Releases.{AllKeepBuckets}
 use Rattle.ats_gen.specs.Made.{AreMade, gen_fault}
 use Rattle.ats_gen.specs.declared.fault.GenFault.{GenFault}
 use Rattle.ats_verdict_text.specs.Text.{refused_text}
-use Rattle.ats_answer.specs.Answer.{Answer}
-use Rattle.ats_answer.specs.Input.{network_in}
+use Rattle.ats_command_input.specs.Answer.{Answer}
+use Rattle.ats_command_input.specs.Input.{network_in}
 use Rattle.ats_command_law.specs.ConformBounds.{AllDelaysAreWithin}
-use Rattle.ats_due.specs.Due.{IsGenerateAnswer}
-use Rattle.ats_due.specs.Generated.{IsReport, gen_fault_text}
-use Rattle.ats_answer.specs.declared.status.Status.{Status}
-use Rattle.ats_answer.specs.declared.status.Status.TheVariants.{Done, Words, Input, Refused, ReadFailed, WriteFailed}
-use Rattle.ats_answer.specs.declared.status.Status.TheVariants.{NoMemory}
+use Rattle.ats_command_due.specs.Due.{IsGenerateAnswer}
+use Rattle.ats_command_due.specs.Generated.{IsReport, gen_fault_text}
+use Rattle.ats_command_input.specs.declared.status.Status.{Status}
+use Rattle.ats_command_input.specs.declared.status.Status.TheVariants.{Done, Words, Input, Refused, ReadFailed}
+use Rattle.ats_command_input.specs.declared.status.Status.TheVariants.{WriteFailed}
+use Rattle.ats_command_input.specs.declared.status.Status.TheVariants.{NoMemory}
 
 -- where some certificate of the network holds, each frame of each stream is within the least bounds
 abbrev pub AreWithinLeast : DeclaredNetwork → List Travel → Type 0

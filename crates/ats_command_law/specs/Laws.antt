@@ -9,13 +9,13 @@ use Rattle.ats_network.specs.Senders.{sender_at}
 use Rattle.ats_certificate.specs.declared.row.Row.{Row}
 use Rattle.ats_soundness_law.specs.Sound.{bounds_of}
 use Rattle.ats_verdict_text.specs.Text.{stream_lines}
-use Rattle.ats_answer.specs.Command.{Command, Shape, Show, Bound, Explain, Check, Replay, Unknown, command_of}
-use Rattle.ats_answer.specs.Command.{Capture, Conform, Admit, Generate}
-use Rattle.ats_answer.specs.Answer.{Answer}
-use Rattle.ats_due.specs.Due.{IsDueAnswer, IsTold, told_bytes}
-use Rattle.ats_due.specs.Captured.{captured_in}
-use Rattle.ats_due.specs.Generated.{generated_in}
-use Rattle.ats_due.specs.Replayed.{scheduled_in}
+use Rattle.ats_command_input.specs.Command.{Command, Shape, Show, Bound, Explain, Check, Replay, Unknown, command_of}
+use Rattle.ats_command_input.specs.Command.{Capture, Conform, Admit, Generate}
+use Rattle.ats_command_input.specs.Answer.{Answer}
+use Rattle.ats_command_due.specs.Due.{IsDueAnswer, IsTold, told_bytes}
+use Rattle.ats_command_due.specs.Captured.{captured_in}
+use Rattle.ats_command_due.specs.Generated.{generated_in}
+use Rattle.ats_command_due.specs.Replayed.{scheduled_in}
 
 -- this answer is due, and no other
 pub record IsOnlyDue (told : List ℕ → Option (List ℕ)) (words : List (List ℕ)) (answer : Answer) : Type 0 where

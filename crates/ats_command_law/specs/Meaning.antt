@@ -11,11 +11,12 @@ use Rattle.ats_checker.specs.InTime.{FramesAreInTime}
 use Rattle.ats_checker.specs.Refusal.{refusal_of}
 use Rattle.ats_checker.specs.declared.refusal.Refusal.{Refusal}
 use Rattle.ats_verdict_text.specs.Text.{accepted_text, reason_text, refusal_text, refused_text}
-use Rattle.ats_answer.specs.Input.{network_in, rows_in}
-use Rattle.ats_due.specs.Due.{bound_answer, check_answer}
-use Rattle.ats_answer.specs.declared.status.Status.{Status}
-use Rattle.ats_answer.specs.declared.status.Status.TheVariants.{Done, Words, Input, Refused, ReadFailed, WriteFailed}
-use Rattle.ats_answer.specs.declared.status.Status.TheVariants.{NoMemory}
+use Rattle.ats_command_input.specs.Input.{network_in, rows_in}
+use Rattle.ats_command_due.specs.Due.{bound_answer, check_answer}
+use Rattle.ats_command_input.specs.declared.status.Status.{Status}
+use Rattle.ats_command_input.specs.declared.status.Status.TheVariants.{Done, Words, Input, Refused, ReadFailed}
+use Rattle.ats_command_input.specs.declared.status.Status.TheVariants.{WriteFailed}
+use Rattle.ats_command_input.specs.declared.status.Status.TheVariants.{NoMemory}
 
 -- a file of these bytes declares this network, and the text writes its least certificate, which holds and is sound, and
 -- by which frames are in time

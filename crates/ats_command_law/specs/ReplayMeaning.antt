@@ -8,16 +8,17 @@ use Rattle.ats_checker.specs.InTime.{ArrivesInTime}
 use Rattle.ats_trace.specs.Journey.{Travel}
 use Rattle.ats_trace.specs.Talker.{talker_of, KeepsBuckets}
 use Rattle.ats_trace.specs.declared.journey.Release.{Release}
-use Rattle.ats_answer.specs.Answer.{Answer}
-use Rattle.ats_answer.specs.Command.{Check, Replay}
-use Rattle.ats_answer.specs.Input.{network_in, releases_in}
-use Rattle.ats_answer.specs.declared.order.Order.{Order}
-use Rattle.ats_due.specs.Due.{IsDueAnswer, told_bytes}
+use Rattle.ats_command_input.specs.Answer.{Answer}
+use Rattle.ats_command_input.specs.Command.{Check, Replay}
+use Rattle.ats_command_input.specs.Input.{network_in, releases_in}
+use Rattle.ats_command_input.specs.declared.order.Order.{Order}
+use Rattle.ats_command_due.specs.Due.{IsDueAnswer, told_bytes}
 use Rattle.ats_command_law.specs.Meaning.{IsAccepted}
-use Rattle.ats_due.specs.Replayed.{IsOneOf, IsReplay, IsReplayed, scheduled_in}
-use Rattle.ats_answer.specs.declared.status.Status.{Status}
-use Rattle.ats_answer.specs.declared.status.Status.TheVariants.{Done, Words, Input, Refused, ReadFailed, WriteFailed}
-use Rattle.ats_answer.specs.declared.status.Status.TheVariants.{NoMemory}
+use Rattle.ats_command_due.specs.Replayed.{IsOneOf, IsReplay, IsReplayed, scheduled_in}
+use Rattle.ats_command_input.specs.declared.status.Status.{Status}
+use Rattle.ats_command_input.specs.declared.status.Status.TheVariants.{Done, Words, Input, Refused, ReadFailed}
+use Rattle.ats_command_input.specs.declared.status.Status.TheVariants.{WriteFailed}
+use Rattle.ats_command_input.specs.declared.status.Status.TheVariants.{NoMemory}
 
 -- two files of these bytes declare this network and these releases, and the text is that of this run, in this order
 pub record IsRunOut (net schedule net_bytes schedule_bytes : List ℕ) (order : Order) (text : List ℕ)

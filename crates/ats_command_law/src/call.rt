@@ -1,12 +1,12 @@
 //! What is proved of calls over an outside that never fails.
 
 ghost use Rattle.std.specs.Prelude.{◌≡◌, ◌⊎◌};
-ghost use Rattle.ats_answer.specs.Command.{command_of};
-ghost use Rattle.ats_answer.specs.Named.{texts_of};
-ghost use Rattle.ats_due.specs.Calls.{StatusIsDue};
+ghost use Rattle.ats_command_input.specs.Command.{command_of};
+ghost use Rattle.ats_command_input.specs.Named.{texts_of};
+ghost use Rattle.ats_command_due.specs.Calls.{StatusIsDue};
 
-use ats_answer::Status;
 use ats_command::ats;
+use ats_command_input::Status;
 use ats_io::{Files, SureFiles, SureSink};
 use std::alloc::Global;
 

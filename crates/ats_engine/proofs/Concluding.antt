@@ -6,16 +6,16 @@ use Rattle.ats_events.specs.declared.moment.Moment.{Moment}
 use Rattle.ats_trace.specs.Journey.{Travel}
 use Rattle.ats_trace.specs.Run.{IsRunBy, HasReleases}
 use Rattle.ats_trace.specs.declared.journey.Release.{Release}
-use Rattle.ats_records.specs.Progress.{Progress, finished}
-use Rattle.ats_steps.specs.Invariant.{Holds}
-use Rattle.ats_steps.specs.Seen.{course_of}
-use Rattle.ats_steps.specs.declared.event.Event.{Event}
+use Rattle.ats_run_records.specs.Progress.{Progress, finished}
+use Rattle.ats_engine_steps.specs.Invariant.{Holds}
+use Rattle.ats_engine_steps.specs.Seen.{course_of}
+use Rattle.ats_engine_steps.specs.declared.event.Event.{Event}
 use Rattle.ats_engine.specs.Opened.{setting_of}
 use Rattle.ats_engine.specs.Ready.{IsReady, Follows, releases_in}
 use Rattle.ats_engine.specs.Setting.{Setting}
-use Rattle.ats_engine_law.specs.InTime.{IsRunInTime}
-use Rattle.ats_engine_law.proofs.Conclusion.{ended-run}
-use Rattle.ats_engine_law.proofs.InTime.{ended-in-time}
+use Rattle.ats_engine_proofs.specs.InTime.{IsRunInTime}
+use Rattle.ats_engine_proofs.proofs.Conclusion.{ended-run}
+use Rattle.ats_engine_proofs.proofs.InTime.{ended-in-time}
 use Rattle.ats_engine.specs.declared.runner.Runner.{Runner}
 
 -- where the agenda is empty, what holds does so with no entries

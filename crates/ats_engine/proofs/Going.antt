@@ -7,17 +7,17 @@ use Rattle.ats_events.specs.Contents.{Contents}
 use Rattle.ats_events.specs.Order.{IsInRange, IsIrreflexive, IsTransitive, IsTimed}
 use Rattle.ats_events.specs.declared.moment.Moment.{Moment}
 use Rattle.ats_trace.specs.declared.journey.Release.{Release}
-use Rattle.ats_steps.specs.Bounds.{steps_left}
-use Rattle.ats_steps.specs.Course.{Course}
-use Rattle.ats_steps.specs.Invariant.{Holds}
-use Rattle.ats_steps.specs.Seen.{course_of}
-use Rattle.ats_steps.specs.declared.event.Event.{Event}
-use Rattle.ats_steps.specs.declared.state.State.{State}
-use Rattle.ats_engine_law.specs.Next.{IsNext, IsAfter}
+use Rattle.ats_engine_steps.specs.Bounds.{steps_left}
+use Rattle.ats_engine_steps.specs.Course.{Course}
+use Rattle.ats_engine_steps.specs.Invariant.{Holds}
+use Rattle.ats_engine_steps.specs.Seen.{course_of}
+use Rattle.ats_engine_steps.specs.declared.event.Event.{Event}
+use Rattle.ats_engine_steps.specs.declared.state.State.{State}
+use Rattle.ats_engine_proofs.specs.Next.{IsNext, IsAfter}
 use Rattle.ats_engine.specs.Entering.{MayEnter, Enters}
 use Rattle.ats_engine.specs.Ready.{IsAtEvent, Goes, releases_in}
-use Rattle.ats_engine_law.proofs.Entries.{before-is-reached, holds-permuted, moments-apart, moments-in-range}
-use Rattle.ats_engine_law.proofs.Entries.{room-for-all}
+use Rattle.ats_engine_proofs.proofs.Entries.{before-is-reached, holds-permuted, moments-apart, moments-in-range}
+use Rattle.ats_engine_proofs.proofs.Entries.{room-for-all}
 use Rattle.ats_engine.specs.declared.runner.Runner.{Runner}
 
 -- a moment that is after another one by time and phase is so by a lawful order

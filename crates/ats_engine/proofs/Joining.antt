@@ -8,7 +8,7 @@ use Rattle.ats_facts.proofs.Lists.{all_left, all_right, pairs_head, pairs_tail}
 use Rattle.ats_facts.proofs.Pairs.{AllPairs-permutation}
 use Rattle.ats_events.specs.Contents.{Contents}
 use Rattle.ats_events.specs.declared.moment.Moment.{Moment}
-use Rattle.ats_steps.specs.declared.event.Event.{Event}
+use Rattle.ats_engine_steps.specs.declared.event.Event.{Event}
 use Rattle.ats_engine.specs.Entering.{MayEnter, Enters}
 
 -- what holds of each two elements of a list does so of its later part

@@ -11,10 +11,10 @@ use Rattle.ats_events.specs.Contents.{Contents}
 use Rattle.ats_events.specs.Steps.{Inserts}
 use Rattle.ats_events.specs.declared.moment.Moment.{Moment}
 use Rattle.ats_trace.specs.declared.journey.Release.{Release}
-use Rattle.ats_steps.specs.Entries.{arrival_moment}
-use Rattle.ats_steps.specs.declared.event.Event.{Event}
-use Rattle.ats_steps.specs.declared.event.Event.TheVariants.{Arrival}
-use Rattle.ats_engine_law.specs.Opened.{released_from}
+use Rattle.ats_engine_steps.specs.Entries.{arrival_moment}
+use Rattle.ats_engine_steps.specs.declared.event.Event.{Event}
+use Rattle.ats_engine_steps.specs.declared.event.Event.TheVariants.{Arrival}
+use Rattle.ats_engine_proofs.specs.Opened.{released_from}
 use Rattle.ats_engine.specs.Starts.{AreReleasedTo}
 
 -- the arrivals of joined lists of releases

@@ -12,23 +12,23 @@ use Rattle.ats_network.specs.Senders.{sender_at}
 use Rattle.ats_events.specs.Contents.{Contents}
 use Rattle.ats_trace.specs.Releases.{AreReleases, IsRelease}
 use Rattle.ats_trace.specs.declared.journey.Release.{Release}
-use Rattle.ats_records.specs.Progress.{Progress, unmoved}
-use Rattle.ats_records.specs.Progress as progress
+use Rattle.ats_run_records.specs.Progress.{Progress, unmoved}
+use Rattle.ats_run_records.specs.Progress as progress
 use Rattle.ats_transmit.specs.State.{PortState}
 use Rattle.ats_transmit.specs.State as states
-use Rattle.ats_steps.specs.Course.{Course}
-use Rattle.ats_steps.specs.Invariant.{Holds}
-use Rattle.ats_steps.specs.Seen.{course_of}
-use Rattle.ats_steps.specs.declared.event.Event.{Event}
-use Rattle.ats_steps.specs.Ports.{passes, room_of}
-use Rattle.ats_engine_law.specs.Opened.{IsFresh, released_from, rooms_of}
+use Rattle.ats_engine_steps.specs.Course.{Course}
+use Rattle.ats_engine_steps.specs.Invariant.{Holds}
+use Rattle.ats_engine_steps.specs.Seen.{course_of}
+use Rattle.ats_engine_steps.specs.declared.event.Event.{Event}
+use Rattle.ats_engine_steps.specs.Ports.{passes, room_of}
+use Rattle.ats_engine_proofs.specs.Opened.{IsFresh, released_from, rooms_of}
 use Rattle.ats_engine.specs.Opened.{IsFirst, setting_of}
 use Rattle.ats_engine.specs.Ready.{releases_in}
 use Rattle.ats_engine.specs.Rooms.{AreCounts, IsOpenedPort, AreOpened, AreOpenedTo, count_at, count_in, goes_through}
 use Rattle.ats_engine.specs.Rooms.{rooms_at}
 use Rattle.ats_engine.specs.Setting.{Setting}
-use Rattle.ats_engine_law.proofs.Entries.{holds-permuted}
-use Rattle.ats_engine_law.proofs.Opened.{opened-holds}
+use Rattle.ats_engine_proofs.proofs.Entries.{holds-permuted}
+use Rattle.ats_engine_proofs.proofs.Opened.{opened-holds}
 use Rattle.ats_engine.specs.Starts.{AreReleased, IsStart}
 use Rattle.ats_engine.specs.declared.runner.Runner.{Runner}
 use Rattle.ats_engine.proofs.Counting.{sender-kept}

@@ -2,7 +2,7 @@ use Rattle.std.specs.Prelude.{◌≡◌, ◌≢◌, ◌≤◌, List, ◌++◌, l
 use Rattle.std.specs.Option.{ForSome}
 use Rattle.ats_events.specs.Contents.{Contents}
 use Rattle.ats_events.specs.declared.moment.Moment.{Moment}
-use Rattle.ats_steps.specs.declared.event.Event.{Event}
+use Rattle.ats_engine_steps.specs.declared.event.Event.{Event}
 
 -- an agenda has room for these entries, whose moments are none of its own and after the one popped last
 pub record MayEnter {O : Type 0} (before : O → Moment → Moment → Type 0) (agenda : Contents O Event)

@@ -1,9 +1,9 @@
 use Rattle.std.proofs.Common.{ℕ, List, IsPermutation, refl, ◌∙◌}
 use Rattle.ats_events.specs.declared.moment.Moment.{Moment}
-use Rattle.ats_steps.specs.declared.event.Event.{Event}
+use Rattle.ats_engine_steps.specs.declared.event.Event.{Event}
 use Rattle.ats_engine.specs.declared.runner.Runner.{Runner}
 use Rattle.ats_engine.specs.Ready.{IsReady, Follows}
-use Rattle.ats_engine_law.proofs.Entries.{holds-permuted}
+use Rattle.ats_engine_proofs.proofs.Entries.{holds-permuted}
 
 -- a run goes on from itself
 pub follows-itself : {T P : Type 0} (runner : Runner T P) → Follows runner runner

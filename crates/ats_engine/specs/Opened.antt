@@ -1,6 +1,6 @@
 use Rattle.std.specs.Prelude.{◌≡◌, ℕ, None}
 use Rattle.ats_events.specs.Contents.{Contents}
-use Rattle.ats_steps.specs.declared.event.Event.{Event}
+use Rattle.ats_engine_steps.specs.declared.event.Event.{Event}
 use Rattle.ats_engine.specs.declared.runner.Runner.{Runner}
 use Rattle.ats_engine.specs.Ready.{IsReady, releases_in}
 use Rattle.ats_engine.specs.Setting.{Setting}

@@ -2,11 +2,11 @@ use Rattle.std.specs.Prelude.{◌≡◌, ℕ, ◌+◌, ◌<◌, List, ◌∷◌,
 use Rattle.ats_events.specs.Contents.{Contents}
 use Rattle.ats_events.specs.declared.moment.Moment.{Moment}
 use Rattle.ats_trace.specs.declared.journey.Release.{Release}
-use Rattle.ats_records.specs.Progress.{Progress}
-use Rattle.ats_steps.specs.Bounds.{steps_left}
-use Rattle.ats_steps.specs.Invariant.{Holds}
-use Rattle.ats_steps.specs.Seen.{course_of}
-use Rattle.ats_steps.specs.declared.event.Event.{Event}
+use Rattle.ats_run_records.specs.Progress.{Progress}
+use Rattle.ats_engine_steps.specs.Bounds.{steps_left}
+use Rattle.ats_engine_steps.specs.Invariant.{Holds}
+use Rattle.ats_engine_steps.specs.Seen.{course_of}
+use Rattle.ats_engine_steps.specs.declared.event.Event.{Event}
 use Rattle.ats_engine.specs.declared.runner.Runner.{Runner}
 
 -- the releases of a run's frames

@@ -2,9 +2,9 @@ use Rattle.std.specs.Prelude.{◌≡◌, ℕ, ◌+◌, List, length, take, None,
 use Rattle.ats_events.specs.Contents.{Contents}
 use Rattle.ats_network.specs.Network.{DeclaredNetwork, IsNetwork}
 use Rattle.ats_trace.specs.declared.journey.Release.{Release}
-use Rattle.ats_steps.specs.Course.{Course}
-use Rattle.ats_steps.specs.declared.event.Event.{Event}
-use Rattle.ats_engine_law.specs.Opened.{IsOpened, released_from}
+use Rattle.ats_engine_steps.specs.Course.{Course}
+use Rattle.ats_engine_steps.specs.declared.event.Event.{Event}
+use Rattle.ats_engine_proofs.specs.Opened.{IsOpened, released_from}
 
 -- a run with this tie in which nothing has happened yet
 pub record IsStart {T : Type 0} (network : DeclaredNetwork) (releases : List Release) (tie : T) (course : Course T)

@@ -1,17 +1,17 @@
 //! The engine.
 
 ghost use Rattle.std.specs.Prelude.{◌≡◌, IfOk};
-ghost use Rattle.ats_engine_law.specs.InTime.{IsRunInTime};
+ghost use Rattle.ats_engine_proofs.specs.InTime.{IsRunInTime};
 ghost use Rattle.ats_trace.specs.Releases.{AreReleases};
 ghost use Rattle.ats_trace.specs.Run.{IsRunBy, HasReleases};
 
 use crate::opening::{agenda_of, state_of};
 use crate::runner::Runner;
+use ats_engine_steps::Event;
 use ats_events::{Agenda, TimeOrder, drive};
 use ats_network::Network;
 use ats_num::{Pace, Tie};
 use ats_schedulers::Schedulers;
-use ats_steps::Event;
 use ats_trace::{Release, Run};
 use std::alloc::{AllocError, Global};
 use std::marker::Model;

@@ -4,8 +4,8 @@ ghost use Rattle.std.specs.Prelude.{◌++◌};
 ghost use Rattle.std.specs.Option.{option_to_list};
 ghost use Rattle.ats_engine.specs.Entering.{MayEnter, Enters};
 
+use ats_engine_steps::Event;
 use ats_events::{Agenda, Moment, TimeOrder};
-use ats_steps::Event;
 
 /// Puts an entry into the agenda, where there is one.
 pub(crate) fn enter<O: TimeOrder>(agenda: &mut Agenda<O, Event>, entry: Option<(Moment, Event)>)

@@ -3,19 +3,19 @@
 ghost use Rattle.std.specs.Prelude.{◌≡◌, IfOk, map, length};
 ghost use Rattle.ats_trace.specs.declared.journey.Release.{Release};
 ghost use Rattle.ats_trace.specs.Releases.{AreReleases};
-ghost use Rattle.ats_steps.specs.Seen.{course_of};
-ghost use Rattle.ats_steps.specs.declared.stage.Stage.TheVariants.{Coming};
+ghost use Rattle.ats_engine_steps.specs.Seen.{course_of};
+ghost use Rattle.ats_engine_steps.specs.declared.stage.Stage.TheVariants.{Coming};
 ghost use Rattle.ats_engine.specs.Starts.{IsStart, AreReleased};
 ghost use Rattle.ats_engine.specs.Rooms.{AreOpened};
 
 use crate::rooms::{counts_of, rooms_at, rooms_of};
+use ats_engine_steps::{Event, Stage, State, Turn};
 use ats_events::{Agenda, Moment, TimeOrder};
 use ats_group::Groups;
 use ats_network::Network;
 use ats_num::{Ps, Tie};
-use ats_records::Records;
+use ats_run_records::Records;
 use ats_schedulers::Schedulers;
-use ats_steps::{Event, Stage, State, Turn};
 use ats_trace::Release;
 use ats_transmit::Port;
 use std::alloc::{AllocError, Global};

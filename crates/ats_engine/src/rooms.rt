@@ -4,7 +4,7 @@ ghost use Rattle.std.specs.Prelude.{◌≡◌, ◌+◌, ◌*◌, ◌<◌, ◌≤
 ghost use Rattle.ats_network.specs.Network.{senders_of};
 ghost use Rattle.ats_trace.specs.declared.run.TheConstants.{MAX_FRAMES};
 ghost use Rattle.ats_trace.specs.Releases.{AreReleases};
-ghost use Rattle.ats_engine_law.specs.Opened.{rooms_of};
+ghost use Rattle.ats_engine_proofs.specs.Opened.{rooms_of};
 ghost use Rattle.ats_engine.specs.Rooms.{AreCounts, Counts, AreBelow, rooms_at};
 
 use ats_network::Network;

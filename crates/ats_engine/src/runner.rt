@@ -2,18 +2,18 @@
 
 ghost use Rattle.std.specs.Prelude.{◌≡◌, ◌<◌, ◌∷◌, Some, All};
 ghost use Rattle.ats_events.specs.declared.moment.Moment.{Moment};
-ghost use Rattle.ats_steps.specs.Bounds.{steps_left};
-ghost use Rattle.ats_steps.specs.Seen.{course_of};
-ghost use Rattle.ats_steps.specs.declared.event.Event.TheVariants.{Arrival, Eligibility, Selection, End};
+ghost use Rattle.ats_engine_steps.specs.Bounds.{steps_left};
+ghost use Rattle.ats_engine_steps.specs.Seen.{course_of};
+ghost use Rattle.ats_engine_steps.specs.declared.event.Event.TheVariants.{Arrival, Eligibility, Selection, End};
 ghost use Rattle.ats_engine.specs.Ready.{IsReady, IsAtEvent, Goes, Follows};
 ghost use Rattle.ats_engine.specs.Following.{follows-itself, follows-both, ready-permuted};
 
 use crate::entering::{enter, enter_both};
+use ats_engine_steps::{Event, State, become_eligible, come, end, select};
 use ats_events::{Actor, Agenda, Moment, TimeOrder};
 use ats_network::Network;
 use ats_num::{Pace, Tie};
 use ats_schedulers::Schedulers;
-use ats_steps::{Event, State, become_eligible, come, end, select};
 
 /// A run that goes on: its network and schedulers, its pace, and where it stands.
 #[derive(Drop)]

@@ -11,8 +11,8 @@ use ats_num::{Name, wire_bits};
 use ats_tally::{SeenSender, Tallies};
 use std::alloc::{AllocError, Global};
 
-// For each port and class the name of the first sender whose longest frame is the longest of a lower class there. It looks at
-// each path once, the last sender first, so that of senders with as long a frame the first one stays.
+// For each port and class the name of the first sender whose longest frame is the longest of a lower class there. It
+// looks at each path once, the last sender first, so that of senders with as long a frame the first one stays.
 pub(crate) fn names_of(
     alloc: Global,
     tallies: &Tallies,

@@ -4,9 +4,9 @@ use Rattle.ats_network.specs.Network.{DeclaredNetwork}
 use Rattle.ats_gen.specs.Made.{gen_fault}
 use Rattle.ats_gen.specs.declared.fault.GenFault.{GenFault}
 use Rattle.ats_verdict_text.specs.Text.{refused_text}
-use Rattle.ats_answer.specs.Answer.{Answer}
-use Rattle.ats_answer.specs.declared.status.Status.TheVariants as status
-use Rattle.ats_due.specs.Generated.{gen_fault_text, made_for, network_unless}
+use Rattle.ats_command_input.specs.Answer.{Answer}
+use Rattle.ats_command_input.specs.declared.status.Status.TheVariants as status
+use Rattle.ats_command_due.specs.Generated.{gen_fault_text, made_for, network_unless}
 
 -- a refusal with this text
 refused_with : List ℕ → Result DeclaredNetwork Answer

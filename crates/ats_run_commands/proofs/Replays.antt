@@ -3,13 +3,13 @@ use Rattle.std.proofs.Common.{◌≡◌, ℕ, List, Result, Ok, Err, refl, sym, 
 use Rattle.std.specs.Prelude.{IfSome, IsErrAnd}
 use Rattle.std.specs.Global.{Vec}
 use Rattle.ats_num.specs.Failure.{◌>>=◌}
-use Rattle.ats_answer.specs.Answer.{Answer}
-use Rattle.ats_answer.specs.Outcome.{IsStopOf, answer_of}
-use Rattle.ats_answer.specs.declared.outcome.Stop.{Stop}
-use Rattle.ats_answer.specs.declared.outcome.Stop.TheVariants.{Input, Refused, ReadFailed, NoMemory}
-use Rattle.ats_answer.specs.declared.status.Status.TheVariants as status
-use Rattle.ats_answer.proofs.Steps.{stops_all, err_is}
-use Rattle.ats_due.specs.Replayed.{GivesOne, IsOneOf}
+use Rattle.ats_command_input.specs.Answer.{Answer}
+use Rattle.ats_command_input.specs.Outcome.{IsStopOf, answer_of}
+use Rattle.ats_command_input.specs.declared.outcome.Stop.{Stop}
+use Rattle.ats_command_input.specs.declared.outcome.Stop.TheVariants.{Input, Refused, ReadFailed, NoMemory}
+use Rattle.ats_command_input.specs.declared.status.Status.TheVariants as status
+use Rattle.ats_command_input.proofs.Steps.{stops_all, err_is}
+use Rattle.ats_command_due.specs.Replayed.{GivesOne, IsOneOf}
 
 -- the answer that an outcome makes is one of those that are due
 pub one_settles : {A : Type 0} (Text : A → List ℕ → Type 0) (result : Result (Vec ℕ) Stop) (due : Result A Answer)

@@ -4,12 +4,12 @@ ghost use Rattle.std.specs.Prelude.{◌≡◌, IfOk, IsErrOf};
 ghost use Rattle.ats_io.specs.Outside.{Continues, IfTold, Rose};
 ghost use Rattle.ats_trace.specs.Releases.{AreReleases};
 ghost use Rattle.ats_trace.specs.Run.{HasReleases, IsRunBy};
-ghost use Rattle.ats_answer.specs.Command as table;
-ghost use Rattle.ats_answer.specs.Input.{releases_in};
-ghost use Rattle.ats_due.specs.Calls.{Answers, ReadRose};
-ghost use Rattle.ats_due.specs.Replayed.{GivesOne, IsReplayText, IsRunIn};
+ghost use Rattle.ats_command_input.specs.Command as table;
+ghost use Rattle.ats_command_input.specs.Input.{releases_in};
+ghost use Rattle.ats_command_due.specs.Calls.{Answers, ReadRose};
+ghost use Rattle.ats_command_due.specs.Replayed.{GivesOne, IsReplayText, IsRunIn};
 
-use ats_answer::{Order, Stop, network_in, schedule_in};
+use ats_command_input::{Order, Stop, network_in, schedule_in};
 use ats_engine::Engine;
 use ats_events::{Down, Scrambled, TimeOrder, Up};
 use ats_io::Files;

@@ -4,7 +4,7 @@ ghost use Rattle.std.specs.Prelude.{◌≡◌, length};
 
 use ats_group::Verdict;
 use ats_num::Ps;
-use ats_records::Records;
+use ats_run_records::Records;
 use ats_trace::{Ending, HopRecord, Release};
 use std::alloc::AllocGlobal;
 use std::process::Abort;

@@ -80,8 +80,8 @@ module _ (nodes : List Node) (links : List Link) (sound : AreSound nodes links) 
       (codes " " ++ (decimal c ++ (codes " " ++ (decimal m ++ b))))
       (codes " " ++ (decimal d ++ (codes " " ++ (decimal n ++ y)))) (port_word p inside) (port_word q within) refl
       refl (sym left ∙ same ∙ right) in
-      let classes = cut_numbers c d (codes " " ++ (decimal m ++ b)) (codes " " ++ (decimal n ++ y)) short brief refl refl
-      (append_cancel_left (codes " ") _ _ names.rest) in
+      let classes = cut_numbers c d (codes " " ++ (decimal m ++ b)) (codes " " ++ (decimal n ++ y)) short brief refl
+      refl (append_cancel_left (codes " ") _ _ names.rest) in
       let numbers = cut_numbers m n b y few less h k (append_cancel_left (codes " ") _ _ classes.rest) in
       record {
         port_is = one_port p q inside within names.word;

@@ -10,7 +10,8 @@ use Rattle.ats_network.specs.Network.{DeclaredNetwork}
 use Rattle.ats_explain.specs.Margins.{margin_of}
 use Rattle.ats_explain.specs.Parts.{parts_of_hop}
 use Rattle.ats_explain.specs.Totals.{totals_of}
-use Rattle.ats_explain_text.specs.Text.{explain_text, hop_line, hop_text, port_text, stream_line, stream_text, totals_line}
+use Rattle.ats_explain_text.specs.Text.{explain_text, hop_line, hop_text, port_text, stream_line, stream_text}
+use Rattle.ats_explain_text.specs.Text.{totals_line}
 use Rattle.ats_text_law.specs.Explained.{ExplainedTheSame, ExplainTellsAll, HopTheSame, IsExplainable}
 use Rattle.ats_text_law.specs.Explained.{IsShortHop, class_of}
 use Rattle.ats_text_law.proofs.Parts.{cut_hops, cut_margins}

@@ -91,7 +91,8 @@ same_bound (Some one) None short brief same = absurd (no_dash one short (sym sam
 same_bound (Some one) (Some two) short brief same = ap (λ n. Some n) (decimal_tells one two short brief same)
 
 module _ (network : DeclaredNetwork) (sums others : Option (List ℕ)) where
-  short_bounds : (given : Option (List ℕ)) → AreShort given → (sender : ℕ) → IsShortBound (bound_of network given sender)
+  short_bounds : (given : Option (List ℕ)) → AreShort given → (sender : ℕ)
+      → IsShortBound (bound_of network given sender)
   short_bounds None short sender = tt
   short_bounds (Some given) short sender = by (nat_lt sender (length network.streams))
     where

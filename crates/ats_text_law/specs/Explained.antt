@@ -63,7 +63,8 @@ pub record HopTheSame (network other : DeclaredNetwork) (stream twin : DeclaredS
   pub class : class_of stream port ≡ class_of twin port
   pub parts : PartsTheSame (parts_of_hop network stream port) (parts_of_hop other twin port)
 
--- two streams, each of a network of its own, have the same sum and deadline, and at each port of the path the same parts
+-- two streams, each of a network of its own, have the same sum and deadline, and at each port of the path the same
+-- parts
 pub record ExplainedTheSame (network other : DeclaredNetwork) (stream twin : DeclaredStream) : Type 0 where
   pub margin : margin_of network stream ≡ margin_of other twin
   pub hops : All (HopTheSame network other stream twin) stream.path

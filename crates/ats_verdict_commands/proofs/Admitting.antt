@@ -8,9 +8,9 @@ use Rattle.ats_bound.specs.Reason.{reason_of}
 use Rattle.ats_verdict_text.specs.Text.{reason_text, refused_text}
 use Rattle.ats_requests.specs.declared.request.Request.{Request}
 use Rattle.ats_admission_text.specs.Text.{admission_text}
-use Rattle.ats_answer.specs.Answer.{Answer}
-use Rattle.ats_answer.specs.declared.status.Status.TheVariants as status
-use Rattle.ats_due.specs.Judged.{admission_judged, judged}
+use Rattle.ats_command_input.specs.Answer.{Answer}
+use Rattle.ats_command_input.specs.declared.status.Status.TheVariants as status
+use Rattle.ats_command_due.specs.Judged.{admission_judged, judged}
 
 -- a refusal with this text
 refused_with : List ℕ → Result (List ℕ) Answer

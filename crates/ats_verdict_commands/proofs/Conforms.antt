@@ -3,13 +3,13 @@ use Rattle.std.proofs.Common.{◌≡◌, ℕ, Result, Ok, Err, refl, sym, subst}
 use Rattle.std.specs.Prelude.{IsErrAnd}
 use Rattle.std.specs.Global.{Vec}
 use Rattle.ats_num.specs.Failure.{◌>>=◌}
-use Rattle.ats_answer.specs.Answer.{Answer}
-use Rattle.ats_answer.specs.Outcome.{IsStopOf}
-use Rattle.ats_answer.specs.declared.outcome.Stop.{Stop}
-use Rattle.ats_answer.specs.declared.outcome.Stop.TheVariants.{Input, Refused, ReadFailed, NoMemory}
-use Rattle.ats_answer.specs.declared.status.Status.TheVariants as status
-use Rattle.ats_answer.proofs.Steps.{err_is}
-use Rattle.ats_due.specs.Conformed.{ComesTo, IsAnswerTo}
+use Rattle.ats_command_input.specs.Answer.{Answer}
+use Rattle.ats_command_input.specs.Outcome.{IsStopOf}
+use Rattle.ats_command_input.specs.declared.outcome.Stop.{Stop}
+use Rattle.ats_command_input.specs.declared.outcome.Stop.TheVariants.{Input, Refused, ReadFailed, NoMemory}
+use Rattle.ats_command_input.specs.declared.status.Status.TheVariants as status
+use Rattle.ats_command_input.proofs.Steps.{err_is}
+use Rattle.ats_command_due.specs.Conformed.{ComesTo, IsAnswerTo}
 
 -- a stop comes in place of what is declared
 stop_comes : {A : Type 0} (Is : A → Answer → Type 0) (stop : Stop) (due : Result A Answer) → IsStopOf stop due

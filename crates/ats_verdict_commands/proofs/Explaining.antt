@@ -10,9 +10,9 @@ use Rattle.ats_bound.specs.Least.{least_certificate}
 use Rattle.ats_bound.specs.Reason.{overload}
 use Rattle.ats_explain_text.specs.Text.{explain_text}
 use Rattle.ats_verdict_text.specs.Text.{reason_text, refused_text}
-use Rattle.ats_answer.specs.Answer.{Answer}
-use Rattle.ats_answer.specs.declared.status.Status.TheVariants as status
-use Rattle.ats_due.specs.Judged.{explain_judged, judged}
+use Rattle.ats_command_input.specs.Answer.{Answer}
+use Rattle.ats_command_input.specs.declared.status.Status.TheVariants as status
+use Rattle.ats_command_due.specs.Judged.{explain_judged, judged}
 use Rattle.ats_verdict_commands.proofs.Judging.{reason_inside}
 
 -- a refusal with this text

@@ -16,9 +16,9 @@ use Rattle.ats_checker.specs.declared.refusal.Refusal.{Refusal}
 use Rattle.ats_checker.proofs.Refused.{refused_unless_holding}
 use Rattle.ats_verdict_text.specs.Text.{accepted_text, reason_text, refusal_text, refused_text}
 use Rattle.ats_verdict_text.proofs.ReasonPorts.{each_reason_is_inside}
-use Rattle.ats_answer.specs.Answer.{Answer}
-use Rattle.ats_due.specs.Judged.{judged, bound_judged, check_judged}
-use Rattle.ats_answer.specs.declared.status.Status.TheVariants as status
+use Rattle.ats_command_input.specs.Answer.{Answer}
+use Rattle.ats_command_due.specs.Judged.{judged, bound_judged, check_judged}
+use Rattle.ats_command_input.specs.declared.status.Status.TheVariants as status
 
 -- a refusal with this text
 refused_with : List ℕ → Result (List ℕ) Answer

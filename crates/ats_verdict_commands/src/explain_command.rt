@@ -2,13 +2,13 @@
 
 ghost use Rattle.std.specs.Prelude.{IsErrOf};
 ghost use Rattle.ats_io.specs.Outside.{Continues};
-ghost use Rattle.ats_answer.specs.Command as table;
-ghost use Rattle.ats_answer.specs.Outcome.{Gives};
-ghost use Rattle.ats_due.specs.Calls.{Answers, ReadRose};
-ghost use Rattle.ats_due.specs.Judged.{explain_judged};
+ghost use Rattle.ats_command_input.specs.Command as table;
+ghost use Rattle.ats_command_input.specs.Outcome.{Gives};
+ghost use Rattle.ats_command_due.specs.Calls.{Answers, ReadRose};
+ghost use Rattle.ats_command_due.specs.Judged.{explain_judged};
 
 use crate::bound_command::refused;
-use ats_answer::{Stop, network_in};
+use ats_command_input::{Stop, network_in};
 use ats_explain::Explanation;
 use ats_explain_text::explained;
 use ats_io::Files;

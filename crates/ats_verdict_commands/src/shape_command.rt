@@ -3,10 +3,10 @@
 ghost use Rattle.std.specs.Prelude.{◌≡◌, IfOk, IsErrOf};
 ghost use Rattle.ats_io.specs.Outside.{Continues};
 ghost use Rattle.ats_shape.specs.Text.{text_of};
-ghost use Rattle.ats_answer.specs.Command as table;
-ghost use Rattle.ats_due.specs.Calls.{Answers, ReadRose};
+ghost use Rattle.ats_command_input.specs.Command as table;
+ghost use Rattle.ats_command_due.specs.Calls.{Answers, ReadRose};
 
-use ats_answer::{Stop, shape_in};
+use ats_command_input::{Stop, shape_in};
 use ats_io::Files;
 use ats_shape::{Shape, judge, report};
 use std::alloc::{AllocError, Global};

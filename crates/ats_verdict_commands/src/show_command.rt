@@ -3,11 +3,11 @@
 ghost use Rattle.std.specs.Prelude.{Ok, IsErrOf};
 ghost use Rattle.ats_io.specs.Outside.{Continues};
 ghost use Rattle.ats_network_text.specs.Text.{show_text};
-ghost use Rattle.ats_answer.specs.Command as table;
-ghost use Rattle.ats_due.specs.Calls.{Answers, ReadRose};
-ghost use Rattle.ats_answer.specs.Outcome.{Gives};
+ghost use Rattle.ats_command_input.specs.Command as table;
+ghost use Rattle.ats_command_due.specs.Calls.{Answers, ReadRose};
+ghost use Rattle.ats_command_input.specs.Outcome.{Gives};
 
-use ats_answer::{Stop, network_in};
+use ats_command_input::{Stop, network_in};
 use ats_io::Files;
 use ats_network::Network;
 use std::alloc::Global;

@@ -6,8 +6,8 @@ use Rattle.ats_network.specs.Network.{DeclaredNetwork, IsNetwork}
 use Rattle.ats_network.proofs.Edited.{without_network}
 use Rattle.ats_tally.proofs.Paths.{paths_inside}
 use Rattle.ats_bound.specs.Reason.{reason_of}
-use Rattle.ats_port_shares.specs.PortShares.{stream_at, without_at}
-use Rattle.ats_kept.specs.Kept.{IsKeptBeside}
+use Rattle.ats_admission_shares.specs.PortShares.{stream_at, without_at}
+use Rattle.ats_admission_state.specs.Kept.{IsKeptBeside}
 use Rattle.ats_admission.proofs.Classed.{named_at}
 use Rattle.ats_admission.proofs.Pending.{taken_is}
 use Rattle.ats_admission.proofs.entering.leave.Goals as goal

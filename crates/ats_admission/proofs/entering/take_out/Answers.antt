@@ -2,7 +2,7 @@ use Rattle.std.proofs.Common.{◌≡◌, sym, ap, subst, ◌∙◌}
 use Rattle.ats_network.specs.Network.{DeclaredNetwork, IsNetwork}
 use Rattle.ats_network.proofs.Edited.{without_network}
 use Rattle.ats_bound.specs.Reason.{reason_of}
-use Rattle.ats_port_shares.specs.PortShares.{without_at}
+use Rattle.ats_admission_shares.specs.PortShares.{without_at}
 use Rattle.ats_admission.proofs.Classed.{named_at}
 use Rattle.ats_admission.proofs.Pending.{free_without, taken_is, was_kept}
 use Rattle.ats_admission.proofs.entering.take_out.Goals as goal

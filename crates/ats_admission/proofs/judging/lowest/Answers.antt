@@ -3,7 +3,7 @@ use Rattle.std.proofs.lemmas.List.{length-set}
 use Rattle.ats_network.specs.Edits.{with_class_at}
 use Rattle.ats_network.specs.Network.{DeclaredNetwork}
 use Rattle.ats_bound.specs.Reason.{reason_of}
-use Rattle.ats_kept.specs.Judged.{sum_at}
+use Rattle.ats_admission_state.specs.Judged.{sum_at}
 use Rattle.ats_admission.specs.Judged.{no_class}
 use Rattle.ats_admission.specs.Sessions.{IsPending}
 use Rattle.ats_admission.proofs.Classed.{same_classed}

@@ -1,13 +1,13 @@
 use Rattle.std.proofs.Common.{◌≡◌, ℕ, List, Option, subst, sym}
 use Rattle.std.specs.Prelude.{◌⊎◌}
 use Rattle.ats_io.specs.Outside.{Rose}
-use Rattle.ats_answer.specs.Command.{Command}
-use Rattle.ats_answer.specs.Named.{texts_of, view}
-use Rattle.ats_due.specs.Due.{IsTold}
-use Rattle.ats_due.specs.Calls.{PrintedPrefix, ReadRose, IsCalm, StatusIsDue}
-use Rattle.ats_due.specs.Generated.{HasFewFrames}
-use Rattle.ats_due.specs.Soundness.{PrintsSoundly}
-use Rattle.ats_answer.specs.declared.status.Status.TheVariants.{NoMemory}
+use Rattle.ats_command_input.specs.Command.{Command}
+use Rattle.ats_command_input.specs.Named.{texts_of, view}
+use Rattle.ats_command_due.specs.Due.{IsTold}
+use Rattle.ats_command_due.specs.Calls.{PrintedPrefix, ReadRose, IsCalm, StatusIsDue}
+use Rattle.ats_command_due.specs.Generated.{HasFewFrames}
+use Rattle.ats_command_due.specs.Soundness.{PrintsSoundly}
+use Rattle.ats_command_input.specs.declared.status.Status.TheVariants.{NoMemory}
 use Rattle.ats_command.proofs.Ending.{ends_as_due, calm_unread, words_end_as_due, front_of_words, words_are_not_done}
 use Rattle.ats_command.proofs.FewFrames.{few_frames}
 use Rattle.ats_command.proofs.call.ats.Goals as goal

@@ -1,8 +1,8 @@
 use Rattle.std.proofs.Common.{Some, sym, ap, subst, ◌∙◌}
-use Rattle.ats_answer.specs.Answer.{HasText}
-use Rattle.ats_due.specs.Soundness.{IsSoundCheck}
-use Rattle.ats_answer.specs.declared.status.Status.{Status}
-use Rattle.ats_answer.specs.Named.{view}
+use Rattle.ats_command_input.specs.Answer.{HasText}
+use Rattle.ats_command_due.specs.Soundness.{IsSoundCheck}
+use Rattle.ats_command_input.specs.declared.status.Status.{Status}
+use Rattle.ats_command_input.specs.Named.{view}
 use Rattle.ats_command.proofs.Ending.{printed_due, front_due, done_holds}
 use Rattle.ats_command.proofs.call.carry_out.Goals as goal
 

@@ -1,7 +1,7 @@
 use Rattle.std.proofs.Common.{refl}
 use Rattle.ats_io.specs.Memory.{bytes_or_none}
-use Rattle.ats_answer.specs.Command.{command_of}
-use Rattle.ats_answer.specs.Named.{texts_of}
+use Rattle.ats_command_input.specs.Command.{command_of}
+use Rattle.ats_command_input.specs.Named.{texts_of}
 use Rattle.ats_command_law.proofs.Surely.{surely_told, surely_calm, no_rise}
 use Rattle.ats_command_law.proofs.call.ats_surely.Goals as goal
 

@@ -1,6 +1,6 @@
 use Rattle.std.proofs.Common.{refl, ap}
 use Rattle.ats_events.specs.declared.moment.Moment.{Moment}
-use Rattle.ats_steps.specs.declared.event.Event.{Event}
+use Rattle.ats_engine_steps.specs.declared.event.Event.{Event}
 use Rattle.ats_trace.specs.declared.journey.Release.{Release}
 use Rattle.ats_engine.proofs.Releasing.{released-room, released-apart, released-after, released-inserted}
 use Rattle.ats_engine.proofs.opening.agenda_of.Goals as goal

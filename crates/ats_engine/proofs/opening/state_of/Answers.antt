@@ -4,10 +4,10 @@ use Rattle.ats_topology.specs.Topology.{DeclaredTopology}
 use Rattle.ats_topology.specs.declared.port.Port.{Port}
 use Rattle.ats_group.specs.GroupsState as groups_states
 use Rattle.ats_schedulers.specs.Schedulers.{members_of, residences_of}
-use Rattle.ats_records.specs.Progress.{opened}
-use Rattle.ats_steps.specs.declared.turn.Turn.{Turn}
-use Rattle.ats_steps.specs.declared.turn.Turn.TheVariants.{Resting}
-use Rattle.ats_engine_law.specs.Opened.{rooms_of}
+use Rattle.ats_run_records.specs.Progress.{opened}
+use Rattle.ats_engine_steps.specs.declared.turn.Turn.{Turn}
+use Rattle.ats_engine_steps.specs.declared.turn.Turn.TheVariants.{Resting}
+use Rattle.ats_engine_proofs.specs.Opened.{rooms_of}
 use Rattle.ats_engine.proofs.Starting.{rooms-few, ports-fresh}
 use Rattle.ats_engine.proofs.opening.state_of.Goals as goal
 

@@ -1,5 +1,5 @@
 use Rattle.std.proofs.Common.{◌≡◌, take}
-use Rattle.ats_engine_law.specs.Opened.{rooms_of}
+use Rattle.ats_engine_proofs.specs.Opened.{rooms_of}
 use Rattle.ats_engine.proofs.rooms.rooms_of.Given as goal
 
 abbrev pub invariant-loop-release : goal.invariant-loop-release

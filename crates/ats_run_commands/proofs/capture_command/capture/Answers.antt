@@ -3,14 +3,14 @@ use Rattle.ats_topology.specs.Topology.{DeclaredTopology}
 use Rattle.ats_network.specs.Network.{DeclaredNetwork}
 use Rattle.ats_capture.specs.Traffic.{Traffic}
 use Rattle.ats_num.specs.Failure.{◌>>=◌}
-use Rattle.ats_answer.specs.Answer.{Answer}
-use Rattle.ats_answer.specs.Input.{network_in, traffic_in}
-use Rattle.ats_answer.specs.Outcome.{IsStopOf}
-use Rattle.ats_answer.specs.Station.{station_in}
-use Rattle.ats_answer.proofs.Steps.{stops_all}
-use Rattle.ats_due.specs.Due.{told_bytes}
-use Rattle.ats_due.specs.Captured.{IsCaptureText, IsCaptured, captured_in}
-use Rattle.ats_due.proofs.Steps.{told_is, declared_is_ok}
+use Rattle.ats_command_input.specs.Answer.{Answer}
+use Rattle.ats_command_input.specs.Input.{network_in, traffic_in}
+use Rattle.ats_command_input.specs.Outcome.{IsStopOf}
+use Rattle.ats_command_input.specs.Station.{station_in}
+use Rattle.ats_command_input.proofs.Steps.{stops_all}
+use Rattle.ats_command_due.specs.Due.{told_bytes}
+use Rattle.ats_command_due.specs.Captured.{IsCaptureText, IsCaptured, captured_in}
+use Rattle.ats_command_due.proofs.Steps.{told_is, declared_is_ok}
 use Rattle.ats_run_commands.proofs.Replays.{one_settles, stop_gives_one, one_goes_on, one_made}
 use Rattle.ats_io.proofs.Outside.{Rose-since}
 use Rattle.ats_run_commands.proofs.capture_command.capture.Goals as goal

@@ -1,9 +1,9 @@
 use Rattle.std.proofs.Common.{ℕ, List, [], Option, lit<}
-use Rattle.ats_answer.specs.Input.{network_in}
-use Rattle.ats_answer.proofs.Steps.{stops_all}
-use Rattle.ats_due.specs.Due.{told_bytes}
-use Rattle.ats_due.specs.Generated.{IsGenerated, generated_in, made_for}
-use Rattle.ats_due.proofs.Steps.{told_is}
+use Rattle.ats_command_input.specs.Input.{network_in}
+use Rattle.ats_command_input.proofs.Steps.{stops_all}
+use Rattle.ats_command_due.specs.Due.{told_bytes}
+use Rattle.ats_command_due.specs.Generated.{IsGenerated, generated_in, made_for}
+use Rattle.ats_command_due.proofs.Steps.{told_is}
 use Rattle.ats_run_commands.proofs.Replays.{one_settles, stop_gives_one, one_goes_on}
 use Rattle.ats_run_commands.proofs.generate_command.generate.Goals as goal
 

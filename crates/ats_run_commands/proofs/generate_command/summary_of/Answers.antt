@@ -1,6 +1,6 @@
 use Rattle.std.proofs.Common.{List, subst}
 use Rattle.ats_trace.specs.declared.journey.Release.{Release}
-use Rattle.ats_due.specs.Generated.{IsReportText}
+use Rattle.ats_command_due.specs.Generated.{IsReportText}
 use Rattle.ats_num.specs.Failure.{IsDue}
 use Rattle.ats_num.specs.declared.failure.Failure.{Failure}
 use Rattle.ats_gen.specs.Made.{gen_fault}

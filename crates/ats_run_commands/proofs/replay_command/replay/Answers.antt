@@ -2,11 +2,11 @@ use Rattle.std.proofs.Common.{ℕ, List, [], Option, Some, Ok, lit<, ap, refl, i
 use Rattle.ats_network.specs.Network.{DeclaredNetwork}
 use Rattle.ats_trace.specs.declared.journey.Release.{Release}
 use Rattle.ats_num.specs.Failure.{◌>>=◌}
-use Rattle.ats_answer.specs.Input.{network_in, releases_in}
-use Rattle.ats_answer.proofs.Steps.{stops_all}
-use Rattle.ats_due.specs.Due.{told_bytes}
-use Rattle.ats_due.specs.Replayed.{IsReplayText, IsReplayed, scheduled_in}
-use Rattle.ats_due.proofs.Steps.{told_is, declared_is_ok}
+use Rattle.ats_command_input.specs.Input.{network_in, releases_in}
+use Rattle.ats_command_input.proofs.Steps.{stops_all}
+use Rattle.ats_command_due.specs.Due.{told_bytes}
+use Rattle.ats_command_due.specs.Replayed.{IsReplayText, IsReplayed, scheduled_in}
+use Rattle.ats_command_due.proofs.Steps.{told_is, declared_is_ok}
 use Rattle.ats_run_commands.proofs.Replays.{one_settles, stop_gives_one, one_goes_on, one_made}
 use Rattle.ats_io.proofs.Outside.{Rose-since}
 use Rattle.ats_run_commands.proofs.replay_command.replay.Goals as goal

@@ -1,11 +1,11 @@
 use Rattle.std.proofs.Common.{ℕ, List, Result, sym, subst}
 use Rattle.std.specs.Global.{Vec}
 use Rattle.ats_network.specs.Network.{DeclaredNetwork}
-use Rattle.ats_answer.specs.Input.{requests_in}
-use Rattle.ats_answer.specs.Outcome.{Gives}
-use Rattle.ats_answer.specs.declared.outcome.Stop.{Stop}
-use Rattle.ats_answer.proofs.Steps.{stops_all, goes_on, err_is}
-use Rattle.ats_due.specs.Judged.{admission_judged, requests_judged}
+use Rattle.ats_command_input.specs.Input.{requests_in}
+use Rattle.ats_command_input.specs.Outcome.{Gives}
+use Rattle.ats_command_input.specs.declared.outcome.Stop.{Stop}
+use Rattle.ats_command_input.proofs.Steps.{stops_all, goes_on, err_is}
+use Rattle.ats_command_due.specs.Judged.{admission_judged, requests_judged}
 use Rattle.ats_verdict_commands.proofs.admit_command.admission_of.Goals as goal
 
 pub returns-in_err-asked-clause-due : goal.returns-in_err-asked-clause-due

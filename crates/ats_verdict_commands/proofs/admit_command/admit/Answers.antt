@@ -1,8 +1,8 @@
 use Rattle.std.proofs.Common.{ℕ, List, [], Option, Some, lit<, ap, refl, inr, ◌≡◌, ◌∙◌}
-use Rattle.ats_answer.specs.Input.{network_in}
-use Rattle.ats_due.specs.Judged.{requests_judged}
-use Rattle.ats_due.specs.Due.{told_bytes, admit_answer}
-use Rattle.ats_due.proofs.Steps.{told_is, file_settles, file_goes_on, declared_is_ok}
+use Rattle.ats_command_input.specs.Input.{network_in}
+use Rattle.ats_command_due.specs.Judged.{requests_judged}
+use Rattle.ats_command_due.specs.Due.{told_bytes, admit_answer}
+use Rattle.ats_command_due.proofs.Steps.{told_is, file_settles, file_goes_on, declared_is_ok}
 use Rattle.ats_io.proofs.Outside.{Rose-since}
 use Rattle.ats_verdict_commands.proofs.admit_command.admit.Goals as goal
 

@@ -1,8 +1,8 @@
 use Rattle.std.proofs.Common.{[], lit<}
-use Rattle.ats_answer.specs.Input.{network_in}
-use Rattle.ats_due.specs.Judged.{bound_judged}
-use Rattle.ats_due.specs.Due.{bound_answer}
-use Rattle.ats_due.proofs.Steps.{file_settles, file_goes_on}
+use Rattle.ats_command_input.specs.Input.{network_in}
+use Rattle.ats_command_due.specs.Judged.{bound_judged}
+use Rattle.ats_command_due.specs.Due.{bound_answer}
+use Rattle.ats_command_due.proofs.Steps.{file_settles, file_goes_on}
 use Rattle.ats_verdict_commands.proofs.bound_command.bound.Goals as goal
 
 pub returns-in_err-network-clause-due : goal.returns-in_err-network-clause-due

@@ -1,12 +1,12 @@
 use Rattle.std.proofs.Common.{ℕ, List, [], Option, Some, lit<, ap, refl, inr, ◌≡◌, ◌∙◌}
 use Rattle.ats_io.specs.Outside.{IfTold}
 use Rattle.ats_network.specs.Network.{DeclaredNetwork}
-use Rattle.ats_answer.specs.Command.{Check}
-use Rattle.ats_answer.specs.Input.{network_in}
-use Rattle.ats_due.specs.Judged.{certificate_judged}
-use Rattle.ats_due.specs.Due.{told_bytes, check_answer}
-use Rattle.ats_due.specs.Soundness.{IsSoundCheck, IsSoundFile}
-use Rattle.ats_due.proofs.Steps.{told_is, file_settles, file_goes_on, text_then, declared_is_ok}
+use Rattle.ats_command_input.specs.Command.{Check}
+use Rattle.ats_command_input.specs.Input.{network_in}
+use Rattle.ats_command_due.specs.Judged.{certificate_judged}
+use Rattle.ats_command_due.specs.Due.{told_bytes, check_answer}
+use Rattle.ats_command_due.specs.Soundness.{IsSoundCheck, IsSoundFile}
+use Rattle.ats_command_due.proofs.Steps.{told_is, file_settles, file_goes_on, text_then, declared_is_ok}
 use Rattle.ats_io.proofs.Outside.{Rose-since}
 use Rattle.ats_verdict_commands.proofs.check_command.check.Goals as goal
 

@@ -3,13 +3,13 @@ use Rattle.std.specs.Global.{Vec}
 use Rattle.ats_topology.specs.Topology.{DeclaredTopology}
 use Rattle.ats_network.specs.Network.{DeclaredNetwork}
 use Rattle.ats_certificate.specs.declared.row.Row.{Row}
-use Rattle.ats_answer.specs.Input.{rows_in}
-use Rattle.ats_answer.specs.Outcome.{Gives, IsStopOf}
-use Rattle.ats_answer.specs.declared.outcome.Stop.{Stop}
-use Rattle.ats_answer.proofs.Steps.{stops_all, goes_on, err_is}
-use Rattle.ats_due.specs.Judged.{certificate_judged, check_judged}
-use Rattle.ats_due.specs.Soundness.{IsSoundFile, IsSoundText}
-use Rattle.ats_due.proofs.Steps.{text_then}
+use Rattle.ats_command_input.specs.Input.{rows_in}
+use Rattle.ats_command_input.specs.Outcome.{Gives, IsStopOf}
+use Rattle.ats_command_input.specs.declared.outcome.Stop.{Stop}
+use Rattle.ats_command_input.proofs.Steps.{stops_all, goes_on, err_is}
+use Rattle.ats_command_due.specs.Judged.{certificate_judged, check_judged}
+use Rattle.ats_command_due.specs.Soundness.{IsSoundFile, IsSoundText}
+use Rattle.ats_command_due.proofs.Steps.{text_then}
 use Rattle.ats_verdict_commands.proofs.check_command.verdict_of.Goals as goal
 
 pub returns-in_err-rows-clause-due : goal.returns-in_err-rows-clause-due

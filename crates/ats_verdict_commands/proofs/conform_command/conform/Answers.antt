@@ -2,12 +2,12 @@ use Rattle.std.proofs.Common.{ℕ, List, [], Option, Some, Ok, lit<, ap, refl, i
 use Rattle.ats_network.specs.Network.{DeclaredNetwork}
 use Rattle.ats_trace.specs.declared.journey.Release.{Release}
 use Rattle.ats_num.specs.Failure.{◌>>=◌}
-use Rattle.ats_answer.specs.Input.{network_in, releases_in}
-use Rattle.ats_answer.proofs.Steps.{stops_all}
-use Rattle.ats_due.specs.Due.{told_bytes}
-use Rattle.ats_due.specs.Conformed.{JudgesReleases, JudgesScheduled}
-use Rattle.ats_due.specs.Replayed.{scheduled_in}
-use Rattle.ats_due.proofs.Steps.{told_is, declared_is_ok}
+use Rattle.ats_command_input.specs.Input.{network_in, releases_in}
+use Rattle.ats_command_input.proofs.Steps.{stops_all}
+use Rattle.ats_command_due.specs.Due.{told_bytes}
+use Rattle.ats_command_due.specs.Conformed.{JudgesReleases, JudgesScheduled}
+use Rattle.ats_command_due.specs.Replayed.{scheduled_in}
+use Rattle.ats_command_due.proofs.Steps.{told_is, declared_is_ok}
 use Rattle.ats_verdict_commands.proofs.Conforms.{stop_comes_to, comes_on, comes_made}
 use Rattle.ats_io.proofs.Outside.{Rose-since}
 use Rattle.ats_verdict_commands.proofs.conform_command.conform.Goals as goal

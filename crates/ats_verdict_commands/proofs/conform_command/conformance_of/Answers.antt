@@ -1,5 +1,5 @@
-use Rattle.ats_answer.specs.Input.{releases_in}
-use Rattle.ats_due.specs.Conformed.{JudgesReleases}
+use Rattle.ats_command_input.specs.Input.{releases_in}
+use Rattle.ats_command_due.specs.Conformed.{JudgesReleases}
 use Rattle.ats_verdict_commands.proofs.Conforms.{stop_comes_to}
 use Rattle.ats_verdict_commands.proofs.conform_command.conformance_of.Goals as goal
 

@@ -1,8 +1,8 @@
 use Rattle.std.proofs.Common.{[], lit<}
-use Rattle.ats_answer.specs.Input.{network_in}
-use Rattle.ats_due.specs.Judged.{explain_judged}
-use Rattle.ats_due.specs.Due.{explain_answer}
-use Rattle.ats_due.proofs.Steps.{file_settles, file_goes_on}
+use Rattle.ats_command_input.specs.Input.{network_in}
+use Rattle.ats_command_due.specs.Judged.{explain_judged}
+use Rattle.ats_command_due.specs.Due.{explain_answer}
+use Rattle.ats_command_due.proofs.Steps.{file_settles, file_goes_on}
 use Rattle.ats_verdict_commands.proofs.explain_command.explain.Goals as goal
 
 pub returns-in_err-network-clause-due : goal.returns-in_err-network-clause-due

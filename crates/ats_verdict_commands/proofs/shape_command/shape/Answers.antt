@@ -1,9 +1,9 @@
 use Rattle.std.proofs.Common.{ℕ, List, [], Option, Ok, lit<, sym, ap, ◌∙◌}
 use Rattle.ats_shape.specs.Text.{text_of}
 use Rattle.ats_num.specs.Failure.{◌>>=◌}
-use Rattle.ats_answer.specs.Input.{shape_in}
-use Rattle.ats_due.specs.Due.{told_bytes, shape_answer}
-use Rattle.ats_due.proofs.Steps.{told_is, text_settles, file_settles}
+use Rattle.ats_command_input.specs.Input.{shape_in}
+use Rattle.ats_command_due.specs.Due.{told_bytes, shape_answer}
+use Rattle.ats_command_due.proofs.Steps.{told_is, text_settles, file_settles}
 use Rattle.ats_verdict_commands.proofs.shape_command.shape.Goals as goal
 
 pub returns-in_err-shape-clause-due : goal.returns-in_err-shape-clause-due

@@ -1,8 +1,8 @@
 use Rattle.std.proofs.Common.{[], Ok, lit<}
 use Rattle.ats_network_text.specs.Text.{show_text}
-use Rattle.ats_answer.specs.Input.{network_in}
-use Rattle.ats_due.specs.Due.{show_answer}
-use Rattle.ats_due.proofs.Steps.{file_settles, file_goes_on}
+use Rattle.ats_command_input.specs.Input.{network_in}
+use Rattle.ats_command_due.specs.Due.{show_answer}
+use Rattle.ats_command_due.proofs.Steps.{file_settles, file_goes_on}
 use Rattle.ats_verdict_commands.proofs.show_command.show.Goals as goal
 
 pub returns-in_err-network-clause-due : goal.returns-in_err-network-clause-due

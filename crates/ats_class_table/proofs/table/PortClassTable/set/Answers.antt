@@ -9,7 +9,8 @@ returns g c =
     rw (sym c.self.view_is) at c.requires.port in
     subst (λ old. Sets c.args.port c.args.class c.args.value old
     (table_of c.self.inside.ports (set c.self.inside.values.items c.place.result c.args.value))) c.self.view_is
-    (subst (λ (k : ℕ). Sets c.args.port c.args.class c.args.value (table_of c.self.inside.ports c.self.inside.values.items)
+    (subst (λ (k : ℕ). Sets c.args.port c.args.class c.args.value
+    (table_of c.self.inside.ports c.self.inside.values.items)
     (table_of c.self.inside.ports (set c.self.inside.values.items k c.args.value))) (sym c.place.ensures)
     (sets_is c.self.inside.ports c.self.inside.values.items c.args.port c.args.class c.args.value
     c.self.invariant within c.requires.class))

@@ -1,9 +1,9 @@
 use Rattle.std.proofs.Common.{ap}
-use Rattle.ats_steps.specs.Course.{Course}
-use Rattle.ats_engine_law.proofs.Allowed.{may-be-offered}
-use Rattle.ats_engine_law.proofs.Entries.{offered-after}
-use Rattle.ats_engine_law.proofs.Kept.{offered-holds}
-use Rattle.ats_engine_law.proofs.Times.{offered-less}
+use Rattle.ats_engine_steps.specs.Course.{Course}
+use Rattle.ats_engine_proofs.proofs.Allowed.{may-be-offered}
+use Rattle.ats_engine_proofs.proofs.Entries.{offered-after}
+use Rattle.ats_engine_proofs.proofs.Kept.{offered-holds}
+use Rattle.ats_engine_proofs.proofs.Times.{offered-less}
 use Rattle.ats_engine.proofs.Going.{is-next, may-enter, goes}
 use Rattle.ats_engine.proofs.runner.Runner.become_eligible.Goals as goal
 

@@ -1,9 +1,9 @@
 use Rattle.std.proofs.Common.{ap}
-use Rattle.ats_steps.specs.Course.{Course}
-use Rattle.ats_engine_law.proofs.Allowed.{may-come}
-use Rattle.ats_engine_law.proofs.Entries.{comes-after}
-use Rattle.ats_engine_law.proofs.Kept.{comes-holds}
-use Rattle.ats_engine_law.proofs.Times.{comes-less}
+use Rattle.ats_engine_steps.specs.Course.{Course}
+use Rattle.ats_engine_proofs.proofs.Allowed.{may-come}
+use Rattle.ats_engine_proofs.proofs.Entries.{comes-after}
+use Rattle.ats_engine_proofs.proofs.Kept.{comes-holds}
+use Rattle.ats_engine_proofs.proofs.Times.{comes-less}
 use Rattle.ats_engine.proofs.Going.{is-next, may-enter, goes}
 use Rattle.ats_engine.proofs.runner.Runner.come.Goals as goal
 

@@ -1,9 +1,9 @@
 use Rattle.std.proofs.Common.{ap}
-use Rattle.ats_steps.specs.Course.{Course}
-use Rattle.ats_engine_law.proofs.Allowed.{may-end}
-use Rattle.ats_engine_law.proofs.Entries.{ends-after}
-use Rattle.ats_engine_law.proofs.Kept.{ends-holds}
-use Rattle.ats_engine_law.proofs.Times.{ends-less}
+use Rattle.ats_engine_steps.specs.Course.{Course}
+use Rattle.ats_engine_proofs.proofs.Allowed.{may-end}
+use Rattle.ats_engine_proofs.proofs.Entries.{ends-after}
+use Rattle.ats_engine_proofs.proofs.Kept.{ends-holds}
+use Rattle.ats_engine_proofs.proofs.Times.{ends-less}
 use Rattle.ats_engine.proofs.Going.{is-next, may-enter, goes}
 use Rattle.ats_engine.proofs.runner.Runner.end.Goals as goal
 

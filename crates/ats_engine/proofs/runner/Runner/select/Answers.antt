@@ -1,9 +1,9 @@
 use Rattle.std.proofs.Common.{ap}
-use Rattle.ats_steps.specs.Course.{Course}
-use Rattle.ats_engine_law.proofs.Allowed.{may-select}
-use Rattle.ats_engine_law.proofs.Entries.{selects-after}
-use Rattle.ats_engine_law.proofs.Kept.{selects-holds}
-use Rattle.ats_engine_law.proofs.Times.{selects-less}
+use Rattle.ats_engine_steps.specs.Course.{Course}
+use Rattle.ats_engine_proofs.proofs.Allowed.{may-select}
+use Rattle.ats_engine_proofs.proofs.Entries.{selects-after}
+use Rattle.ats_engine_proofs.proofs.Kept.{selects-holds}
+use Rattle.ats_engine_proofs.proofs.Times.{selects-less}
 use Rattle.ats_engine.proofs.Going.{is-next, may-enter, goes}
 use Rattle.ats_engine.proofs.runner.Runner.select.Goals as goal
 

@@ -1,0 +1,77 @@
+//! A stream that is taken out of the shares of the ports that it used.
+
+ghost use Rattle.std.specs.Prelude.{◌≡◌, ◌≢◌, ◌<◌, ◌≤◌, length, AllPairs, slice_index_or};
+ghost use Rattle.ats_network.specs.Class.{seen_at};
+ghost use Rattle.ats_network.specs.Network.{senders_of};
+ghost use Rattle.ats_network.specs.Sender.{stream_sender};
+ghost use Rattle.ats_certificate.specs.PortSums.{senders_at};
+ghost use Rattle.ats_admission_users.specs.Users.{ListsPaths};
+ghost use Rattle.ats_tally.specs.SenderAtPort.{port_sender, KeepsLimits};
+ghost use Rattle.ats_admission_shares.specs.PortShares.{AreSharesBefore, AreSharesOf, stream_paths};
+ghost use Rattle.ats_admission_shares.specs.Shares.{share_of, share_with};
+
+use crate::entering::place;
+use crate::frames::{Frames, frames_left};
+use crate::share::Share;
+use ats_admission_users::PortUsers;
+use ats_network::Network;
+use ats_streams::Stream;
+use ats_tally::SeenSender;
+
+/// Takes a stream that has left a network out of the share of its class at each port of its path.
+pub(crate) fn leave_along(
+    shares: &mut [Share],
+    network: &Network,
+    stream: &Stream,
+    streams: &PortUsers,
+)
+    requires users { ListsPaths (length network.now.topology.ports) (stream_paths network.now) streams.now }
+    requires before { AreSharesBefore network.now stream.now shares.old }
+    ensures { AreSharesOf network.now shares.new }
+{
+    for (hop, port) in stream.path().iter().enumerate() {
+        let seen = seen_stream(stream, hop);
+        let at = place(*port, seen.class);
+        let share = &mut shares[at];
+        *share = share_left(*share, network, streams, *port, &seen);
+    }
+}
+
+// The share of a class at a port, from that with a sender more.
+fn share_left(
+    share: Share,
+    network: &Network,
+    streams: &PortUsers,
+    port: u32,
+    sender: &SeenSender,
+) -> Share
+    requires port { port < length network.now.topology.ports }
+    requires users { ListsPaths (length network.now.topology.ports) (stream_paths network.now) streams.now }
+    requires limits { KeepsLimits sender.now }
+    requires class { 1 ≤ sender.now.class }
+    requires share { share ≡ share_with (port_sender sender.now)
+        (share_of sender.now.class (senders_at port (senders_of network.now))) }
+    ensures { result ≡ share_of sender.now.class (senders_at port (senders_of network.now)) }
+{
+    let before = Frames {
+        longest: share.longest,
+        shortest: share.shortest,
+    };
+    let frames = frames_left(network, streams, port, sender, before);
+    Share {
+        rate: share.rate - sender.rate_bps,
+        bursts: share.bursts - sender.burst_bits,
+        longest: frames.longest,
+        shortest: frames.shortest,
+    }
+}
+
+// A stream as the port at this hop of its path sees it.
+fn seen_stream(stream: &Stream, hop: usize) -> SeenSender
+    requires hop { hop < length stream.now.path }
+    requires apart { AllPairs (λ p q. p ≢ q) stream.now.path }
+    ensures seen { port_sender result ≡ seen_at (slice_index_or stream.now.path hop 0) (stream_sender stream.now) }
+    ensures limits { KeepsLimits result }
+{
+    SeenSender::of_stream(stream, stream.classes()[hop])
+}

@@ -1,0 +1,50 @@
+use Rattle.std.proofs.Common.{◌<◌, ℕ, List, length, Result, Ok, Err, arith, sym, subst}
+use Rattle.std.specs.Prelude.{OnErr}
+use Rattle.ats_network.specs.Network.{DeclaredNetwork}
+use Rattle.ats_admission_shares.specs.PortShares.{stream_at, without_at}
+use Rattle.ats_admission_state.specs.Kept.{AreLeastBeside, IsKeptBeside, KeptState}
+use Rattle.ats_admission_state.specs.Laws.{StayBeside}
+use Rattle.ats_admission_state.proofs.Beside.{bounds_stay_beside}
+use Rattle.ats_admission_state.proofs.Last.{less_by}
+use Rattle.ats_admission_state.proofs.kept.Kept.judge.Goals as goal
+
+-- what holds anyway holds of a failure
+on_err : {A E : Type 0} (r : Result A E) (P : Type 0) → P → OnErr r P
+on_err (Ok x) P p = tt
+on_err (Err e) P p = p
+
+-- beside the path of a network's stream the least bounds are those without it
+stay : (network : DeclaredNetwork) (n : ℕ) (bounds : List ℕ) → n < length network.streams
+    → StayBeside network (without_at network n) (stream_at network n) bounds
+stay network n bounds within =
+    bounds_stay_beside network (without_at network n) (stream_at network n) bounds (less_by network n within)
+
+pub judge_stream-requires-clause-beside : goal.judge_stream-requires-clause-beside
+judge_stream-requires-clause-beside c =
+    let network : DeclaredNetwork = c.args.network.now in
+    let n : ℕ = c.args.stream in
+    (stay network n c.self.inside.bounds.items (omega (arith, c.requires.last))).entered
+    (subst (λ (kept : KeptState). AreLeastBeside (without_at network n) (stream_at network n).path kept.bounds)
+    (sym c.self.view_is) c.requires.beside.bounds)
+
+pub returns-in_err-sum-clause-err : goal.returns-in_err-sum-clause-err
+returns-in_err-sum-clause-err c =
+    let network : DeclaredNetwork = c.args.network.now in
+    let n : ℕ = c.args.stream in
+    let before : IsKeptBeside (without_at network n) (stream_at network n).path _ =
+    subst (IsKeptBeside (without_at network n) (stream_at network n).path) (sym c.self.view_is) c.requires.beside in
+    on_err c.from_residual.result _ (record {
+      keeps = before.keeps;
+      bounds = (stay network n c.judge_stream.new.bounds.items (omega (arith, c.requires.last))).left
+          c.judge_stream.ensures.beside;
+    })
+
+pub returns-in_err-enter-clause-err : goal.returns-in_err-enter-clause-err
+returns-in_err-enter-clause-err c =
+    let network : DeclaredNetwork = c.args.network.now in
+    let n : ℕ = c.args.stream in
+    on_err c.from_residual-in_err-enter.result _ (record {
+      keeps = c.in_err-enter.ensures.err;
+      bounds = (stay network n c.judge_stream.new.bounds.items (omega (arith, c.requires.last))).left
+          c.judge_stream.ensures.beside;
+    })

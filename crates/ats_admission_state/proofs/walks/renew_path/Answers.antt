@@ -1,0 +1,15 @@
+use Rattle.std.proofs.Common.{ℕ, ◌+◌, ◌<◌, List, get_or, length, drop, subst}
+use Rattle.std.proofs.lemmas.List.{drop_more}
+use Rattle.ats_admission_state.specs.Kept.{AreLeastBeside}
+use Rattle.ats_admission_state.proofs.Placed.{beside_next}
+use Rattle.ats_admission_state.proofs.walks.renew_path.Goals as goal
+
+pub loop-port-preserved : goal.loop-port-preserved
+loop-port-preserved c =
+    let path : List ℕ = c.args.path.now in
+    let i : ℕ = c.loop-port.port-index in
+    let within : i < length path = c.loop-port-test.true in
+    beside_next c.args.network.now (get_or path i 0) c.loop-port.bounds.items
+    c.renew_port.new.bounds.items (drop (i + 1) path) c.renew_port.ensures
+    (subst (λ (left : List ℕ). AreLeastBeside c.args.network.now left c.loop-port.bounds.items)
+    (drop_more path i 0 within) c.loop-port.invariant)

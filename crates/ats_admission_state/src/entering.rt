@@ -1,0 +1,50 @@
+//! Streams that are kept from now on, or no longer.
+
+ghost use Rattle.std.specs.Prelude.{◌≡◌, ◌+◌, length, OnOk, OnErr};
+ghost use Rattle.ats_admission_shares.specs.PortShares.{without_at};
+ghost use Rattle.ats_admission_state.specs.Kept.{KeepsBefore, KeepsStreams};
+
+use crate::routes::Route;
+use ats_admission_shares::PortShares;
+use ats_admission_users::PortUsers;
+use ats_network::Network;
+use ats_streams::Stream;
+use std::alloc::AllocError;
+
+/// Keeps the last stream of a network. `AllocError` where memory runs out, and then it is not kept.
+pub(crate) fn enter(
+    streams: &mut PortUsers,
+    shares: &mut PortShares,
+    routes: &mut Vec<Route>,
+    network: &Network,
+    stream: u32,
+) -> Result<(), AllocError>
+    requires last { stream + 1 ≡ length network.now.streams }
+    requires keeps { KeepsStreams (without_at network.now stream) streams.old shares.old routes.old.items }
+    ensures ok { OnOk result (KeepsStreams network.now streams.new shares.new routes.new.items) }
+    ensures err { OnErr result (KeepsStreams (without_at network.now stream) streams.new shares.new routes.new.items) }
+{
+    let declared = &network.streams()[stream as usize];
+    routes.reserve(1)?;
+    streams.push(declared.path())?;
+    routes.push_reserved(Route::of(declared));
+    shares.enter(network, stream);
+    Ok(())
+}
+
+/// Keeps this stream no longer, which was taken out of the network where it had this number.
+pub(crate) fn leave(
+    streams: &mut PortUsers,
+    shares: &mut PortShares,
+    routes: &mut Vec<Route>,
+    network: &Network,
+    number: u32,
+    stream: &Stream,
+)
+    requires { KeepsBefore network.now number stream.now streams.old shares.old routes.old.items }
+    ensures { KeepsStreams network.now streams.new shares.new routes.new.items }
+{
+    streams.take(number, stream.path());
+    routes.remove(number as usize);
+    shares.leave(network, stream, streams);
+}

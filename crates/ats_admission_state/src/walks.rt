@@ -1,0 +1,156 @@
+//! Walks along a path from port to port.
+
+ghost use Rattle.std.specs.Prelude.{◌≡◌, ◌+◌, ◌*◌, ◌<◌, ◌≤◌, length, All, None, IfNone, OnOk};
+ghost use Rattle.ats_network.specs.Network.{senders_of};
+ghost use Rattle.ats_certificate.specs.PortSums.{senders_at};
+ghost use Rattle.ats_bound.specs.Reason.{overload, reason_of};
+ghost use Rattle.ats_admission_law.specs.Lowest.{found_at, lower_of};
+ghost use Rattle.ats_admission_law.specs.Near.{overstay_at};
+ghost use Rattle.ats_admission_shares.specs.ClassTallies.{AreClassTallies};
+ghost use Rattle.ats_admission_shares.specs.PortShares.{AreSharesOf, stream_at, without_at};
+ghost use Rattle.ats_admission_state.specs.Judged.{judged};
+ghost use Rattle.ats_admission_state.specs.Judging.{KeepsOthers, SetsBelow, found_on};
+ghost use Rattle.ats_admission_state.specs.Kept.{AreLeast, AreLeastBeside, KeepsStreams};
+
+use crate::ports::{judge_port, renew_port};
+use crate::routes::Route;
+use crate::sums::judge_sums;
+use ats_admission_shares::PortShares;
+use ats_admission_users::PortUsers;
+use ats_network::Network;
+use ats_tally::{Reason, Tally};
+
+/// What was found against a network along the first ports of a path: with its port, the overload at the lowest port
+/// that has one, and, where none has, the need of residence at the lowest port that has one.
+#[derive(Clone, Copy)]
+struct Found {
+    load: Option<(u32, Reason)>,
+    stay: Option<(u32, Reason)>,
+}
+
+/// Makes the bounds along a path anew, where no certificate is refused for the network.
+pub(crate) fn renew_path(
+    bounds: &mut Vec<u128>,
+    network: &Network,
+    shares: &PortShares,
+    path: &[u32],
+)
+    requires free { reason_of network.now ≡ None }
+    requires ports { All (λ p. p < length network.now.topology.ports) path.now }
+    requires shares { AreSharesOf network.now shares.now }
+    requires beside { AreLeastBeside network.now path.now bounds.old.items }
+    ensures { AreLeast network.now bounds.new.items }
+{
+    for port in path {
+        renew_port(bounds, network, *port, &shares.tallies(network, *port));
+    }
+}
+
+/// Judges a network by its last stream, without which a certificate holds. The users, the shares and the routes are
+/// those of the network without it. The sum of the stream's least bounds, or the reason against the network exactly
+/// where there is one.
+pub(crate) fn judge_stream(
+    bounds: &mut Vec<u128>,
+    network: &Network,
+    streams: &PortUsers,
+    shares: &PortShares,
+    routes: &[Route],
+    stream: u32,
+) -> Result<u128, Reason>
+    requires last { stream + 1 ≡ length network.now.streams }
+    requires free { reason_of (without_at network.now stream) ≡ None }
+    requires keeps { KeepsStreams (without_at network.now stream) streams.now shares.now routes.now }
+    requires beside { AreLeastBeside network.now (stream_at network.now stream).path bounds.old.items }
+    ensures answer { result ≡ judged network.now stream }
+    ensures ok { OnOk result (AreLeast network.now bounds.new.items) }
+    ensures beside { AreLeastBeside network.now (stream_at network.now stream).path bounds.new.items }
+{
+    let path = network.streams()[stream as usize].path();
+    if let Some(reason) = judge_path(bounds, network, shares, stream, path) {
+        return Err(reason);
+    }
+    judge_sums(bounds, network, streams, routes, stream)
+}
+
+// Makes the bounds along the path of the stream with this number anew, unless a class is overloaded there. What is
+// found first at the lowest port: an overload, or else a need of residence over the residence time behind the port.
+fn judge_path(
+    bounds: &mut Vec<u128>,
+    network: &Network,
+    shares: &PortShares,
+    stream: u32,
+    path: &[u32],
+) -> Option<Reason>
+    requires number { stream < length network.now.streams }
+    requires path { path.now ≡ (stream_at network.now stream).path }
+    requires few { length path.now ≤ 16 }
+    requires ports { All (λ p. p < length network.now.topology.ports) path.now }
+    requires shares { AreSharesOf (without_at network.now stream) shares.now }
+    requires beside { AreLeastBeside network.now path.now bounds.old.items }
+    ensures found { result ≡ found_on network.now path.now }
+    ensures none { IfNone result (AreLeast network.now bounds.new.items) }
+    ensures beside { AreLeastBeside network.now path.now bounds.new.items }
+{
+    let mut found = Found {
+        load: None,
+        stay: None,
+    };
+    for (hop, port) in path.iter().enumerate() {
+        let tallies = shares.tallies_with(network, stream, hop as u32);
+        found = judge_next(bounds, network, *port, &tallies, found);
+    }
+    match found.load {
+        Some(lowest) => Some(lowest.1),
+        None => found.stay.map(|lowest| lowest.1),
+    }
+}
+
+// What is found with one port more, whose bounds are made anew, unless a class is overloaded so far.
+fn judge_next(
+    bounds: &mut Vec<u128>,
+    network: &Network,
+    port: u32,
+    tallies: &[Tally; 8],
+    found: Found,
+) -> Found
+    requires port { port < length network.now.topology.ports }
+    requires count { length bounds.old.items ≡ 8 * length network.now.topology.ports }
+    requires tallies { AreClassTallies (senders_at port (senders_of network.now)) tallies.now }
+    ensures load { result.load ≡ lower_of found.load port (found_at (overload network.now) network.now port) }
+    ensures stay { result.load ≡ None
+        → result.stay ≡ lower_of found.stay port (found_at (overstay_at network.now) network.now port) }
+    ensures set { result.load ≡ None → SetsBelow network.now port 8 bounds.old.items bounds.new.items }
+    ensures kept { KeepsOthers port bounds.old.items bounds.new.items }
+{
+    match judge_port(bounds, network, port, tallies) {
+        Ok(stay) => Found {
+            load: found.load,
+            stay: lower_of(found.stay, port, stay),
+        },
+        Err(load) => Found {
+            load: lower_of(found.load, port, Some(load)),
+            stay: found.stay,
+        },
+    }
+}
+
+// Of what was found so far, with its number, and what is found at one number more, that of the lower number.
+fn lower_of(
+    best: Option<(u32, Reason)>,
+    number: u32,
+    found: Option<Reason>,
+) -> Option<(u32, Reason)>
+    ensures { result ≡ lower_of best number found }
+{
+    let Some(reason) = found else { return best };
+    match best {
+        None => Some((number, reason)),
+        Some(lowest) => {
+            if number < lowest.0 {
+                Some((number, reason))
+            } else {
+                Some(lowest)
+            }
+        }
+    }
+}

@@ -1,0 +1,80 @@
+use Rattle.std.proofs.Common.{◌≡◌, ℕ, List, [], Option, Some, None, Result, Ok, Err, refl, sym, ap, subst}
+use Rattle.std.specs.Prelude.{IsSome, IfSome, IfOk, IsErrAnd, IsOk, unwrap_or}
+use Rattle.std.specs.Global.{Vec}
+use Rattle.ats_num.specs.Failure.{◌>>=◌}
+use Rattle.ats_io.specs.Outside.{IfTold}
+use Rattle.ats_command_input.specs.Answer.{Answer, settled}
+use Rattle.ats_command_due.specs.Due.{told_bytes}
+use Rattle.ats_command_input.specs.Outcome.{Gives, IsStopOf, answer_of}
+use Rattle.ats_command_input.specs.declared.outcome.Stop.{Stop}
+use Rattle.ats_command_input.specs.declared.outcome.Stop.TheVariants.{Input, Refused, ReadFailed, NoMemory}
+use Rattle.ats_command_input.specs.declared.status.Status.TheVariants as status
+use Rattle.ats_command_input.proofs.Steps.{stops_all, goes_on, err_is}
+
+some_is : (o : Option (List ℕ)) → IsSome o → o ≡ Some (unwrap_or o [])
+some_is None h = cc
+some_is (Some bytes) h = refl
+
+-- the bytes of a name that are told
+pub told_is : (told : List ℕ → Option (List ℕ)) (name : List ℕ) → IsSome (told name)
+    → told name ≡ Some (told_bytes told name)
+told_is told name h = some_is (told name) h
+
+-- what stops a command settles it
+pub stop_settles : (stop : Stop) (due : Result (List ℕ) Answer) → IsStopOf stop due
+    → IfSome (answer_of (Err stop)) (λ (answer : Answer). answer ≡ settled due)
+stop_settles (Input text) due h = sym (ap settled h)
+stop_settles (Refused text) due h = sym (ap settled h)
+stop_settles ReadFailed due h = tt
+stop_settles NoMemory due h = tt
+
+-- so does its text
+pub text_settles : (text : List ℕ) (due : Result (List ℕ) Answer) → due ≡ Ok text
+    → record { status = status.Done; text = text } ≡ settled due
+text_settles text due h = sym (ap settled h)
+
+-- a step that stops a command settles it
+pub step_settles : {A : Type 0} (result : Result (Vec ℕ) Stop) (stop : Stop) (due : Result A Answer)
+    (next : A → Result (List ℕ) Answer)
+    → result ≡ Err stop → IsStopOf stop due
+    → IfSome (answer_of result) (λ (answer : Answer). answer ≡ settled (due >>= next))
+step_settles result stop due next is stops =
+    subst (λ (r : Result (Vec ℕ) Stop). IfSome (answer_of r) (λ (answer : Answer). answer ≡ settled (due >>= next)))
+    (sym is) (stop_settles stop (due >>= next) (stops_all stop due next stops))
+
+-- what a judgement gives settles a command
+pub result_settles : (result : Result (Vec ℕ) Stop) (due : Result (List ℕ) Answer) → Gives
+    (λ (text : Vec ℕ). text.items) result due → IfSome (answer_of result) (λ (answer : Answer). answer ≡ settled due)
+result_settles (Ok text) due h = text_settles text.items due h
+result_settles (Err stop) due h = stop_settles stop due h
+
+-- where bytes are told under a name, what stops their reading settles the command
+pub file_settles : {A : Type 0} (told : List ℕ → Option (List ℕ)) (file : List ℕ) (result : Result (Vec ℕ) Stop)
+    (stop : Stop) (declared : List ℕ → Result A Answer) (next : A → Result (List ℕ) Answer)
+    → IsErrAnd result (λ e. e ≡ stop) → IfTold (told file) (λ bytes. IsStopOf stop (declared bytes))
+    → IsSome (told file)
+    → IfSome (answer_of result) (λ (answer : Answer). answer ≡ settled (declared (told_bytes told file) >>= next))
+file_settles told file result stop declared next is stops there =
+    step_settles result stop (declared (told_bytes told file)) next (err_is result stop is)
+    (stops (told_bytes told file) (told_is told file there))
+
+-- and where they declare a value, what goes on from it does
+pub file_goes_on : {A : Type 0} (told : List ℕ → Option (List ℕ)) (file : List ℕ) (result : Result (Vec ℕ) Stop)
+    (value : A) (declared : List ℕ → Result A Answer) (next : A → Result (List ℕ) Answer)
+    → IfTold (told file) (λ bytes. declared bytes ≡ Ok value) → IsSome (told file)
+    → Gives (λ (text : Vec ℕ). text.items) result (next value)
+    → IfSome (answer_of result) (λ (answer : Answer). answer ≡ settled (declared (told_bytes told file) >>= next))
+file_goes_on told file result value declared next gives there rest =
+    result_settles result (declared (told_bytes told file) >>= next)
+    (goes_on (λ (text : Vec ℕ). text.items) result (declared (told_bytes told file)) value next
+    (gives (told_bytes told file) (told_is told file there)) rest)
+
+-- what holds of the text that a call gave
+pub text_then : (result : Result (Vec ℕ) Stop) (P Q : List ℕ → Type 0) → IfOk result (λ (text : Vec ℕ). P text.items)
+    → ((text : List ℕ) → P text → Q text) → IfOk result (λ (text : Vec ℕ). Q text.items)
+text_then (Ok text) P Q h f = f text.items h
+text_then (Err stop) P Q h f = tt
+
+-- what is declared is no answer
+pub declared_is_ok : {A : Type 0} (due : Result A Answer) (value : A) → due ≡ Ok value → IsOk due
+declared_is_ok due value h = rw h refl

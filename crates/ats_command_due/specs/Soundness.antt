@@ -1,0 +1,52 @@
+use Rattle.std.specs.Prelude.{◌≡◌, ℕ, List, Option, Ok}
+use Rattle.ats_network.specs.Network.{DeclaredNetwork}
+use Rattle.ats_certificate.specs.declared.row.Row.{Row}
+use Rattle.ats_soundness_law.specs.Sound.{IsSound}
+use Rattle.ats_checker.specs.InTime.{FramesAreInTime}
+use Rattle.ats_verdict_text.specs.Text.{accepted_text}
+use Rattle.ats_io.specs.Outside.{appended}
+use Rattle.ats_command_input.specs.Command.{Command, Shape, Show, Bound, Explain, Check, Replay, Unknown, Capture}
+use Rattle.ats_command_input.specs.Command.{Conform}
+use Rattle.ats_command_input.specs.Command.{Admit, Generate}
+use Rattle.ats_command_due.specs.Due.{IsTold, told_bytes}
+use Rattle.ats_command_input.specs.Input.{network_in, rows_in}
+
+-- a text gives the bounds of rows and their sums; the bounds are sound, and by them each frame of a talker that keeps
+-- its buckets arrives within the sum and within the deadline
+pub record IsSoundText (network : DeclaredNetwork) (rows : List Row) (text : List ℕ) : Type 0 where
+  pub sound : IsSound network rows
+  pub in_time : FramesAreInTime network rows
+  pub written : text ≡ accepted_text network rows
+
+-- a file of these bytes declares rows for a network, of which the text is such a one
+abbrev pub IsSoundFile : DeclaredNetwork → List ℕ → List ℕ → List ℕ → Type 0
+IsSoundFile network certificate bytes text =
+    (rows : List Row) × (rows_in network.topology certificate bytes ≡ Ok rows) × IsSoundText network rows text
+
+-- two files of these bytes declare this network and these rows, of which the text is such a one
+pub record AreSound (net certificate net_bytes certificate_bytes text : List ℕ) (network : DeclaredNetwork)
+    (rows : List Row) : Type 0 where
+  pub network_declared : network_in net net_bytes ≡ Ok network
+  pub rows_declared : rows_in network.topology certificate certificate_bytes ≡ Ok rows
+  pub is_sound : IsSoundText network rows text
+
+-- where a certificate is checked, and the files tell their bytes, they declare a network and rows, of which the text is
+-- such a one
+abbrev pub IsSoundCheck : (List ℕ → Option (List ℕ)) → Command → List ℕ → Type 0
+IsSoundCheck told (Check net certificate) text =
+    IsTold told (Check net certificate) → (network : DeclaredNetwork) × (rows : List Row)
+    × AreSound net certificate (told_bytes told net) (told_bytes told certificate) text network rows
+IsSoundCheck told (Shape file) text = Unit {0}
+IsSoundCheck told (Show net) text = Unit {0}
+IsSoundCheck told (Bound net) text = Unit {0}
+IsSoundCheck told (Explain net) text = Unit {0}
+IsSoundCheck told (Conform net schedule) text = Unit {0}
+IsSoundCheck told (Admit net requests) text = Unit {0}
+IsSoundCheck told (Replay net schedule order) text = Unit {0}
+IsSoundCheck told (Capture net station file order) text = Unit {0}
+IsSoundCheck told (Generate net seed count) text = Unit {0}
+IsSoundCheck told Unknown text = Unit {0}
+
+-- a text was printed, whole; where a certificate is checked, it is such a one
+abbrev pub PrintsSoundly : (List ℕ → Option (List ℕ)) → Command → Option (List ℕ) → Option (List ℕ) → Type 0
+PrintsSoundly told command old new = (text : List ℕ) × (new ≡ appended old text) × IsSoundCheck told command text

@@ -1,0 +1,88 @@
+use Rattle.std.specs.Prelude.{ℕ, List, [], ◌∷◌, codes, Option, Some, None, if◌then◌else◌}
+use Rattle.std.specs.Str.{bytes_eq}
+use Rattle.ats_command_input.specs.Making.{count_named, seed_named}
+use Rattle.ats_command_input.specs.Order.{order_named}
+use Rattle.ats_command_input.specs.declared.order.Order.{Order}
+
+-- a line of the command table, with its words; or words that are not in the table
+pub data Command : Type 0 where
+  Shape : List ℕ → Command
+  Show : List ℕ → Command
+  Bound : List ℕ → Command
+  Explain : List ℕ → Command
+  Check : List ℕ → List ℕ → Command
+  Conform : List ℕ → List ℕ → Command
+  Admit : List ℕ → List ℕ → Command
+  Replay : List ℕ → List ℕ → Order → Command
+  Capture : List ℕ → List ℕ → List ℕ → Order → Command
+  Generate : List ℕ → ℕ → ℕ → Command
+  Unknown : Command
+
+-- the command of a verb and a file
+abbrev pub command_on : List ℕ → List ℕ → Command
+command_on verb file =
+    if bytes_eq verb (codes "shape") then Shape file
+    else if bytes_eq verb (codes "show") then Show file
+    else if bytes_eq verb (codes "bound") then Bound file
+    else if bytes_eq verb (codes "explain") then Explain file
+    else Unknown
+
+-- the command of a verb and two files
+abbrev pub command_on_two : List ℕ → List ℕ → List ℕ → Command
+command_on_two verb file second =
+    if bytes_eq verb (codes "check") then Check file second
+    else if bytes_eq verb (codes "conform") then Conform file second
+    else if bytes_eq verb (codes "admit") then Admit file second
+    else Unknown
+
+-- the replay of a schedule in an order, where there is one
+abbrev pub replay_in : List ℕ → List ℕ → Option Order → Command
+replay_in net schedule None = Unknown
+replay_in net schedule (Some order) = Replay net schedule order
+
+-- the making of so many frames from a seed, where there are both
+abbrev pub generate_in : List ℕ → Option ℕ → Option ℕ → Command
+generate_in net None count = Unknown
+generate_in net (Some seed) None = Unknown
+generate_in net (Some seed) (Some count) = Generate net seed count
+
+-- the command of a verb, a file, a file or a word, and a word
+abbrev pub command_on_three : List ℕ → List ℕ → List ℕ → List ℕ → Command
+command_on_three verb file second word =
+    if bytes_eq verb (codes "replay") then replay_in file second (order_named word)
+    else if bytes_eq verb (codes "generate") then generate_in file (seed_named second) (count_named word)
+    else Unknown
+
+-- the replay of a capture at a station in an order, where there is one
+abbrev pub capture_in : List ℕ → List ℕ → List ℕ → Option Order → Command
+capture_in net station file None = Unknown
+capture_in net station file (Some order) = Capture net station file order
+
+-- the command of a verb, a file, a word, a file and a word
+abbrev pub command_on_four : List ℕ → List ℕ → List ℕ → List ℕ → List ℕ → Command
+command_on_four verb file second third word =
+    if bytes_eq verb (codes "capture") then capture_in file second third (order_named word) else Unknown
+
+-- the command that words name
+abbrev pub command_of : List (List ℕ) → Command
+command_of [] = Unknown
+command_of (verb ∷ []) = Unknown
+command_of (verb ∷ file ∷ []) = command_on verb file
+command_of (verb ∷ file ∷ second ∷ []) = command_on_two verb file second
+command_of (verb ∷ file ∷ second ∷ word ∷ []) = command_on_three verb file second word
+command_of (verb ∷ file ∷ second ∷ third ∷ word ∷ []) = command_on_four verb file second third word
+command_of (verb ∷ file ∷ second ∷ third ∷ word ∷ next ∷ words) = Unknown
+
+-- the words of a command that name files, from left to right
+abbrev pub file_words : Command → List (List ℕ)
+file_words (Shape file) = file ∷ []
+file_words (Show net) = net ∷ []
+file_words (Bound net) = net ∷ []
+file_words (Explain net) = net ∷ []
+file_words (Check net certificate) = net ∷ certificate ∷ []
+file_words (Conform net schedule) = net ∷ schedule ∷ []
+file_words (Admit net requests) = net ∷ requests ∷ []
+file_words (Replay net schedule order) = net ∷ schedule ∷ []
+file_words (Capture net station file order) = net ∷ file ∷ []
+file_words (Generate net seed count) = net ∷ []
+file_words Unknown = []

@@ -1,2 +1,0 @@
-//! What the steps of `ats_steps` keep: lemmas over plain lists, by which the engine is proved.
-#![tactic(auto)]

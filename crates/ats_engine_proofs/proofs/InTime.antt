@@ -1,0 +1,284 @@
+-- All that a finished run tells was before the time that no run reaches.
+use Rattle.std.proofs.Common.{◌≡◌, ℕ, ◌+◌, ◌<◌, ◌≤◌, List, [], ◌∷◌, map, filter, length, get_or, All, refl}
+use Rattle.std.proofs.Common.{subst, sym, arith, Option, Some, None}
+use Rattle.std.specs.Prelude.{◌==◌, IfSome}
+use Rattle.std.proofs.lemmas.Bool.{eq-eqb}
+use Rattle.std.proofs.lemmas.List.Elements.{All-nil, All-cons, All-head, All-tail}
+use Rattle.ats_facts.proofs.Lists.{all_left, all_right, all_unmapped, All-from_filter}
+use Rattle.ats_num.specs.declared.time.Ps.{Ps}
+use Rattle.ats_num.specs.declared.time.TheConstants.{END}
+use Rattle.ats_topology.specs.Port.{port_at, no_port}
+use Rattle.ats_topology.specs.Topology.{IsPort}
+use Rattle.ats_topology.proofs.Rules.{ports_are_lawful}
+use Rattle.ats_network.specs.Network.{DeclaredNetwork, IsNetwork}
+use Rattle.ats_network.specs.Class.{class_at}
+use Rattle.ats_network.specs.Sender.{Sender}
+use Rattle.ats_network.specs.Senders.{IsSender, sender_at}
+use Rattle.ats_network.proofs.SenderLemmas.{sender_keeps}
+use Rattle.ats_group.specs.declared.verdict.Verdict.{Verdict}
+use Rattle.ats_group.specs.declared.verdict.Verdict.TheVariants.{Eligible, Late, Size}
+use Rattle.ats_port_rule.specs.PortRule.{KeepsPortRule}
+use Rattle.ats_port_rule.specs.Transmission.{Transmission}
+use Rattle.ats_trace.specs.Journey.{Travel, IsJourney, IsReleased, IsSentOrEnds, IsWay}
+use Rattle.ats_trace.specs.Projections.{Hop, Crossing, transmission_by, transmission_of, hop_at, hops_along}
+use Rattle.ats_trace.specs.Projections.{crossing_at, crossings_along, journey_hops, journey_crossings, hops_from}
+use Rattle.ats_trace.specs.Projections.{crossings_from, sent_by}
+use Rattle.ats_trace.specs.Run.{IsLegal}
+use Rattle.ats_trace.specs.declared.journey.Ending.{Ending}
+use Rattle.ats_trace.specs.declared.journey.Ending.TheVariants.{Sink, Discard}
+use Rattle.ats_trace.specs.declared.journey.HopRecord.{HopRecord}
+use Rattle.ats_trace.specs.declared.journey.Release.{Release}
+use Rattle.ats_events.specs.declared.moment.Moment.{Moment}
+use Rattle.ats_run_records.specs.Progress.{finished}
+use Rattle.ats_engine_steps.specs.Course.{Course, travels}
+use Rattle.ats_engine_steps.specs.Invariant.{Holds}
+use Rattle.ats_engine_steps.specs.declared.event.Event.{Event}
+use Rattle.ats_engine_proofs.specs.InTime.{IsEligibleBefore, IsSentBefore, IsHopBefore, IsEndBefore, IsJourneyBefore}
+use Rattle.ats_engine_proofs.specs.InTime.{IsRunInTime}
+use Rattle.ats_engine_proofs.proofs.Conclusion.{ended-run, run-finished}
+
+-- a transmission starts when the frame is eligible or later, and ends when it starts or later
+record IsLater (x : Transmission) : Type 0 where
+  waits : x.eligible ≤ x.start
+  takes : x.start ≤ x.end
+
+-- so it does at each of these ports
+abbrev IsLaterAt : ℕ → Hop → Type 0
+IsLaterAt ports h = h.port < ports → IsLater h.sent
+
+-- a frame was sent, and arrived behind the port, before this time
+record IsCrossedBefore (time : ℕ) (x : Crossing) : Type 0 where
+  end : x.sent.end < time
+  arrival : x.arrival < time
+
+-- so it did behind each of these ports
+abbrev IsCrossedAt : ℕ → ℕ → Crossing → Type 0
+IsCrossedAt time ports x = x.port < ports → IsCrossedBefore time x
+
+-- a frame comes to the rest of its way before this time
+abbrev ComesBefore : ℕ → List HopRecord → Ending → Type 0
+ComesBefore time (hop ∷ hops) ending = hop.arrival.0 < time
+ComesBefore time [] ending = IsEndBefore time ending
+
+-- a hop record with this verdict and transmission tells times before this one, and the frame comes further before it
+record IsHopDone (time : ℕ) (verdict : Verdict) (given : Option (Ps × Ps)) (hops : List HopRecord) (ending : Ending)
+    : Type 0 where
+  eligible : IsEligibleBefore time verdict
+  sent : IfSome given (IsSentBefore time)
+  comes : ComesBefore time hops ending
+
+-- all that is left of a way is before this time
+record IsWayBefore (time : ℕ) (records : List HopRecord) (end : Ending) : Type 0 where
+  hops : All (IsHopBefore time) records
+  ending : IsEndBefore time end
+
+-- nothing comes of a frame that was discarded
+none-comes : (time : ℕ) (hops : List HopRecord) (ending : Ending) → hops ≡ [] → ending ≡ Discard
+    → ComesBefore time hops ending
+none-comes time hops ending none is = rw (none, is) tt
+
+-- and nothing is left of its way
+ended-before : (time : ℕ) (hops : List HopRecord) (ending : Ending) → hops ≡ [] → ending ≡ Discard
+    → IsWayBefore time hops ending
+ended-before time hops ending none is =
+    let nothing : List HopRecord = [] in
+    let over : IsWayBefore time nothing Discard = record { hops = All-nil (IsHopBefore time); ending = tt } in
+    rw (none, is) over
+
+-- a frame that is released before this time comes to its first port before it
+comes-released : (time : ℕ) (release : Release) (hops : List HopRecord) (ending : Ending) → release.at.0 < time
+    → IsReleased release hops → ComesBefore time hops ending
+comes-released time release [] ending before released = absurd released
+comes-released time release (hop ∷ hops) ending before released =
+    subst (λ (at : Ps). at.0 < time) (sym released.0) before
+
+-- a hop record of a frame that was sent and has crossed the port, or was discarded, tells times before this one, and
+-- the frame comes further before it
+hop-done : (time ports frame came p : ℕ) (release : Release) (class : ℕ) (path : List ℕ) (verdict : Verdict)
+    (sent : Option (Ps × Ps)) (hops : List HopRecord) (ending : Ending) → p < ports
+    → IsSentOrEnds (IsWay path hops ending) verdict sent hops ending
+    → All (IsLaterAt ports) (hop_at p (transmission_by frame release class verdict sent))
+    → All (IsCrossedAt time ports)
+    (crossing_at release.octets came p (transmission_by frame release class verdict sent) hops ending)
+    → IsHopDone time verdict sent hops ending
+hop-done time ports frame came p release class path (Eligible e) (Some times) (next ∷ hops) ending within way later
+    crossed =
+    let is = All-head (IsLaterAt ports) _ [] later within in
+    let has = All-head (IsCrossedAt time ports) _ [] crossed within in
+    record {
+      eligible = omega (arith, is.waits, is.takes, has.end);
+      sent = record { start = omega (arith, is.takes, has.end); end = has.end };
+      comes = has.arrival;
+    }
+hop-done time ports frame came p release class path (Eligible e) (Some times) [] (Sink at) within way later crossed =
+    let is = All-head (IsLaterAt ports) _ [] later within in
+    let has = All-head (IsCrossedAt time ports) _ [] crossed within in
+    record {
+      eligible = omega (arith, is.waits, is.takes, has.end);
+      sent = record { start = omega (arith, is.takes, has.end); end = has.end };
+      comes = has.arrival;
+    }
+hop-done time ports frame came p release class [] (Eligible e) (Some times) [] Discard within way later crossed =
+    absurd way
+hop-done time ports frame came p release class (q ∷ path) (Eligible e) (Some times) [] Discard within way later
+    crossed = absurd way
+hop-done time ports frame came p release class path (Eligible e) None hops ending within way later crossed =
+    absurd way
+hop-done time ports frame came p release class path (Late e) (Some times) hops ending within way later crossed =
+    absurd way
+hop-done time ports frame came p release class path (Late e) None hops ending within way later crossed =
+    record { eligible = tt; sent = tt; comes = none-comes time hops ending way.0 way.1 }
+hop-done time ports frame came p release class path Size (Some times) hops ending within way later crossed =
+    absurd way
+hop-done time ports frame came p release class path Size None hops ending within way later crossed =
+    record { eligible = tt; sent = tt; comes = none-comes time hops ending way.0 way.1 }
+
+-- what is left behind a hop record is before this time where it is so of a way that goes on there
+onward-before : (time : ℕ) (path : List ℕ) (hops : List HopRecord) (ending : Ending) (verdict : Verdict)
+    (given : Option (Ps × Ps)) → (IsWay path hops ending → IsWayBefore time hops ending)
+    → IsSentOrEnds (IsWay path hops ending) verdict given hops ending → IsWayBefore time hops ending
+onward-before time path hops ending (Eligible e) (Some times) further way = further way
+onward-before time path hops ending (Eligible e) None further way = absurd way
+onward-before time path hops ending (Late e) (Some times) further way = absurd way
+onward-before time path hops ending (Late e) None further way = ended-before time hops ending way.0 way.1
+onward-before time path hops ending Size (Some times) further way = absurd way
+onward-before time path hops ending Size None further way = ended-before time hops ending way.0 way.1
+
+-- so all that is left of a way is before this time where the frame comes to it before this time
+way-before : (time ports frame : ℕ) (release : Release) (sender : Sender) (path : List ℕ) (hops : List HopRecord)
+    (ending : Ending) → All (λ (p : ℕ). p < ports) path → IsWay path hops ending
+    → All (IsLaterAt ports) (hops_along frame release sender path hops)
+    → All (IsCrossedAt time ports) (crossings_along frame release sender path hops ending)
+    → ComesBefore time hops ending → IsWayBefore time hops ending
+way-before time ports frame release sender [] [] ending within way later crossed comes =
+    record { hops = All-nil (IsHopBefore time); ending = comes }
+way-before time ports frame release sender [] (hop ∷ hops) ending within way later crossed comes = absurd way
+way-before time ports frame release sender (p ∷ path) [] ending within way later crossed comes = absurd way
+way-before time ports frame release sender (p ∷ path) (hop ∷ hops) ending within way later crossed comes =
+    let sent : List Hop = hop_at p (transmission_of frame release (class_at sender p) hop) in
+    let across : List Crossing = crossing_at release.octets hop.arrival.0 p
+    (transmission_of frame release (class_at sender p) hop) hops ending in
+    let done = hop-done time ports frame hop.arrival.0 p release (class_at sender p) path hop.verdict hop.sent hops
+    ending (All-head (λ (p : ℕ). p < ports) p path within) way
+    (all_left (IsLaterAt ports) sent (hops_along frame release sender path hops) later)
+    (all_left (IsCrossedAt time ports) across (crossings_along frame release sender path hops ending) crossed) in
+    let rest : IsWayBefore time hops ending = onward-before time path hops ending hop.verdict hop.sent
+    (λ onward. way-before time ports frame release sender path hops ending
+    (All-tail (λ (p : ℕ). p < ports) p path within) onward
+    (all_right (IsLaterAt ports) sent (hops_along frame release sender path hops) later)
+    (all_right (IsCrossedAt time ports) across (crossings_along frame release sender path hops ending) crossed)
+    done.comes) way in
+    record {
+      hops = All-cons (IsHopBefore time) hop hops
+          (record { arrival = comes; eligible = done.eligible; sent = done.sent }) rest.hops;
+      ending = rest.ending;
+    }
+
+-- a frame that was sent at its release was released before this time
+release-before : (time ports frame : ℕ) (release : Release) (sender : Sender) (path : List ℕ) (hops : List HopRecord)
+    (ending : Ending) → All (λ (p : ℕ). p < ports) path → IsWay path hops ending
+    → All (IsLaterAt ports) (hops_along frame release sender path hops)
+    → All (IsCrossedAt time ports) (crossings_along frame release sender path hops ending)
+    → IsReleased release hops → release.at.0 < time
+release-before time ports frame release sender path [] ending within way later crossed released = absurd released
+release-before time ports frame release sender [] (hop ∷ hops) ending within way later crossed released = absurd way
+release-before time ports frame release sender (p ∷ path) (hop ∷ hops) ending within way later crossed released =
+    let sent : List Hop = hop_at p (transmission_of frame release (class_at sender p) hop) in
+    let across : List Crossing = crossing_at release.octets hop.arrival.0 p
+    (transmission_of frame release (class_at sender p) hop) hops ending in
+    let done = hop-done time ports frame hop.arrival.0 p release (class_at sender p) path hop.verdict hop.sent hops
+    ending (All-head (λ (p : ℕ). p < ports) p path within) way
+    (all_left (IsLaterAt ports) sent (hops_along frame release sender path hops) later)
+    (all_left (IsCrossedAt time ports) across (crossings_along frame release sender path hops ending) crossed) in
+    subst (IsEligibleBefore time) released.1 done.eligible
+
+-- so a journey is before it
+journey-before : (network : DeclaredNetwork) (time n : ℕ) (j : Travel) → IsNetwork network → IsJourney network j
+    → All (IsLaterAt (length network.topology.ports)) (journey_hops network n j)
+    → All (IsCrossedAt time (length network.topology.ports)) (journey_crossings network n j) → IsJourneyBefore time j
+journey-before network time n j rules is later crossed =
+    let s : Sender = sender_at network j.release.sender in
+    let ports : ℕ = length network.topology.ports in
+    let keeps : IsSender network.topology s = sender_keeps network j.release.sender rules is.sender in
+    let release : j.release.at.0 < time = release-before time ports n j.release s s.path j.hops j.ending keeps.ports
+    is.way later crossed is.released in
+    let way = way-before time ports n j.release s s.path j.hops j.ending keeps.ports is.way later crossed
+    (comes-released time j.release j.hops j.ending release is.released) in
+    record { release = release; hops = way.hops; ending = way.ending }
+
+-- and each journey of a run
+run-before : (network : DeclaredNetwork) (time n : ℕ) (run : List Travel) → IsNetwork network
+    → All (IsJourney network) run
+    → All (IsLaterAt (length network.topology.ports)) (hops_from network n run)
+    → All (IsCrossedAt time (length network.topology.ports)) (crossings_from network n run)
+    → All (IsJourneyBefore time) run
+run-before network time n [] rules journeys later crossed = All-nil (IsJourneyBefore time)
+run-before network time n (j ∷ run) rules journeys later crossed =
+    let ports : ℕ = length network.topology.ports in
+    All-cons (IsJourneyBefore time) j run
+    (journey-before network time n j rules (All-head (IsJourney network) j run journeys)
+    (all_left (IsLaterAt ports) (journey_hops network n j) (hops_from network (n + 1) run) later)
+    (all_left (IsCrossedAt time ports) (journey_crossings network n j) (crossings_from network (n + 1) run) crossed))
+    (run-before network time (n + 1) run rules (All-tail (IsJourney network) j run journeys)
+    (all_right (IsLaterAt ports) (journey_hops network n j) (hops_from network (n + 1) run) later)
+    (all_right (IsCrossedAt time ports) (journey_crossings network n j) (crossings_from network (n + 1) run) crossed))
+
+-- what holds of those of each port holds of all that are of a port
+each-of-port : {X : Type 0} (port : X → ℕ) (P : X → Type 0) (ports : ℕ) (xs : List X)
+    → ((p : ℕ) → p < ports → All P (filter (λ (x : X). port x == p) xs)) → All (λ (x : X). port x < ports → P x) xs
+each-of-port {X} port P ports xs each k d h within =
+    let one : X = get_or xs k d in
+    All-from_filter (λ (x : X). port x == port one) P xs (each (port one) within) k d h
+    (eq-eqb (port one) (port one) refl)
+
+-- the transmissions of a port that keeps the port rule start when their frames are eligible or later, and end later
+each-later : (network : DeclaredNetwork) (run : List Travel)
+    → ((port : ℕ) → port < length network.topology.ports
+    → KeepsPortRule (port_at network.topology.ports port).ps_per_bit (sent_by network run port))
+    → All (IsLaterAt (length network.topology.ports)) (hops_from network 0 run)
+each-later network run rule =
+    let hops : List Hop = hops_from network 0 run in
+    let ports : ℕ = length network.topology.ports in
+    each-of-port (λ (h : Hop). h.port) (λ (h : Hop). IsLater h.sent) ports hops (λ p within.
+    all_unmapped IsLater (λ (h : Hop). h.sent) (filter (λ (h : Hop). h.port == p) hops)
+    (λ k d h. record {
+      waits = (rule p within).waits k d h;
+      takes = omega (arith, (rule p within).takes k d h);
+    }))
+
+-- the run so far crosses each port before the end of time
+each-crossed : {T : Type 0} {key : T → ℕ → ℕ → ℕ} {wait : ℕ → ℕ → ℕ} {network : DeclaredNetwork}
+    {releases : List Release} {course : Course T} {entries : List (Moment × Event)}
+    → Holds key wait network releases course entries
+    → All (IsCrossedAt END (length network.topology.ports)) (crossings_from network 0 (travels course))
+each-crossed {T} {key} {wait} {network} {releases} {course} {entries} holds =
+    let crossings : List Crossing = crossings_from network 0 (travels course) in
+    let ports : ℕ = length network.topology.ports in
+    each-of-port (λ (x : Crossing). x.port) (IsCrossedBefore END) ports crossings (λ p within k d h.
+    let link : IsPort (length network.topology.nodes) (port_at network.topology.ports p) =
+    (ports_are_lawful network.topology holds.rules.topology).each p no_port within in
+    let last = holds.bounds.last in
+    let ends = (holds.paces p within).ended k d h in
+    let arrives = (holds.paces p within).rule.within k d h in
+    record {
+      end = omega (arith, ends, last);
+      arrival = omega (arith, ends, arrives.latest, link.latency, last);
+    })
+
+-- where it is legal, all that it tells was before the end of time
+run-in-time : {T : Type 0} {key : T → ℕ → ℕ → ℕ} {wait : ℕ → ℕ → ℕ} {network : DeclaredNetwork}
+    {releases : List Release} {course : Course T} {entries : List (Moment × Event)}
+    → Holds key wait network releases course entries → IsLegal network (travels course) → IsRunInTime (travels course)
+run-in-time {T} {key} {wait} {network} {releases} {course} holds legal =
+    run-before network END 0 (travels course) holds.rules legal.journeys
+    (each-later network (travels course) legal.ports) (each-crossed holds)
+
+-- so where nothing is to happen any more, all that the run tells was
+pub ended-in-time : {T : Type 0} {key : T → ℕ → ℕ → ℕ} {wait : ℕ → ℕ → ℕ} {network : DeclaredNetwork}
+    {releases : List Release} {course : Course T} → Holds key wait network releases course []
+    → IsRunInTime (map finished course.records)
+ended-in-time {T} {key} {wait} {network} {releases} {course} holds =
+    let same : travels course ≡ map finished course.records = run-finished holds in
+    let legal : IsLegal network (travels course) =
+    subst (IsLegal network) (sym same) (ended-run holds).1.legal in
+    subst IsRunInTime same (run-in-time holds legal)

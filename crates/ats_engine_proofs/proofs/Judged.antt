@@ -1,0 +1,204 @@
+-- What one more frame does to a group: by the numbers of members and by the numbers of senders it is the same step.
+use Rattle.std.proofs.Common.{◌≡◌, ◌≢◌, ℕ, ◌+◌, ◌-◌, ◌*◌, ◌/◌, ◌<◌, ◌≤◌, List, [], ◌∷◌, ◌++◌, length}
+use Rattle.std.proofs.Common.{get_or, set, AllPairs, sym, ap, ◌∙◌, subst, refl, inl, inr, arith}
+use Rattle.std.specs.Prelude.{ℤ, pos, ◌==◌, if◌then◌else◌}
+use Rattle.std.proofs.lemmas.Bool.{cases_eq, cases_order, cond-true, cond-false, eq-eqb, ne_eqb}
+use Rattle.std.proofs.lemmas.List.{get_or-set_same, get_or-set_other}
+use Rattle.std.proofs.lemmas.List.FromFn.{get_or-map-range_with_len}
+use Rattle.std.proofs.lemmas.Nat.{div-mul-add}
+use Rattle.ats_num.specs.declared.time.Ps.{Ps}
+use Rattle.ats_network.specs.Class.{class_at}
+use Rattle.ats_network.specs.Network.{DeclaredNetwork}
+use Rattle.ats_network.specs.Senders.{sender_at}
+use Rattle.ats_group.specs.Group.{State, Offer, judged, after, next, verdicts_of, state_after, verdict_on, empty_once}
+use Rattle.ats_group.specs.GroupsState.{GroupsState, member_at, time_at, empty_at, group_of, declared_of}
+use Rattle.ats_group.specs.GroupsState.{residence_of, verdict_of, groups_after, no_member}
+use Rattle.ats_streams.specs.declared.traffic.Declared.{Declared}
+use Rattle.ats_group.specs.declared.member.Member.{Member}
+use Rattle.ats_group.specs.declared.verdict.Verdict.{Verdict}
+use Rattle.ats_group.specs.declared.verdict.Verdict.TheVariants.{Eligible, Late, Size}
+use Rattle.ats_schedulers.specs.Schedulers as schedulers
+use Rattle.ats_schedulers.specs.Schedulers.{IsHop, group_behind, member_behind, residences_of, scheduler_of}
+use Rattle.ats_schedulers.proofs.Places.{scheduler_within, scheduler_there, schedulers_are_apart}
+use Rattle.ats_trace.specs.Eligibility.{declared_by, residence_of_groups}
+use Rattle.ats_engine_steps.specs.Judging.{AreGroupsOf, IsStateOf}
+
+-- the verdicts on frames and one more are the verdicts on them, and that on this one
+pub verdicts-more : (declared : ℕ → Declared) (residence : ℕ) (state : State) (offers : List Offer) (offer : Offer)
+    → verdicts_of declared residence state (offers ++ offer ∷ []) ≡ verdicts_of declared residence state offers
+    ++ judged declared residence (state_after declared residence state offers) offer ∷ []
+verdicts-more declared residence state [] offer = refl
+verdicts-more declared residence state (o ∷ offers) offer =
+    ap (λ (vs : List Verdict). judged declared residence state o ∷ vs)
+    (verdicts-more declared residence (next declared residence state o) offers offer)
+
+-- and the state then is a step further
+pub state-more : (declared : ℕ → Declared) (residence : ℕ) (state : State) (offers : List Offer) (offer : Offer)
+    → state_after declared residence state (offers ++ offer ∷ [])
+    ≡ next declared residence (state_after declared residence state offers) offer
+state-more declared residence state [] offer = refl
+state-more declared residence state (o ∷ offers) offer =
+    state-more declared residence (next declared residence state o) offers offer
+
+-- the groups behind one port or another, for these classes, are different
+pub groups_apart : (port other class c : ℕ) → class ≤ 7 → c ≤ 7 → group_behind port class ≡ group_behind other c
+    → (port ≡ other) × (class ≡ c)
+groups_apart port other class c h k e =
+    let ports : port ≡ other = omega (arith, h, k, e) in
+    (ports, omega (arith, e, ports))
+
+-- the residence time of a group behind a port is that of the port
+residence_behind : (network : DeclaredNetwork) (port class : ℕ) → port < length network.topology.ports → class ≤ 7
+    → get_or (residences_of network) (group_behind port class) 0 ≡ residence_of_groups network port
+residence_behind network port class below few =
+    let within : group_behind port class < 8 * length network.topology.ports = omega (arith, below, few) in
+    let whole : (8 * port + class) / 8 ≡ port =
+    ap (λ (n : ℕ). n / 8) (omega arith) ∙ div-mul-add port 8 class (omega (arith, few)) in
+    get_or-map-range_with_len (schedulers.residence_of network) 0 (8 * length network.topology.ports)
+    (group_behind port class) (group_behind port class) 0 within (omega arith)
+    ∙ ap (residence_of_groups network) whole
+
+-- the scheduler that a stream's frame meets before it comes to a hop, behind this port, for its class there
+pub record IsScheduler (network : DeclaredNetwork) (stream hop port class : ℕ) : Type 0 where
+  pub is_hop : IsHop network stream hop
+  pub behind : get_or (sender_at network stream).path (hop - 1) 0 ≡ port
+  pub in_class : class_at (sender_at network stream) port ≡ class
+  pub few : class ≤ 7
+
+-- its member, by its place
+pub member-is : (network : DeclaredNetwork) (groups : GroupsState) (stream hop port class : ℕ)
+    → AreGroupsOf network groups → IsScheduler network stream hop port class
+    → member_at groups.members (scheduler_of network stream hop) ≡ member_behind (sender_at network stream) port
+member-is network groups stream hop port class are is =
+    ap (λ (ms : List Member). member_at ms (scheduler_of network stream hop)) are.members
+    ∙ scheduler_there network stream hop is.is_hop
+    ∙ ap (member_behind (sender_at network stream)) is.behind
+
+-- its group is that behind the port
+pub group-is : (network : DeclaredNetwork) (groups : GroupsState) (stream hop port class : ℕ)
+    → AreGroupsOf network groups → IsScheduler network stream hop port class
+    → group_of groups (scheduler_of network stream hop) ≡ group_behind port class
+group-is network groups stream hop port class are is =
+    ap (λ (m : Member). m.group) (member-is network groups stream hop port class are is)
+    ∙ ap (group_behind port) is.in_class
+
+-- so it is judged as by the fold over senders
+pub verdict-is : (network : DeclaredNetwork) (groups : GroupsState) (stream hop port class : ℕ) (state : State)
+    (arrival octets : ℕ) → AreGroupsOf network groups → IsScheduler network stream hop port class
+    → port < length network.topology.ports → IsStateOf network groups port class state
+    → verdict_of groups (scheduler_of network stream hop) arrival octets
+    ≡ judged (declared_by network) (residence_of_groups network port) state
+    (record { member = stream; arrival = arrival; octets = octets })
+verdict-is network groups stream hop port class state arrival octets are is below kept =
+    let member : ℕ = scheduler_of network stream hop in
+    let declared : Declared = declared_by network stream in
+    let on : ℕ → ℕ → ℤ → Verdict = λ (r t : ℕ) (b : ℤ). verdict_on declared r t b arrival octets in
+    let residence = ap (λ (rs : List ℕ). get_or rs (group_behind port class) 0) are.residences
+    ∙ residence_behind network port class below is.few in
+    ap (λ (m : Member). verdict_on m.declared (residence_of groups m.group) (time_at groups.times m.group)
+    (empty_at groups.empties member) arrival octets) (member-is network groups stream hop port class are is)
+    ∙ ap (λ (c : ℕ). on (residence_of groups (group_behind port c)) (time_at groups.times (group_behind port c))
+    (empty_at groups.empties member)) is.in_class
+    ∙ ap (λ (r : ℕ). on r (time_at groups.times (group_behind port class)) (empty_at groups.empties member)) residence
+    ∙ ap (λ (t : ℕ). on (residence_of_groups network port) t (empty_at groups.empties member)) kept.time
+    ∙ ap (on (residence_of_groups network port) state.time) (kept.empties stream hop is.is_hop is.behind is.in_class)
+
+-- a path has a port once, so a stream has one scheduler behind it
+pub one-scheduler : (network : DeclaredNetwork) (stream hop next port class c : ℕ)
+    → AllPairs (λ p q. p ≢ q) (sender_at network stream).path → IsScheduler network stream hop port class
+    → IsScheduler network stream next port c → hop ≡ next
+one-scheduler network stream hop next port class c apart is other =
+    elim (cases_order (hop - 1) (next - 1)) as (λ _. hop ≡ next) [
+      | inl e ↦ omega (arith, e, is.is_hop.later, other.is_hop.later)
+      | inr r ↦ elim r as (λ _. hop ≡ next) [
+        | inl before ↦ absurd (apart (hop - 1) (next - 1) 0 before
+            (omega (arith, other.is_hop.within, other.is_hop.later)) (is.behind ∙ sym other.behind))
+        | inr after ↦ absurd (apart (next - 1) (hop - 1) 0 after
+            (omega (arith, is.is_hop.within, is.is_hop.later)) (other.behind ∙ sym is.behind))
+      ]
+    ]
+
+-- what the group of a verdict keeps then: a step further
+pub state-own : (network : DeclaredNetwork) (groups : GroupsState) (stream hop port class : ℕ) (state : State)
+    (arrival octets : ℕ) (v : Verdict) → AllPairs (λ p q. p ≢ q) (sender_at network stream).path
+    → AreGroupsOf network groups → IsScheduler network stream hop port class
+    → IsStateOf network groups port class state
+    → IsStateOf network (groups_after groups (scheduler_of network stream hop) octets v) port class
+    (after (declared_by network) state (record { member = stream; arrival = arrival; octets = octets }) v)
+state-own network groups stream hop port class state arrival octets (Late e) apart are is kept =
+    record { time = kept.time; empties = kept.empties }
+state-own network groups stream hop port class state arrival octets Size apart are is kept =
+    record { time = kept.time; empties = kept.empties }
+state-own network groups stream hop port class state arrival octets (Eligible e) apart are is kept =
+    let member : ℕ = scheduler_of network stream hop in
+    let group = group-is network groups stream hop port class are is in
+    let there : member < length groups.members =
+    subst (λ (ms : List Member). member < length ms) (sym are.members)
+    (scheduler_within network stream hop is.is_hop) in
+    let grouped : group_of groups member < length groups.times =
+    omega (arith, are.lawful.times, (are.lawful.members member no_member there).group) in
+    let once : ℤ = empty_once (declared_of groups member) (empty_at groups.empties member) e.0 octets in
+    let once_is : once ≡ empty_once (declared_by network stream) (state.empty stream) e.0 octets =
+    ap (λ (m : Member). empty_once m.declared (empty_at groups.empties member) e.0 octets)
+    (member-is network groups stream hop port class are is)
+    ∙ ap (λ (b : ℤ). empty_once (declared_by network stream) b e.0 octets)
+    (kept.empties stream hop is.is_hop is.behind is.in_class) in
+    let none : Ps = record { 0 = 0 } in
+    record {
+      time = ap (λ (g : ℕ). (get_or (set groups.times (group_of groups member) e) g none).0) (sym group)
+          ∙ ap (λ (p : Ps). p.0) (get_or-set_same groups.times (group_of groups member) e none grouped);
+      empties = λ s h is_hop at_port at_class.
+          let Goal : Type 0 = empty_at (set groups.empties member once) (scheduler_of network s h)
+          ≡ (if s == stream then empty_once (declared_by network s) (state.empty s) e.0 octets else state.empty s) in
+          elim (cases_eq s stream) as (λ _. Goal) [
+            | inl same ↦ (
+                let own : IsScheduler network stream h port class =
+                subst (λ (n : ℕ). IsScheduler network n h port class) same
+                (record { is_hop = is_hop; behind = at_port; in_class = at_class; few = is.few }) in
+                let hops : h ≡ hop = one-scheduler network stream h hop port class class apart own is in
+                let place : scheduler_of network s h ≡ member =
+                ap (λ (n : ℕ). scheduler_of network n h) same ∙ ap (scheduler_of network stream) hops in
+                ap (empty_at (set groups.empties member once)) place
+                ∙ get_or-set_same groups.empties member once (pos 0)
+                (omega (arith, are.lawful.empties, there))
+                ∙ once_is
+                ∙ ap (λ (n : ℕ). empty_once (declared_by network n) (state.empty n) e.0 octets) (sym same)
+                ∙ sym (cond-true (s == stream) _ _ (eq-eqb s stream same)))
+            | inr other ↦ (
+                get_or-set_other groups.empties member (scheduler_of network s h) once (pos 0)
+                (λ place. other (schedulers_are_apart network s stream h hop is_hop is.is_hop place).0)
+                ∙ kept.empties s h is_hop at_port at_class
+                ∙ sym (cond-false (s == stream) _ _ (ne_eqb s stream other)))
+          ];
+    }
+
+-- what any other group keeps stays
+pub state-other : (network : DeclaredNetwork) (groups : GroupsState) (stream hop port class : ℕ) (octets : ℕ)
+    (v : Verdict) (other c : ℕ) (state : State) → AreGroupsOf network groups
+    → IsScheduler network stream hop port class → c ≤ 7 → ¬ ((other ≡ port) × (c ≡ class))
+    → IsStateOf network groups other c state
+    → IsStateOf network (groups_after groups (scheduler_of network stream hop) octets v) other c state
+state-other network groups stream hop port class octets (Late e) other c state are is few apart kept =
+    record { time = kept.time; empties = kept.empties }
+state-other network groups stream hop port class octets Size other c state are is few apart kept =
+    record { time = kept.time; empties = kept.empties }
+state-other network groups stream hop port class octets (Eligible e) other c state are is few apart kept =
+    let member : ℕ = scheduler_of network stream hop in
+    let group = group-is network groups stream hop port class are is in
+    let none : Ps = record { 0 = 0 } in
+    record {
+      time = ap (λ (p : Ps). p.0) (get_or-set_other groups.times (group_of groups member) (group_behind other c) e none
+          (λ same. apart (groups_apart other port c class few is.few (same ∙ group))))
+          ∙ kept.time;
+      empties = λ s h is_hop at_port at_class.
+          get_or-set_other groups.empties member (scheduler_of network s h) _ (pos 0) (λ place.
+          let same = schedulers_are_apart network s stream h hop is_hop is.is_hop place in
+          let ports : other ≡ port = sym at_port
+          ∙ ap (λ (n : ℕ). get_or (sender_at network n).path (h - 1) 0) same.0
+          ∙ ap (λ (n : ℕ). get_or (sender_at network stream).path (n - 1) 0) same.1 ∙ is.behind in
+          let classes : c ≡ class = sym at_class
+          ∙ ap (λ (n : ℕ). class_at (sender_at network n) other) same.0
+          ∙ ap (class_at (sender_at network stream)) ports ∙ is.in_class in
+          apart (ports, classes))
+          ∙ kept.empties s h is_hop at_port at_class;
+    }

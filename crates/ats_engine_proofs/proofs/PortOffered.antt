@@ -1,0 +1,232 @@
+use Rattle.std.proofs.Common.{◌≡◌, ℕ, ◌<◌, ◌≤◌, false, List, [], ◌∷◌, ◌++◌, length, All, ap, ◌∙◌, sym, subst}
+use Rattle.std.proofs.Common.{inl, inr, arith}
+use Rattle.std.specs.Prelude.{◌≢◌, Any, AllPairs, Contains, IsPermutation, map}
+use Rattle.std.proofs.lemmas.Bool.{cases_eq}
+use Rattle.std.proofs.lemmas.List.Elements.{All-cons, All-append, All-map, All-weaker, All-contains}
+use Rattle.std.proofs.lemmas.List.Sorted.{All-permutation}
+use Rattle.ats_facts.proofs.Pairs.{pairs_more}
+use Rattle.ats_num.specs.declared.time.Ps.{Ps}
+use Rattle.ats_port_rule.specs.Transmission.{Transmission}
+use Rattle.ats_network.specs.Network.{DeclaredNetwork}
+use Rattle.ats_transmit.specs.Picks.{IsFirstStart}
+use Rattle.ats_transmit.specs.Sending.{last_of, last_end, transmissions}
+use Rattle.ats_transmit.specs.State.{PortState, IsLawfulPort}
+use Rattle.ats_transmit.specs.declared.offer.Offer.{Offer}
+use Rattle.ats_transmit.specs.declared.sent.Sent.{Sent}
+use Rattle.ats_trace.specs.Projections.{sent_by}
+use Rattle.ats_run_records.specs.Progress.{progress_at}
+use Rattle.ats_engine_steps.specs.Course.{Course, travels, stage_at, turn_at, place_of, place_at, offer_of, offer_at}
+use Rattle.ats_engine_steps.specs.Ports.{IsTurn, IsHeld, IsPortOf, frames_at}
+use Rattle.ats_engine_steps.specs.Steps.{turn_once_offered}
+use Rattle.ats_engine_steps.specs.declared.stage.Stage.TheVariants.{Due, Waiting, Sending}
+use Rattle.ats_engine_steps.specs.declared.turn.Turn.{Turn}
+use Rattle.ats_engine_steps.specs.declared.turn.Turn.TheVariants.{Resting, Selecting, Occupied}
+use Rattle.ats_engine_proofs.proofs.Moving.{Changes}
+use Rattle.ats_engine_proofs.proofs.PortKept.{held-else, under-way-else, waiting-else, sending-else}
+use Rattle.ats_engine_proofs.proofs.PortKept.{started-later, selected-later, eligible-later}
+use Rattle.ats_engine_proofs.proofs.PortLists.{flip, contains-more, contains-new, any-more, any-split, frames-offered}
+
+-- a frame that was due is offered to a port now
+pub record IsOffering {T : Type 0} (network : DeclaredNetwork) (old new : Course T) (now : Ps) (frame port : ℕ)
+    : Type 0 where
+  pub changes : Changes network old new frame
+  pub within : frame < length old.records
+  pub due : stage_at old frame ≡ Due now
+  pub waits : stage_at new frame ≡ Waiting
+  pub same : progress_at new.records frame ≡ progress_at old.records frame
+  pub place : place_at network old frame ≡ port
+  pub eligible : (offer_at network old frame).eligible ≡ now
+  pub last : new.last.at ≡ now
+
+-- a frame that is due does not wait
+due-waiting : (at : Ps) → Due at ≡ Waiting → ⊥
+due-waiting at e = cc
+
+-- nor is it being sent
+due-sending : (at until : Ps) → Due at ≡ Sending until → ⊥
+due-sending at until e = cc
+
+-- and one that waits is not being sent
+waiting-sending : (until : Ps) → Waiting ≡ Sending until → ⊥
+waiting-sending until e = cc
+
+-- it waits at the port, to which it was offered as it is
+held-offered : {T : Type 0} {network : DeclaredNetwork} {old new : Course T} {now : Ps} {frame port : ℕ}
+    → IsOffering network old new now frame port → IsHeld network new port (offer_at network old frame)
+held-offered {T} {network} {old} {new} {now} {frame} o = record {
+  within = subst (λ (n : ℕ). frame < n) (sym o.changes.count) o.within;
+  stage = o.waits;
+  place = ap (place_of network) o.same ∙ o.place;
+  same = ap (offer_of network frame) o.same;
+}
+
+-- a frame that waits at a port is not the one that is due
+held-apart : {T : Type 0} {network : DeclaredNetwork} {old new : Course T} {now : Ps} {frame port : ℕ} (x : Offer)
+    → IsOffering network old new now frame port → IsHeld network old port x → x.frame ≢ frame
+held-apart {T} {network} {old} {new} {now} x o h e =
+    due-waiting now (sym o.due ∙ ap (stage_at old) (sym e) ∙ h.stage)
+
+-- all frames that it held, and the new one, wait there
+all-held : {T : Type 0} {network : DeclaredNetwork} {old new : Course T} {now : Ps} {frame port : ℕ}
+    (held after : List Offer) → IsOffering network old new now frame port
+    → IsPermutation (offer_at network old frame ∷ held) after
+    → All (IsHeld network old port) held → All (IsHeld network new port) after
+all-held {T} {network} {old} {new} {now} {frame} {port} held after o p all =
+    let offer : Offer = offer_at network old frame in
+    All-permutation (IsHeld network new port) (offer ∷ held) after p
+    (All-cons (IsHeld network new port) offer held (held-offered o)
+    (All-weaker (IsHeld network old port) (IsHeld network new port)
+    (λ x h. held-else port x o.changes (held-apart x o h) h) held all))
+
+-- all frames that wait there are held
+all-there : {T : Type 0} {network : DeclaredNetwork} {old new : Course T} {now : Ps} {frame port : ℕ}
+    (key : T → ℕ → ℕ → ℕ) (s : PortState T) (held : List Offer) → IsOffering network old new now frame port
+    → IsPortOf key network old port s → IsPermutation (offer_at network old frame ∷ s.held) held
+    → (other : ℕ) → other < length new.records → stage_at new other ≡ Waiting → place_at network new other ≡ port
+    → Contains held (offer_at network new other)
+all-there {T} {network} {old} {new} {now} {frame} {port} key s held o is p other within stage place =
+    let offer : Offer = offer_at network old frame in
+    let Goal : Type 0 = Contains held (offer_at network new other) in
+    elim (cases_eq other frame) as (λ _. Goal) [
+      | inl e ↦ (
+          let same : offer ≡ offer_at network new other =
+          sym (ap (offer_at network new) e ∙ ap (offer_of network frame) o.same) in
+          subst (Contains held) same (contains-new offer s.held held p))
+      | inr apart ↦ contains-more offer (offer_at network new other) s.held held p
+          (waiting-else key port other s o.changes apart is within stage place)
+    ]
+
+-- no frame is there twice
+all-apart : {T : Type 0} {network : DeclaredNetwork} {old new : Course T} {now : Ps} {frame port : ℕ}
+    (key : T → ℕ → ℕ → ℕ) (s : PortState T) (held : List Offer) → IsOffering network old new now frame port
+    → IsPortOf key network old port s → IsPermutation (offer_at network old frame ∷ s.held) held
+    → All (λ (x : Sent). x.frame ≢ frame) s.sent
+    → AllPairs (λ (x y : ℕ). x ≢ y) (map (λ (o : Offer). o.frame) held ++ map (λ (x : Sent). x.frame) s.sent)
+all-apart {T} {network} {old} {new} {now} {frame} {port} key s held o is p not_sent =
+    let Other : ℕ → Type 0 = λ (n : ℕ). frame ≢ n in
+    let of_offer : Offer → ℕ = λ (x : Offer). x.frame in
+    let of_sent : Sent → ℕ = λ (x : Sent). x.frame in
+    let first : All Other (map of_offer s.held) =
+    All-map Other of_offer s.held (All-weaker (IsHeld network old port) (λ (x : Offer). frame ≢ x.frame)
+    (λ x h. flip x.frame frame (held-apart x o h)) s.held is.holding.held) in
+    let second : All Other (map of_sent s.sent) =
+    All-map Other of_sent s.sent (All-weaker (λ (x : Sent). x.frame ≢ frame) (λ (x : Sent). frame ≢ x.frame)
+    (λ x h. flip x.frame frame h) s.sent not_sent) in
+    pairs_more (λ (x y : ℕ). x ≢ y) flip frame (frames_at s) (map of_offer held ++ map of_sent s.sent)
+    (frames-offered (offer_at network old frame) s.held held s.sent p)
+    (All-append Other (map of_offer s.held) (map of_sent s.sent) first second) is.holding.apart
+
+-- a port that has nothing to do selects now
+turn-rested : {T : Type 0} {network : DeclaredNetwork} {old new : Course T} {now : Ps} {frame port : ℕ}
+    (key : T → ℕ → ℕ → ℕ) (s : PortState T) (held : List Offer) → IsOffering network old new now frame port
+    → IsPortOf key network old port s → IsPermutation (offer_at network old frame ∷ s.held) held
+    → s.is_sending ≡ false → s.held ≡ [] → IsFirstStart held s.sent now.0
+turn-rested {T} {network} {old} {new} {now} {frame} key s held o is p free empty =
+    let offer : Offer = offer_at network old frame in
+    let past : old.last.at.0 ≤ new.last.at.0 = o.changes.reached.time in
+    let is_now : new.last.at.0 ≡ now.0 = ap (λ (at : Ps). at.0) o.last in
+    let eligible : offer.eligible.0 ≡ now.0 = ap (λ (at : Ps). at.0) o.eligible in
+    let ended : last_end s.sent ≤ old.last.at.0 = is.times.ended free in
+    let there : Contains held offer = contains-new offer s.held held p in
+    record {
+      reached = record {
+        free = omega arith;
+        eligible = (there.0, offer, there.1, there.2, omega arith);
+      };
+      first = λ earlier may. (
+          let By : Offer → Type 0 = λ (x : Offer). x.eligible.0 ≤ earlier in
+          elim (any-split By offer s.held held p may.eligible) as (λ _. now.0 ≤ earlier) [
+            | inl by ↦ omega arith
+            | inr other ↦ (let none : Any By [] = subst (Any By) empty other in absurd (omega (arith, none.2)))
+          ]);
+    }
+
+-- one that is to select at some time does so still
+turn-selecting : {T : Type 0} {network : DeclaredNetwork} {old new : Course T} {now : Ps} {frame port : ℕ}
+    (key : T → ℕ → ℕ → ℕ) (s : PortState T) (held : List Offer) (at : ℕ)
+    → IsOffering network old new now frame port
+    → IsPortOf key network old port s → IsPermutation (offer_at network old frame ∷ s.held) held
+    → IsFirstStart s.held s.sent at → IsFirstStart held s.sent at
+turn-selecting {T} {network} {old} {new} {now} {frame} key s held at o is p was =
+    let offer : Offer = offer_at network old frame in
+    let past : old.last.at.0 ≤ new.last.at.0 = o.changes.reached.time in
+    let is_now : new.last.at.0 ≡ now.0 = ap (λ (at : Ps). at.0) o.last in
+    let eligible : offer.eligible.0 ≡ now.0 = ap (λ (at : Ps). at.0) o.eligible in
+    let some : Any (λ (x : Offer). x.eligible.0 ≤ at) s.held = was.reached.eligible in
+    let held_before : some.1.eligible.0 ≤ old.last.at.0 =
+    All-contains (λ (x : Offer). x.eligible.0 ≤ old.last.at.0) s.held some.1 is.times.eligible
+    (some.0, some.2, some.3) in
+    record {
+      reached = record {
+        free = was.reached.free;
+        eligible = any-more (λ (x : Offer). x.eligible.0 ≤ at) offer s.held held p some;
+      };
+      first = λ earlier may. (
+          let By : Offer → Type 0 = λ (x : Offer). x.eligible.0 ≤ earlier in
+          elim (any-split By offer s.held held p may.eligible) as (λ _. at ≤ earlier) [
+            | inl by ↦ was.first earlier (record {
+              free = may.free;
+              eligible = (some.0, some.1, some.2, some.3, omega arith);
+            })
+            | inr other ↦ was.first earlier (record { free = may.free; eligible = other })
+          ]);
+    }
+
+-- the port does next what its turn says then
+turn-offered : {T : Type 0} {network : DeclaredNetwork} {old new : Course T} {now : Ps} {frame port : ℕ}
+    (key : T → ℕ → ℕ → ℕ) (s : PortState T) (held : List Offer) → IsOffering network old new now frame port
+    → IsPortOf key network old port s → IsPermutation (offer_at network old frame ∷ s.held) held
+    → (turn : Turn) → IsTurn s turn → IsTurn (record s { held = held }) (turn_once_offered turn now)
+turn-offered key s held o is p Resting t = (t.0, turn-rested key s held o is p t.0 t.1)
+turn-offered key s held o is p (Selecting at) t = (t.0, turn-selecting key s held at.0 o is p t.1)
+turn-offered key s held o is p Occupied t = t
+
+-- the port holds the frame too
+pub port-offered : {T : Type 0} {network : DeclaredNetwork} {old new : Course T} {now : Ps} {frame port : ℕ}
+    (key : T → ℕ → ℕ → ℕ) (s : PortState T) (held : List Offer) → IsOffering network old new now frame port
+    → IsPortOf key network old port s → IsPermutation (offer_at network old frame ∷ s.held) held
+    → IsLawfulPort key (record s { held = held }) → All (λ (x : Sent). x.frame ≢ frame) s.sent
+    → sent_by network (travels new) port ≡ sent_by network (travels old) port
+    → turn_at new port ≡ turn_once_offered (turn_at old port) now
+    → IsPortOf key network new port (record s { held = held })
+port-offered {T} {network} {old} {new} {now} {frame} {port} key s held o is p lawful not_sent sent turn =
+    let c = o.changes in
+    let t : PortState T = record s { held = held } in
+    let offer : Offer = offer_at network old frame in
+    let past : old.last.at.0 ≤ new.last.at.0 = c.reached.time in
+    let eligible : offer.eligible.0 ≡ new.last.at.0 = ap (λ (at : Ps). at.0) (o.eligible ∙ sym o.last) in
+    let Eligible : Offer → Type 0 = λ (x : Offer). x.eligible.0 ≤ new.last.at.0 in
+    record {
+      of_network = record {
+        ps_per_bit = is.of_network.ps_per_bit;
+        tie = is.of_network.tie ∙ sym c.tie;
+        rooms = λ class within. is.of_network.rooms class within ∙ sym (c.rooms port class);
+      };
+      past = record {
+        lawful = lawful;
+        sent = subst (λ (ts : List Transmission). IsPermutation (transmissions s.sent) ts) (sym sent) is.past.sent;
+      };
+      holding = record {
+        held = all-held s.held held o p is.holding.held;
+        waiting = all-there key s held o is p;
+        apart = all-apart key s held o is p not_sent;
+      };
+      sends = record {
+        under_way = λ sending. (let h = is.sends.under_way sending in
+            under-way-else port (last_of s.sent) c
+            (λ e. due-sending now (last_of s.sent).end (sym o.due ∙ ap (stage_at old) (sym e) ∙ h.stage)) h);
+        sending = λ other until within stage place. (
+            let apart : other ≢ frame =
+            λ e. waiting-sending until (sym o.waits ∙ ap (stage_at new) (sym e) ∙ stage) in
+            let h = sending-else key port other until s c apart is within stage place in
+            record { sending = h.sending; named = h.named; end = h.end });
+      };
+      turn = subst (IsTurn t) (sym turn) (turn-offered key s held o is p (turn_at old port) is.turn);
+      times = record {
+        started = started-later key port s c is;
+        selected = selected-later key port s c is;
+        ended = λ free. (let before : last_end s.sent ≤ old.last.at.0 = is.times.ended free in omega arith);
+        eligible = All-permutation Eligible (offer ∷ s.held) held p
+            (All-cons Eligible offer s.held (omega arith) (eligible-later key port s c is));
+      };
+    }

@@ -1,0 +1,204 @@
+use Rattle.std.proofs.Common.{◌≡◌, ℕ, ◌+◌, ◌*◌, ◌<◌, ◌≤◌, true, false, List, [], ◌∷◌, ◌++◌, length, All, ap, ◌∙◌, sym}
+use Rattle.std.proofs.Common.{subst}
+use Rattle.std.proofs.Common.{refl, inl, inr, arith}
+use Rattle.std.specs.Prelude.{◌≢◌, Contains, IsPermutation, map}
+use Rattle.std.proofs.lemmas.Bool.{cases_eq, true≢false}
+use Rattle.std.proofs.lemmas.List.{map_push}
+use Rattle.std.proofs.lemmas.List.Elements.{All-tail}
+use Rattle.std.proofs.lemmas.List.Sorted.{All-permutation, Contains-permutation, IsPermutation-trans}
+use Rattle.std.proofs.lemmas.List.Sorted.{IsPermutation-cons}
+use Rattle.std.proofs.lemmas.List.Sorted.{IsPermutation-to_front}
+use Rattle.ats_facts.proofs.Lists.{all_left, all_unmapped}
+use Rattle.ats_facts.proofs.Pairs.{AllPairs-permutation, pairs_less}
+use Rattle.ats_num.specs.Wire.{bits_of}
+use Rattle.ats_num.specs.declared.time.Ps.{Ps}
+use Rattle.ats_port_rule.specs.Transmission.{Transmission}
+use Rattle.ats_network.specs.Network.{DeclaredNetwork}
+use Rattle.ats_transmit.specs.Sending.{begun, last_of, last_start, sent_at, transmission_of, transmissions}
+use Rattle.ats_transmit.specs.State.{PortState, IsLawfulPort}
+use Rattle.ats_transmit.specs.declared.offer.Offer.{Offer}
+use Rattle.ats_transmit.specs.declared.sent.Sent.{Sent}
+use Rattle.ats_events.specs.declared.phase.TheConstants.{SELECTION}
+use Rattle.ats_trace.specs.Projections.{sent_by}
+use Rattle.ats_engine_steps.specs.Course.{Course, travels, stage_at, turn_at, place_at, offer_at}
+use Rattle.ats_engine_steps.specs.Ports.{IsTurn, IsHeld, IsUnderWay, Sends, IsPortOf, frames_at}
+use Rattle.ats_engine_steps.specs.declared.stage.Stage.TheVariants.{Waiting, Sending}
+use Rattle.ats_engine_steps.specs.declared.turn.Turn.TheVariants.{Occupied}
+use Rattle.ats_engine_proofs.proofs.Moving.{Changes}
+use Rattle.ats_engine_proofs.proofs.PortKept.{held-else, waiting-else, sending-else, eligible-later}
+use Rattle.ats_engine_proofs.proofs.PortLists.{flip, contains-rest, last-push, frames-taken, frames-started}
+
+-- a port starts a frame that it held now, and holds these then
+pub record IsStarting {T : Type 0} (network : DeclaredNetwork) (old new : Course T) (now end : Ps) (frame port : ℕ)
+    (s : PortState T) (held : List Offer) (started : Offer) : Type 0 where
+  pub changes : Changes network old new frame
+  pub within : frame < length old.records
+  pub named : started.frame ≡ frame
+  pub ends : end.0 ≡ now.0 + s.ps_per_bit * bits_of started.octets
+  pub takes : IsPermutation s.held (started ∷ held)
+  pub goes : stage_at new frame ≡ Sending end
+  pub place : place_at network new frame ≡ port
+  pub last : new.last.at ≡ now
+  pub phase : SELECTION ≤ new.last.phase
+  pub free : s.is_sending ≡ false
+  pub turn : turn_at new port ≡ Occupied
+
+-- a frame that is being sent does not wait
+waiting-sending : (until : Ps) → Sending until ≡ Waiting → ⊥
+waiting-sending until e = cc
+
+-- and is sent until one time
+same-end : (end until : Ps) → Sending end ≡ Sending until → end ≡ until
+same-end end until e = cc
+
+-- the transmission of the frame
+abbrev starting : {T : Type 0} → PortState T → Offer → Ps → Sent
+starting s started now = sent_at s.ps_per_bit started now.0
+
+-- the port, once it sends the frame
+abbrev pub once_started : {T : Type 0} → PortState T → List Offer → Offer → Ps → PortState T
+once_started s held started now = record s {
+  held = held;
+  sent = s.sent ++ starting s started now ∷ [];
+  is_sending = true;
+}
+
+-- no frame that the port still holds is the one that starts
+still-apart : {T : Type 0} {network : DeclaredNetwork} {old new : Course T} {now end : Ps} {frame port : ℕ}
+    {s : PortState T} {held : List Offer} {started : Offer} (key : T → ℕ → ℕ → ℕ)
+    → IsStarting network old new now end frame port s held started → IsPortOf key network old port s
+    → All (λ (o : Offer). frame ≢ o.frame) held
+still-apart {T} {network} {old} {new} {now} {end} {frame} {port} {s} {held} {started} key o is =
+    let of_offer : Offer → ℕ = λ (x : Offer). x.frame in
+    let of_sent : Sent → ℕ = λ (x : Sent). x.frame in
+    let Other : ℕ → Type 0 = λ (n : ℕ). started.frame ≢ n in
+    let rest : All Other (map of_offer held ++ map of_sent s.sent) =
+    (pairs_less (λ (x y : ℕ). x ≢ y) flip started.frame (frames_at s) (map of_offer held ++ map of_sent s.sent)
+    (frames-taken started s.held held s.sent o.takes) is.holding.apart).0 in
+    let each : All (λ (x : Offer). started.frame ≢ x.frame) held =
+    all_unmapped Other of_offer held (all_left Other (map of_offer held) (map of_sent s.sent) rest) in
+    subst (λ (n : ℕ). All (λ (x : Offer). n ≢ x.frame) held) o.named each
+
+-- those that it still holds wait there as before
+still-held : {T : Type 0} {network : DeclaredNetwork} {old new : Course T} {now end : Ps} {frame port : ℕ}
+    {s : PortState T} {held : List Offer} {started : Offer} (key : T → ℕ → ℕ → ℕ)
+    → IsStarting network old new now end frame port s held started → IsPortOf key network old port s
+    → All (IsHeld network new port) held
+still-held {T} {network} {old} {new} {now} {end} {frame} {port} {s} {held} {started} key o is =
+    let before : All (IsHeld network old port) held =
+    All-tail (IsHeld network old port) started held
+    (All-permutation (IsHeld network old port) s.held (started ∷ held) o.takes is.holding.held) in
+    let apart = still-apart key o is in
+    λ k d h. held-else port _ o.changes (flip _ _ (apart k d h)) (before k d h)
+
+-- the transmissions are those of the run with the new one
+more-sent : {T : Type 0} (s : PortState T) (started : Offer) (now : Ps) (before after : List Transmission)
+    → IsPermutation (transmissions s.sent) before
+    → IsPermutation (begun s.ps_per_bit started now.0 ∷ before) after
+    → IsPermutation (transmissions (s.sent ++ starting s started now ∷ [])) after
+more-sent s started now before after was more =
+    let x : Transmission = begun s.ps_per_bit started now.0 in
+    let To : List Transmission → Type 0 = λ (ts : List Transmission). IsPermutation ts after in
+    subst To (sym (map_push transmission_of s.sent (starting s started now)))
+    (IsPermutation-trans _ _ _ (IsPermutation-to_front (transmissions s.sent) x)
+    (IsPermutation-trans _ _ _ (IsPermutation-cons x (transmissions s.sent) before was) more))
+
+-- whatever waits there is still held
+still-there : {T : Type 0} {network : DeclaredNetwork} {old new : Course T} {now end : Ps} {frame port : ℕ}
+    {s : PortState T} {held : List Offer} {started : Offer} (key : T → ℕ → ℕ → ℕ)
+    → IsStarting network old new now end frame port s held started → IsPortOf key network old port s
+    → (other : ℕ) → other < length new.records → stage_at new other ≡ Waiting → place_at network new other ≡ port
+    → Contains held (offer_at network new other)
+still-there {T} {network} {old} {new} {now} {end} {frame} {port} {s} {held} {started} key o is other within stage
+    place =
+    let offer : Offer = offer_at network new other in
+    let apart : other ≢ frame = λ e. waiting-sending end (sym o.goes ∙ ap (stage_at new) (sym e) ∙ stage) in
+    contains-rest started offer held (Contains-permutation s.held (started ∷ held) offer o.takes
+    (waiting-else key port other s o.changes apart is within stage place))
+    (λ e. apart (sym (ap (λ (x : Offer). x.frame) e) ∙ o.named))
+
+-- the frame is on its way
+under-way-starts : {T : Type 0} {network : DeclaredNetwork} {old new : Course T} {now end : Ps} {frame port : ℕ}
+    {s : PortState T} {held : List Offer} {started : Offer}
+    → IsStarting network old new now end frame port s held started
+    → IsUnderWay network new port (starting s started now)
+under-way-starts {T} {network} {old} {new} {now} {end} {frame} {port} {s} {held} {started} o =
+    let same : frame ≡ started.frame = sym o.named in
+    let until : end ≡ (starting s started now).end = ap (λ (n : ℕ). let at : Ps = record { 0 = n } in at) o.ends in
+    record {
+      within = subst (λ (n : ℕ). n < length new.records) same
+          (subst (λ (n : ℕ). frame < n) (sym o.changes.count) o.within);
+      stage = ap (stage_at new) o.named ∙ o.goes ∙ ap Sending until;
+      place = ap (place_at network new) o.named ∙ o.place;
+    }
+
+-- and only it
+sends-started : {T : Type 0} {network : DeclaredNetwork} {old new : Course T} {now end : Ps} {frame port : ℕ}
+    {s : PortState T} {held : List Offer} {started : Offer} (key : T → ℕ → ℕ → ℕ)
+    → IsStarting network old new now end frame port s held started → IsPortOf key network old port s
+    → (other : ℕ) (until : Ps) → other < length new.records → stage_at new other ≡ Sending until
+    → place_at network new other ≡ port → Sends (once_started s held started now) other until.0
+sends-started {T} {network} {old} {new} {now} {end} {frame} {port} {s} {held} {started} key o is other until within
+    stage place =
+    let x : Sent = starting s started now in
+    let last : last_of (s.sent ++ x ∷ []) ≡ x = last-push s.sent x in
+    elim (cases_eq other frame) as (λ _. Sends (once_started s held started now) other until.0) [
+      | inl e ↦ (
+          let same : end ≡ until = same-end end until (sym o.goes ∙ ap (stage_at new) (sym e) ∙ stage) in
+          record {
+            sending = refl;
+            named = ap (λ (y : Sent). y.frame) last ∙ o.named ∙ sym e;
+            end = ap (λ (y : Sent). y.end.0) last ∙ sym o.ends ∙ ap (λ (at : Ps). at.0) same;
+          })
+      | inr apart ↦ (
+          let busy : s.is_sending ≡ true =
+          (sending-else key port other until s o.changes apart is within stage place).sending in
+          absurd (true≢false (sym busy ∙ o.free)))
+    ]
+
+-- the port sends the frame from now on
+pub port-started : {T : Type 0} {network : DeclaredNetwork} {old new : Course T} {now end : Ps} {frame port : ℕ}
+    {s : PortState T} {held : List Offer} {started : Offer} (key : T → ℕ → ℕ → ℕ)
+    → IsStarting network old new now end frame port s held started → IsPortOf key network old port s
+    → IsLawfulPort key (once_started s held started now)
+    → IsPermutation (begun s.ps_per_bit started now.0 ∷ sent_by network (travels old) port)
+    (sent_by network (travels new) port)
+    → IsPortOf key network new port (once_started s held started now)
+port-started {T} {network} {old} {new} {now} {end} {frame} {port} {s} {held} {started} key o is lawful more =
+    let c = o.changes in
+    let t : PortState T = once_started s held started now in
+    let x : Sent = starting s started now in
+    let last : last_of (s.sent ++ x ∷ []) ≡ x = last-push s.sent x in
+    let start : last_start (s.sent ++ x ∷ []) ≡ new.last.at.0 =
+    ap (λ (y : Sent). y.start.0) last ∙ ap (λ (at : Ps). at.0) (sym o.last) in
+    let Eligible : Offer → Type 0 = λ (y : Offer). y.eligible.0 ≤ new.last.at.0 in
+    record {
+      of_network = record {
+        ps_per_bit = is.of_network.ps_per_bit;
+        tie = is.of_network.tie ∙ sym c.tie;
+        rooms = λ class within. is.of_network.rooms class within ∙ sym (c.rooms port class);
+      };
+      past = record {
+        lawful = lawful;
+        sent = more-sent s started now (sent_by network (travels old) port) (sent_by network (travels new) port)
+            is.past.sent more;
+      };
+      holding = record {
+        held = still-held key o is;
+        waiting = still-there key o is;
+        apart = AllPairs-permutation (λ (a b : ℕ). a ≢ b) flip (frames_at s) (frames_at t)
+            (frames-started started x s.held held s.sent o.takes refl) is.holding.apart;
+      };
+      sends = record {
+        under_way = λ _. subst (IsUnderWay network new port) (sym last) (under-way-starts o);
+        sending = sends-started key o is;
+      };
+      turn = subst (IsTurn t) (sym o.turn) refl;
+      times = record {
+        started = λ _. omega (arith, start);
+        selected = λ _ _. o.phase;
+        ended = λ free. absurd (true≢false free);
+        eligible = All-tail Eligible started held
+            (All-permutation Eligible s.held (started ∷ held) o.takes (eligible-later key port s c is));
+      };
+    }

@@ -1,0 +1,110 @@
+-- What the next event says of its frame's stage, or of its port's turn.
+use Rattle.std.proofs.Common.{◌≡◌, ◌≢◌, ℕ, ◌<◌, List, length, get_or, Option, Some, None, sym, ap, ◌∙◌, inl, inr, arith}
+use Rattle.std.proofs.lemmas.Bool.{cases_lt}
+use Rattle.std.proofs.lemmas.List.{get_or_past}
+use Rattle.std.proofs.lemmas.List.Elements.{All-head}
+use Rattle.std.proofs.lemmas.Option.{none-some}
+use Rattle.ats_num.specs.declared.time.Ps.{Ps}
+use Rattle.ats_network.specs.Network.{DeclaredNetwork}
+use Rattle.ats_events.specs.declared.moment.Moment.{Moment}
+use Rattle.ats_trace.specs.declared.journey.Release.{Release}
+use Rattle.ats_engine_steps.specs.Course.{Course, stage_at, turn_at}
+use Rattle.ats_engine_steps.specs.Entries.{arrival_by, eligibility_by, end_by, selection_by, moment_of}
+use Rattle.ats_engine_steps.specs.declared.event.Event.{Event}
+use Rattle.ats_engine_steps.specs.declared.event.Event.TheVariants.{End, Arrival, Eligibility, Selection}
+use Rattle.ats_engine_steps.specs.declared.stage.Stage.{Stage}
+use Rattle.ats_engine_steps.specs.declared.stage.Stage.TheVariants.{Coming, Due, Waiting, Sending, Over}
+use Rattle.ats_engine_steps.specs.declared.turn.Turn.{Turn}
+use Rattle.ats_engine_steps.specs.declared.turn.Turn.TheVariants.{Resting, Selecting, Occupied}
+use Rattle.ats_engine_proofs.specs.Next.{IsNext}
+
+-- the time of a moment, where there is one
+abbrev time_of : Option Moment → Ps → Ps
+time_of (Some moment) other = moment.at
+time_of None other = other
+
+-- a frame that arrives then comes then
+coming-by : (frame : ℕ) (stage : Stage) (now : Moment) → arrival_by frame stage ≡ Some now → stage ≡ Coming now.at
+coming-by frame (Coming at) now is = ap (λ (m : Option Moment). Coming (time_of m at)) is
+coming-by frame (Due at) now is = absurd (none-some now is)
+coming-by frame Waiting now is = absurd (none-some now is)
+coming-by frame (Sending until) now is = absurd (none-some now is)
+coming-by frame Over now is = absurd (none-some now is)
+
+-- one that becomes eligible then is due then
+due-by : (frame : ℕ) (stage : Stage) (now : Moment) → eligibility_by frame stage ≡ Some now → stage ≡ Due now.at
+due-by frame (Due at) now is = ap (λ (m : Option Moment). Due (time_of m at)) is
+due-by frame (Coming at) now is = absurd (none-some now is)
+due-by frame Waiting now is = absurd (none-some now is)
+due-by frame (Sending until) now is = absurd (none-some now is)
+due-by frame Over now is = absurd (none-some now is)
+
+-- one whose transmission ends then is sent until then
+sending-by : (frame : ℕ) (stage : Stage) (now : Moment) → end_by frame stage ≡ Some now → stage ≡ Sending now.at
+sending-by frame (Sending until) now is = ap (λ (m : Option Moment). Sending (time_of m until)) is
+sending-by frame (Coming at) now is = absurd (none-some now is)
+sending-by frame (Due at) now is = absurd (none-some now is)
+sending-by frame Waiting now is = absurd (none-some now is)
+sending-by frame Over now is = absurd (none-some now is)
+
+-- a port that selects then is to select then
+selecting-by : (port : ℕ) (turn : Turn) (now : Moment) → selection_by port turn ≡ Some now → turn ≡ Selecting now.at
+selecting-by port (Selecting at) now is = ap (λ (m : Option Moment). Selecting (time_of m at)) is
+selecting-by port Resting now is = absurd (none-some now is)
+selecting-by port Occupied now is = absurd (none-some now is)
+
+-- when the next event is to happen
+pub next-moment : {T : Type 0} {key : T → ℕ → ℕ → ℕ} {wait : ℕ → ℕ → ℕ} {network : DeclaredNetwork}
+    {releases : List Release} {course : Course T} {now : Moment} {event : Event} {entries : List (Moment × Event)}
+    → IsNext key wait network releases course now event entries → moment_of course event ≡ Some now
+next-moment {T} {key} {wait} {network} {releases} {course} {now} {event} {entries} next =
+    All-head (λ (entry : Moment × Event). moment_of course entry.1 ≡ Some entry.0) (now, event) entries
+    next.holds.awaited.each
+
+-- a frame that arrives next is coming
+pub next-coming : {T : Type 0} {key : T → ℕ → ℕ → ℕ} {wait : ℕ → ℕ → ℕ} {network : DeclaredNetwork}
+    {releases : List Release} {course : Course T} {now : Moment} {frame : ℕ} {entries : List (Moment × Event)}
+    → IsNext key wait network releases course now (Arrival frame) entries → stage_at course frame ≡ Coming now.at
+next-coming {T} {key} {wait} {network} {releases} {course} {now} {frame} next =
+    coming-by frame (stage_at course frame) now (next-moment next)
+
+-- one that becomes eligible next is due
+pub next-due : {T : Type 0} {key : T → ℕ → ℕ → ℕ} {wait : ℕ → ℕ → ℕ} {network : DeclaredNetwork}
+    {releases : List Release} {course : Course T} {now : Moment} {frame : ℕ} {entries : List (Moment × Event)}
+    → IsNext key wait network releases course now (Eligibility frame) entries → stage_at course frame ≡ Due now.at
+next-due {T} {key} {wait} {network} {releases} {course} {now} {frame} next =
+    due-by frame (stage_at course frame) now (next-moment next)
+
+-- one whose transmission ends next is being sent
+pub next-sending : {T : Type 0} {key : T → ℕ → ℕ → ℕ} {wait : ℕ → ℕ → ℕ} {network : DeclaredNetwork}
+    {releases : List Release} {course : Course T} {now : Moment} {frame : ℕ} {entries : List (Moment × Event)}
+    → IsNext key wait network releases course now (End frame) entries → stage_at course frame ≡ Sending now.at
+next-sending {T} {key} {wait} {network} {releases} {course} {now} {frame} next =
+    sending-by frame (stage_at course frame) now (next-moment next)
+
+-- a port that selects next is to select
+pub next-selecting : {T : Type 0} {key : T → ℕ → ℕ → ℕ} {wait : ℕ → ℕ → ℕ} {network : DeclaredNetwork}
+    {releases : List Release} {course : Course T} {now : Moment} {port : ℕ} {entries : List (Moment × Event)}
+    → IsNext key wait network releases course now (Selection port) entries → turn_at course port ≡ Selecting now.at
+next-selecting {T} {key} {wait} {network} {releases} {course} {now} {port} next =
+    selecting-by port (turn_at course port) now (next-moment next)
+
+-- what is not the default is in the list
+inside : {X : Type 0} (xs : List X) (k : ℕ) (d x : X) → get_or xs k d ≡ x → x ≢ d → k < length xs
+inside xs k d x is other = elim (cases_lt k (length xs)) as (λ _. k < length xs) [
+  | inl within ↦ within
+  | inr past ↦ absurd (other (sym is ∙ get_or_past xs k d past))
+]
+
+-- a frame that is not over is one of the run
+pub stage-within : {T : Type 0} (course : Course T) (frame : ℕ) (stage : Stage)
+    → length course.stages ≡ length course.records → stage_at course frame ≡ stage → stage ≢ Over
+    → frame < length course.records
+stage-within course frame stage even is other =
+    let within : frame < length course.stages = inside course.stages frame Over stage is other in
+    omega arith
+
+-- a port that does not rest is one of the network
+pub turn-within : {T : Type 0} (course : Course T) (port : ℕ) (turn : Turn) → turn_at course port ≡ turn
+    → turn ≢ Resting → port < length course.turns
+turn-within course port turn is other = inside course.turns port Resting turn is other

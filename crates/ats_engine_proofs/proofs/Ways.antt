@@ -1,0 +1,148 @@
+-- What a step does to the hop records of a frame along its path.
+use Rattle.std.proofs.Common.{◌≡◌, ◌≢◌, ℕ, zero, suc, ◌-◌, ◌<◌, ◌≤◌, List, [], ◌∷◌, ◌++◌, length, get_or, set, Some}
+use Rattle.std.proofs.Common.{refl, ap, ◌∙◌, arith}
+use Rattle.ats_num.specs.declared.time.Ps.{Ps}
+use Rattle.ats_group.specs.declared.verdict.Verdict.{Verdict}
+use Rattle.ats_group.specs.declared.verdict.Verdict.TheVariants.{Eligible}
+use Rattle.ats_trace.specs.Journey.{IsSentOrEnds, IsWay, IsReleased}
+use Rattle.ats_trace.specs.declared.journey.Ending.{Ending}
+use Rattle.ats_trace.specs.declared.journey.Ending.TheVariants.{Sink, Discard}
+use Rattle.ats_trace.specs.declared.journey.HopRecord.{HopRecord}
+use Rattle.ats_trace.specs.declared.journey.Release.{Release}
+use Rattle.ats_run_records.specs.Progress.{no_hop}
+use Rattle.ats_engine_steps.specs.Frames.{IsUnsent, IsSentUntil, IsSent, Goes, Stands, ComesAtRelease}
+use Rattle.ats_engine_steps.specs.Steps.{came}
+
+-- a frame that was sent goes on
+sent-onward : (onward : Type 0) (hop : HopRecord) (hops : List HopRecord) (ending : Ending) → IsSent hop → onward
+    → IsSentOrEnds onward hop.verdict hop.sent hops ending
+sent-onward onward hop hops ending sent on = rw (sent.verdict, sent.sent) on
+
+-- one that was sent until some time was sent
+sent-some : (until : Ps) (hop : HopRecord) → IsSentUntil until hop → IsSent hop
+sent-some until hop sent = record {
+  eligible = sent.eligible;
+  times = (sent.start, until);
+  verdict = sent.verdict;
+  sent = sent.sent;
+}
+
+-- a record of a frame that was sent, before those of the rest of the path
+stands-more : (Last : HopRecord → Type 0) (p : ℕ) (path : List ℕ) (hop : HopRecord) (hops : List HopRecord)
+    → IsSent hop → Stands Last path hops → Stands Last (p ∷ path) (hop ∷ hops)
+stands-more Last p [] hop hops sent stands = absurd stands
+stands-more Last p (q ∷ path) hop [] sent stands = absurd stands
+stands-more Last p (q ∷ path) hop (next ∷ hops) sent stands = (sent, stands)
+
+-- a frame that stands at a port has a hop record
+pub stands-some : (Last : HopRecord → Type 0) (path : List ℕ) (hops : List HopRecord) → Stands Last path hops
+    → 0 < length hops
+stands-some Last [] hops stands = absurd stands
+stands-some Last (p ∷ path) [] stands = absurd stands
+stands-some Last (p ∷ path) (hop ∷ hops) stands = omega arith
+
+-- and no more of them than its path has ports
+pub stands-within : (Last : HopRecord → Type 0) (path : List ℕ) (hops : List HopRecord) → Stands Last path hops
+    → length hops ≤ length path
+stands-within Last [] hops stands = absurd stands
+stands-within Last (p ∷ path) [] stands = absurd stands
+stands-within Last (p ∷ path) (hop ∷ []) stands = omega arith
+stands-within Last (p ∷ path) (hop ∷ next ∷ hops) stands =
+    omega (arith, stands-within Last path (next ∷ hops) stands.1)
+
+-- what the last record says may be weakened
+pub stands-weaker : (Last Other : HopRecord → Type 0) → ((hop : HopRecord) → Last hop → Other hop) → (path : List ℕ)
+    (hops : List HopRecord) → Stands Last path hops → Stands Other path hops
+stands-weaker Last Other weaker [] hops stands = absurd stands
+stands-weaker Last Other weaker (p ∷ path) [] stands = absurd stands
+stands-weaker Last Other weaker (p ∷ path) (hop ∷ []) stands = weaker hop stands
+stands-weaker Last Other weaker (p ∷ path) (hop ∷ next ∷ hops) stands =
+    (stands.0, stands-weaker Last Other weaker path (next ∷ hops) stands.1)
+
+-- a frame that was to come to the next port stands there once it has a record more
+pub goes-stands : (Last : HopRecord → Type 0) (path : List ℕ) (hops : List HopRecord) (hop : HopRecord)
+    → Goes path hops → Last hop → Stands Last path (hops ++ hop ∷ [])
+goes-stands Last [] hops hop goes last = absurd goes
+goes-stands Last (p ∷ path) [] hop goes last = last
+goes-stands Last (p ∷ path) (h ∷ hops) hop goes last =
+    stands-more Last p path h (hops ++ hop ∷ []) goes.0 (goes-stands Last path hops hop goes.1 last)
+
+-- or its way ends there, if the record ends it
+pub goes-discarded : (path : List ℕ) (hops : List HopRecord) (hop : HopRecord)
+    → ((rest : List ℕ) → IsSentOrEnds (IsWay rest [] Discard) hop.verdict hop.sent [] Discard)
+    → Goes path hops → IsWay path (hops ++ hop ∷ []) Discard
+goes-discarded [] hops hop ends goes = absurd goes
+goes-discarded (p ∷ path) [] hop ends goes = ends path
+goes-discarded (p ∷ path) (h ∷ hops) hop ends goes =
+    sent-onward (IsWay path (hops ++ hop ∷ []) Discard) h (hops ++ hop ∷ []) Discard goes.0
+    (goes-discarded path hops hop ends goes.1)
+
+-- a record more keeps the first one, or is the first, of a frame that is eligible at its release
+pub released-more : (release : Release) (hops : List HopRecord) (at : Ps) (verdict : Verdict)
+    → ComesAtRelease release hops at → (length hops ≡ 0 → verdict ≡ Eligible at)
+    → IsReleased release (hops ++ came at verdict ∷ [])
+released-more release [] at verdict comes first = (comes, first refl ∙ ap (λ (e : Ps). Eligible e) comes)
+released-more release (hop ∷ hops) at verdict comes first = comes
+
+-- the frame is sent
+abbrev pub sent_hops : List HopRecord → ℕ → Ps → Ps → List HopRecord
+sent_hops hops k start end = set hops k (record (get_or hops k no_hop) { sent = Some (start, end) })
+
+-- where its last record has this place, it is sent until then
+stands-sent-at : (path : List ℕ) (hops : List HopRecord) (k : ℕ) (start end : Ps) → length hops ≡ suc k
+    → Stands IsUnsent path hops → Stands (IsSentUntil end) path (sent_hops hops k start end)
+stands-sent-at [] hops k start end long stands = absurd stands
+stands-sent-at (p ∷ path) [] k start end long stands = absurd stands
+stands-sent-at (p ∷ path) (hop ∷ []) zero start end long stands = record {
+  eligible = stands.eligible;
+  start = start;
+  verdict = stands.verdict;
+  sent = refl;
+}
+stands-sent-at (p ∷ path) (hop ∷ []) (suc k) start end long stands = absurd (omega arith)
+stands-sent-at (p ∷ path) (hop ∷ next ∷ hops) zero start end long stands = absurd (omega arith)
+stands-sent-at (p ∷ path) (hop ∷ next ∷ hops) (suc k) start end long stands =
+    stands-more (IsSentUntil end) p path hop (sent_hops (next ∷ hops) k start end) stands.0
+    (stands-sent-at path (next ∷ hops) k start end (omega arith) stands.1)
+
+-- so it is
+pub stands-sent : (path : List ℕ) (hops : List HopRecord) (start end : Ps) → Stands IsUnsent path hops
+    → Stands (IsSentUntil end) path (sent_hops hops (length hops - 1) start end)
+stands-sent path hops start end stands =
+    let some = stands-some IsUnsent path hops stands in
+    stands-sent-at path hops (length hops - 1) start end (omega arith) stands
+
+-- which leaves its arrivals and verdicts
+pub released-sent : (release : Release) (hops : List HopRecord) (k : ℕ) (start end : Ps) → IsReleased release hops
+    → IsReleased release (sent_hops hops k start end)
+released-sent release [] k start end released = absurd released
+released-sent release (hop ∷ hops) zero start end released = released
+released-sent release (hop ∷ hops) (suc k) start end released = released
+
+-- once it was sent by a port that is not its path's last, more ports follow
+pub sent-goes : (path : List ℕ) (hops : List HopRecord) (until : Ps) → Stands (IsSentUntil until) path hops
+    → length hops ≢ length path → Goes path hops
+sent-goes [] hops until stands more = absurd stands
+sent-goes (p ∷ path) [] until stands more = absurd stands
+sent-goes (p ∷ []) (hop ∷ []) until stands more = absurd (more refl)
+sent-goes (p ∷ q ∷ path) (hop ∷ []) until stands more = (sent-some until hop stands, tt)
+sent-goes (p ∷ path) (hop ∷ next ∷ hops) until stands more =
+    (stands.0, sent-goes path (next ∷ hops) until stands.1 (λ same. more (omega arith)))
+
+-- behind the last one its way is whole
+pub sent-way : (path : List ℕ) (hops : List HopRecord) (until at : Ps) → Stands (IsSentUntil until) path hops
+    → length hops ≡ length path → IsWay path hops (Sink at)
+sent-way [] hops until at stands all = absurd stands
+sent-way (p ∷ path) [] until at stands all = absurd stands
+sent-way (p ∷ []) (hop ∷ []) until at stands all =
+    sent-onward (Unit {0}) hop [] (Sink at) (sent-some until hop stands) tt
+sent-way (p ∷ q ∷ path) (hop ∷ []) until at stands all = absurd (omega arith)
+sent-way (p ∷ path) (hop ∷ next ∷ hops) until at stands all =
+    sent-onward (IsWay path (next ∷ hops) (Sink at)) hop (next ∷ hops) (Sink at) stands.0
+    (sent-way path (next ∷ hops) until at stands.1 (omega arith))
+
+-- a frame that came to a port comes to the next one whenever it arrives there
+pub released-comes : (release : Release) (hops : List HopRecord) (at : Ps) → IsReleased release hops
+    → ComesAtRelease release hops at
+released-comes release [] at released = absurd released
+released-comes release (hop ∷ hops) at released = released

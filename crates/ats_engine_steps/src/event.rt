@@ -1,0 +1,41 @@
+//! What may happen next.
+
+ghost use Rattle.std.specs.Prelude.{◌≡◌};
+ghost use Rattle.ats_engine_steps.specs.Entries.{moment_at};
+
+use ats_events::Moment;
+use ats_events::phase::{ARRIVAL, ELIGIBLE, SELECTION, TRANSMISSION_END};
+use ats_num::Ps;
+
+/// What happens at a moment of a run. Frames and ports are named by their numbers.
+#[derive(Clone, Copy, Debug, PartialEq, Eq)]
+pub enum Event {
+    /// The transmission of this frame ends.
+    End(u32),
+    /// This frame comes to the next port of its path, or is released.
+    Arrival(u32),
+    /// This frame becomes eligible.
+    Eligibility(u32),
+    /// This port selects a frame.
+    Selection(u32),
+}
+
+impl Event {
+    /// The entry of an agenda for this event at a time: its moment, and the event.
+    pub fn at(self, time: Ps) -> (Moment, Event)
+        ensures { result ≡ (moment_at self time, self) }
+    {
+        let (phase, id) = match self {
+            Event::End(frame) => (TRANSMISSION_END, frame),
+            Event::Arrival(frame) => (ARRIVAL, frame),
+            Event::Eligibility(frame) => (ELIGIBLE, frame),
+            Event::Selection(port) => (SELECTION, port),
+        };
+        let moment = Moment {
+            at: time,
+            phase,
+            id,
+        };
+        (moment, self)
+    }
+}

@@ -1,0 +1,43 @@
+//! What a node decides on a frame that comes to it.
+
+ghost use Rattle.std.specs.Prelude.{◌≡◌};
+ghost use Rattle.ats_run_records.specs.Progress.{progress_at};
+ghost use Rattle.ats_engine_steps.specs.Conditions.{MayCome};
+ghost use Rattle.ats_engine_steps.specs.Steps.{verdict_now, groups_now};
+
+use ats_group::{Groups, Verdict};
+use ats_network::Network;
+use ats_num::Ps;
+use ats_run_records::Records;
+use ats_schedulers::Schedulers;
+
+/// The verdict on a frame that comes now to the next port of its path, by the group behind the port
+/// before.
+pub(crate) fn judge(
+    net: &Network,
+    schedulers: &Schedulers,
+    records: &Records,
+    groups: &mut Groups,
+    now: Ps,
+    frame: u32,
+) -> Verdict
+    requires schedulers { schedulers.now ≡ net.now }
+    requires may_come { MayCome net.now records.now groups.old now.0 frame }
+    ensures verdict { result ≡ verdict_now net.now groups.old (progress_at records.now frame) now.0 }
+    ensures groups { groups.new ≡ groups_now net.now groups.old (progress_at records.now frame) now.0 }
+{
+    let hops = records.hops_of(frame).len() as u32;
+    if hops == 0 {
+        return Verdict::Eligible(now);
+    }
+    let release = records.release(frame);
+    if net.sender_class(release.sender, hops - 1) != 0 {
+        let member = schedulers.scheduler(release.sender, hops);
+        return groups.process(member, now, release.octets);
+    }
+    if net.sender(release.sender).allows(release.octets) {
+        Verdict::Eligible(now)
+    } else {
+        Verdict::Size
+    }
+}

@@ -1,0 +1,30 @@
+//! Where a run stands.
+
+use crate::stage::Stage;
+use crate::turn::Turn;
+use ats_events::Moment;
+use ats_group::Groups;
+use ats_num::{Ps, Tie};
+use ats_run_records::Records;
+use ats_transmit::Port;
+
+/// Where a run stands between two events.
+#[derive(Drop)]
+pub struct State<T: Tie> {
+    /// How far each frame is, by its number.
+    pub stages: Vec<Stage>,
+    /// What has happened to each frame.
+    pub records: Records,
+    /// The ports, by their numbers.
+    pub ports: Vec<Port<T>>,
+    /// What each port does next.
+    pub turns: Vec<Turn>,
+    /// From when on the next frame may arrive behind each port.
+    pub arrives_from: Vec<Ps>,
+    /// The groups of schedulers.
+    pub groups: Groups,
+    /// The moment of the last event.
+    pub last: Moment,
+    /// The order among frames of one port, class and eligibility time.
+    pub tie: T,
+}

@@ -1,7 +1,0 @@
-use Rattle.std.proofs.Common.{drop, length}
-use Rattle.ats_kept.proofs.Placed.{AreBoundsOf}
-use Rattle.ats_kept.proofs.opening.certified_bounds.Given as goal
-
--- the bounds of the last rows are there
-abbrev pub invariant-loop-i : goal.invariant-loop-i
-invariant-loop-i l = AreBoundsOf (length l.network.topology.ports) (drop l.i l.certificate) l.bounds.items

@@ -1,7 +1,0 @@
-use Rattle.std.proofs.Common.{◌≡◌, map, take}
-use Rattle.ats_kept.specs.Routes.{route_of}
-use Rattle.ats_kept.proofs.opening.stream_routes.Given as goal
-
--- the routes of the streams so far
-abbrev pub invariant-loop-stream : goal.invariant-loop-stream
-invariant-loop-stream l = l.routes.items ≡ map route_of (take l.stream-index l.network.streams)
