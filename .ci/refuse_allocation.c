@@ -1,6 +1,6 @@
 /* Refuses one allocation of a program: the one whose number, from 1, stands in ATS_REFUSE. Only the program's own calls
-   count, and none of the C library and of the loader. Their number so far stands in the file of eight bytes that ATS_COUNT
-   names. Built and loaded (LD_PRELOAD) by .ci/allocations. */
+   count, and none of the C library and of the loader. Their number so far stands in the file of eight bytes that
+   ATS_COUNT names. Built and loaded (LD_PRELOAD) by .ci/allocations. */
 #define _GNU_SOURCE
 #include <errno.h>
 #include <fcntl.h>

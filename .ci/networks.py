@@ -1,0 +1,322 @@
+"""Networks of small size and the rules of docs/DEFINITIONS.md that several scripts judge by, written here once more:
+ports, routes, what senders make of a port, waits, bounds, and the reason against a network. Nothing here asks the
+program."""
+
+import tomllib
+from typing import NamedTuple
+
+SECOND = 10**12
+HEADER = "port,class,higher,equal,bursts,lower,least,wait,bound"
+
+
+def bits_of(octets):
+    """The bits of a frame on the wire: preamble, start delimiter and gap are 20 octets more."""
+    return 8 * (octets + 20)
+
+
+class Port(NamedTuple):
+    """A port: its ends, the picoseconds of a bit, the least and the greatest latency behind it, and the maximum
+    residence time of the bridge that it leads to (None: a station), all in picoseconds."""
+
+    start: str
+    end: str
+    ps_per_bit: int
+    earliest: int
+    latency: int
+    residence: int | None
+
+    def name(self):
+        """The port as it is written."""
+        return f"{self.start}>{self.end}"
+
+
+class Sender(NamedTuple):
+    """A stream or a flow: its name, the numbers of its path's ports, its class at each of them, and what it declares.
+    A flow has class 0, and neither rate nor burst."""
+
+    name: str
+    path: tuple
+    classes: tuple
+    rate: int
+    burst: int
+    least: int
+    most: int
+    deadline_ns: int = 10**9
+
+    def is_stream(self):
+        """Whether it is a stream."""
+        return self.classes[0] > 0
+
+    def with_class(self, cls):
+        """The same with this class at each port."""
+        return self._replace(classes=(cls,) * len(self.path))
+
+    def places(self):
+        """Each port of its path with its class there."""
+        return list(zip(self.path, self.classes))
+
+
+class Row(NamedTuple):
+    """The fields of a row of the least certificate, behind its port and class. Of an overload wait and bound are
+    None."""
+
+    higher: int
+    equal: int
+    bursts: int
+    lower: int
+    least: int
+    wait: int | None
+    bound: int | None
+
+
+def node_tables(bridges, fmt, stations):
+    """The tables of the nodes; a bridge is its least and its greatest processing and its residence, in nanoseconds."""
+    yield f"format = {fmt}"
+    yield from (f'[[station]]\nname = "{name}"' for name in stations)
+    for name, (least, most, residence) in bridges.items():
+        times = f"processing_min_ns = {least}\nprocessing_max_ns = {most}" if fmt == 2 else f"processing_ns = {most}"
+        yield f'[[bridge]]\nname = "{name}"\n{times}\nresidence_ns = {residence}'
+
+
+def topology_text(fmt, stations, bridges, links):
+    """The text of a network file as far as its links, each of which has two ends, a rate and a propagation."""
+    tables = list(node_tables(bridges, fmt, stations))
+    for a, b, mbps, propagation in links:
+        tables.append(f'[[link]]\na = "{a}"\nb = "{b}"\nmbps = {mbps}\npropagation_ns = {propagation}')
+    return "\n".join(tables) + "\n"
+
+
+def ports_of(bridges, links):
+    """The ports of the links, in order."""
+    ports = []
+    for a, b, mbps, propagation in links:
+        for start, end in ((a, b), (b, a)):
+            least, most, residence = bridges.get(end, (0, 0, None))
+            stay = None if residence is None else 1000 * residence
+            passing = [1000 * (propagation + processing) for processing in (least, most)]
+            ports.append(Port(start, end, 10**6 // mbps, *passing, stay))
+    return ports
+
+
+def trunk(shape, count):
+    """The links between so many bridges in a line, a tree or a ring."""
+    if shape == "tree":
+        return [(f"b{(i - 1) // 2}", f"b{i}") for i in range(1, count)]
+    links = [(f"b{i}", f"b{i + 1}") for i in range(count - 1)]
+    return links + ([(f"b{count - 1}", "b0")] if shape == "ring" and count > 2 else [])
+
+
+def one_on(ports, ways, level):
+    """The nodes that are one port further than those of a level and were not reached before, each with its first
+    way."""
+    found = {}
+    for node in level:
+        for number, port in enumerate(ports):
+            if port.start == node and port.end not in ways:
+                way = ways[node] + (number,)
+                found[port.end] = min(way, found.get(port.end, way))
+    return found
+
+
+def least_walk(ports, start, end):
+    """The ports from one node to another: the fewest, and of such ways the first by the numbers of its ports."""
+    ways, level = {start: ()}, [start]
+    while level and end not in ways:
+        found = one_on(ports, ways, level)
+        ways.update(found)
+        level = list(found)
+    return ways.get(end)
+
+
+def row_at(port, cls, there):
+    """The row of a port and class, of the senders there, each behind its class at this port."""
+    higher = port.ps_per_bit * sum(sender.rate for other, sender in there if other > cls)
+    equal = port.ps_per_bit * sum(sender.rate for other, sender in there if other == cls)
+    bursts = sum(sender.burst for other, sender in there if other >= cls)
+    lower = max([0] + [bits_of(sender.most) for other, sender in there if other < cls])
+    least = min(bits_of(sender.least) for other, sender in there if other == cls)
+    if higher + equal > SECOND:
+        return Row(higher, equal, bursts, lower, least, None, None)
+    wait = -(-SECOND * port.ps_per_bit * (lower + bursts - least) // (SECOND - higher))
+    return Row(higher, equal, bursts, lower, least, wait, wait + port.ps_per_bit * least + port.latency)
+
+
+def rows_of(ports, senders):
+    """The row of each port and class that a stream uses, in order."""
+    there = {number: [] for number in range(len(ports))}
+    for sender in senders:
+        for number, cls in sender.places():
+            there[number].append((cls, sender))
+    places = sorted({(number, cls) for number, users in there.items() for cls, _ in users if cls > 0})
+    return {(number, cls): row_at(ports[number], cls, there[number]) for number, cls in places}
+
+
+def certificate_of(ports, rows):
+    """The lines of the certificate of these rows."""
+    return [HEADER] + [f"{ports[k].name()},{cls},{','.join(map(str, row))}" for (k, cls), row in rows.items()]
+
+
+def sum_of(rows, sender):
+    """The sum of the bounds along a stream's path."""
+    return sum(rows[place].bound for place in sender.places())
+
+
+def overload(ports, rows):
+    """The first overload, as it is printed; None where there is none."""
+    loads = ((ports[k].name(), cls, row.higher + row.equal) for (k, cls), row in rows.items())
+    return next((f"overloaded {name} {cls} {load}" for name, cls, load in loads if load > SECOND), None)
+
+
+def overstay(ports, rows):
+    """The first wait and spread that are longer than the residence behind; None where there is none."""
+    needs = ((ports[k], cls, row.wait + ports[k].latency - ports[k].earliest) for (k, cls), row in rows.items())
+    behind = ((port, cls, need) for port, cls, need in needs if port.residence is not None)
+    return next((f"residence {port.name()} {cls} {need}" for port, cls, need in behind if need > port.residence), None)
+
+
+def first_late(senders, rows):
+    """The first stream that the least bounds make late; None where there is none."""
+    sums = ((sender, sum_of(rows, sender)) for sender in senders if sender.is_stream())
+    return next((f"deadline {it.name} {total}" for it, total in sums if total > 1000 * it.deadline_ns), None)
+
+
+def reason_against(ports, senders, rows):
+    """The first reason why no certificate holds, as it is printed behind `refused`; None where one holds."""
+    return overload(ports, rows) or overstay(ports, rows) or first_late(senders, rows)
+
+
+def bound_due(ports, senders):
+    """The status and the lines that are due to `bound`."""
+    rows = rows_of(ports, senders)
+    reason = reason_against(ports, senders, rows)
+    return (0, certificate_of(ports, rows)) if reason is None else (3, [f"refused {reason}"])
+
+
+def check_due(ports, senders):
+    """The lines that are due to `check` of the least certificate, where it holds."""
+    lines, rows, streams = [], rows_of(ports, senders), [sender for sender in senders if sender.is_stream()]
+    for sender in streams:
+        lines += [f"hop {sender.name} {ports[k].name()} {rows[k, cls].bound}" for k, cls in sender.places()]
+        lines.append(f"sum {sender.name} {sum_of(rows, sender)}")
+    return [*lines, f"accepted {len(streams)}"]
+
+
+def declared_in(path):
+    """The ports and the senders of a network file of format 1 in which routes are given by their ends."""
+    with open(path, "rb") as file:
+        tables = tomllib.load(file)
+    bridges = {it["name"]: (it["processing_ns"], it["processing_ns"], it["residence_ns"]) for it in tables["bridge"]}
+    ports = ports_of(bridges, [(it["a"], it["b"], it["mbps"], it["propagation_ns"]) for it in tables["link"]])
+    senders = []
+    for it in tables["stream"]:
+        way = least_walk(ports, it["from"], it["to"])
+        numbers = [it[key] for key in ("rate_bps", "burst_bits", "min_octets", "max_octets", "deadline_ns")]
+        senders.append(Sender(it["name"], way, (it["class"],) * len(way), *numbers))
+    return ports, senders
+
+
+class Network:
+    """A random network: its nodes and links as text, its ports and its stations. Senders are added by those who draw
+    it."""
+
+    # How many bridges there may be, how many stations more, rates and propagations of links, and the greatest
+    # processing and the residences of bridges, in nanoseconds.
+    BRIDGES, MORE_STATIONS, RATES, PROPAGATIONS = (1, 2, 3, 4), (1, 2), (100, 1000), (0, 500)
+    PROCESSING, RESIDENCES = (0, 1000, 5000), (100_000, 400_000, 10_000_000)
+
+    def __init__(self, draw):
+        self.draw, self.fmt, count = draw, draw.choice((1, 2)), draw.choice(self.BRIDGES)
+        self.stations = [f"s{i}" for i in range(count + draw.choice(self.MORE_STATIONS))]
+        self.bridges = {f"b{i}": self.bridge() for i in range(count)}
+        ends = [(name, f"b{i % count}") for i, name in enumerate(self.stations)]
+        ends += trunk(draw.choice(("line", "tree", "ring")), count)
+        links = [(a, b, draw.choice(self.RATES), draw.choice(self.PROPAGATIONS)) for a, b in ends]
+        self.text = topology_text(self.fmt, self.stations, self.bridges, links)
+        self.ports = ports_of(self.bridges, links)
+
+    def bridge(self):
+        """The least and the greatest processing of a bridge, and its residence, in nanoseconds."""
+        most = self.draw.choice(self.PROCESSING)
+        least = self.draw.choice((0, most // 2, most)) if self.fmt == 2 else most
+        return least, most, self.draw.choice(self.RESIDENCES)
+
+    def walk(self, ends):
+        """The path of a sender between two stations."""
+        return least_walk(self.ports, *ends)
+
+    def ends_of(self, sender):
+        """The two stations of a sender's path."""
+        return self.ports[sender.path[0]].start, self.ports[sender.path[-1]].end
+
+    def table(self, sender):
+        """The table of a stream or a flow, with one class, or with one at each port where they differ."""
+        start, end = self.ends_of(sender)
+        kind = "stream" if sender.is_stream() else "flow"
+        text = f'[[{kind}]]\nname = "{sender.name}"\nfrom = "{start}"\nto = "{end}"\nmax_octets = {sender.most}\n'
+        if kind == "flow":
+            return text
+        one = len(set(sender.classes)) == 1
+        classes = f"class = {sender.classes[0]}" if one else f"classes = {list(sender.classes)}"
+        return (
+            f"{text}{classes}\nrate_bps = {sender.rate}\nburst_bits = {sender.burst}\nmin_octets = {sender.least}\n"
+            f"deadline_ns = {sender.deadline_ns}\n"
+        )
+
+    def file(self, senders):
+        """The text of the network file with these senders."""
+        return self.text + "".join(self.table(sender) for sender in senders)
+
+
+class Varied(Network):
+    """A random network with streams and flows of many kinds, over links of three rates."""
+
+    RATES, PROPAGATIONS = (100, 1000, 10000), (0, 10, 500)
+    PROCESSING, RESIDENCES = (0, 100, 1000, 5000), (50_000, 1_000_000, 10_000_000)
+    ALIKE = False
+
+    # The least and the most streams and flows, and the rates of streams.
+    STREAMS, FLOWS, STREAM_RATES = (1, 6), (0, 2), (10_000, 300_000, 1_000_000, 4_999_999)
+
+    def __init__(self, draw):
+        super().__init__(draw)
+        self.senders = [self.stream(f"s{k}") for k in range(draw.randint(*self.STREAMS))]
+        self.senders += [self.flow(f"f{k}") for k in range(draw.randint(*self.FLOWS))]
+
+    def way(self):
+        """The path between two stations."""
+        return self.walk(self.draw.sample(self.stations, 2))
+
+    def stream(self, name):
+        """A stream of this name, four in ten of them with a class at each port."""
+        draw, path = self.draw, self.way()
+        least, most = draw.randint(64, 300), draw.randint(300, 2000)
+        burst = bits_of(most) + draw.choice((0, 1, 5000, 30000))
+        classes = [draw.randint(1, 7)] * len(path)
+        if draw.random() < 0.4:
+            classes = [draw.randint(1, 7) for _ in path]
+        return Sender(name, path, tuple(classes), draw.choice(self.STREAM_RATES), burst, least, most)
+
+    def flow(self, name):
+        """A flow of this name."""
+        path = self.way()
+        return Sender(name, path, (0,) * len(path), None, None, 64, self.draw.randint(64, 2000))
+
+
+class Alike(Varied):
+    """A random network of equal links, and of equal streams but for their bursts: frames meet, tie and would overtake
+    each other. Of the bursts the first lets twelve of the longest frames go at once."""
+
+    RATES, PROPAGATIONS, PROCESSING, RESIDENCES = (1000,), (0,), (1_000_000,), (10_000_000,)
+    ALIKE, STREAM_RATES, BURSTS = True, (100_000_000,), (200_000, 200_000, 60_000)
+
+    def bridge(self):
+        least, most, residence = super().bridge()
+        return (0 if least < most else least), most, residence
+
+    def stream(self, name):
+        path, draw = self.way(), self.draw
+        return Sender(name, path, (6,) * len(path), *self.STREAM_RATES, draw.choice(self.BURSTS), 64, 1522)
+
+    def flow(self, name):
+        path = self.way()
+        return Sender(name, path, (0,) * len(path), None, None, 64, 1522)

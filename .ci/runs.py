@@ -1,0 +1,104 @@
+"""Releases, and the text of a run: what the scripts need that replay schedules. The rules are those of
+docs/DEFINITIONS.md, written here once more; nothing here asks the program."""
+
+from itertools import accumulate
+
+from networks import SECOND, bits_of
+
+
+def schedule_text(rows):
+    """The text of a schedule of these releases: time, name and octets of each."""
+    return "at_ps,sender,octets\n" + "".join(f"{at},{name},{octets}\n" for at, name, octets in rows)
+
+
+def conforms(sender, frames):
+    """Whether frames, each with its time and its octets, keep a rate and a burst: those from each to each later one."""
+    sent = [0, *accumulate(bits_of(octets) for _, octets in frames)]
+    return all(
+        SECOND * (sent[last + 1] - sent[first]) <= sender.rate * (frames[last][0] - at) + SECOND * sender.burst
+        for first, (at, _) in enumerate(frames)
+        for last in range(first, len(frames))
+    )
+
+
+def keeps(sender, rows):
+    """Whether all releases of a sender have declared sizes, and those of a stream keep its bucket."""
+    frames = [(at, octets) for at, name, octets in rows if name == sender.name]
+    sizes = all(sender.least <= octets <= sender.most for _, octets in frames)
+    return sizes and (not sender.is_stream() or conforms(sender, frames))
+
+
+def keeping_stations(ports, senders, rows):
+    """The stations that keep their buckets: each of their senders keeps what it declares."""
+    broken = {ports[sender.path[0]].start for sender in senders if not keeps(sender, rows)}
+    return {ports[sender.path[0]].start for sender in senders} - broken
+
+
+def kept_releases(draw, sender, span, most=12):
+    """At most so many releases of a sender that keep what it declares, a stream's as fast as its bucket allows."""
+    at, level, out = draw.randint(0, 10**6), (sender.burst or 0) * SECOND, []
+    while at < span and len(out) < most:
+        octets = draw.randint(sender.least, sender.most)
+        if sender.is_stream():
+            short = bits_of(octets) * SECOND - level
+            wait = max(0, -(-short // sender.rate)) + draw.choice((0, 0, 1, 10**8))
+            at += wait
+            level = min(sender.burst * SECOND, level + wait * sender.rate) - bits_of(octets) * SECOND
+        else:
+            at += draw.randint(0, 2 * 10**7)
+        if at < span:
+            out.append((at, sender.name, octets))
+    return out
+
+
+class Record:
+    """One hop of a frame: its port, arrival, verdict ('eligible', 'late' or 'size'), time of the verdict, start and
+    end."""
+
+    def __init__(self, words):
+        self.port, self.arrival, self.verdict = words[1], int(words[2]), words[3]
+        self.eligible = int(words[4]) if len(words) > 4 else None
+        self.start, self.end = (int(words[6]), int(words[8])) if len(words) > 8 else (None, None)
+
+
+class Journey:
+    """What the text of a run tells of one frame: its name, octets and release, its hops, and its arrival or None."""
+
+    def __init__(self, words):
+        self.name, self.octets, self.release, self.hops, self.sink = words[2], int(words[3]), int(words[4]), [], None
+
+    def lines(self, frame):
+        """The lines that tell it, where it has this number."""
+        yield f"frame {frame} {self.name} {self.octets} {self.release}"
+        for hop in self.hops:
+            words = [hop.verdict] + ([] if hop.eligible is None else [str(hop.eligible)])
+            words += [] if hop.start is None else ["start", str(hop.start), "end", str(hop.end)]
+            yield " ".join(["hop", hop.port, str(hop.arrival)] + words)
+        yield "discard" if self.sink is None else f"sink {self.sink}"
+
+
+def journeys_of(lines):
+    """The journeys that the text of a run tells, but for its last line, in order."""
+    out = []
+    for text in lines:
+        words = text.split()
+        if words[0] == "frame":
+            out.append(Journey(words))
+            assert int(words[1]) == len(out) - 1, text
+        elif words[0] == "hop":
+            out[-1].hops.append(Record(words))
+        elif words[0] == "sink":
+            out[-1].sink = int(words[1])
+        else:
+            assert words[0] == "discard", text
+    return out
+
+
+def text_of(journeys):
+    """The lines that tell these journeys."""
+    return [line for frame, journey in enumerate(journeys) for line in journey.lines(frame)]
+
+
+def releases_of(journeys):
+    """The releases of journeys: time, name and octets of each."""
+    return [(journey.release, journey.name, journey.octets) for journey in journeys]

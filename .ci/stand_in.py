@@ -1,0 +1,177 @@
+"""A program that answers as the real one, but wrongly in one way: stand_in.py WRONG PROGRAM WORD..
+
+WRONG is a key of WRONGS below; `none` changes nothing. `wrong_programs` runs the scripts of the gate over it."""
+
+import os
+import re
+import subprocess
+import sys
+
+# What waits are lowered by, and above which they are, in picoseconds.
+LESS, ABOVE = 1000, 2000
+
+
+def call(program, words):
+    """The status of the real program, and what it printed."""
+    ran = subprocess.run([program, *words], stdout=subprocess.PIPE, check=False)
+    return ran.returncode, ran.stdout.decode("utf-8", "surrogateescape")
+
+
+def is_about(words, *verbs):
+    """Whether the words are of one of these commands."""
+    return words[:1] and words[0] in verbs
+
+
+def without_frames(words, status, text):
+    """Runs of no frames."""
+    if not is_about(words, "replay", "capture"):
+        return status, text
+    counts = [line for line in text.splitlines() if line.startswith("records ")]
+    return status, "\n".join(["total frames 0 sunk 0 late 0 size 0", *counts]) + "\n"
+
+
+def without_releases(words, status, text):
+    """Captures of no releases, with the right counts."""
+    lines = text.splitlines(keepends=True)
+    return status, lines[-1] if is_about(words, "capture") and lines else text
+
+
+def always_refused(words, status, text):
+    """A `bound` that refuses everything."""
+    return (3, "refused overloaded s0>b0 1 1000000000001\n") if is_about(words, "bound") else (status, text)
+
+
+def always_accepted(words, status, text):
+    """A `check` that refuses nothing."""
+    return (0, "accepted 1\n") if is_about(words, "check") and status == 3 else (status, text)
+
+
+def never_late(words, status, text):
+    """Sums of `check` that are ten times as long, so that each run is within them."""
+    if not is_about(words, "check"):
+        return status, text
+    return status, re.sub(r"^((?:hop \S+|sum) \S+ \d+)$", r"\g<1>0", text, flags=re.M)
+
+
+def always_conforming(words, status, text):
+    """A `conform` to which all releases conform."""
+    return (0, "conforms 12\n") if is_about(words, "conform") else (status, text)
+
+
+def latest_excess(words, status, text):
+    """A `conform` that names the broken frame twice in place of the one from which on it breaks."""
+    return status, re.sub(r"bucket \d+ (\d+)", r"bucket \1 \1", text)
+
+
+def worst_of_nothing(words, status, text):
+    """Summaries in which no frame took any time."""
+    return status, re.sub(r"worst \d+", "worst 0", text)
+
+
+def worst_one_less(words, status, text):
+    """Summaries whose longest delays are less by one."""
+    return status, re.sub(r"worst (\d+)", lambda found: f"worst {int(found[1]) - 1}", text)
+
+
+def one_less(words, status, text):
+    """The last number of each line is less by one."""
+    return status, re.sub(r"\b([1-9]\d*)$", lambda found: str(int(found[1]) - 1), text, flags=re.M)
+
+
+def always_admitted(words, status, text):
+    """An `admit` that answers each request in the same way."""
+    return status, re.sub(r"^denied (\S+) .*$", r"withdrawn \1", text, flags=re.M) if is_about(words, "admit") else text
+
+
+def sums_one_less(words, status, text):
+    """An `admit` whose sums are less by one."""
+    named = r"^(admitted \S+ \d) (\d+)$"
+    return status, re.sub(named, lambda found: f"{found[1]} {int(found[2]) - 1}", text, flags=re.M)
+
+
+def status_of_success(words, status, text):
+    """The status is always 0."""
+    return 0, text
+
+
+def nothing_printed(words, status, text):
+    """Nothing is printed, and the status is 0."""
+    return 0, ""
+
+
+def read_as_done(words, status, text):
+    """A file that cannot be read counts as an empty one."""
+    return (0, "") if status == 4 else (status, text)
+
+
+def routes_back(words, status, text):
+    """Paths in which the last two ports change places."""
+    return status, re.sub(r"^((?:stream|flow) .*?) (\S+) (\S+)$", r"\1 \3 \2", text, flags=re.M)
+
+
+def arrivals_late(words, status, text):
+    """Runs in which each frame arrives at its listener a picosecond later."""
+    return status, re.sub(r"^sink (\d+)$", lambda found: f"sink {int(found[1]) + 1}", text, flags=re.M)
+
+
+def shifted_row(line, by):
+    """A row of a certificate with this more of wait and bound, where the wait is a long one."""
+    fields = line.split(",")
+    if len(fields) == 9 and fields[7].isdigit() and int(fields[7]) > (ABOVE if by < 0 else ABOVE - LESS):
+        fields[7:] = [str(int(number) + by) for number in fields[7:]]
+    return ",".join(fields)
+
+
+def shifted_file(name):
+    """A copy of a network file whose residences are a nanosecond longer, or of a certificate whose waits are."""
+    with open(name, encoding="ascii") as file:
+        text = re.sub(r"residence_ns = (\d+)", lambda found: f"residence_ns = {int(found[1]) + 1}", file.read())
+    with open(f"{name}.shifted", "w", encoding="ascii") as file:
+        file.write("\n".join(shifted_row(line, LESS) for line in text.split("\n")))
+    return f"{name}.shifted"
+
+
+def short_waits(program, words):
+    """Each wait above 2 ns is 1 ns too small, in `bound` and `check` alike, and so what is printed of residences."""
+    if not is_about(words, "bound", "check"):
+        return call(program, words)
+    status, text = call(program, [words[0], *map(shifted_file, words[1:])])
+    text = "\n".join(shifted_row(line, -LESS) for line in text.split("\n"))
+    if status == 3:
+        named = r"(refused (?:wait|residence) .*) (\d+)$"
+        text = re.sub(named, lambda it: f"{it[1]} {int(it[2]) - LESS}", text, flags=re.M)
+    return status, text
+
+
+# What each wrong program makes of the words, the status and the text of the right one.
+WRONGS = {
+    "none": lambda words, status, text: (status, text),
+    "output-lost": lambda words, status, text: (status, text),
+    **{
+        it.__name__.replace("_", "-"): it
+        for it in (
+            without_frames, without_releases, always_refused, always_accepted, never_late, always_conforming,
+            latest_excess, worst_of_nothing, worst_one_less, one_less, always_admitted, sums_one_less,
+            status_of_success, nothing_printed, read_as_done, routes_back, arrivals_late,
+        )
+    },
+}  # fmt: skip
+
+
+def main(wrong, program, *words):
+    """Runs the real program, and prints and answers otherwise."""
+    if wrong == "short-waits":
+        status, text = short_waits(program, words)
+    else:
+        status, text = WRONGS[wrong](words, *call(program, words))
+    left = text.encode("utf-8", "surrogateescape")
+    try:
+        while left:
+            left = left[os.write(1, left) :]
+    except OSError:
+        return 0 if wrong == "output-lost" else 5
+    return status
+
+
+if __name__ == "__main__":
+    sys.exit(main(*sys.argv[1:]))
