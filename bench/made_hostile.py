@@ -1,5 +1,5 @@
-"""Inputs at and past each limit, and of the worst form that there is, made for bench/limits. Each maker writes files into a
-folder, in pieces, and takes a share of the full size: 1, or 4 for a quarter of it."""
+"""Inputs at and past each limit, and of the worst form that there is, made for bench/limits. Each maker writes files
+into a folder, in pieces, and takes a share of the full size: 1, or 4 for a quarter of it."""
 
 MAX_BYTES = 16_777_216
 MAX_SCHEDULE_BYTES = 33_554_432
@@ -33,7 +33,8 @@ CAPTURE_HEADER = bytes.fromhex("d4c3b2a1020004000000000000000000ffff000001000000
 
 
 def write(path, begin, part, size, end=""):
-    """Writes a file of this size: its beginning, this part as often as it fits, and its end; what is left are line ends."""
+    """Writes a file of this size: its beginning, this part as often as it fits, and its end; what is left are line
+    ends."""
     begin, part, end = (text.encode() if isinstance(text, str) else text for text in (begin, part, end))
     times, left = divmod(size - len(begin) - len(end), len(part))
     at_once = max(1, PIECE // len(part))
@@ -65,7 +66,8 @@ def padded(name, begin, part, size, end=""):
     """A maker of a file of a size, or of a share of it."""
 
     def make(share):
-        write(name, begin, part, size if share == 1 else len(begin) + len(end) + (size - len(begin) - len(end)) // share, end)
+        around = len(begin) + len(end)
+        write(name, begin, part, size if share == 1 else around + (size - around) // share, end)
 
     return make
 
@@ -103,8 +105,8 @@ def capture(records):
 
 
 def sized_capture(records, more):
-    """A maker of a capture of so many records of one length, the last of which ends where a file may end, and of so many bytes
-    behind it."""
+    """A maker of a capture of so many records of one length, the last of which ends where a file may end, and of so
+    many bytes behind it."""
     length = MAX_CAPTURE_BYTES // records
 
     def make(share):
@@ -137,8 +139,9 @@ def station_capture(own, other):
     return make
 
 
-# A torus of bridges, in which any two bridges that are apart in row and column have several least walks, with stations at
-# some of them: 1024 nodes. A walk from a bridge to the one 7 rows and 7 columns on has 14 links, and 3432 of them tie.
+# A torus of bridges, in which any two bridges that are apart in row and column have several least walks, with
+# stations at some of them: 1024 nodes. A walk from a bridge to the one 7 rows and 7 columns on has 14 links, and 3432
+# of them tie.
 ROWS, COLUMNS, APART = 28, 32, 7
 TORUS_STATIONS = 1024 - ROWS * COLUMNS
 
@@ -165,12 +168,13 @@ def start_of(k):
 
 
 def torus_routes(senders):
-    """The ports of each sender: of two that a bridge's links to the right and down give, the first is the one to the right, so
-    the first of all least walks goes to the right first."""
+    """The ports of each sender: of two that a bridge's links to the right and down give, the first is the one to the
+    right, so the first of all least walks goes to the right first."""
     for k in range(senders):
         row, column = start_of(k)
         nodes = [station(row, column)] + [bridge(row, column + step) for step in range(APART)]
-        nodes += [bridge(row + step, column + APART) for step in range(APART + 1)] + [station(row + APART, column + APART)]
+        nodes += [bridge(row + step, column + APART) for step in range(APART + 1)]
+        nodes.append(station(row + APART, column + APART))
         yield [f"{a}>{b}" for a, b in zip(nodes, nodes[1:])]
 
 
@@ -210,8 +214,8 @@ def torus_lines(streams, flows, share):
 
 
 def torus_requests(count):
-    """A maker of so many requests to enter the network of ties, each by a route of 16 ports and in the lowest class that
-    there is; every fourth of them withdraws the stream before it."""
+    """A maker of so many requests to enter the network of ties, each by a route of 16 ports and in the lowest class
+    that there is; every fourth of them withdraws the stream before it."""
 
     def request(k):
         if k % 4 == 3:
@@ -238,8 +242,8 @@ def padded_name(name, length):
 
 
 def long_line(streams, length=0, flows=0, rate=1_000_000, octets=2000):
-    """A maker of a line of 15 bridges with streams and flows from end to end: 16 ports, as many as a path may have. All names
-    have at least this length, frames at most so many octets."""
+    """A maker of a line of 15 bridges with streams and flows from end to end: 16 ports, as many as a path may have.
+    All names have at least this length, frames at most so many octets."""
     nodes = [padded_name(name, length) for name in ["t"] + [f"b{k}" for k in range(15)] + ["u"]]
     ends = f'from = "{nodes[0]}"\nto = "{nodes[-1]}"\n'
 
@@ -251,8 +255,9 @@ def long_line(streams, length=0, flows=0, rate=1_000_000, octets=2000):
             yield f'[[link]]\na = "{a}"\nb = "{b}"\nmbps = 1000\npropagation_ns = 500\n'
         for k in range(streams // share):
             yield (
-                f'[[stream]]\nname = "{padded_name(f"stream_{k}", length)}"\n{ends}class = {6 if rate > 100_000 else 1 + k % 7}\n'
-                f"rate_bps = {rate}\nburst_bits = {8 * (octets + 20)}\nmin_octets = 64\nmax_octets = {octets}\n"
+                f'[[stream]]\nname = "{padded_name(f"stream_{k}", length)}"\n{ends}'
+                f"class = {6 if rate > 100_000 else 1 + k % 7}\nrate_bps = {rate}\n"
+                f"burst_bits = {8 * (octets + 20)}\nmin_octets = 64\nmax_octets = {octets}\n"
                 f'address = "02:00:00:00:{k >> 8:02x}:{k & 255:02x}"\nvlan = 1\n'
             )
         for k in range(flows // share):
@@ -274,7 +279,12 @@ PAUSE_PS = 672_000_000
 
 
 def releases(streams, pause, octets=64, begin=0, length=0):
-    """A maker of a schedule of as many frames as a run may have, of these streams in turn, so many picoseconds apart and from
-    this time on. The streams' names have at least this length."""
+    """A maker of a schedule of as many frames as a run may have, of these streams in turn, so many picoseconds apart
+    and from this time on. The streams' names have at least this length."""
     names = [padded_name(f"stream_{k}", length) for k in range(streams)]
-    return repeated("s.csv", SCHEDULE_HEADER, MAX_FRAMES, lambda k: f"{begin + k * pause},{names[k % streams]},{octets}\n")
+
+
+    def release(k):
+        return f"{begin + k * pause},{names[k % streams]},{octets}\n"
+
+    return repeated("s.csv", SCHEDULE_HEADER, MAX_FRAMES, release)

@@ -8,7 +8,9 @@ import threading
 import time
 
 ROOT = os.path.dirname(os.path.dirname(os.path.abspath(__file__)))
-PROGRAM = os.path.join(ROOT, "crates", "ats_cli", "out", "ats_cli")
+
+# The program that runs where the command line names none: that of ATS_PROGRAM, or the one that was built last.
+PROGRAM = os.path.abspath(os.environ.get("ATS_PROGRAM") or os.path.join(ROOT, "crates", "ats_cli", "out", "ats_cli"))
 
 MAX_NODES = 1024
 MAX_STREAMS = 4096
@@ -44,7 +46,8 @@ def network_file(nodes, streams, flows, by_ends):
     for k in range(streams):
         address = ":".join(f"{byte:02x}" for byte in (2 << 40 | k).to_bytes(6, "big"))
         lines.append(
-            f'[[stream]]\nname = "stream_{k}"\n{route(k)}\nclass = {1 + k % 7}\nrate_bps = 1000000\nburst_bits = 12336\n'
+            f'[[stream]]\nname = "stream_{k}"\n{route(k)}\nclass = {1 + k % 7}\n'
+            "rate_bps = 1000000\nburst_bits = 12336\n"
             f'min_octets = 64\nmax_octets = 1522\naddress = "{address}"\nvlan = 1'
         )
     for k in range(flows):
@@ -85,8 +88,8 @@ def run(program, words, printed):
     watch.ended.set()
     watch.join()
     child.returncode = os.waitstatus_to_exitcode(status)
-    # What the system tells is at least the peak of this script, from which the process was started. Where it is no more than
-    # that, the last reading counts; of a run too short to be read it is an upper bound.
+    # What the system tells is at least the peak of this script, from which the process was started. Where it is no
+    # more than that, the last reading counts; of a run too short to be read it is an upper bound.
     own = resource.getrusage(resource.RUSAGE_SELF).ru_maxrss
     kilobytes = used.ru_maxrss if used.ru_maxrss > own else watch.kilobytes or used.ru_maxrss
     return child.returncode, seconds, kilobytes / 1024

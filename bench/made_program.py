@@ -48,10 +48,9 @@ def proved_program(folder, name, files, used):
     return program
 
 
-def plain_program(folder, text):
-    """Builds a plain Rust program of this text, and gives its path."""
-    source, program = os.path.join(folder, "plain.rs"), os.path.join(folder, "plain")
-    write(source, text)
+def plain_program(folder, name):
+    """Builds the program in plain Rust of this name, plain/NAME.rs, and gives its path."""
+    source, program = os.path.join(ROOT, "bench", "plain", f"{name}.rs"), os.path.join(folder, "plain")
     subprocess.run(["rustc", "--edition", "2021", "-C", "opt-level=3", "-o", program, source], check=True)
     return program
 

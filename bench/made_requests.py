@@ -4,8 +4,9 @@ from made_network import BRIDGES_OF_A_PATH
 
 MAX_REQUESTS = 10_000
 
-# Of ten requests, what each asks: to admit a new stream, with its class or the lowest, also with a deadline that none meets; to
-# withdraw a stream that came in, or one of the network's; to admit that one again. As many come in as leave.
+# Of ten requests, what each asks: to admit a new stream, with its class or the lowest, also with a deadline that none
+# meets; to withdraw a stream that came in, or one of the network's; to admit that one again. As many come in as
+# leave.
 ASKED = ("admit", "lowest", "late", "withdraw", "away", "back", "lowest", "withdraw", "withdraw", "lowest-late")
 
 

@@ -7,7 +7,8 @@ PAUSE_PS = 672_000_000
 
 
 def schedule_file(releases, streams):
-    """A schedule by which the first streams of a made network keep their buckets: they send in turn, as often as they may."""
+    """A schedule by which the first streams of a made network keep their buckets: they send in turn, as often as they
+    may."""
     lines = ["at_ps,sender,octets"]
     for k in range(releases):
         lines.append(f"{k * -(-PAUSE_PS // streams)},stream_{k % streams},64")
