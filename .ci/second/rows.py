@@ -60,12 +60,12 @@ class Row:
         self.status = 0 if status is None else int(status)
 
     def part(self, name):
-        """The bytes of a part of the row, or None where it is not there."""
-        path = os.path.join(self.folder, name)
-        if not os.path.exists(path):
-            return None
-        with open(path, "rb") as file:
-            return file.read()
+        """The bytes of a part of the row, which its script may have made, or None where it is not there."""
+        for path in (os.path.join(self.room, name), os.path.join(self.folder, name)):
+            if os.path.exists(path):
+                with open(path, "rb") as file:
+                    return file.read()
+        return None
 
     def cases(self):
         """The row, and each line of its changes."""
