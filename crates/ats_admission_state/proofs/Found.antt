@@ -1,5 +1,5 @@
 -- What a search finds at a port, class by class, and along a path, port by port.
-use Rattle.std.proofs.Common.{◌≡◌, ℕ, zero, suc, ◌+◌, ◌<◌, ◌≤◌, Bool, true, false, cond, List, [], ◌∷◌, ◌++◌, length}
+use Rattle.std.proofs.Common.{◌≡◌, ℕ, zero, suc, ◌+◌, ◌<◌, ◌≤◌, Bool, true, false, cond, List, [], ◌∷◌, length}
 use Rattle.std.proofs.Common.{get_or, map, filter, drop, Option, Some, None, refl, sym, ap, ◌∙◌, inl, inr, arith}
 use Rattle.std.specs.Prelude.{fold, nat_lt}
 use Rattle.std.specs.Option.{option_or}
@@ -136,27 +136,3 @@ lower_none (Some best) port (Some reason) h = absurd (lower_some (Some best) por
 pub fold_more : {A B : Type 0} (f : B → A → B) (b : B) (xs : List A) (i : ℕ) (d : A)
     → i < length xs → fold f (f b (get_or xs i d)) (drop (i + 1) xs) ≡ fold f b (drop i xs)
 fold_more f b xs i d within = sym (ap (fold f b) (drop_more xs i d within))
-
--- over what is left of those that pass a test, of which the next counts where it passes
-pub fold_filtered : {A B : Type 0} (f : B → A → B) (test : A → Bool) (b : B) (xs : List A) (i : ℕ) (d : A)
-    → i < length xs → fold f (cond (test (get_or xs i d)) (f b (get_or xs i d)) b) (filter test (drop (i + 1) xs))
-    ≡ fold f b (filter test (drop i xs))
-fold_filtered {A} {B} f test b xs i d within =
-    by (test (get_or xs i d)) ∙ sym (ap (λ (left : List A). fold f b (filter test left)) (drop_more xs i d within))
-  where
-    rest : List A
-    rest = filter test (drop (i + 1) xs)
-
-    by : (t : Bool) → fold f (cond t (f b (get_or xs i d)) b) rest ≡ fold f b (cond t (get_or xs i d ∷ rest) rest)
-    by true = refl
-    by false = refl
-
--- and at the end
-pub fold_end : {A B : Type 0} (f : B → A → B) (b : B) (xs : List A) (i : ℕ) → length xs ≤ i → fold f b (drop i xs) ≡ b
-fold_end f b xs i past = ap (fold f b) (drop_all i xs past)
-
--- over two lists, one behind the other
-pub fold_append : {A B : Type 0} (f : B → A → B) (b : B) (xs ys : List A)
-    → fold f b (xs ++ ys) ≡ fold f (fold f b xs) ys
-fold_append f b [] ys = refl
-fold_append f b (x ∷ xs) ys = fold_append f (f b x) xs ys

@@ -1,13 +1,13 @@
 -- The late stream with the lowest number among those near the last one, found by routes.
 use Rattle.std.proofs.Common.{◌≡◌, ℕ, ◌+◌, ◌*◌, ◌<◌, Bool, true, false, cond, List, []}
 use Rattle.std.proofs.Common.{◌∷◌, ◌++◌, length, get_or}
-use Rattle.std.proofs.Common.{Option, Some, None, Result, refl, sym, ap, subst, ◌∙◌, inl, inr, arith, min}
-use Rattle.std.specs.Prelude.{fold, nat_lt}
-use Rattle.std.specs.List.{All}
+use Rattle.std.proofs.Common.{Option, Some, None, Result, refl, sym, ap, subst, ◌∙◌, inl, inr, eqb, arith}
+use Rattle.std.specs.Prelude.{nat_lt}
+use Rattle.std.specs.List.{All, list_any}
 use Rattle.std.specs.Option.{option_map}
-use Rattle.std.proofs.lemmas.Bool.{cases_Bool, cases_order, ltb-false, ltb-true}
+use Rattle.std.proofs.lemmas.Bool.{cases_Bool, cases_order, lt-ltb, ltb-true}
 use Rattle.std.proofs.lemmas.List.{get_or_default}
-use Rattle.std.proofs.lemmas.List.Elements.{All-head, All-nil, All-tail}
+use Rattle.std.proofs.lemmas.List.Elements.{All-nil}
 use Rattle.std.proofs.lemmas.List.Sums.{fold-append}
 use Rattle.std.proofs.lemmas.Option.{none-some, same_Some}
 use Rattle.ats_num.specs.Failure.{unless}
@@ -31,42 +31,20 @@ use Rattle.ats_admission_law.specs.Near.{IsNear, found_there, late_at, late_near
 use Rattle.ats_admission_law.proofs.Lowest.{IsBest, best_along, of_one}
 use Rattle.ats_admission_law.proofs.Near.{near_finds_late}
 use Rattle.ats_admission_shares.specs.PortShares.{stream_at, stream_paths, without_at}
-use Rattle.ats_admission_state.specs.Judging.{IsFirstLate, IsFirstOfAll, IsLateFound, NoneLate}
-use Rattle.ats_admission_state.specs.Judging.{late_number, lower_late, lower_number, lowest_number, new_along}
+use Rattle.ats_admission_users.specs.Users.{has_port}
+use Rattle.ats_admission_state.specs.Judging.{IsFirstLate, meets}
 use Rattle.ats_admission_state.specs.Judged.{sum_at}
 use Rattle.ats_admission_state.specs.Kept.{AreLeast}
 use Rattle.ats_admission_state.specs.Routes.{AreBounded, RouteState, is_late, no_route, route_of}
 use Rattle.ats_admission_state.specs.Routes.{routes_of, sum_along}
 use Rattle.ats_admission_state.proofs.Last.{less_by, other_at, others-length}
-use Rattle.ats_admission_state.proofs.Bounds.{route_bounded, route_sum}
-use Rattle.ats_admission_state.proofs.Nearby.{all_lower, each_route, in_numbers, near_are, paths_of_routes}
+use Rattle.ats_admission_state.proofs.Bounds.{route_bounded, route_ports, route_sum}
+use Rattle.ats_admission_state.proofs.Near.{along}
+use Rattle.ats_admission_state.proofs.Nearby.{all_lower, all_near, each_route, in_numbers, near_are}
 use Rattle.ats_admission_state.proofs.Nearby.{route_is, routes-length}
 
 abbrev number_of : Option (ℕ × Reason) → Option ℕ
 number_of best = option_map (λ (b : ℕ × Reason). b.0) best
-
--- the lower of a late number found so far and one more, as the lower of what was found with it
-lower_is : (best : Option (ℕ × Reason)) (n : ℕ) (reason : Reason)
-    → lower_number (number_of best) n ≡ number_of (lower_of best n (Some reason))
-lower_is None n reason = refl
-lower_is (Some best) n reason = by (nat_lt n best.0) refl
-  where
-    by : (b : Bool) → nat_lt n best.0 ≡ b → Some (min best.0 n) ≡ number_of (cond b (Some (n, reason)) (Some best))
-    by true less =
-        let lower = ltb-true n best.0 less in
-        let same : min best.0 n ≡ n = omega (arith, lower) in
-        ap (λ (m : ℕ). let o : Option ℕ = Some m in o) same
-    by false not_less =
-        let most = ltb-false n best.0 not_less in
-        let same : min best.0 n ≡ best.0 = omega (arith, most) in
-        ap (λ (m : ℕ). let o : Option ℕ = Some m in o) same
-
-step_is : (best : Option (ℕ × Reason)) (n : ℕ) (reason : Reason) (late : Bool)
-    → cond late (lower_number (number_of best) n) (number_of best)
-    ≡ number_of (lower_of best n (cond late (Some reason) None))
-step_is best n reason true = lower_is best n reason
-step_is None n reason false = refl
-step_is (Some best) n reason false = refl
 
 -- what is found behind some best, where nothing was
 first_found : (n : ℕ) (o : Option Reason) → found_there (lower_of None n o) ≡ o
@@ -94,7 +72,7 @@ module _ (network : DeclaredNetwork) (n : ℕ) (last : n + 1 ≡ length network.
   routes = routes_of (without_at network n)
 
   abbrev numbers : List ℕ
-  numbers = new_along (stream_paths (without_at network n)) None (stream_at network n).path
+  numbers = along (stream_paths (without_at network n)) (stream_at network n).path
 
   -- the sum along the route of a stream is that of its bounds, and the places have bounds of few digits
   pub sum_is : (m : ℕ) → m < length network.streams
@@ -123,34 +101,24 @@ module _ (network : DeclaredNetwork) (n : ℕ) (last : n + 1 ≡ length network.
   abbrev step : Option (ℕ × Reason) → ℕ → Option (ℕ × Reason)
   step best m = lower_of best m (late_at network m)
 
-  step_number : (best : Option (ℕ × Reason)) (m : ℕ) → m < n
-      → lower_late bounds routes (number_of best) m ≡ number_of (step best m)
-  step_number best m within =
-      let s : DeclaredStream = stream_at network m in
-      ap (λ (late : Bool). cond late (lower_number (number_of best) m) (number_of best)) (late_is m within)
-      ∙ step_is best m (Deadline s.name (bound_along (least_certificate network) s))
-      (nat_lt (PS_PER_NS * s.deadline_ns) (bound_along (least_certificate network) s))
-
-  numbers_are : (best : Option (ℕ × Reason)) (ms : List ℕ) → All (λ m. m < n) ms
-      → lowest_number bounds routes (number_of best) ms ≡ number_of (fold step best ms)
-  numbers_are best [] all = refl
-  numbers_are best (m ∷ ms) all =
-      ap (λ (o : Option ℕ). lowest_number bounds routes o ms)
-      (step_number best m (All-head (λ k. k < n) m ms all))
-      ∙ numbers_are (step best m) ms (All-tail (λ k. k < n) m ms all)
-
   abbrev best : Option (ℕ × Reason)
   best = lowest_late network numbers
 
   best_is : IsBest (late_at network) numbers best
   best_is = best_along (late_at network) None [] numbers (All-nil (λ m. late_at network m ≡ None))
 
-  -- what is found is the number of the late stream that is found
-  number_is : late_number bounds routes x.path ≡ number_of best
-  number_is =
-      ap (λ (ps : List (List ℕ)). lowest_number bounds routes None (new_along ps None x.path))
-      (paths_of_routes network n last rules)
-      ∙ numbers_are None numbers (all_lower network n last rules)
+  -- a stream that is near the last one has a route that meets its path
+  met_is : (m : ℕ) → m < n → shares x (stream_at network m) ≡ true → meets x.path (get_or routes m no_route) ≡ true
+  met_is m within shared =
+      ap (λ (r : RouteState). meets x.path r) (route_is network n last rules m within)
+      ∙ ap (λ (ports : List ℕ). list_any (λ port. has_port port x.path) ports)
+      (route_ports (stream_at network m) (rules.streams m no_stream (omega (arith, within, last))))
+      ∙ shared
+
+  -- so has each that may be found
+  found_met : (m : ℕ) → m < n → list_any (λ q. eqb q m) numbers ≡ true → meets x.path (get_or routes m no_route) ≡ true
+  found_met m within listed =
+      met_is m within (of_one (λ k. IsNear network x k) numbers m (all_near network n last rules) listed).shares
 
   -- whether a stream is late, as its route tells
   late_false : (m : ℕ) → m < n → is_late bounds (get_or routes m no_route) ≡ false → late_at network m ≡ None
@@ -180,19 +148,19 @@ module _ (network : DeclaredNetwork) (n : ℕ) (last : n + 1 ≡ length network.
         ap (late_by s) (sym stays)
         ∙ ap (late (least_certificate less)) (other_at network n last m within) ∙ early
 
-    -- so the first late one of all is the lowest late one near it
-    is_found_best : (m : ℕ) → IsFirstLate bounds routes m → number_of best ≡ Some m
+    -- so a first late one is the lowest late one near it
+    is_found_best : (m : ℕ) → IsFirstLate bounds routes x.path (Some m) → number_of best ≡ Some m
     is_found_best m first = by best best_is
       where
         within : m < n
-        within = omega (arith, first.within, routes-length network n last rules)
+        within = omega (arith, (first.late m refl).within, routes-length network n last rules)
 
         late : (reason : Reason) × (late_at network m ≡ Some reason)
-        late = late_true m within first.late
+        late = late_true m within (first.late m refl).late
 
         near : IsNear network x m
         near = elim (cases_Bool (shares x (stream_at network m))) as (λ _. IsNear network x m) [
-          | inl shares ↦ record { within = omega (arith, within, last); shares = shares }
+          | inl shared ↦ record { within = omega (arith, within, last); shares = shared }
           | inr apart ↦ absurd (none-some late.0 (sym (quiet_far m within apart) ∙ late.1))
         ]
 
@@ -206,16 +174,18 @@ module _ (network : DeclaredNetwork) (n : ℕ) (last : n + 1 ≡ length network.
             elim (cases_order found.0 m) as (λ _. number_of (Some found) ≡ Some m) [
               | inl same ↦ ap (λ (k : ℕ). let o : Option ℕ = Some k in o) same
               | inr other ↦ elim other as (λ _. number_of (Some found) ≡ Some m) [
-                | inl less ↦ absurd (none-some found.1
-                    (sym (late_false found.0 lower (first.none_before found.0 less)) ∙ is.is))
+                | inl under ↦ absurd (none-some found.1
+                    (sym (late_false found.0 lower (first.none_before found.0
+                    (omega (arith, lower, routes-length network n last rules)) (lt-ltb found.0 m under)
+                    (found_met found.0 lower is.inside))) ∙ is.is))
                 | inr more ↦ absurd (none-some late.0
                     (sym (of_one (λ k. k < found.0 → late_at network k ≡ None) numbers m is.least
                     (in_numbers network n last rules m within near) more) ∙ late.1))
               ]
             ]
 
-    none_best : NoneLate bounds routes (length routes) → number_of best ≡ None
-    none_best none = by best best_is
+    none_best : IsFirstLate bounds routes x.path None → number_of best ≡ None
+    none_best first = by best best_is
       where
         by : (o : Option (ℕ × Reason)) → IsBest (late_at network) numbers o → number_of o ≡ None
         by None is = refl
@@ -223,20 +193,19 @@ module _ (network : DeclaredNetwork) (n : ℕ) (last : n + 1 ≡ length network.
             let lower : found.0 < n = of_one (λ k. k < n) numbers found.0 (all_lower network n last rules) is.inside in
             absurd (none-some found.1
             (sym (late_false found.0 lower
-            (none found.0 (omega (arith, lower, routes-length network n last rules)))) ∙ is.is))
+            (first.none_before found.0 (omega (arith, lower, routes-length network n last rules)) refl
+            (found_met found.0 lower is.inside))) ∙ is.is))
 
-    first_is : (o : Option ℕ) → IsFirstOfAll bounds routes o → o ≡ number_of best
+    first_is : (o : Option ℕ) → IsFirstLate bounds routes x.path o → o ≡ number_of best
     first_is None none = sym (none_best none)
     first_is (Some m) first = sym (is_found_best m first)
 
     -- what is found, as it is read
     read : (rs : List RouteState) (path : List ℕ) (o : Option ℕ) → rs ≡ routes → path ≡ x.path
-        → IsLateFound bounds rs path o → o ≡ number_of best
-    read rs path o routes_are path_are (inl near) =
-        near ∙ ap (λ (t : List RouteState). late_number bounds t path) routes_are
-        ∙ ap (late_number bounds routes) path_are ∙ number_is
-    read rs path o routes_are path_are (inr all) =
-        first_is o (subst (λ (t : List RouteState). IsFirstOfAll bounds t o) routes_are all)
+        → IsFirstLate bounds rs path o → o ≡ number_of best
+    read rs path o routes_are path_are is =
+        first_is o (subst (λ (p : List ℕ). IsFirstLate bounds routes p o) path_are
+        (subst (λ (t : List RouteState). IsFirstLate bounds t path o) routes_are is))
 
   near_is : late_near network x ≡ found_there (lower_of best n (late_at network n))
   near_is =
@@ -251,7 +220,7 @@ module _ (network : DeclaredNetwork) (n : ℕ) (last : n + 1 ≡ length network.
     pub near : late_near network x ≡ Some reason
 
   pub is_found : (m : ℕ) (rs : List RouteState) (path : List ℕ) (o : Option ℕ) → reason_of less ≡ None
-      → rs ≡ routes → path ≡ x.path → IsLateFound bounds rs path o → o ≡ Some m → IsLate m
+      → rs ≡ routes → path ≡ x.path → IsFirstLate bounds rs path o → o ≡ Some m → IsLate m
   is_found m rs path o free routes_are path_are is some =
       by best best_is refl (sym (read free rs path o routes_are path_are is) ∙ some)
     where
@@ -272,7 +241,7 @@ module _ (network : DeclaredNetwork) (n : ℕ) (last : n + 1 ≡ length network.
 
   -- none was
   pub none_found : (rs : List RouteState) (path : List ℕ) (o : Option ℕ) → reason_of less ≡ None → rs ≡ routes
-      → path ≡ x.path → IsLateFound bounds rs path o → o ≡ None → late_near network x ≡ late_at network n
+      → path ≡ x.path → IsFirstLate bounds rs path o → o ≡ None → late_near network x ≡ late_at network n
   none_found rs path o free routes_are path_are is none =
       by best refl (sym (read free rs path o routes_are path_are is) ∙ none)
     where

@@ -4,6 +4,7 @@ pub mod Found
 pub mod Users
 pub mod Near
 pub mod Hops
+pub mod Looked
 pub mod Places
 pub mod Bounds
 pub mod Last

@@ -1,9 +1,9 @@
 -- The streams near the last one, and the routes of the streams without it.
-use Rattle.std.proofs.Common.{◌≡◌, ◌≢◌, ℕ, ◌+◌, ◌<◌, ◌≤◌, true, false, List, []}
+use Rattle.std.proofs.Common.{◌≡◌, ℕ, ◌+◌, ◌<◌, ◌≤◌, true, false, List, []}
 use Rattle.std.proofs.Common.{◌∷◌, ◌++◌, length, get_or}
-use Rattle.std.proofs.Common.{None, refl, sym, ap, subst, ◌∙◌, eqb, inl, inr, arith}
+use Rattle.std.proofs.Common.{refl, sym, ap, subst, ◌∙◌, eqb, inl, inr, arith}
 use Rattle.std.specs.Prelude.{◌||◌}
-use Rattle.std.specs.List.{All, AllPairs, list_any}
+use Rattle.std.specs.List.{All, list_any}
 use Rattle.std.proofs.lemmas.Bool.{cases_eq, or_left, or_right, eq-eqb}
 use Rattle.std.proofs.lemmas.List.{get_or-map, get_or_default, length-map}
 use Rattle.std.proofs.lemmas.List.Elements.{All-append, All-cons, All-nil, All-weaker}
@@ -12,20 +12,13 @@ use Rattle.ats_facts.proofs.Lists.{all_left}
 use Rattle.ats_streams.specs.Stream.{DeclaredStream, IsStream}
 use Rattle.ats_network.specs.Edits.{no_stream}
 use Rattle.ats_network.specs.Network.{DeclaredNetwork, IsNetwork}
-use Rattle.ats_tally.proofs.Paths.{paths_apart}
 use Rattle.ats_admission_law.specs.Near.{AreNear, IsNear}
 use Rattle.ats_admission_shares.specs.PortShares.{stream_at, stream_paths, without_at}
-use Rattle.ats_admission_state.specs.Judging.{new_along}
-use Rattle.ats_admission_state.specs.Routes.{RouteState, no_route, ports_along, route_of, route_paths}
+use Rattle.ats_admission_state.specs.Routes.{RouteState, no_route, route_of, route_paths}
 use Rattle.ats_admission_state.specs.Routes.{routes_of}
 use Rattle.ats_admission_state.proofs.Last.{other_at, others-length, streams_are}
-use Rattle.ats_admission_state.proofs.Near.{IsNearPath, are_near, near_listed}
-use Rattle.ats_admission_state.proofs.Bounds.{all_route_paths, route_ports}
-
--- the routes of streams have no port twice
-pub route_apart : (network : DeclaredNetwork) (stream : DeclaredStream) → IsStream stream
-    → AllPairs (λ p q. p ≢ q) stream.path → AllPairs (λ p q. p ≢ q) (ports_along (route_of stream))
-route_apart network stream is apart = subst (AllPairs (λ p q. p ≢ q)) (sym (route_ports stream is)) apart
+use Rattle.ats_admission_state.proofs.Near.{IsNearPath, along, are_near, near_listed}
+use Rattle.ats_admission_state.proofs.Bounds.{all_route_paths}
 
 module _ (network : DeclaredNetwork) (n : ℕ) (last : n + 1 ≡ length network.streams) (rules : IsNetwork network) where
   abbrev pub x : DeclaredStream
@@ -74,14 +67,8 @@ module _ (network : DeclaredNetwork) (n : ℕ) (last : n + 1 ≡ length network.
       let within : k < n = omega (arith, h, routes-length) in
       subst P (sym (get_or_default routes k d no_route h ∙ route_is k within)) (each k (omega (arith, within, last)))
 
-  -- none has a port twice
-  pub routes_apart : All (λ r. AllPairs (λ p q. p ≢ q) (ports_along r)) routes
-  routes_apart = each_route (λ r. AllPairs (λ p q. p ≢ q) (ports_along r)) (λ m within.
-      route_apart network (stream_at network m) (rules.streams m no_stream within)
-      (paths_apart network rules m no_stream within))
-
   abbrev pub numbers : List ℕ
-  numbers = new_along paths None x.path
+  numbers = along paths x.path
 
   pub all_lower : All (λ m. m < n) numbers
   all_lower = All-weaker (IsNearPath x.path paths) (λ m. m < n) (λ m near. within_of m near.within) numbers
@@ -135,10 +122,13 @@ module _ (network : DeclaredNetwork) (n : ℕ) (last : n + 1 ≡ length network.
             (in_numbers m within near))
       ])
 
+  -- the numbers are of streams near it
+  pub all_near : All (IsNear network x) numbers
+  all_near = All-weaker (IsNearPath x.path paths) (IsNear network x) is_near numbers (are_near paths x.path)
+
   pub near_are : AreNear network x (numbers ++ n ∷ [])
   near_are = record {
-    near = All-append (IsNear network x) numbers (n ∷ [])
-        (All-weaker (IsNearPath x.path paths) (IsNear network x) is_near numbers (are_near paths x.path))
+    near = All-append (IsNear network x) numbers (n ∷ []) all_near
         (All-cons (IsNear network x) n [] own_near (All-nil (IsNear network x)));
     complete = listed_here;
   }

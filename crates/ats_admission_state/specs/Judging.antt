@@ -1,7 +1,7 @@
-use Rattle.std.specs.Prelude.{◌≡◌, ◌≢◌, ℕ, ◌+◌, ◌*◌, ◌<◌, ◌≤◌, Bool, true, false, ◌==◌, ◌&&◌, ◌||◌, not, if◌then◌else◌}
-use Rattle.std.specs.Prelude.{List, [], ◌∷◌, ◌++◌, ◌⊎◌, min}
-use Rattle.std.specs.Prelude.{length, map, filter, fold, Option, Some, None, slice_index_or}
-use Rattle.std.specs.Option.{option_or}
+use Rattle.std.specs.Prelude.{◌≡◌, ◌≢◌, ℕ, ◌+◌, ◌*◌, ◌<◌, ◌≤◌, Bool, true, false, nat_lt, if◌then◌else◌}
+use Rattle.std.specs.Prelude.{List, length, map, filter, Option, Some, None, slice_index_or}
+use Rattle.std.specs.List.{list_any}
+use Rattle.std.specs.Option.{ForSome, option_or}
 use Rattle.ats_network.specs.Network.{DeclaredNetwork}
 use Rattle.ats_certificate.specs.PortSums.{is_used}
 use Rattle.ats_certificate.specs.Used.{place}
@@ -10,9 +10,9 @@ use Rattle.ats_tally.specs.declared.reason.Reason.{Reason}
 use Rattle.ats_bound.specs.Reason.{overload}
 use Rattle.ats_admission_law.specs.Lowest.{lowest_found}
 use Rattle.ats_admission_law.specs.Near.{found_there, overstay_at}
-use Rattle.ats_admission_users.specs.Users.{users_of}
+use Rattle.ats_admission_users.specs.Users.{has_port}
 use Rattle.ats_admission_state.specs.Kept.{least_bound}
-use Rattle.ats_admission_state.specs.Routes.{RouteState, is_late, no_route, ports_along, route_paths}
+use Rattle.ats_admission_state.specs.Routes.{RouteState, is_late, no_route, ports_along}
 
 -- what a search finds at a port and a class, where some stream uses them
 abbrev pub given_at : (ℕ × ℕ → Option Reason) → DeclaredNetwork → ℕ → ℕ → Option Reason
@@ -41,70 +41,29 @@ found_on network path =
     option_or (found_there (lowest_found (overload network) network path))
     (found_there (lowest_found (overstay_at network) network path))
 
--- a path begins with a port
-abbrev pub begins_with : ℕ → List ℕ → Bool
-begins_with port [] = false
-begins_with port (p ∷ path) = p == port
+-- the path of a route has a port of this path
+abbrev pub meets : List ℕ → RouteState → Bool
+meets path route = list_any (λ port. has_port port path) (ports_along route)
 
--- a path leads from one port right to another
-abbrev pub leads_on : ℕ → ℕ → List ℕ → Bool
-leads_on before port [] = false
-leads_on before port (p ∷ path) = (p == before && begins_with port path) || leads_on before port path
+-- a number is below the one that was found, where one was
+abbrev pub is_below : ℕ → Option ℕ → Bool
+is_below n None = true
+is_below n (Some found) = nat_lt n found
 
--- a path does not lead right to a port from the one that comes before, where one is given
-abbrev pub is_new : Option ℕ → ℕ → List ℕ → Bool
-is_new None port path = true
-is_new (Some before) port path = not (leads_on before port path)
-
--- the numbers of the paths that have a port and do not lead there from the one before
-abbrev pub new_at : List (List ℕ) → Option ℕ → ℕ → List ℕ
-new_at paths before port = filter (λ n. is_new before port (slice_index_or paths n [])) (users_of paths port)
-
--- so along a path, behind this port
-abbrev pub new_along : List (List ℕ) → Option ℕ → List ℕ → List ℕ
-new_along paths before [] = []
-new_along paths before (port ∷ path) = new_at paths before port ++ new_along paths (Some port) path
-
--- of a number found so far and one more, the lower one
-abbrev pub lower_number : Option ℕ → ℕ → Option ℕ
-lower_number None n = Some n
-lower_number (Some best) n = Some (min best n)
-
--- so where the route with this number is late by these bounds
-abbrev pub lower_late : List ℕ → List RouteState → Option ℕ → ℕ → Option ℕ
-lower_late bounds routes best n =
-    if is_late bounds (slice_index_or routes n no_route) then lower_number best n else best
-
--- so, unless the route leads to the port from the one before
-abbrev pub lower_new : List ℕ → List RouteState → Option ℕ → ℕ → Option ℕ → ℕ → Option ℕ
-lower_new bounds routes before port best n =
-    if is_new before port (ports_along (slice_index_or routes n no_route)) then lower_late bounds routes best n
-    else best
-
--- of a late route found so far and the late ones with these numbers, the lowest number
-abbrev pub lowest_number : List ℕ → List RouteState → Option ℕ → List ℕ → Option ℕ
-lowest_number bounds routes best numbers = fold (lower_late bounds routes) best numbers
-
--- the lowest number of a late route among those that have a port of a path
-abbrev pub late_number : List ℕ → List RouteState → List ℕ → Option ℕ
-late_number bounds routes path = lowest_number bounds routes None (new_along (route_paths routes) None path)
-
--- no route with a number below this one is late
-abbrev pub NoneLate : List ℕ → List RouteState → ℕ → Type 0
-NoneLate bounds routes below =
-    (n : ℕ) → n < below → is_late bounds (slice_index_or routes n no_route) ≡ false
-
--- the route with this number is the first late one of all
-pub record IsFirstLate (bounds : List ℕ) (routes : List RouteState) (n : ℕ) : Type 0 where
+-- the route with this number is late by these bounds
+pub record IsLateRoute (bounds : List ℕ) (routes : List RouteState) (n : ℕ) : Type 0 where
   pub within : n < length routes
   pub late : is_late bounds (slice_index_or routes n no_route) ≡ true
-  pub none_before : NoneLate bounds routes n
 
--- so it is, or none is late
-abbrev pub IsFirstOfAll : List ℕ → List RouteState → Option ℕ → Type 0
-IsFirstOfAll bounds routes None = NoneLate bounds routes (length routes)
-IsFirstOfAll bounds routes (Some n) = IsFirstLate bounds routes n
+-- the route that was found, if one was, is late, and of those whose paths have a port of this path none before it is
+pub record IsFirstLate (bounds : List ℕ) (routes : List RouteState) (path : List ℕ) (found : Option ℕ) : Type 0 where
+  pub late : ForSome found (IsLateRoute bounds routes)
+  pub none_before : (n : ℕ) → n < length routes → is_below n found ≡ true
+      → meets path (slice_index_or routes n no_route) ≡ true
+      → is_late bounds (slice_index_or routes n no_route) ≡ false
 
--- the late route with the lowest number was looked for among those that have a port of a path, or among all
-abbrev pub IsLateFound : List ℕ → List RouteState → List ℕ → Option ℕ → Type 0
-IsLateFound bounds routes path found = (found ≡ late_number bounds routes path) ⊎ IsFirstOfAll bounds routes found
+-- a route was found before, and one is found with the route with this number: where that is late, none behind it
+pub record LooksAt (bounds : List ℕ) (routes : List RouteState) (n : ℕ) (before found : Option ℕ) : Type 0 where
+  pub late : ForSome before (IsLateRoute bounds routes) → ForSome found (IsLateRoute bounds routes)
+  pub below : (m : ℕ) → is_below m found ≡ true → is_below m before ≡ true
+  pub own : is_below n found ≡ true → is_late bounds (slice_index_or routes n no_route) ≡ false

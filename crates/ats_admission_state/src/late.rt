@@ -1,12 +1,10 @@
 //! Routes whose sum of bounds is over their deadline.
 
-ghost use Rattle.std.specs.Prelude.{◌≡◌, ◌≢◌, ◌<◌, ◌≤◌, nat_le, [], length, slice_index_or, All, AllPairs};
+ghost use Rattle.std.specs.Prelude.{◌≡◌, ◌+◌, ◌<◌, ◌≤◌, nat_le, List, ℕ, [], length, slice_index_or, take, All, IsTrue};
 ghost use Rattle.std.specs.List.{list_any};
 ghost use Rattle.ats_admission_users.specs.Users.{ListsPaths};
-ghost use Rattle.ats_admission_state.specs.Judging.{IsFirstOfAll, IsLateFound, is_new, late_number, lower_new};
-ghost use Rattle.ats_admission_state.specs.Judging.{lower_number};
-ghost use Rattle.ats_admission_state.specs.Judging.{lowest_number, new_at};
-ghost use Rattle.ats_admission_state.specs.Routes.{AreBounded, no_route, ports_along, route_paths};
+ghost use Rattle.ats_admission_state.specs.Judging.{IsFirstLate, LooksAt, is_below, meets};
+ghost use Rattle.ats_admission_state.specs.Routes.{AreBounded, route_paths};
 
 use crate::routes::Route;
 use ats_admission_users::PortUsers;
@@ -22,14 +20,13 @@ pub(crate) fn find_late(
     requires few { length routes.now ≤ 4096 }
     requires ports { All (λ p. p < length users.now.lists) path.now }
     requires bounded { All (AreBounded bounds.now) routes.now }
-    requires apart { All (λ r. AllPairs (λ p q. p ≢ q) (ports_along r)) routes.now }
     requires users { ListsPaths (length users.now.lists) (route_paths routes.now) users.now }
-    ensures { IsLateFound bounds.now routes.now path.now result }
+    ensures { IsFirstLate bounds.now routes.now path.now result }
 {
     if is_busy(users, path, routes.len() / 4) {
         first_of_all(bounds, routes)
     } else {
-        first_late(bounds, routes, users, path)
+        first_near(bounds, routes, users, path)
     }
 }
 
@@ -50,7 +47,7 @@ fn is_busy(users: &PortUsers, path: &[u32], many: usize) -> bool
 fn first_of_all(bounds: &[u128], routes: &[Route]) -> Option<u32>
     requires few { length routes.now ≤ 4096 }
     requires bounded { All (AreBounded bounds.now) routes.now }
-    ensures { IsFirstOfAll bounds.now routes.now result }
+    ensures { (path : List ℕ) → IsFirstLate bounds.now routes.now path result }
 {
     for (number, route) in routes.iter().enumerate() {
         if route.is_late(bounds) {
@@ -60,99 +57,76 @@ fn first_of_all(bounds: &[u128], routes: &[Route]) -> Option<u32>
     None
 }
 
-// Of the routes that have a port of a path, the late one with the lowest number. A route is looked at where it does not
-// lead to the port from the one before.
-fn first_late(bounds: &[u128], routes: &[Route], users: &PortUsers, path: &[u32]) -> Option<u32>
+// Of the routes that have a port of a path, the late one with the lowest number.
+fn first_near(bounds: &[u128], routes: &[Route], users: &PortUsers, path: &[u32]) -> Option<u32>
     requires ports { All (λ p. p < length users.now.lists) path.now }
     requires bounded { All (AreBounded bounds.now) routes.now }
-    requires apart { All (λ r. AllPairs (λ p q. p ≢ q) (ports_along r)) routes.now }
     requires users { ListsPaths (length users.now.lists) (route_paths routes.now) users.now }
-    ensures { result ≡ late_number bounds.now routes.now path.now }
+    ensures { IsFirstLate bounds.now routes.now path.now result }
 {
-    let mut lowest = None;
-    let mut before = None;
-    for port in path {
-        lowest = late_at_port(lowest, bounds, routes, users, before, *port);
-        before = Some(*port);
+    let mut found = None;
+    for hop in 0..path.len() {
+        found = first_to(bounds, routes, users, path, hop, found);
     }
-    lowest
+    found
 }
 
-// Of a late route found so far and those that have the port and do not lead there from the one before, the one with the
-// lowest number.
-fn late_at_port(
-    best: Option<u32>,
+// The late route with the lowest number of those that have one of the ports up to this hop, from the one that has a
+// port before it. A route that comes from the port before was looked at there.
+fn first_to(
     bounds: &[u128],
     routes: &[Route],
     users: &PortUsers,
+    path: &[u32],
+    hop: usize,
     before: Option<u32>,
-    port: u32,
 ) -> Option<u32>
-    requires port { port < length users.now.lists }
+    requires hop { hop < length path.now }
+    requires ports { All (λ p. p < length users.now.lists) path.now }
     requires bounded { All (AreBounded bounds.now) routes.now }
-    requires apart { All (λ r. AllPairs (λ p q. p ≢ q) (ports_along r)) routes.now }
     requires users { ListsPaths (length users.now.lists) (route_paths routes.now) users.now }
-    ensures { result ≡ lowest_number bounds.now routes.now best (new_at (route_paths routes.now) before port) }
+    requires before { IsFirstLate bounds.now routes.now (take hop path.now) before }
+    ensures { IsFirstLate bounds.now routes.now (take (hop + 1) path.now) result }
 {
-    let mut lowest = best;
+    let port = path[hop];
+    let mut found = before;
     for rank in 0..users.count(port) {
         let number = users.user(port, rank);
-        lowest = late_at(
-            lowest,
-            bounds,
-            routes,
-            before,
-            number,
-            users.hop(port, rank),
-        );
+        if !comes_along(&routes[number as usize], users.hop(port, rank), path, hop) {
+            found = look_at(bounds, routes, number, found);
+        }
     }
-    lowest
+    found
 }
 
-// Of a late route found so far and the one with this number, which has a port at this hop, the one with the lower
-// number, where it is late. A route that leads to the port from the one before is passed over.
-fn late_at(
-    best: Option<u32>,
-    bounds: &[u128],
-    routes: &[Route],
-    before: Option<u32>,
-    number: u32,
-    hop: usize,
-) -> Option<u32>
+// Whether a route comes to its own hop from the port that is before a hop of a path.
+fn comes_along(route: &Route, own: usize, path: &[u32], hop: usize) -> bool
+    requires own { own < length route.now.places }
+    requires hop { hop < length path.now }
+    ensures { IsTrue result → IsTrue (meets (take hop path.now) route.now) }
+{
+    hop > 0 && route.comes_from(path[hop - 1], own)
+}
+
+// The lower one of the late route that was found so far, and the route with this number, where that is late.
+fn look_at(bounds: &[u128], routes: &[Route], number: u32, before: Option<u32>) -> Option<u32>
     requires number { number < length routes.now }
     requires bounded { All (AreBounded bounds.now) routes.now }
-    requires apart { All (λ r. AllPairs (λ p q. p ≢ q) (ports_along r)) routes.now }
-    requires hop { hop < length (slice_index_or routes.now number no_route).places }
-    ensures { result ≡ lower_new bounds.now routes.now before
-        (slice_index_or (ports_along (slice_index_or routes.now number no_route)) hop 0) best number }
+    ensures { LooksAt bounds.now routes.now number before result }
 {
-    let route = &routes[number as usize];
-    if is_new(before, route, hop) && route.is_late(bounds) {
-        Some(lower_number(best, number))
+    if is_below(number, before) && routes[number as usize].is_late(bounds) {
+        Some(number)
     } else {
-        best
+        before
     }
 }
 
-// Of a number found so far and one more, the lower one.
-fn lower_number(best: Option<u32>, number: u32) -> u32
-    ensures { Some result ≡ lower_number best number }
+// Whether a number is below the one that was found, where one was.
+fn is_below(number: u32, found: Option<u32>) -> bool
+    ensures { result ≡ is_below number found }
 {
-    match best {
-        Some(lowest) => lowest.min(number),
-        None => number,
-    }
-}
-
-// Whether a route, which has no port twice, does not lead right to this hop from the port that comes before, where one
-// is given.
-fn is_new(before: Option<u32>, route: &Route, hop: usize) -> bool
-    requires hop { hop < length route.now.places }
-    requires apart { AllPairs (λ p q. p ≢ q) (ports_along route.now) }
-    ensures { result ≡ is_new before (slice_index_or (ports_along route.now) hop 0) (ports_along route.now) }
-{
-    match before {
+    match found {
         None => true,
-        Some(port) => !route.comes_from(port, hop),
+        Some(lowest) => number < lowest,
     }
 }

@@ -5,8 +5,8 @@ use Rattle.std.proofs.Common.{get_or-set_same, get_or-set_other}
 use Rattle.std.specs.Prelude.{◌&&◌, slice_get}
 use Rattle.std.proofs.lemmas.Bool.{and_from, and_parts, lt-ltb, ltb-true}
 use Rattle.std.proofs.lemmas.List.{length-replicate, get_or-replicate}
-use Rattle.std.proofs.lemmas.Option.{slice_get-get_or, none-some}
-use Rattle.ats_class_table.specs.Table.{IsFilled, Sets, Table, table_of, value_at}
+use Rattle.std.proofs.lemmas.Option.{slice_get-get_or}
+use Rattle.ats_class_table.specs.Table.{IsFilled, Sets, table_of, value_at}
 
 -- the value of a port and a class that are there
 pub value_is : {T : Type 0} (ports : ℕ) (values : List T) (port class : ℕ) (d : T) → length values ≡ 8 * ports
@@ -65,17 +65,3 @@ sets_is {T} ports values port class value long within most = record {
         ∙ ap Some (get_or-set_other values at (8 * p + c) value value (other p c apart low))
         ∙ sym (slice_get-get_or values (8 * p + c) value (omega (arith, long)))
         ∙ sym (ap (λ (b : Bool). cond b (slice_get values (8 * p + c)) None) e)
-
--- a value is there only at a port and a class that are
-pub value_inside : {T : Type 0} (table : Table T) (port class : ℕ) (value : T) → value_at table port class ≡ Some value
-    → (port < table.ports) × (class ≤ 7)
-unfolding value_at
-value_inside table port class value is = by (ltb port table.ports && ltb class 8) refl is
-  where
-    by : (b : Bool) → (ltb port table.ports && ltb class 8) ≡ b
-        → cond b (slice_get table.values (8 * port + class)) None ≡ Some value → (port < table.ports) × (class ≤ 7)
-    by false e h = absurd (none-some value h)
-    by true e h =
-        let parts = and_parts (ltb port table.ports) (ltb class 8) e in
-        let low : class < 8 = ltb-true class 8 parts.1 in
-        (ltb-true port table.ports parts.0, omega (arith, low))

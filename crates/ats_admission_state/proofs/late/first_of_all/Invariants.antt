@@ -1,6 +1,8 @@
-use Rattle.ats_admission_state.specs.Judging.{NoneLate}
+use Rattle.std.proofs.Common.{◌≡◌, ◌<◌, ℕ, false, slice_index_or}
+use Rattle.ats_admission_state.specs.Routes.{is_late, no_route}
 use Rattle.ats_admission_state.proofs.late.first_of_all.Given as goal
 
 -- none so far is late
 abbrev pub invariant-loop-number : goal.invariant-loop-number
-invariant-loop-number l = NoneLate l.bounds l.routes l.number
+invariant-loop-number l =
+    (n : ℕ) → n < l.number → is_late l.bounds (slice_index_or l.routes n no_route) ≡ false

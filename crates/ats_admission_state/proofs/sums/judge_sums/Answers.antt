@@ -1,5 +1,5 @@
-use Rattle.std.proofs.Common.{◌≡◌, ◌≢◌, ◌<◌, ℕ, List, length, sym, ap, subst, ◌∙◌, arith}
-use Rattle.std.specs.List.{All, AllPairs}
+use Rattle.std.proofs.Common.{◌≡◌, ◌<◌, ℕ, List, length, sym, ap, subst, ◌∙◌, arith}
+use Rattle.std.specs.List.{All}
 use Rattle.std.proofs.lemmas.List.{length-map}
 use Rattle.ats_streams.specs.Stream.{DeclaredStream}
 use Rattle.ats_network.specs.Network.{DeclaredNetwork}
@@ -7,7 +7,7 @@ use Rattle.ats_admission_users.specs.Users.{ListsPaths}
 use Rattle.ats_network.specs.Edits.{no_stream}
 use Rattle.ats_tally.proofs.Paths.{paths_inside}
 use Rattle.ats_admission_shares.specs.PortShares.{stream_at, stream_paths, without_at}
-use Rattle.ats_admission_state.specs.Routes.{AreBounded, RouteState, ports_along, route_of, route_paths}
+use Rattle.ats_admission_state.specs.Routes.{AreBounded, RouteState, route_of, route_paths}
 use Rattle.ats_admission_state.proofs.Last.{few_ports, others-length, path_is, stream_is}
 use Rattle.ats_admission_state.proofs.Lateness as late
 use Rattle.ats_admission_state.proofs.Nearby as near
@@ -42,11 +42,6 @@ find_late-requires-clause-bounded c =
     subst (All (AreBounded c.args.bounds.now)) (sym c.requires.routes)
     (late.routes_bounded c.args.network.now c.args.stream c.requires.last c.streams.ensures.rules c.args.bounds.now
     c.requires.least)
-
-pub find_late-requires-clause-apart : goal.find_late-requires-clause-apart
-find_late-requires-clause-apart c =
-    subst (All (λ r. AllPairs (λ p q. p ≢ q) (ports_along r))) (sym c.requires.routes)
-    (near.routes_apart c.args.network.now c.args.stream c.requires.last c.streams.ensures.rules)
 
 pub find_late-requires-clause-users : goal.find_late-requires-clause-users
 find_late-requires-clause-users c =
