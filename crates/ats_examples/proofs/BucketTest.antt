@@ -25,7 +25,8 @@ abbrev pub conforms : ℕ → ℕ → List Frame → Bool
 conforms rate burst frames = pairs_pass nat_le (times_of frames)
     && each_below (λ j. each_below (within rate burst frames j) (suc j)) (length frames)
 
-conforms_by : (rate burst : ℕ) (frames : List Frame) → conforms rate burst frames ≡ true → Conforms rate burst frames
+pub conforms_by : (rate burst : ℕ) (frames : List Frame) → conforms rate burst frames ≡ true
+    → Conforms rate burst frames
 conforms_by rate burst frames h =
     let parts : (pairs_pass nat_le (times_of frames) ≡ true)
     × (each_below (λ j. each_below (within rate burst frames j) (suc j)) (length frames) ≡ true)

@@ -5,6 +5,7 @@ use Rattle.ats_examples.specs.Networks.{line, line_nodes, line_links, line_and_f
 use Rattle.ats_examples.specs.Networks.{over_two, two_nodes, two_links, over_three, three_nodes, three_links}
 use Rattle.ats_examples.specs.Networks.{fork_of_classes, ranged, ranged_nodes, over_two_ranged, two_ranged_nodes}
 use Rattle.ats_examples.specs.Networks.{pair, nodes_with, below, fast}
+use Rattle.ats_examples.specs.Networks.{line_of_bursts, merged, merged_nodes, merged_links}
 use Rattle.ats_examples.proofs.NetworkTest.{network_passes, network_by}
 
 -- The worked networks are networks.
@@ -43,3 +44,9 @@ below_is = network_by line_nodes line_links below.streams [] refl refl
 
 pub fast_is : IsNetwork fast
 fast_is = network_by line_nodes line_links fast.streams [] refl refl
+
+pub bursts_is : IsNetwork line_of_bursts
+bursts_is = network_by line_nodes line_links line_of_bursts.streams [] refl refl
+
+pub merged_is : IsNetwork merged
+merged_is = network_by merged_nodes merged_links merged.streams [] refl refl

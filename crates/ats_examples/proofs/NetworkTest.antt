@@ -86,7 +86,7 @@ no_identity : (identity : Option (ℕ × ℕ)) → is_none identity ≡ true →
 no_identity None h pair given = none-some pair given
 no_identity (Some other) h pair given = false≢true h
 
-stream_by : (s : DeclaredStream) → is_stream s ≡ true → IsStream s
+pub stream_by : (s : DeclaredStream) → is_stream s ≡ true → IsStream s
 stream_by s h =
     let timed : Bool = is_between 1 MAX_DEADLINE_NS s.deadline_ns in
     let late : Bool = is_path s.path && (timed && is_none s.identity) in
@@ -159,7 +159,7 @@ is_valid_from t a path =
     && (is_station_at t (end_of t.ports a path)
     && (not (a == end_of t.ports a path) && pairs_pass (λ a b. not (a == b)) (nodes_along t.ports path))))
 
-valid_from_by : (t : DeclaredTopology) (a : ℕ) (path : List ℕ) → is_valid_from t a path ≡ true → IsValidPath t path
+pub valid_from_by : (t : DeclaredTopology) (a : ℕ) (path : List ℕ) → is_valid_from t a path ≡ true → IsValidPath t path
 valid_from_by t a path h =
     let end : ℕ = end_of t.ports a path in
     let once : Bool = pairs_pass (λ a b. not (a == b)) (nodes_along t.ports path) in

@@ -65,10 +65,10 @@ covered_by given port class (s ∷ senders) passed used = by (uses port s) refl 
         ]
     by false off rest h = rest parts.1 h
 
-abbrev is_before : Row → Row → Bool
+abbrev pub is_before : Row → Row → Bool
 is_before a b = nat_lt a.port b.port || (a.port == b.port && nat_lt a.class b.class)
 
-before_by : (a b : Row) → is_before a b ≡ true → IsBefore a b
+pub before_by : (a b : Row) → is_before a b ≡ true → IsBefore a b
 before_by a b h = elim (either (nat_lt a.port b.port) (a.port == b.port && nat_lt a.class b.class) h) [
   | inl first ↦ inl (lt_of a.port b.port first)
   | inr more ↦ inr (

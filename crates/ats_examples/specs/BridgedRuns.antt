@@ -51,3 +51,34 @@ eligible_later =
     ∷ hop 151032000 151032001 151032000 163368000 ∷ [])
     163868000
     ∷ []
+
+-- a frame of 1522 octets and one of 64 of each of two streams, at once. The first bridge holds both small ones back
+-- until 20556000, when they become eligible together, and so they do at 46728000 and at 60564000. That of the second
+-- stream goes first at the first bridge and at the next, and that of the first stream at the last
+abbrev pub by_two_keys : List Travel
+by_two_keys =
+    sunk 0 0 1522
+    (
+    hop 0 0 0 12336000 ∷ hop 13836000 13836000 13836000 26172000
+    ∷ hop 27672000 27672000 27672000 40008000 ∷ hop 41508000 41508000 41508000 53844000 ∷ []
+    )
+    54344000
+    ∷ sunk 0 0 64
+    (
+    hop 0 0 12336000 13008000 ∷ hop 14508000 20556000 39180000 39852000
+    ∷ hop 41352000 46728000 53016000 53688000 ∷ hop 55188000 60564000 66180000 66852000 ∷ []
+    )
+    67352000
+    ∷ sunk 0 1 1522
+    (
+    hop 0 0 0 12336000 ∷ hop 13836000 13836000 26172000 38508000
+    ∷ hop 40008000 40008000 40008000 52344000 ∷ hop 53844000 53844000 53844000 66180000 ∷ []
+    )
+    66680000
+    ∷ sunk 0 1 64
+    (
+    hop 0 0 12336000 13008000 ∷ hop 14508000 20556000 38508000 39180000
+    ∷ hop 40680000 46728000 52344000 53016000 ∷ hop 54516000 60564000 66852000 67524000 ∷ []
+    )
+    68024000
+    ∷ []

@@ -1,10 +1,16 @@
-use Rattle.std.specs.Prelude.{ℕ, [], ◌∷◌}
-use Rattle.ats_num.specs.Tie.{late_key}
-use Rattle.ats_trace.specs.Run.{IsLegal, IsRunBy}
+use Rattle.std.specs.Prelude.{ℕ, ◌-◌, ◌<◌, [], ◌∷◌, length}
+use Rattle.ats_num.specs.Tie.{Ascends, late_key}
+use Rattle.ats_network.specs.Network.{IsNetwork}
+use Rattle.ats_port_rule.specs.PortRule.{KeepsTie}
+use Rattle.ats_trace.specs.Projections.{sent_by}
+use Rattle.ats_trace.specs.Releases.{AreReleases}
+use Rattle.ats_trace.specs.Run.{IsLegal, IsRunBy, releases_of}
 use Rattle.ats_examples.specs.Networks.{line, line_and_flow, fork, line_of_two, line_of_classes, over_two, over_three}
+use Rattle.ats_examples.specs.Networks.{line_of_bursts, merged}
+use Rattle.ats_examples.specs.Runs.{one_frame_at, out_of_order}
 use Rattle.ats_examples.specs.Runs.{one_frame, long_frame, behind_a_flow, first_goes_first, second_goes_first}
 use Rattle.ats_examples.specs.Runs.{regulated, late, late_moves_nothing, held_by_group, group_by_class}
-use Rattle.ats_examples.specs.BridgedRuns.{one_over_two, one_over_three, two_over_two, two_over_three}
+use Rattle.ats_examples.specs.BridgedRuns.{one_over_two, one_over_three, two_over_two, two_over_three, by_two_keys}
 use Rattle.ats_examples.specs.Babbler.{babbler}
 
 -- Which of the worked runs are legal.
@@ -46,3 +52,23 @@ pub record BridgedAreLegal : Type 0 where
 -- the run is legal
 abbrev pub BabblerIsLegal : Type 0
 BabblerIsLegal = IsLegal fork babbler
+
+-- a frame's number, descending, is the key
+abbrev pub descending_key : ℕ → ℕ → ℕ
+descending_key sender frame = 4294967295 - frame
+
+-- legal runs that are of no kind that the program makes. Two frames of one sender are out of order at a port: that is a
+-- run by a key, and by none that ascends with the frames of a sender. Two streams' frames keep their order, and no one
+-- key breaks the ties of all ports. A frame is released 1 ps after 100,000 s, the greatest time at which releases may
+-- be run; at that time they may
+pub record RunsAreAnyLawful : Type 0 where
+  pub one_bridge : IsNetwork line_of_bursts
+  pub overtaken : IsRunBy descending_key least_wait line_of_bursts out_of_order
+  pub by_no_lawful_key : (key : ℕ → ℕ → ℕ) → Ascends key → ¬ KeepsTie key (sent_by line_of_bursts out_of_order 0)
+  pub three_bridges : IsNetwork merged
+  pub turned : IsLegal merged by_two_keys
+  pub by_no_one_key : (key : ℕ → ℕ → ℕ) → ¬ ((port : ℕ) → port < length merged.topology.ports
+      → KeepsTie key (sent_by merged by_two_keys port))
+  pub after_all_releases : IsLegal line (one_frame_at 100000000000000001)
+  pub no_releases : ¬ AreReleases line (releases_of (one_frame_at 100000000000000001))
+  pub last_releases : AreReleases line (releases_of (one_frame_at 100000000000000000))

@@ -171,3 +171,25 @@ below =
 abbrev pub fast : DeclaredNetwork
 fast = declared_network (topology_of line_nodes line_links)
     (declared_stream (codes "a") (0 ∷ 2 ∷ []) (6 ∷ 6 ∷ []) 2000000000 12336 64 1522 1000000 None ∷ []) []
+
+-- the line where the burst of the stream covers two frames of 1522 octets
+abbrev pub line_of_bursts : DeclaredNetwork
+line_of_bursts = declared_network (topology_of line_nodes line_links)
+    (declared_stream (codes "a") (0 ∷ 2 ∷ []) (6 ∷ 6 ∷ []) 100000000 24672 64 1522 1000000 None ∷ []) []
+
+-- two stations before three bridges, and a third behind them: port 0 leads from s1 to b1, port 2 from s2 to b1, port 4
+-- from b1 to b2, port 6 from b2 to b3, and port 8 from b3 to s3
+abbrev pub merged_nodes : List Node
+merged_nodes =
+    station (codes "s1") ∷ station (codes "s2") ∷ station (codes "s3")
+    ∷ bridge (codes "b1") 1000000 ∷ bridge (codes "b2") 1000000 ∷ bridge (codes "b3") 1000000 ∷ []
+
+abbrev pub merged_links : List Link
+merged_links =
+    link (codes "s1") (codes "b1") ∷ link (codes "s2") (codes "b1") ∷ link (codes "b1") (codes "b2")
+    ∷ link (codes "b2") (codes "b3") ∷ link (codes "b3") (codes "s3") ∷ []
+
+-- with a stream from each of the two to the third
+abbrev pub merged : DeclaredNetwork
+merged = declared_network (topology_of merged_nodes merged_links)
+    (stream (codes "x") (0 ∷ 4 ∷ 6 ∷ 8 ∷ []) ∷ stream (codes "y") (2 ∷ 4 ∷ 6 ∷ 8 ∷ []) ∷ []) []

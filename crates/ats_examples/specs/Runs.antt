@@ -1,4 +1,4 @@
-use Rattle.std.specs.Prelude.{ℕ, List, [], ◌∷◌, ◌++◌, Some, None}
+use Rattle.std.specs.Prelude.{ℕ, ◌+◌, List, [], ◌∷◌, ◌++◌, Some, None}
 use Rattle.ats_group.specs.declared.verdict.Verdict.TheVariants.{Eligible, Size, Late}
 use Rattle.ats_trace.specs.Journey.{Travel}
 use Rattle.ats_trace.specs.declared.journey.HopRecord.{HopRecord}
@@ -97,3 +97,18 @@ held_by_group = regulated
 -- one of another class is in a group of its own
 abbrev pub group_by_class : List Travel
 group_by_class = regulated ++ passes_on ∷ []
+
+-- one frame that is released at this time
+abbrev pub one_frame_at : ℕ → List Travel
+one_frame_at at =
+    sunk at 0 1522
+    (hop at at at (at + 12336000) ∷ hop (at + 13836000) (at + 13836000) (at + 13836000) (at + 26172000) ∷ [])
+    (at + 26672000)
+    ∷ []
+
+-- two frames of one stream at once, which are its burst; the second goes first
+abbrev pub out_of_order : List Travel
+out_of_order =
+    sunk 0 0 1522 (hop 0 0 12336000 24672000 ∷ hop 26172000 26172000 26172000 38508000 ∷ []) 39008000
+    ∷ sunk 0 0 1522 (hop 0 0 0 12336000 ∷ hop 13836000 13836000 13836000 26172000 ∷ []) 26672000
+    ∷ []

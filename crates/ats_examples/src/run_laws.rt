@@ -6,6 +6,7 @@ ghost use Rattle.ats_examples.specs.ClassRuns.{ClassesOfGroups, ClassesOfPorts};
 ghost use Rattle.ats_examples.specs.Crossings.{LinkExamples};
 ghost use Rattle.ats_examples.specs.Deviations.{EachPartCounts};
 ghost use Rattle.ats_examples.specs.LegalRuns.{BabblerIsLegal, BridgedAreLegal, ExamplesAreLegal, RegulatedAreLegal};
+ghost use Rattle.ats_examples.specs.LegalRuns.{RunsAreAnyLawful};
 ghost use Rattle.ats_examples.specs.PacedRuns.{ArrivalsAreLegal, ArrivalsBreakLinks, ArrivalsByPace};
 ghost use Rattle.ats_examples.specs.Talkers.{TalkersOfExamples};
 
@@ -25,6 +26,13 @@ pub fn examples_are_legal()
 pub fn bridged_are_legal()
     ensures bridged { BridgedAreLegal }
     ensures babbler { BabblerIsLegal }
+{}
+
+/// Legal runs of kinds that the program makes none of: with two frames of a sender out of order at a port, with ties
+/// that no one key of sender and frame breaks at all ports, and with a release after the last time at which it may be
+/// run. So a legal run is asked for none of this.
+pub fn runs_are_any_lawful()
+    ensures { RunsAreAnyLawful }
 {}
 
 /// Runs that are not legal: for each field of a legal run, of a journey and of the port rule one of
