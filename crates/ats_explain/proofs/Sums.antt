@@ -1,34 +1,37 @@
 -- The parts of a bound add up to it, and the bounds along a path to its sum.
 use Rattle.std.proofs.Common.{◌≡◌, ◌+◌, ◌-◌, ◌*◌, ◌≤◌, ℕ, Bool, true, false, cond, List, [], ◌∷◌, get_or, map, filter}
-use Rattle.std.proofs.Common.{fold, min, sum_by, Option, sym, ap, subst, ◌∙◌, refl, inl, inr, arith}
+use Rattle.std.proofs.Common.{fold, min, sum_by, Option, Some, None, sym, ap, subst, ◌∙◌, refl, inl, inr, eqb, arith}
 use Rattle.std.specs.Prelude.{◌||◌, unwrap_or}
-use Rattle.std.specs.List.{All}
+use Rattle.std.specs.List.{All, find}
 use Rattle.std.specs.Option.{option_map}
 use Rattle.std.proofs.Math.Nat.{mul-le-mul_left, mul-add}
-use Rattle.std.proofs.lemmas.Bool.{eqb-true}
-use Rattle.std.proofs.lemmas.List.Elements.{All-filter, All-head, All-tail, filter_passes}
+use Rattle.std.proofs.lemmas.Bool.{and_parts, eqb-true, ltb-true, true≢false}
+use Rattle.std.proofs.lemmas.List.Elements.{All-cons, All-filter, All-head, All-nil, All-tail, filter_passes}
 use Rattle.std.proofs.lemmas.List.Sums.{sum_by-cons}
+use Rattle.std.proofs.lemmas.Option.{none-some, same_Some}
 use Rattle.ats_num.specs.declared.time.TheConstants.{PS_PER_SECOND}
 use Rattle.ats_topology.specs.Port.{port_at}
 use Rattle.ats_streams.specs.Rules.{KeepsRules}
 use Rattle.ats_streams.specs.Stream.{DeclaredStream}
 use Rattle.ats_network.specs.Network.{DeclaredNetwork, IsNetwork, senders_of}
-use Rattle.ats_network.specs.Sender.{stream_sender}
-use Rattle.ats_network.specs.Class.{PortSender, class_at}
+use Rattle.ats_network.specs.Sender.{Sender, stream_sender}
+use Rattle.ats_network.specs.Class.{PortSender, class_at, seen_at}
 use Rattle.ats_network.proofs.SenderLemmas.{each_is_sender}
-use Rattle.ats_certificate.specs.PortSums.{PortSums, is_above, is_of, is_used, least_of, port_sums, senders_at}
-use Rattle.ats_certificate.specs.PortSums.{shortest}
+use Rattle.ats_certificate.specs.PortSums.{PortSums, is_above, is_below, is_of, is_used, least_of, longest, port_sums}
+use Rattle.ats_certificate.specs.PortSums.{senders_at, shortest, uses}
 use Rattle.ats_certificate.specs.Certificate.{bound_at, bound_of_hop, is_row_of, row_of}
 use Rattle.ats_certificate.specs.declared.row.Row.{Row}
 use Rattle.ats_tally.proofs.Lists.{All-found, IsFound, found_is, option_cases}
 use Rattle.ats_tally.proofs.Places.{IsPlace, is_place}
 use Rattle.ats_tally.proofs.SeenLemmas.{IsSeen, all_seen}
+use Rattle.ats_bound.specs.First.{IsFirstBreach}
 use Rattle.ats_bound.specs.Least.{least_row, least_certificate}
 use Rattle.ats_bound.proofs.LeastHolds.{least_rows}
 use Rattle.ats_bound.proofs.NoneHolds.{IsLeastOf, each_least, no_none, row_at}
-use Rattle.ats_bound.proofs.Waits.{Fits, least_wait-is, remains}
-use Rattle.ats_explain.specs.Laws.{AddUp, Carries, EachStreamAddsUp}
+use Rattle.ats_bound.proofs.Waits.{Fits, least_row-is, least_wait-is, remains}
+use Rattle.ats_explain.specs.Laws.{AreParts, Carries, EachStreamAddsUp, IsOfLongest}
 use Rattle.ats_explain.specs.Parts.{HopIsUsed, parts_at, parts_of_hop}
+use Rattle.ats_explain.specs.Senders.{is_lower_of, lower_name, lower_sender, name_of, sends_lower}
 use Rattle.ats_explain.proofs.Hops.{fits_used, hops_used}
 
 -- the least of numbers from one on is at most the first
@@ -121,9 +124,78 @@ bound_is network port class is used =
           ∙ ap (λ (n : ℕ). (least_row network (port, n)).bound) at.1)
     ]
 
+-- what a search finds is the first that passes, and where it finds none, none does
+find_first : {X : Type 0} (test : X → Bool) (xs : List X) (x : X) → find test xs ≡ Some x
+    → (test x ≡ true) × IsFirstBreach (λ y. test y ≡ false) xs x
+find_first test [] x h = absurd (none-some x h)
+find_first {X} test (y ∷ ys) x h = by (test y) refl h (find_first test ys x)
+  where
+    Fails : X → Type 0
+    Fails z = test z ≡ false
+
+    by : (b : Bool) → test y ≡ b → cond b (Some y) (find test ys) ≡ Some x
+        → (find test ys ≡ Some x → (test x ≡ true) × IsFirstBreach Fails ys x)
+        → (test x ≡ true) × IsFirstBreach Fails (y ∷ ys) x
+    by true e k later =
+        let passes : test x ≡ true = subst (λ (z : X). test z ≡ true) (same_Some y x k) e in (
+          passes,
+          record {
+            before = [];
+            after = ys;
+            cut = ap (λ (z : X). z ∷ ys) (sym (same_Some y x k));
+            kept = All-nil Fails;
+            breaks = λ fails. true≢false (sym passes ∙ fails);
+          },
+        )
+    by false e k later =
+        let rest = later k in (
+          rest.0,
+          record {
+            before = y ∷ rest.1.before;
+            after = rest.1.after;
+            cut = ap (λ (zs : List X). y ∷ zs) rest.1.cut;
+            kept = All-cons Fails y rest.1.before e rest.1.kept;
+            breaks = rest.1.breaks;
+          },
+        )
+
+find_none : {X : Type 0} (test : X → Bool) (xs : List X) → find test xs ≡ None → All (λ y. test y ≡ false) xs
+find_none {X} test [] h = All-nil (λ (y : X). test y ≡ false)
+find_none {X} test (x ∷ xs) h = by (test x) refl h (find_none test xs)
+  where
+    by : (b : Bool) → test x ≡ b → cond b (Some x) (find test xs) ≡ None
+        → (find test xs ≡ None → All (λ (y : X). test y ≡ false) xs) → All (λ (y : X). test y ≡ false) (x ∷ xs)
+    by true e k later = absurd (none-some x (sym k))
+    by false e k later = All-cons (λ (y : X). test y ≡ false) x xs e (later k)
+
+-- the name of a port and a class is that of the sender of the longest lower frame
+of_longest : (network : DeclaredNetwork) (port class : ℕ)
+    → IsOfLongest network port class (lower_name network port class)
+of_longest network port class = by (lower_sender network port class) refl
+  where
+    bits : ℕ
+    bits = (port_sums network port class).lower
+
+    by : (o : Option Sender) → find (sends_lower port class bits) (senders_of network) ≡ o
+        → IsOfLongest network port class (name_of o)
+    by None e = find_none (sends_lower port class bits) (senders_of network) e
+    by (Some sender) e =
+        let first = find_first (sends_lower port class bits) (senders_of network) sender e in
+        let uses_it = and_parts (uses port sender) (is_lower_of class bits (seen_at port sender)) first.0 in
+        let lower = and_parts (is_below class (seen_at port sender)) (eqb (longest (seen_at port sender)) bits)
+        uses_it.1 in
+        record {
+          sender = sender;
+          named = refl;
+          uses = uses_it.0;
+          lower = ltb-true (seen_at port sender).class class lower.0;
+          longest = eqb-true (longest (seen_at port sender)) bits lower.1;
+          first = first.1;
+        }
+
 -- the five parts of the bound of a port and a class that are used
 pub parts_add : (network : DeclaredNetwork) (port class : ℕ) → IsNetwork network → Carries network
-    → is_used network port class ≡ true → AddUp (parts_at network port class)
+    → is_used network port class ≡ true → AreParts network port class (parts_at network port class)
 parts_add network port class is carries used =
     let at : IsPlace network port class = is_place network port class is used in
     let fits : Fits network port class = fits_used network port class is carries used in
@@ -141,9 +213,27 @@ parts_add network port class is carries used =
     mul-add ps sums.lower (sums.bursts - sums.least) in
     let sent_apart : ps * sums.lower + ps * (sums.bursts - sums.least) ≤ wait =
     subst (λ (n : ℕ). n ≤ wait) (ap (λ (n : ℕ). ps * n) whole ∙ apart) sent in
-    add_up (ps * sums.lower) (ps * (sums.bursts - sums.least)) wait (ps * sums.least)
-    (port_at network.topology.ports port).latency.0 sent_apart
+    let filled : sums.bursts - sums.least + sums.least ≡ sums.bursts = omega (arith, short) in
+    record {
+      row = least_row network (port, class);
+      least = least_row-is network port class at fits;
+      port_is = refl;
+      class_is = refl;
+      lower = refl;
+      frame = refl;
+      bursts = sym (mul-add ps (sums.bursts - sums.least) sums.least) ∙ ap (λ (n : ℕ). ps * n) filled;
+      higher = rest (ps * sums.lower) (ps * (sums.bursts - sums.least)) wait sent_apart;
+      latency = refl;
+      bound_is = refl;
+      add_up =
+          add_up (ps * sums.lower) (ps * (sums.bursts - sums.least)) wait (ps * sums.least)
+          (port_at network.topology.ports port).latency.0 sent_apart;
+      sender = of_longest network port class;
+    }
   where
+    rest : (lower bursts wait : ℕ) → lower + bursts ≤ wait → lower + bursts + (wait - (lower + bursts)) ≡ wait
+    rest lower bursts wait h = omega arith
+
     add_up : (lower bursts wait frame latency : ℕ) → lower + bursts ≤ wait
         → lower + bursts + (wait - (lower + bursts)) + frame + latency ≡ wait + frame + latency
     add_up lower bursts wait frame latency h = omega arith

@@ -1,11 +1,18 @@
-use Rattle.std.specs.Prelude.{◌≡◌, ◌↔◌, ◌+◌, List, sum_by, All, None}
+use Rattle.std.specs.Prelude.{◌≡◌, ◌↔◌, ℕ, ◌+◌, ◌*◌, ◌<◌, IsTrue, false, List, sum_by, All, Option, Some, None}
+use Rattle.ats_topology.specs.Port.{port_at}
 use Rattle.ats_streams.specs.Stream.{DeclaredStream}
-use Rattle.ats_network.specs.Network.{DeclaredNetwork, IsNetwork}
+use Rattle.ats_network.specs.Sender.{Sender, stream_sender}
+use Rattle.ats_network.specs.Class.{class_at, seen_at}
+use Rattle.ats_network.specs.Network.{DeclaredNetwork, IsNetwork, senders_of}
+use Rattle.ats_certificate.specs.PortSums.{longest, port_sums, uses}
 use Rattle.ats_certificate.specs.Used.{places_of}
 use Rattle.ats_certificate.specs.Certificate.{Holds}
+use Rattle.ats_certificate.specs.Least.{IsLeastRow}
 use Rattle.ats_certificate.specs.declared.row.Row.{Row}
 use Rattle.ats_tally.specs.Reason.{first_some}
+use Rattle.ats_bound.specs.First.{IsFirstBreach}
 use Rattle.ats_bound.specs.Reason.{overload}
+use Rattle.ats_explain.specs.Senders.{sends_lower}
 use Rattle.ats_explain.specs.Parts.{parts_of_hop}
 use Rattle.ats_explain.specs.Margins.{margin_of}
 use Rattle.ats_explain.specs.Totals.{late_count, over_count}
@@ -19,9 +26,45 @@ Carries network = first_some (overload network) (places_of network) ≡ None
 abbrev pub AddUp : Parts → Type 0
 AddUp parts = parts.lower + parts.bursts + parts.higher + parts.frame + parts.latency ≡ parts.bound
 
--- at each hop of a stream the parts add up to the bound, and the bounds to the stream's sum
+-- of the senders of a network, the first that uses a port, is of a lower class than this one there, and whose longest
+-- frame has as many bits as the longest of a lower class
+pub record SendsLongest (network : DeclaredNetwork) (port class : ℕ) (name : List ℕ) : Type 0 where
+  pub sender : Sender
+  pub named : sender.name ≡ name
+  pub uses : IsTrue (uses port sender)
+  pub lower : (seen_at port sender).class < class
+  pub longest : longest (seen_at port sender) ≡ (port_sums network port class).lower
+  pub first : IsFirstBreach (λ s. sends_lower port class (port_sums network port class).lower s ≡ false)
+      (senders_of network) sender
+
+-- this is its name, where there is one
+abbrev pub IsOfLongest : DeclaredNetwork → ℕ → ℕ → Option (List ℕ) → Type 0
+IsOfLongest network port class (Some name) = SendsLongest network port class name
+IsOfLongest network port class None =
+    All (λ s. sends_lower port class (port_sums network port class).lower s ≡ false) (senders_of network)
+
+-- the parts of a port and a class, each by what it stands for, of the row with the least wait that is enough. lower:
+-- the time of the longest frame of a lower class; frame: that of the shortest frame of the class; bursts: with this
+-- frame, the time of the bursts of the class and the higher ones; higher: the rest of the wait; latency: the port's
+pub record AreParts (network : DeclaredNetwork) (port class : ℕ) (parts : Parts) : Type 0 where
+  pub row : Row
+  pub least : IsLeastRow network row
+  pub port_is : row.port ≡ port
+  pub class_is : row.class ≡ class
+  pub lower : parts.lower ≡ (port_at network.topology.ports port).ps_per_bit * row.lower
+  pub frame : parts.frame ≡ (port_at network.topology.ports port).ps_per_bit * row.least
+  pub bursts : parts.bursts + parts.frame ≡ (port_at network.topology.ports port).ps_per_bit * row.bursts
+  pub higher : parts.lower + parts.bursts + parts.higher ≡ row.wait
+  pub latency : parts.latency ≡ (port_at network.topology.ports port).latency.0
+  pub bound_is : parts.bound ≡ row.bound
+  pub add_up : AddUp parts
+  pub sender : IsOfLongest network port class parts.sender
+
+-- at each hop of a stream the parts are those of the port, in the class that the stream has there; they add up to the
+-- bound, and the bounds to the stream's sum
 pub record StreamAddsUp (network : DeclaredNetwork) (stream : DeclaredStream) : Type 0 where
-  pub parts : All (λ port. AddUp (parts_of_hop network stream port)) stream.path
+  pub parts : All (λ port. AreParts network port (class_at (stream_sender stream) port)
+      (parts_of_hop network stream port)) stream.path
   pub sum : sum_by (λ port. (parts_of_hop network stream port).bound) stream.path ≡ (margin_of network stream).sum
 
 -- so for each stream of a network without an overload

@@ -2,7 +2,8 @@
 
 ghost use Rattle.ats_explain.specs.Laws.{ClearWhereOneHolds, EachStreamAddsUp};
 
-/// A law: at each hop of a stream the five parts add up to the bound, and along its path the bounds to its sum.
+/// A law: at each hop of a stream each of the five parts is what it stands for, they add up to the bound, and along its
+/// path the bounds add up to its sum.
 pub fn each_stream_adds_up()
     ensures { EachStreamAddsUp }
 {}
