@@ -1,20 +1,24 @@
--- By a certificate that holds each frame of a talker that keeps its buckets arrives within its stream's deadline.
+-- By sound bounds, and a certificate that holds, each frame of a talker that keeps its rule arrives within its stream's
+-- deadline.
 use Rattle.std.proofs.Common.{◌≡◌, ℕ, ◌+◌, ◌*◌, ◌≤◌, Some, List, sum_by, subst, ap, ◌∙◌, arith}
-use Rattle.std.specs.Prelude.{slice_get}
+use Rattle.std.specs.Prelude.{All, slice_get}
 use Rattle.std.proofs.lemmas.Option.{slice_get_within, get_or_from_slice_get}
 use Rattle.ats_num.specs.declared.time.TheConstants.{PS_PER_NS}
 use Rattle.ats_streams.specs.Stream.{DeclaredStream}
 use Rattle.ats_network.specs.Sender.{Sender, stream_sender}
 use Rattle.ats_network.specs.Network.{DeclaredNetwork}
 use Rattle.ats_network.specs.Senders.{sender_at}
-use Rattle.ats_certificate.specs.Certificate.{IsInTime, Holds, bound_along}
+use Rattle.ats_bucket.specs.Conforming.{Frame}
+use Rattle.ats_group.specs.declared.member.Declared.{Declared}
+use Rattle.ats_group.specs.Judge.{ats_judge, bucket_rule}
+use Rattle.ats_certificate.specs.Certificate.{IsInTime, bound_along}
 use Rattle.ats_certificate.specs.declared.row.Row.{Row}
 use Rattle.ats_trace.specs.declared.journey.Ending.{Ending}
 use Rattle.ats_trace.specs.declared.journey.Ending.TheVariants.{Sink, Discard}
 use Rattle.ats_port_law.proofs.Senders.{no_stream, stream_at}
 use Rattle.ats_soundness_law.specs.Sound.{ArrivesBy, bounds_of}
-use Rattle.ats_soundness_law.proofs.Soundness.{path_law}
-use Rattle.ats_checker.specs.InTime.{HoldingIsInTime}
+use Rattle.ats_soundness_law.proofs.Soundness.{certificate_is_sound}
+use Rattle.ats_checker.specs.InTime.{HoldingIsInTime, SoundIsInTime}
 
 -- the stream with a number, as a sender
 pub sender_of_stream : (network : DeclaredNetwork) (i : ℕ) (stream : DeclaredStream)
@@ -28,26 +32,29 @@ arrives_later : (early late : ℕ) (ending : Ending) → early ≤ late → Arri
 arrives_later early late (Sink at) after by = omega (arith, after, by)
 arrives_later early late Discard after by = by
 
--- the deadline of a stream with a number is kept
-deadline_kept : (network : DeclaredNetwork) (rows : List Row) (i : ℕ) (stream : DeclaredStream)
-    → slice_get network.streams i ≡ Some stream → Holds network rows
+-- a stream with a number is in time, where each is
+own_time : (network : DeclaredNetwork) (rows : List Row) (i : ℕ) (stream : DeclaredStream)
+    → slice_get network.streams i ≡ Some stream → All (IsInTime rows) network.streams
     → bound_along rows stream ≤ PS_PER_NS * stream.deadline_ns
-deadline_kept network rows i stream named holds =
+own_time network rows i stream named all =
     subst (IsInTime rows) (get_or_from_slice_get network.streams i stream no_stream named)
-    (holds.deadlines i no_stream (slice_get_within network.streams i stream named))
+    (all i no_stream (slice_get_within network.streams i stream named))
 
-pub holding_is_in_time : HoldingIsInTime
-holding_is_in_time network rows net holds run legal journey there stream named keeps =
+pub sound_is_in_time : (rule : Declared → List Frame → Type 0) → SoundIsInTime rule
+sound_is_in_time rule judge network rows sound time run legal journey there stream named keeps =
     let i : ℕ = journey.release.sender in
     let at : ℕ = journey.release.at.0 in
-    let served = path_law network rows net holds run legal journey there
-    (slice_get_within network.streams i stream named) keeps in
+    let served = sound.served run legal journey there (slice_get_within network.streams i stream named) keeps in
     let sum : ArrivesBy (at + bound_along rows stream) journey.ending =
     subst (λ (s : Sender). ArrivesBy (at + sum_by (bounds_of rows s) s.path) journey.ending)
     (sender_of_stream network i stream named) served.arrives in
-    let kept = deadline_kept network rows i stream named holds in
+    let kept = own_time network rows i stream named time in
     record {
       sum = sum;
       deadline = arrives_later (at + bound_along rows stream) (at + PS_PER_NS * stream.deadline_ns) journey.ending
           (omega (arith, kept)) sum;
     }
+
+pub holding_is_in_time : HoldingIsInTime
+holding_is_in_time network rows net holds =
+    sound_is_in_time bucket_rule ats_judge network rows (certificate_is_sound network rows net holds) holds.deadlines

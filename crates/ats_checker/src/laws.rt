@@ -1,9 +1,11 @@
 //! Laws of the judgement, and what an accepted certificate promises of each legal run.
 
-ghost use Rattle.ats_checker.specs.InTime.{HoldingIsInTime};
+ghost use Rattle.ats_checker.specs.InTime.{HoldingIsInTime, SoundIsInTime};
 ghost use Rattle.ats_checker.specs.Laws.{EachRefusalIsTheFirst, LeastIsAccepted, RefusedUnlessHolding};
 ghost use Rattle.ats_port_law.specs.PortLaw.{PortLaw};
 ghost use Rattle.ats_soundness_law.specs.Laws.{ShapingForFree, PathLaw, Containment, CertificateIsSound};
+
+use ats_soundness_law::laws::TalkerRule;
 
 /// A law: rows that ascend by port and then class are refused exactly where they do not hold for the network.
 pub fn refused_unless_holding()
@@ -59,6 +61,12 @@ pub fn certificate_is_sound()
 {
     ats_soundness_law::laws::certificate_is_sound()
 }
+
+/// By sound bounds with which each stream is in time, frames arrive within the sum of the bounds along their paths and
+/// within their streams' deadlines, whichever the judge of groups and the rule of talkers.
+pub fn sound_is_in_time<R: TalkerRule>()
+    ensures { SoundIsInTime R.kept }
+{}
 
 /// Deadlines are kept: where a certificate holds, in each legal run each frame of a stream whose talker keeps its
 /// buckets arrives within the sum of the bounds along its path, and within its stream's deadline.

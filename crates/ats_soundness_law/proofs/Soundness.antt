@@ -7,7 +7,7 @@ use Rattle.ats_facts.proofs.Lists.{all_right, All-from_filter}
 use Rattle.ats_network.specs.Sender.{Sender}
 use Rattle.ats_network.specs.Path.{IsValidPath}
 use Rattle.ats_network.specs.Bridges.{MeetAtBridge}
-use Rattle.ats_network.specs.Network.{DeclaredNetwork, IsNetwork}
+use Rattle.ats_network.specs.Network.{DeclaredNetwork}
 use Rattle.ats_network.specs.Senders.{sender_at, IsSender, AllNeighbours}
 use Rattle.ats_certificate.specs.PortSums.{uses}
 use Rattle.ats_certificate.specs.declared.row.Row.{Row}
@@ -19,18 +19,16 @@ use Rattle.ats_trace.specs.Journey.{Travel, IsJourney, IsOfStream, IsReleased, I
 use Rattle.ats_trace.specs.Projections.{Hop, Crossing, Handed, crossings_along, handed_along, crossing_at, handed_at}
 use Rattle.ats_trace.specs.Projections.{transmission_of, crossings_from, handed_from, crossings_by, handed_by}
 use Rattle.ats_trace.specs.Run.{IsLegalBy, releases_of}
-use Rattle.ats_group.specs.Judge.{Judge, ats_judge}
-use Rattle.ats_group_law.specs.Regulator.{IsRule, IsRegulator}
+use Rattle.ats_group.specs.Judge.{Judge, ats_judge, bucket_rule}
 use Rattle.ats_group_law.proofs.Regulator.{ats_is_regulator}
 use Rattle.ats_trace.specs.Talker.{start_of, talker_of, KeepsBucketsBy}
 use Rattle.ats_trace.specs.declared.journey.Release.{Release}
 use Rattle.ats_trace.specs.declared.journey.HopRecord.{HopRecord}
 use Rattle.ats_trace.specs.declared.journey.Ending.{Ending}
-use Rattle.ats_soundness_law.specs.Laws.{PathLaw, Containment, SoundByRules, CertificateIsSound}
+use Rattle.ats_soundness_law.specs.Laws.{PathLaw, Containment, SoundByRule, SoundByRules, CertificateIsSound}
 use Rattle.ats_soundness_law.specs.Rules.{Rule, rows_are_there, Keeps}
-use Rattle.ats_soundness_law.specs.Sound.{IsSoundBy, IsEligibleBy, IsPrompt, IsServed, IsPromptIfEligible, IsContained}
-use Rattle.ats_soundness_law.specs.Sound.{bounds_of}
-use Rattle.ats_soundness_law.specs.Sound.{after_first}
+use Rattle.ats_soundness_law.specs.Sound.{IsEligibleBy, IsPrompt, IsServed, IsPromptIfEligible, IsContained}
+use Rattle.ats_soundness_law.specs.Sound.{all_but_first, bounds_of}
 use Rattle.ats_soundness_law.proofs.Along.{hop_of, all_hops, all_were_sent, all_have_crossed}
 use Rattle.ats_soundness_law.proofs.Behind.{way_on}
 use Rattle.ats_soundness_law.proofs.Bridge.{bridge_fed}
@@ -228,8 +226,8 @@ contained_behind : {judge : Judge} {rule : Declared → List Frame → Type 0} (
     → All (λ q. q < length network.topology.ports) path
     → All (IsThere network run) (crossings_along n j.release (sender_at network j.release.sender) path hops ending)
     → All (IsGiven network run) (handed_along n j.release (sender_at network j.release.sender) path hops)
-    → IsPromptIfEligible (bounds_of rows (sender_at network j.release.sender)) (after_first path)
-    (after_first hops) ending
+    → IsPromptIfEligible (bounds_of rows (sender_at network j.release.sender)) (all_but_first path)
+    (all_but_first hops) ending
 contained_behind network run rows j o n [] hops ending way meet used within there given = tt
 contained_behind network run rows j o n (p ∷ path) [] ending way meet used within there given =
     none_once (bounds_of rows (sender_at network j.release.sender)) path ending
@@ -268,10 +266,8 @@ rows_hold network rows keeps =
     record { complete = keeps rows_are_there; each = each_row_holds network rows keeps }
 
 -- bounds that keep the rules are sound for each judge that regulates by a rule
-pub sound_by_rule : {judge : Judge} {rule : Declared → List Frame → Type 0} (network : DeclaredNetwork)
-    (rows : List Row) → IsRule rule → IsRegulator judge rule → IsNetwork network
-    → ((rule : Rule) → Keeps rule network rows) → IsSoundBy judge rule network rows
-sound_by_rule {judge} {rule} network rows rules regulator net keeps =
+pub sound_by_rule : (rule : Declared → List Frame → Type 0) → SoundByRule rule
+sound_by_rule rule judge network rows rules regulator net keeps =
     let holds : RowsHold network rows = rows_hold network rows keeps in
     let case : (run : List Travel) → IsLegalBy judge network run → Case judge rule network run =
     λ run legal. record { rules = rules; regulator = regulator; net = net; legal = legal } in
@@ -282,7 +278,7 @@ sound_by_rule {judge} {rule} network rows rules regulator net keeps =
 
 pub sound_by_rules : SoundByRules
 sound_by_rules judge network rows regulator net keeps =
-    sound_by_rule network rows ats_is_regulator.rule regulator net keeps
+    sound_by_rule bucket_rule judge network rows ats_is_regulator.rule regulator net keeps
 
 pub certificate_is_sound : CertificateIsSound
 certificate_is_sound network rows net holds =

@@ -7,8 +7,10 @@ use Rattle.ats_certificate.specs.PortSums.{is_used}
 use Rattle.ats_certificate.specs.Certificate.{RowHolds, Holds}
 use Rattle.ats_certificate.specs.declared.row.Row.{Row}
 use Rattle.ats_port_law.specs.PortLaw.{IsOffered}
+use Rattle.ats_bucket.specs.Conforming.{Frame}
+use Rattle.ats_group.specs.declared.member.Declared.{Declared}
 use Rattle.ats_group.specs.Judge.{Judge, ats_judge, bucket_rule}
-use Rattle.ats_group_law.specs.Regulator.{IsRegulator}
+use Rattle.ats_group_law.specs.Regulator.{IsRegulator, IsRule}
 use Rattle.ats_trace.specs.Journey.{Travel}
 use Rattle.ats_trace.specs.Projections.{Handed, sent_by, handed_by}
 use Rattle.ats_trace.specs.Run.{IsLegal, releases_of}
@@ -54,13 +56,18 @@ abbrev pub Containment : Type 0
 Containment = (network : DeclaredNetwork) (rows : List Row) → IsNetwork network → Holds network rows
     → AreContained ats_judge network rows
 
--- where groups regulate by token buckets, bounds that keep each of the ten rules are sound
+-- where groups regulate by a rule, and talkers keep it, bounds that keep each of the ten rules are sound
+abbrev pub SoundByRule : (Declared → List Frame → Type 0) → Type 0
+SoundByRule rule = (judge : Judge) (network : DeclaredNetwork) (rows : List Row) → IsRule rule → IsRegulator judge rule
+    → IsNetwork network → ((ten : Rule) → Keeps ten network rows) → IsSoundBy judge rule network rows
+
+-- so where they regulate by token buckets
 abbrev pub SoundByRules : Type 0
 SoundByRules = (judge : Judge) (network : DeclaredNetwork) (rows : List Row) → IsRegulator judge bucket_rule
     → IsNetwork network
     → ((rule : Rule) → Keeps rule network rows) → IsSoundBy judge bucket_rule network rows
 
--- so where a certificate holds, whose groups are those of Asynchronous Traffic Shaping
+-- and where a certificate holds, whose groups are those of Asynchronous Traffic Shaping
 abbrev pub CertificateIsSound : Type 0
 CertificateIsSound = (network : DeclaredNetwork) (rows : List Row) → IsNetwork network → Holds network rows
     → IsSound network rows

@@ -55,14 +55,14 @@ IsPromptIfEligible bound (p ∷ path) (hop ∷ hops) ending =
     OnEligible hop.verdict (λ e. IsPrompt bound (e + bound p) path hops ending)
 
 -- all but the first
-abbrev pub after_first : {X : Type 0} → List X → List X
-after_first [] = []
-after_first (x ∷ xs) = xs
+abbrev pub all_but_first : {X : Type 0} → List X → List X
+all_but_first [] = []
+all_but_first (x ∷ xs) = xs
 
 -- whatever its own talker does, a frame that the first bridge lets through is prompt from there on
 abbrev pub IsContained : List Row → Sender → Travel → Type 0
 IsContained rows sender journey =
-    IsPromptIfEligible (bounds_of rows sender) (after_first sender.path) (after_first journey.hops) journey.ending
+    IsPromptIfEligible (bounds_of rows sender) (all_but_first sender.path) (all_but_first journey.hops) journey.ending
 
 -- in each legal run, where groups judge so, each frame of a stream whose talker keeps this rule is served
 abbrev pub AreServed : Judge → (Declared → List Frame → Type 0) → DeclaredNetwork → List Row → Type 0

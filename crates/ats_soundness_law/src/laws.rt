@@ -1,8 +1,17 @@
 //! What is proved of each network, certificate and legal run.
 
+ghost use Rattle.std.specs.Prelude.{List};
+ghost use Rattle.ats_bucket.specs.Conforming.{Frame};
+ghost use Rattle.ats_group.specs.declared.member.Declared.{Declared};
 ghost use Rattle.ats_soundness_law.specs.Rules.{HoldsIsEachRule};
 ghost use Rattle.ats_soundness_law.specs.Laws.{StationIsOffered, BridgeIsOffered, ShapingForFree, PathLaw, Containment};
-ghost use Rattle.ats_soundness_law.specs.Laws.{SoundByRules, CertificateIsSound};
+ghost use Rattle.ats_soundness_law.specs.Laws.{SoundByRule, SoundByRules, CertificateIsSound};
+
+/// A rule that talkers may keep: what it asks of the frames of a stream, by what the stream declares.
+pub trait TalkerRule {
+    /// The frames keep it.
+    ghost kept: { Declared → List Frame → Type 0 };
+}
 
 /// A port that leaves a station that keeps its buckets is asked to send no more than the port law
 /// wants: frames of declared sizes, and those of each stream conform to its rate and burst.
@@ -42,6 +51,11 @@ pub fn containment()
 /// what the senders declare.
 pub fn sound_by_rules()
     ensures { SoundByRules }
+{}
+
+/// So it is for any rule of talkers, and any groups that regulate by it.
+pub fn sound_by_rule<R: TalkerRule>()
+    ensures { SoundByRule R.kept }
 {}
 
 /// A certificate that holds is sound: in each legal run of the network the path law and containment
