@@ -1,8 +1,11 @@
 use Rattle.std.specs.Prelude.{◌≡◌, ℕ, List, Option, Ok}
 use Rattle.ats_network.specs.Network.{DeclaredNetwork}
 use Rattle.ats_certificate.specs.declared.row.Row.{Row}
-use Rattle.ats_soundness_law.specs.Sound.{IsSound}
-use Rattle.ats_checker.specs.InTime.{FramesAreInTime}
+use Rattle.ats_bucket.specs.Conforming.{Frame}
+use Rattle.ats_streams.specs.declared.traffic.Declared.{Declared}
+use Rattle.ats_group.specs.Judge.{Judge, ats_judge, bucket_rule}
+use Rattle.ats_soundness_law.specs.Sound.{IsSoundBy}
+use Rattle.ats_checker.specs.InTime.{FramesAreInTimeBy}
 use Rattle.ats_verdict_text.specs.Text.{accepted_text}
 use Rattle.ats_io.specs.Outside.{appended}
 use Rattle.ats_command_input.specs.Command.{Command, Shape, Show, Bound, Explain, Check, Replay, Unknown, Capture}
@@ -11,12 +14,17 @@ use Rattle.ats_command_input.specs.Command.{Admit, Generate}
 use Rattle.ats_command_due.specs.Due.{IsTold, told_bytes}
 use Rattle.ats_command_input.specs.Input.{network_in, rows_in}
 
--- a text gives the bounds of rows and their sums; the bounds are sound, and by them each frame of a talker that keeps
--- its buckets arrives within the sum and within the deadline
-pub record IsSoundText (network : DeclaredNetwork) (rows : List Row) (text : List ℕ) : Type 0 where
-  pub sound : IsSound network rows
-  pub in_time : FramesAreInTime network rows
+-- a text gives the bounds of rows and their sums; the bounds are sound, where groups judge so and talkers keep this
+-- rule, and by them each frame of a talker that keeps it arrives within the sum and within the deadline
+pub record IsSoundTextBy (judge : Judge) (rule : Declared → List Frame → Type 0) (network : DeclaredNetwork)
+    (rows : List Row) (text : List ℕ) : Type 0 where
+  pub sound : IsSoundBy judge rule network rows
+  pub in_time : FramesAreInTimeBy judge rule network rows
   pub written : text ≡ accepted_text network rows
+
+-- and the groups are those of Asynchronous Traffic Shaping, and talkers keep their buckets
+abbrev pub IsSoundText : DeclaredNetwork → List Row → List ℕ → Type 0
+IsSoundText network rows text = IsSoundTextBy ats_judge bucket_rule network rows text
 
 -- a file of these bytes declares rows for a network, of which the text is such a one
 abbrev pub IsSoundFile : DeclaredNetwork → List ℕ → List ℕ → List ℕ → Type 0
