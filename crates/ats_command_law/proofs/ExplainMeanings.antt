@@ -1,31 +1,27 @@
 -- What the answers to `explain` mean.
-use Rattle.std.proofs.Common.{◌≡◌, ℕ, List, Option, Some, None, Result, Ok, Err, refl, sym, ap, subst}
+use Rattle.std.proofs.Common.{◌≡◌, ℕ, List, Option, Some, None, Result, Ok, Err, refl, sym, subst}
 use Rattle.std.specs.Prelude.{MatchResult}
-use Rattle.std.specs.Option.{option_map, option_or}
+use Rattle.std.specs.Option.{option_map}
 use Rattle.ats_network.specs.Network.{DeclaredNetwork, IsNetwork}
 use Rattle.ats_certificate.specs.Used.{places_of}
-use Rattle.ats_tally.specs.Reason.{first_some, late, overstay}
+use Rattle.ats_tally.specs.Reason.{first_some}
 use Rattle.ats_tally.specs.declared.reason.Reason.{Reason}
-use Rattle.ats_bound.specs.Least.{least_certificate}
-use Rattle.ats_bound.specs.Reason.{overload, reason_of}
+use Rattle.ats_tally.specs.declared.reason.Reason.TheVariants.{Overloaded}
+use Rattle.ats_bound.specs.Reason.{overload}
+use Rattle.ats_bound.proofs.FirstReason.{each_reason_is_the_first}
+use Rattle.ats_bound.proofs.FoundReason.{of_load}
 use Rattle.ats_bound.proofs.NoneHolds.{reason_leaves_none}
 use Rattle.ats_explain.specs.Laws.{ClearWhereOneHolds, EachStreamAddsUp}
 use Rattle.ats_explain_text.specs.Text.{explain_text}
-use Rattle.ats_verdict_text.specs.Text.{reason_text}
+use Rattle.ats_verdict_text.specs.Text.{reason_text, refused_text}
 use Rattle.ats_num.specs.Failure.{◌>>=◌}
 use Rattle.ats_command_input.specs.Answer.{Answer, settled}
 use Rattle.ats_command_input.specs.Input.{network_in}
+use Rattle.ats_command_input.specs.declared.status.Status.TheVariants.{Refused}
 use Rattle.ats_command_due.specs.Due.{explain_answer}
 use Rattle.ats_command_due.specs.Judged.{explain_judged, judged}
 use Rattle.ats_command_law.proofs.Meanings.{IsInput, network_gives, none_declared}
 use Rattle.ats_command_law.specs.ExplainMeaning.{ExplainMeans, ExplainSays}
-
--- an overload is a reason against the network
-overload_counts : (network : DeclaredNetwork) (reason : Reason)
-    → first_some (overload network) (places_of network) ≡ Some reason → reason_of network ≡ Some reason
-overload_counts network reason is =
-    ap (λ (o : Option Reason). option_or o (option_or (first_some (overstay network) (least_certificate network))
-    (first_some (late (least_certificate network)) network.streams))) is
 
 -- where the file declares a network
 judged_explanation : EachStreamAddsUp → ClearWhereOneHolds → (net bytes : List ℕ) (network : DeclaredNetwork)
@@ -44,17 +40,24 @@ judged_explanation adds clears net bytes network None declared rules is = (
     written = refl;
   },
 )
-judged_explanation adds clears net bytes network (Some reason) declared rules is = (
-  network,
-  reason,
-  record {
-    declared = declared;
-    rules = rules;
-    first = is;
-    none_holds = λ rows. reason_leaves_none network reason rows rules (overload_counts network reason is);
-    written = refl;
-  },
-)
+judged_explanation adds clears net bytes network (Some reason) declared rules is =
+    of_load network rules
+    (λ (r : Reason). ExplainSays net bytes (refused_text (reason_text network.topology r)) Refused)
+    (λ port class load first. (
+      network,
+      port,
+      class,
+      load,
+      record {
+        declared = declared;
+        rules = rules;
+        first = first;
+        none_holds = λ rows. reason_leaves_none network (Overloaded port class load) rows rules
+            ((each_reason_is_the_first network (Overloaded port class load) rules).1 first);
+        written = refl;
+      },
+    ))
+    reason is
 
 explain_says : EachStreamAddsUp → ClearWhereOneHolds → (net bytes : List ℕ)
     (declared : Result DeclaredNetwork Answer) → network_in net bytes ≡ declared

@@ -26,6 +26,7 @@ use Rattle.ats_command_input.specs.declared.order.Order.TheVariants.{Early}
 use Rattle.ats_command_due.specs.Generated.{IsGenerated, generated_in, made_for, network_unless}
 use Rattle.ats_command_due.specs.Replayed.{IsOneOf, IsRunIn}
 use Rattle.ats_command_law.proofs.Meanings.{IsInput, network_gives, none_declared}
+use Rattle.ats_command_law.proofs.WorstBound.{printed_worst_is_within}
 use Rattle.ats_command_law.specs.GenerateMeaning.{AreWithinLeast, GenerateMeans, GenerateSays}
 
 -- where releases are made, there is a stream
@@ -77,6 +78,8 @@ made_say net bytes seed count network None answer declared rules none one =
         keeps = keeps;
         report = one.1.2.1;
         within = within_least network one.1.0 one.1.2.0 rules keeps one.1.2.1.is_run;
+        worst = printed_worst_is_within network one.1.2.0 rules one.1.2.1.is_run.by_order.legal
+            (subst (AllKeepBuckets network) (sym one.1.2.1.is_run.exactly) keeps);
       },
     )
 made_say net bytes seed count network (Some fault) answer declared rules is one =

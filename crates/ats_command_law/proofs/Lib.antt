@@ -7,9 +7,12 @@ pub mod ReplayMeanings
 pub mod ConformBounds
 pub mod PrintedBounds
 pub mod OneClass
+pub mod Answered
 pub mod AdmitMeanings
 pub mod Surely
 pub mod ConformMeanings
 pub mod CaptureMeanings
+pub mod CaptureBounds
 pub mod ExplainMeanings
+pub mod WorstBound
 pub mod GenerateMeanings

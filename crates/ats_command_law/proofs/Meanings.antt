@@ -16,10 +16,12 @@ use Rattle.ats_certificate_file.specs.Text.{certificate_text}
 use Rattle.ats_bound.specs.Least.{least_certificate}
 use Rattle.ats_bound.specs.Reason.{reason_of}
 use Rattle.ats_tally.specs.declared.reason.Reason.{Reason}
+use Rattle.ats_bound.proofs.FirstReason.{each_reason_is_the_first}
 use Rattle.ats_bound.proofs.LeastHolds.{least_certificate_holds}
 use Rattle.ats_bound.proofs.NoneHolds.{reason_leaves_none}
 use Rattle.ats_checker.specs.Refusal.{refusal_of}
 use Rattle.ats_checker.specs.declared.refusal.Refusal.{Refusal}
+use Rattle.ats_checker.proofs.FirstRefusal.{each_refusal_is_the_first}
 use Rattle.ats_checker.proofs.Refused.{refused_unless_holding}
 use Rattle.ats_verdict_text.specs.Text.{accepted_text, reason_text, refusal_text}
 use Rattle.ats_soundness_law.proofs.Soundness.{certificate_is_sound}
@@ -91,7 +93,7 @@ judged_bound net bytes network (Some reason) declared rules is = (
   record {
     declared = declared;
     rules = rules;
-    first = is;
+    first = (each_reason_is_the_first network reason rules).0 is;
     none_holds = λ rows. reason_leaves_none network reason rows rules is;
     written = refl;
   },
@@ -139,7 +141,7 @@ judged_check net certificate net_bytes certificate_bytes network rows (Some refu
         network_declared = network_is;
         rows_declared = rows_are;
         rules = rules;
-        first = is;
+        first = (each_refusal_is_the_first network rows refusal rules ordered).0 is;
         fails = λ holds. other refusal (sym is ∙ (refused_unless_holding network rows rules ordered).1 holds);
         written = refl;
       },

@@ -18,7 +18,7 @@ use Rattle.ats_command_input.specs.declared.status.Status.TheVariants.{Done}
 use Rattle.ats_command_due.specs.Due.{told_bytes}
 use Rattle.ats_command_law.specs.Meaning.{CheckSays, IsAccepted}
 use Rattle.ats_command_law.specs.ReplayMeaning.{DelaysAreWithin, IsRunOut, ReplaySays, ReplayMeans, ReplayKeepsBounds}
-use Rattle.ats_command_due.specs.Replayed.{IsOneOf, IsReplay, IsReplayed, scheduled_in}
+use Rattle.ats_command_due.specs.Replayed.{IsOneOf, IsReplayed, IsRunIn, scheduled_in}
 use Rattle.ats_command_law.proofs.Meanings.{IsInput, file_gives, network_gives, none_declared, check_means}
 
 -- where a schedule's file declares no releases, it has a fault
@@ -85,16 +85,16 @@ replay_means net schedule net_bytes schedule_bytes order answer one =
     (network_gives net net_bytes) one
 
 -- what a certificate that was accepted says of each legal run it says of the one that is printed
-delays_within : (net certificate net_bytes certificate_bytes checked : List ℕ) (order : Order)
-    (network : DeclaredNetwork) (rows : List Row) (releases : List Release) (text : List ℕ) (run : List Travel)
+pub delays_within : (net certificate net_bytes certificate_bytes checked : List ℕ) (order : Order)
+    (network : DeclaredNetwork) (rows : List Row) (releases : List Release) (run : List Travel)
     → IsAccepted net certificate net_bytes certificate_bytes checked network rows
-    → IsReplay order network releases text run → DelaysAreWithin network rows releases run
-delays_within net certificate net_bytes certificate_bytes checked order network rows releases text run accepted replay =
+    → IsRunIn order network releases run → DelaysAreWithin network rows releases run
+delays_within net certificate net_bytes certificate_bytes checked order network rows releases run accepted is =
     λ journey there stream named keeps.
-    let legal = replay.is_run.by_order.legal in
+    let legal = is.by_order.legal in
     let kept : KeepsBuckets network (runs.releases_of run) (talker_of network journey.release.sender) =
     subst (λ (rs : List Release). KeepsBuckets network rs (talker_of network journey.release.sender))
-    (sym replay.is_run.exactly) keeps in
+    (sym is.exactly) keeps in
     record {
       served = accepted.sound.served run legal journey there
           (slice_get_within network.streams journey.release.sender stream named) kept;
@@ -102,7 +102,7 @@ delays_within net certificate net_bytes certificate_bytes checked order network 
     }
 
 -- what bytes declare they declare once
-same_declared : (declared : Result DeclaredNetwork Answer) (one other : DeclaredNetwork) → declared ≡ Ok one
+pub same_declared : (declared : Result DeclaredNetwork Answer) (one other : DeclaredNetwork) → declared ≡ Ok one
     → declared ≡ Ok other → other ≡ one
 same_declared declared one other h k = cc
 
@@ -130,7 +130,6 @@ replay_keeps_bounds told net certificate schedule order checked replayed check_d
         accepted = check.2;
         run_out = run_out;
         within = delays_within net certificate net_bytes certificate_bytes checked order network check.1 replay.1
-            replayed
-            replay.2 check.2 run_out.replay;
+            replay.2 check.2 run_out.replay.is_run;
       },
     )

@@ -1,20 +1,20 @@
-use Rattle.std.specs.Prelude.{◌≡◌, ℕ, ◌+◌, ◌⊎◌, List, [], ◌∷◌, ◌++◌, take, Some, Ok, IsErr, slice_get}
+use Rattle.std.specs.Prelude.{◌≡◌, ℕ, ◌+◌, ◌⊎◌, List, length, take, Some, Ok, IsErr, slice_get}
 use Rattle.ats_network.specs.Network.{DeclaredNetwork, IsNetwork}
-use Rattle.ats_streams.specs.Stream.{DeclaredStream, with_class}
-use Rattle.ats_certificate.specs.Certificate.{Holds, bound_along}
+use Rattle.ats_certificate.specs.Certificate.{Holds}
 use Rattle.ats_certificate.specs.declared.row.Row.{Row}
 use Rattle.ats_tally.specs.declared.reason.Reason.{Reason}
+use Rattle.ats_bound.specs.First.{IsFirstReason}
 use Rattle.ats_bound.specs.Least.{least_certificate}
-use Rattle.ats_bound.specs.Reason.{reason_of}
 use Rattle.ats_soundness_law.specs.Sound.{IsSound}
 use Rattle.ats_checker.specs.InTime.{FramesAreInTime}
 use Rattle.ats_requests.specs.Requests.{after_all, answers}
-use Rattle.ats_requests.specs.declared.answer.Answer.TheVariants.{Admitted}
+use Rattle.ats_requests.specs.declared.answer.Answer.{Answer}
 use Rattle.ats_requests.specs.declared.request.Request.{Request}
 use Rattle.ats_verdict_text.specs.Text.{reason_text, refused_text}
 use Rattle.ats_admission_text.specs.Text.{admission_text}
 use Rattle.ats_command_input.specs.Input.{network_in, requests_in}
 use Rattle.ats_command_due.specs.Due.{admit_answer}
+use Rattle.ats_command_law.specs.Answered.{Tells}
 use Rattle.ats_command_input.specs.declared.status.Status.{Status}
 use Rattle.ats_command_input.specs.declared.status.Status.TheVariants.{Done, Words, Input, Refused, ReadFailed}
 use Rattle.ats_command_input.specs.declared.status.Status.TheVariants.{WriteFailed}
@@ -28,30 +28,24 @@ pub record IsSoundlyBounded (network : DeclaredNetwork) : Type 0 where
   pub in_time : FramesAreInTime network (least_certificate network)
 
 -- the network after the first so many requests
-abbrev pub after_first : DeclaredNetwork → List Request → ℕ → DeclaredNetwork
-after_first network asked k = after_all network (take k asked)
+abbrev pub network_after : DeclaredNetwork → List Request → ℕ → DeclaredNetwork
+network_after network asked k = after_all network (take k asked)
 
--- the last stream of a network has this class at each port of its path, and this sum of least bounds
-pub record HasLastSum (network : DeclaredNetwork) (class sum : ℕ) : Type 0 where
-  pub others : List DeclaredStream
-  pub stream : DeclaredStream
-  pub last : network.streams ≡ others ++ stream ∷ []
-  pub has_class : stream ≡ with_class stream class
-  pub sum_is : sum ≡ bound_along (least_certificate network) stream
-
--- the class and the sum that are answered to a request are those of the stream that it brings in
-abbrev pub SumsAreOfTheLast : DeclaredNetwork → List Request → Type 0
-SumsAreOfTheLast network asked = (k class sum : ℕ) → slice_get (answers network asked) k ≡ Some (Admitted class sum)
-    → HasLastSum (after_first network asked (k + 1)) class sum
+-- each request gets an answer, and no more answers are given; each says what its request made of the network
+pub record AreAnswers (network : DeclaredNetwork) (asked : List Request) : Type 0 where
+  pub as_many : length (answers network asked) ≡ length asked
+  pub each : (k : ℕ) (request : Request) (answer : Answer) → slice_get asked k ≡ Some request
+      → slice_get (answers network asked) k ≡ Some answer
+      → Tells (network_after network asked k) (network_after network asked (k + 1)) request answer
 
 -- two files of these bytes declare this network and make these requests; before and after each of them the least
--- certificate is sound; and the text gives the answers, with the classes and sums of the streams that come in
+-- certificate is sound; and the text gives the answers, each of which says what its request made of the network
 pub record IsAdmission (net requests net_bytes requests_bytes text : List ℕ) (network : DeclaredNetwork)
     (asked : List Request) : Type 0 where
   pub network_declared : network_in net net_bytes ≡ Ok network
   pub requests_made : requests_in network.topology requests requests_bytes ≡ Ok asked
-  pub sound : (k : ℕ) → IsSoundlyBounded (after_first network asked k)
-  pub sums : SumsAreOfTheLast network asked
+  pub sound : (k : ℕ) → IsSoundlyBounded (network_after network asked k)
+  pub answered : AreAnswers network asked
   pub written : text ≡ admission_text network asked
 
 -- they declare this network and make these requests; no certificate holds for the network, and the text gives the first
@@ -61,7 +55,7 @@ pub record IsUncertified (net requests net_bytes requests_bytes text : List ℕ)
   pub network_declared : network_in net net_bytes ≡ Ok network
   pub requests_made : requests_in network.topology requests requests_bytes ≡ Ok asked
   pub rules : IsNetwork network
-  pub first : reason_of network ≡ Some reason
+  pub first : IsFirstReason network reason
   pub none_holds : (rows : List Row) → ¬ Holds network rows
   pub written : text ≡ refused_text (reason_text network.topology reason)
 

@@ -1,19 +1,23 @@
-use Rattle.std.specs.Prelude.{◌≡◌, ℕ, List, Some, Ok, IsErr}
-use Rattle.ats_network.specs.Network.{DeclaredNetwork, IsNetwork}
+use Rattle.std.specs.Prelude.{◌≡◌, ℕ, ◌≤◌, List, length, Some, Ok, IsErr, slice_get}
+use Rattle.ats_network.specs.Network.{DeclaredNetwork, IsNetwork, senders_of}
 use Rattle.ats_certificate.specs.Certificate.{Holds}
 use Rattle.ats_certificate.specs.declared.row.Row.{Row}
 use Rattle.ats_bound.specs.Least.{least_certificate}
 use Rattle.ats_trace.specs.Journey.{Travel}
+use Rattle.ats_trace.specs.Run.{IsLegal, releases_of}
 use Rattle.ats_trace.specs.declared.journey.Release.{Release}
 use Rattle.ats_conform.specs.Releases.{AllKeepBuckets}
 use Rattle.ats_gen.specs.Made.{AreMade, gen_fault}
 use Rattle.ats_gen.specs.declared.fault.GenFault.{GenFault}
+use Rattle.ats_replay.specs.Report.{bound_of}
+use Rattle.ats_replay.specs.Summary.{summaries_of}
+use Rattle.ats_replay.specs.declared.summary.Summary.{Summary}
 use Rattle.ats_verdict_text.specs.Text.{refused_text}
 use Rattle.ats_command_input.specs.Answer.{Answer}
 use Rattle.ats_command_input.specs.Input.{network_in}
 use Rattle.ats_command_law.specs.ConformBounds.{AllDelaysAreWithin}
 use Rattle.ats_command_due.specs.Due.{IsGenerateAnswer}
-use Rattle.ats_command_due.specs.Generated.{IsReport, gen_fault_text}
+use Rattle.ats_command_due.specs.Generated.{IsReport, gen_fault_text, least_sums}
 use Rattle.ats_command_input.specs.declared.status.Status.{Status}
 use Rattle.ats_command_input.specs.declared.status.Status.TheVariants.{Done, Words, Input, Refused, ReadFailed}
 use Rattle.ats_command_input.specs.declared.status.Status.TheVariants.{WriteFailed}
@@ -24,8 +28,20 @@ abbrev pub AreWithinLeast : DeclaredNetwork → List Travel → Type 0
 AreWithinLeast network run = ((rows : List Row) × Holds network rows)
     → AllDelaysAreWithin network (least_certificate network) run
 
+-- what is printed of a sender as its worst delay is at most what is printed as its bound, where one is printed
+abbrev pub EachWorstIsWithin : DeclaredNetwork → List Travel → Type 0
+EachWorstIsWithin network run = (i : ℕ) (summary : Summary) (bound : ℕ)
+    → slice_get (summaries_of (length (senders_of network)) run) i ≡ Some summary
+    → bound_of network (least_sums network) i ≡ Some bound → summary.worst.0 ≤ bound
+
+-- so it is of each legal run with releases by which every station keeps its buckets
+abbrev pub PrintedWorstIsWithin : Type 0
+PrintedWorstIsWithin = (network : DeclaredNetwork) (run : List Travel) → IsNetwork network → IsLegal network run
+    → AllKeepBuckets network (releases_of run) → EachWorstIsWithin network run
+
 -- a file of these bytes declares this network; these are the releases of so many frames that are made for it from the
--- seed, by which every station keeps its buckets; and the text sums up this run of them
+-- seed, by which every station keeps its buckets; and the text sums up this run of them, in which each printed worst
+-- delay is within the bound beside it
 pub record IsMadeRun (net bytes : List ℕ) (seed count : ℕ) (text : List ℕ) (network : DeclaredNetwork)
     (releases : List Release) (run : List Travel) : Type 0 where
   pub declared : network_in net bytes ≡ Ok network
@@ -34,6 +50,7 @@ pub record IsMadeRun (net bytes : List ℕ) (seed count : ℕ) (text : List ℕ)
   pub keeps : AllKeepBuckets network releases
   pub report : IsReport network releases text run
   pub within : AreWithinLeast network run
+  pub worst : EachWorstIsWithin network run
 
 -- it declares this network, for which none are made, and the text says why
 pub record HasNoneMade (net bytes : List ℕ) (seed count : ℕ) (text : List ℕ) (network : DeclaredNetwork)

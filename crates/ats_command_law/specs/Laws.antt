@@ -1,6 +1,6 @@
 use Rattle.std.specs.Prelude.{◌≡◌, ℕ, List, ◌++◌, codes, decimal, Option, Some, IsErr, slice_get}
-use Rattle.std.specs.Prelude.{sum_by}
-use Rattle.std.specs.List.{flat_map}
+use Rattle.std.specs.Prelude.{length, sum_by}
+use Rattle.std.specs.List.{enumerate_from, flat_map}
 use Rattle.ats_topology.specs.Topology.{DeclaredTopology}
 use Rattle.ats_verdict_text.specs.PortName.{port_name}
 use Rattle.ats_verdict_text.specs.Stream.{DeclaredStream}
@@ -8,7 +8,7 @@ use Rattle.ats_network.specs.Network.{DeclaredNetwork}
 use Rattle.ats_network.specs.Senders.{sender_at}
 use Rattle.ats_certificate.specs.declared.row.Row.{Row}
 use Rattle.ats_soundness_law.specs.Sound.{bounds_of}
-use Rattle.ats_verdict_text.specs.Text.{stream_lines}
+use Rattle.ats_verdict_text.specs.Text.{accepted_text, stream_lines}
 use Rattle.ats_command_input.specs.Command.{Command, Shape, Show, Bound, Explain, Check, Replay, Unknown, command_of}
 use Rattle.ats_command_input.specs.Command.{Capture, Conform, Admit, Generate}
 use Rattle.ats_command_input.specs.Answer.{Answer}
@@ -61,3 +61,16 @@ abbrev pub PrintedBoundsAreSound : Type 0
 PrintedBoundsAreSound = (network : DeclaredNetwork) (rows : List Row) (i : ℕ) (stream : DeclaredStream)
     → slice_get network.streams i ≡ Some stream → stream_lines network.topology rows stream
     ≡ lines_by network.topology stream.name (bounds_of rows (sender_at network i)) (sender_at network i).path
+
+-- such lines of the stream with a number, by the bounds of which soundness speaks
+abbrev pub sound_lines : DeclaredNetwork → List Row → ℕ × DeclaredStream → List ℕ
+sound_lines network rows numbered =
+    lines_by network.topology numbered.1.name (bounds_of rows (sender_at network numbered.0))
+    (sender_at network numbered.0).path
+
+-- so is the whole text that is printed of an accepted certificate: such lines of each stream, in order with its number,
+-- and then the line `accepted N` with the number of streams
+abbrev pub AcceptedTextIsSound : Type 0
+AcceptedTextIsSound = (network : DeclaredNetwork) (rows : List Row) → accepted_text network rows
+    ≡ flat_map (sound_lines network rows) (enumerate_from 0 network.streams)
+    ++ codes "accepted " ++ decimal (length network.streams) ++ codes "\n"

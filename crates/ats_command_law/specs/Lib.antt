@@ -2,8 +2,10 @@ pub mod Laws
 pub mod Meaning
 pub mod ReplayMeaning
 pub mod ConformBounds
+pub mod Answered
 pub mod AdmitMeaning
 pub mod ConformMeaning
 pub mod CaptureMeaning
+pub mod CaptureBounds
 pub mod ExplainMeaning
 pub mod GenerateMeaning

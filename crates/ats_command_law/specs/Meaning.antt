@@ -1,14 +1,17 @@
-use Rattle.std.specs.Prelude.{◌≡◌, ℕ, ◌⊎◌, List, Some, Ok, IsErr}
+use Rattle.std.specs.Prelude.{◌≡◌, ℕ, ◌⊎◌, List, Ok, IsErr}
 use Rattle.ats_network.specs.Network.{DeclaredNetwork, IsNetwork}
 use Rattle.ats_certificate.specs.Certificate.{Holds}
 use Rattle.ats_certificate.specs.declared.row.Row.{Row}
 use Rattle.ats_certificate_file.specs.Text.{certificate_text}
 use Rattle.ats_tally.specs.declared.reason.Reason.{Reason}
+use Rattle.ats_bound.specs.First.{IsFirstReason}
 use Rattle.ats_bound.specs.Least.{least_certificate}
-use Rattle.ats_bound.specs.Reason.{reason_of}
-use Rattle.ats_soundness_law.specs.Sound.{IsSound}
-use Rattle.ats_checker.specs.InTime.{FramesAreInTime}
-use Rattle.ats_checker.specs.Refusal.{refusal_of}
+use Rattle.ats_bucket.specs.Conforming.{Frame}
+use Rattle.ats_streams.specs.declared.traffic.Declared.{Declared}
+use Rattle.ats_group.specs.Judge.{Judge, ats_judge, bucket_rule}
+use Rattle.ats_soundness_law.specs.Sound.{IsSound, IsSoundBy}
+use Rattle.ats_checker.specs.First.{IsFirst}
+use Rattle.ats_checker.specs.InTime.{FramesAreInTime, FramesAreInTimeBy}
 use Rattle.ats_checker.specs.declared.refusal.Refusal.{Refusal}
 use Rattle.ats_verdict_text.specs.Text.{accepted_text, reason_text, refusal_text, refused_text}
 use Rattle.ats_command_input.specs.Input.{network_in, rows_in}
@@ -32,7 +35,7 @@ pub record IsBounded (net bytes text : List ℕ) (network : DeclaredNetwork) : T
 pub record HasNone (net bytes text : List ℕ) (network : DeclaredNetwork) (reason : Reason) : Type 0 where
   pub declared : network_in net bytes ≡ Ok network
   pub rules : IsNetwork network
-  pub first : reason_of network ≡ Some reason
+  pub first : IsFirstReason network reason
   pub none_holds : (rows : List Row) → ¬ Holds network rows
   pub written : text ≡ refused_text (reason_text network.topology reason)
 
@@ -51,17 +54,23 @@ BoundSays net bytes text NoMemory = ⊥
 abbrev pub BoundMeans : Type 0
 BoundMeans = (net bytes : List ℕ) → BoundSays net bytes (bound_answer net bytes).text (bound_answer net bytes).status
 
--- two files of these bytes declare this network and these rows, which hold for it and are sound; by them frames are in
--- time, and the text gives their bounds and sums
-pub record IsAccepted (net certificate net_bytes certificate_bytes text : List ℕ) (network : DeclaredNetwork)
-    (rows : List Row) : Type 0 where
-  pub network_declared : network_in net net_bytes ≡ Ok network
-  pub rows_declared : rows_in network.topology certificate certificate_bytes ≡ Ok rows
-  pub rules : IsNetwork network
-  pub holds : Holds network rows
-  pub sound : IsSound network rows
-  pub in_time : FramesAreInTime network rows
-  pub written : text ≡ accepted_text network rows
+-- two files of these bytes declare this network and these rows, which hold for it and are sound, where groups judge so
+-- and talkers keep this rule; by them frames are in time, and the text gives their bounds and sums
+pub record IsAcceptedBy (judge : Judge) (rule : Declared → List Frame → Type 0)
+    (net certificate net_bytes certificate_bytes text : List ℕ) (network : DeclaredNetwork) (rows : List Row) : Type 0
+  where
+    pub network_declared : network_in net net_bytes ≡ Ok network
+    pub rows_declared : rows_in network.topology certificate certificate_bytes ≡ Ok rows
+    pub rules : IsNetwork network
+    pub holds : Holds network rows
+    pub sound : IsSoundBy judge rule network rows
+    pub in_time : FramesAreInTimeBy judge rule network rows
+    pub written : text ≡ accepted_text network rows
+
+-- and the groups are those of Asynchronous Traffic Shaping, and talkers keep their buckets
+abbrev pub IsAccepted : List ℕ → List ℕ → List ℕ → List ℕ → List ℕ → DeclaredNetwork → List Row → Type 0
+IsAccepted net certificate net_bytes certificate_bytes text network rows =
+    IsAcceptedBy ats_judge bucket_rule net certificate net_bytes certificate_bytes text network rows
 
 -- they declare this network and these rows, which do not hold for it, and the text gives the first refusal of them
 pub record IsRefused (net certificate net_bytes certificate_bytes text : List ℕ) (network : DeclaredNetwork)
@@ -69,7 +78,7 @@ pub record IsRefused (net certificate net_bytes certificate_bytes text : List �
   pub network_declared : network_in net net_bytes ≡ Ok network
   pub rows_declared : rows_in network.topology certificate certificate_bytes ≡ Ok rows
   pub rules : IsNetwork network
-  pub first : refusal_of network rows ≡ Some refusal
+  pub first : IsFirst network rows refusal
   pub fails : ¬ Holds network rows
   pub written : text ≡ refused_text (refusal_text network.topology refusal)
 

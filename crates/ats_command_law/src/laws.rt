@@ -1,12 +1,14 @@
 //! What is proved of the answers that are due, for all words and bytes.
 
 ghost use Rattle.ats_command_law.specs.AdmitMeaning.{AdmitMeans};
+ghost use Rattle.ats_command_law.specs.CaptureBounds.{CaptureKeepsBounds};
 ghost use Rattle.ats_command_law.specs.CaptureMeaning.{CaptureMeans};
 ghost use Rattle.ats_command_law.specs.ConformBounds.{ConformKeepsBounds};
 ghost use Rattle.ats_command_law.specs.ConformMeaning.{ConformMeans};
 ghost use Rattle.ats_command_law.specs.ExplainMeaning.{ExplainMeans};
-ghost use Rattle.ats_command_law.specs.GenerateMeaning.{GenerateMeans};
-ghost use Rattle.ats_command_law.specs.Laws.{OneAnswerIsDue, OneStatusIsDue, PrintedBoundsAreSound};
+ghost use Rattle.ats_command_law.specs.GenerateMeaning.{GenerateMeans, PrintedWorstIsWithin};
+ghost use Rattle.ats_command_law.specs.Laws.{AcceptedTextIsSound, OneAnswerIsDue, OneStatusIsDue};
+ghost use Rattle.ats_command_law.specs.Laws.{PrintedBoundsAreSound};
 ghost use Rattle.ats_command_law.specs.Meaning.{BoundMeans, CheckMeans};
 ghost use Rattle.ats_command_law.specs.ReplayMeaning.{ReplayKeepsBounds, ReplayMeans};
 
@@ -33,10 +35,10 @@ pub fn what_bound_answers()
 {}
 
 /// What each answer to `explain` means, by its status. `Done`: the file declares a network of which no port and class
-/// is overloaded, and the text gives the parts of the least bounds, which add up at each hop to the bound and along
-/// each path to the sum; no stream is late and no frame may have to stay too long exactly where some certificate holds.
-/// `Refused`: it declares a network with an overload, which the text names, and no certificate holds. `Input`: it
-/// declares none. No other status comes.
+/// is overloaded, and the text gives the parts of the least bounds, each of which is what it stands for, and which add
+/// up at each hop to the bound and along each path to the sum; no stream is late and no frame may have to stay too long
+/// exactly where some certificate holds. `Refused`: it declares a network with an overload, of which the text names the
+/// first, and no certificate holds. `Input`: it declares none. No other status comes.
 pub fn what_explain_answers()
     ensures { ExplainMeans }
 {
@@ -63,11 +65,14 @@ pub fn what_conform_answers()
 
 /// What each answer to `admit` means, by its status. `Done`: the files declare a network and make requests; for the
 /// network as it is, and after each request, the least certificate holds and is sound, and by it each frame of a talker
-/// that keeps its buckets arrives within its stream's sum and deadline; and the text gives the answers that the
-/// definition of admission gives, one after the other, and the number of streams at the end; where a stream came in,
-/// the class is that which it has at each port of its path, and the sum is that of its least bounds. `Refused`: they
-/// declare a network, for which no certificate holds, and make requests, and the text gives the first reason against
-/// the network. `Input`: one of them does not declare what it should. No other status comes.
+/// that keeps its buckets arrives within its stream's sum and deadline; and the text gives the answers, one to each
+/// request, and the number of streams at the end. A stream that is admitted is the one asked for, in the printed class
+/// at each port of its path, beside all that was there, and the printed sum is that of its least bounds; where the
+/// lowest class was asked for, there is a first reason against the network with it in each lower class. A stream that
+/// is withdrawn is gone, and it alone. A denial changes nothing, and its cause holds: a printed reason is the first
+/// against the network with the stream, for `no-class` in each class. `Refused`: they declare a network, for which no
+/// certificate holds, and make requests, and the text gives the first reason against the network. `Input`: one of them
+/// does not declare what it should. No other status comes.
 pub fn what_admit_answers()
     ensures { AdmitMeans }
 {}
@@ -91,8 +96,9 @@ pub fn what_capture_answers()
 /// What each answer to `generate` means, by its status. `Done`: the file declares a network, and the text sums up a
 /// legal run, in the order `early`, with exactly the releases that are made from the seed, by which every station keeps
 /// its buckets; where some certificate of the network holds, each delay of a stream in this run is within the least
-/// bounds, whose sums the text gives. `Refused`: it declares a network for which no releases are made, and the text
-/// says why. `Input`: it declares none. No other status comes.
+/// bounds, whose sums the text gives, and so is each printed worst delay within the bound beside it. `Refused`: it
+/// declares a network for which no releases are made, and the text says why. `Input`: it declares none. No other status
+/// comes.
 pub fn what_generate_answers()
     ensures { GenerateMeans }
 {}
@@ -117,4 +123,24 @@ pub fn conform_keeps_bounds()
 /// of which `IsSound` speaks, and the sum of these bounds.
 pub fn printed_bounds_are_sound()
     ensures { PrintedBoundsAreSound }
+{}
+
+/// So is the whole text of an accepted certificate: for each stream, in order, such lines by the bounds of which
+/// `IsSound` speaks of the stream with this number, and then `accepted` and the number of streams.
+pub fn accepted_text_is_sound()
+    ensures { AcceptedTextIsSound }
+{}
+
+/// Where `Done` is due to `check` of a certificate and to `capture` at a station for one network: each frame of a
+/// stream whose talker keeps its buckets in the releases of the capture is, in the run that `capture` prints, never
+/// discarded, eligible at each next hop within the bound that `check` prints for the hop before, and arrives within the
+/// printed sum of its stream and within its deadline.
+pub fn capture_keeps_bounds()
+    ensures { CaptureKeepsBounds }
+{}
+
+/// In each legal run with releases by which every station keeps its buckets, what `generate` prints of a sender as its
+/// worst delay is at most what it prints as its bound, where it prints one.
+pub fn printed_worst_is_within()
+    ensures { PrintedWorstIsWithin }
 {}

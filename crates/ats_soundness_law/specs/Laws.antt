@@ -8,7 +8,7 @@ use Rattle.ats_certificate.specs.Certificate.{RowHolds, Holds}
 use Rattle.ats_certificate.specs.declared.row.Row.{Row}
 use Rattle.ats_port_law.specs.PortLaw.{IsOffered}
 use Rattle.ats_bucket.specs.Conforming.{Frame}
-use Rattle.ats_group.specs.declared.member.Declared.{Declared}
+use Rattle.ats_streams.specs.declared.traffic.Declared.{Declared}
 use Rattle.ats_group.specs.Judge.{Judge, ats_judge, bucket_rule}
 use Rattle.ats_group_law.specs.Regulator.{IsRegulator, IsRule}
 use Rattle.ats_trace.specs.Journey.{Travel}

@@ -2,7 +2,7 @@
 
 ghost use Rattle.std.specs.Prelude.{List};
 ghost use Rattle.ats_bucket.specs.Conforming.{Frame};
-ghost use Rattle.ats_group.specs.declared.member.Declared.{Declared};
+ghost use Rattle.ats_streams.specs.declared.traffic.Declared.{Declared};
 ghost use Rattle.ats_soundness_law.specs.Rules.{HoldsIsEachRule};
 ghost use Rattle.ats_soundness_law.specs.Laws.{StationIsOffered, BridgeIsOffered, ShapingForFree, PathLaw, Containment};
 ghost use Rattle.ats_soundness_law.specs.Laws.{SoundByRule, SoundByRules, CertificateIsSound};
