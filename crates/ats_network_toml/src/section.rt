@@ -1,11 +1,11 @@
 //! The walk over one table of a network file.
 
-ghost use Rattle.std.specs.Prelude.{◌≡◌, ◌≤◌, ◌<◌, ◌^◌, option_map, length, IsTrue, IfOk, IfErr};
+ghost use Rattle.std.specs.Prelude.{◌≡◌, ◌≤◌, ◌<◌, ◌^◌, option_map, length, IsTrue, IfOk, IfErr, OnErr, Some, None};
 ghost use Rattle.std.specs.Option.{ForSome};
 ghost use Rattle.toml.specs.Data.{get_member};
 ghost use Rattle.toml.specs.View.{view, items_view, table_view};
 ghost use Rattle.ats_network_toml.specs.Words.{key_text};
-ghost use Rattle.ats_network_toml.specs.Walk.{has, is_due, is_missing, missing_key, formed, at};
+ghost use Rattle.ats_network_toml.specs.Walk.{has, is_due, is_missing, missing_key, formed, wrong_kind, at};
 ghost use Rattle.ats_network_toml.specs.Walk.{name_at, whole_at, tables_at, path_at, identity_at, deadline_at};
 ghost use Rattle.ats_network_toml.specs.Walk.{format_at, classes_at};
 ghost use Rattle.ats_num.specs.Failure.{or_fault, GivesSeen};
@@ -139,7 +139,7 @@ impl<'a> Section<'a> {
 
     /// The fault of a key whose value is of the wrong kind.
     pub(crate) fn wrong_kind(&self, key: Key) -> DocumentFault
-        ensures { result ≡ DocumentFault.WrongKind (entry_of self.now).table (entry_of self.now).number key }
+        ensures { result ≡ wrong_kind (entry_of self.now) key }
     {
         DocumentFault::WrongKind {
             table: self.table,
@@ -148,14 +148,20 @@ impl<'a> Section<'a> {
         }
     }
 
+    // What stands with a key; nothing there is of no kind.
+    fn at(&self, key: Key) -> Result<&'a Value, DocumentFault>
+        ensures ok { IfOk result (λ v. get_member (key_text key) (entry_of self.now).members ≡ Some (view v.now)) }
+        ensures err { IfErr result (λ e. e ≡ wrong_kind (entry_of self.now) key) }
+        ensures none { OnErr result (get_member (key_text key) (entry_of self.now).members ≡ None) }
+    {
+        self.value(key).ok_or(self.wrong_kind(key))
+    }
+
     /// The name that stands with a key.
     pub(crate) fn name(&self, key: Key) -> Result<Name, DocumentFault>
         ensures { result ≡ name_at (entry_of self.now) key }
     {
-        match self.value(key) {
-            Some(value) => name_in(value).ok_or(self.wrong_kind(key)),
-            None => Err(self.wrong_kind(key)),
-        }
+        name_in(self.at(key)?).ok_or(self.wrong_kind(key))
     }
 
     /// The whole number of this range that stands with a key.
@@ -163,10 +169,7 @@ impl<'a> Section<'a> {
         ensures value { result ≡ whole_at (entry_of self.now) key least most }
         ensures within { IfOk result (λ n. (least ≤ n) × (n ≤ most)) }
     {
-        match self.value(key) {
-            Some(value) => whole_in(value, least, most).ok_or(self.wrong_kind(key)),
-            None => Err(self.wrong_kind(key)),
-        }
+        whole_in(self.at(key)?, least, most).ok_or(self.wrong_kind(key))
     }
 
     /// The whole number of 32 bits that stands with a key.
@@ -198,10 +201,10 @@ impl<'a> Section<'a> {
         ensures ok { IfOk result (λ tables. tables_at (entry_of self.now) key ≡ Ok (tables_of tables)) }
         ensures err { IfErr result (λ e. tables_at (entry_of self.now) key ≡ Err e) }
     {
-        match self.value(key) {
-            Some(value) => tables_in(value).ok_or(self.wrong_kind(key)),
-            None => Ok(Tables::none()),
+        if !self.has(key) {
+            return Ok(Tables::none());
         }
+        tables_in(self.at(key)?).ok_or(self.wrong_kind(key))
     }
 
     /// The way of a stream or a flow: its path, or its two ends.
@@ -250,11 +253,7 @@ impl<'a> Section<'a> {
     fn list<T: FromValue>(&self, alloc: Global, key: Key) -> Result<Vec<T>, Failure<DocumentFault>>
         ensures { GivesSeen (λ items. items.items) result (at (entry_of self.now) key (list_in T.kind)) }
     {
-        let value = match self.value(key) {
-            Some(value) => value,
-            None => return Err(Failure::Fault(self.wrong_kind(key))),
-        };
-        match value.as_array() {
+        match self.at(key)?.as_array() {
             Some(values) => items_in(alloc, values.as_slice(), self.wrong_kind(key)),
             None => Err(Failure::Fault(self.wrong_kind(key))),
         }
@@ -278,10 +277,7 @@ impl<'a> Section<'a> {
         ensures value { result ≡ at (entry_of self.now) Key.Address address_in }
         ensures within { IfOk result (λ n. n < 2 ^ 48) }
     {
-        match self.value(Key::Address) {
-            Some(value) => address_in(value).ok_or(self.wrong_kind(Key::Address)),
-            None => Err(self.wrong_kind(Key::Address)),
-        }
+        address_in(self.at(Key::Address)?).ok_or(self.wrong_kind(Key::Address))
     }
 
     /// The deadline in nanoseconds; a second where none stands there.

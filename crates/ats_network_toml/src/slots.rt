@@ -134,35 +134,7 @@ fn slot_of(key: Key) -> usize
     ensures place { result ≡ slot_of key }
     ensures within { result < 27 }
 {
-    match key {
-        Key::Name => 0,
-        Key::Path => 1,
-        Key::Class => 2,
-        Key::RateBps => 3,
-        Key::BurstBits => 4,
-        Key::MinOctets => 5,
-        Key::MaxOctets => 6,
-        Key::From => 7,
-        Key::To => 8,
-        Key::DeadlineNs => 9,
-        Key::Address => 10,
-        Key::Vlan => 11,
-        Key::A => 12,
-        Key::B => 13,
-        Key::Mbps => 14,
-        Key::PropagationNs => 15,
-        Key::ProcessingNs => 16,
-        Key::ResidenceNs => 17,
-        Key::ProcessingMinNs => 18,
-        Key::ProcessingMaxNs => 19,
-        Key::Classes => 20,
-        Key::Format => 21,
-        Key::Station => 22,
-        Key::Bridge => 23,
-        Key::Link => 24,
-        Key::Stream => 25,
-        Key::Flow => 26,
-    }
+    key as usize
 }
 
 // The place of the key that is written so among all keys.
