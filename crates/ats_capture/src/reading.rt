@@ -1,7 +1,7 @@
 //! Captures that are read from a file through a window.
 
 ghost use Rattle.std.specs.Prelude.{◌≡◌, ◌+◌, ◌++◌, ◌≤◌, ◌<◌, ℕ, List, All, IfErr, IfOk, IsErrOf, OnErr, length};
-ghost use Rattle.std.specs.Prelude.{vec_len};
+ghost use Rattle.std.specs.Prelude.{OnOk, vec_len};
 ghost use Rattle.ats_io.specs.Outside.{Rose, IfTold, Continues, IsPieceAt};
 ghost use Rattle.ats_io.specs.declared.files.TheConstants.{MAX_PLACE};
 ghost use Rattle.ats_pcap.specs.Capture.{records_of};
@@ -29,7 +29,7 @@ const PIECE: usize = 65_536;
 /// `Failed`: a read failed, and the count of faults of the name rose. `Capture`: the first fault of
 /// the file's bytes; of more than 268,435,456 bytes the first fault other than `CutShort` that the
 /// first 268,435,456 show. `TooLong`: there are more, and they show none. `Failure::NoMemory`: memory
-/// ran out.
+/// ran out. Unless it is `Failed`, no count of faults changed.
 pub fn capture_records<F: Files>(
     alloc: Global,
     files: &mut F,
@@ -38,6 +38,7 @@ pub fn capture_records<F: Files>(
     ensures due { IfTold (F.told files.old name.now) (λ bytes. GivesUnlessFailed result (records_in bytes)) }
     ensures failed { IsErrOf result (Failure.Fault RecordsFault.Failed)
         → Rose (F.faults files.old name.now) (F.faults files.new name.now) }
+    ensures calm { ¬ IsErrOf result (Failure.Fault RecordsFault.Failed) → F.faults files.new ≡ F.faults files.old }
     ensures few { IfOk result (λ records. vec_len records ≤ 1_000_000) }
     ensures octets { IfOk result (λ records. All IsLongEnough records.items) }
     ensures continues { Continues F.told F.faults files.old files.new }
@@ -82,6 +83,7 @@ fn read<F: Files>(
     ensures piece { IfOk result
         (λ count. IfTold (F.told files.old name.now) (λ bytes. IsPieceAt bytes at count buf.new)) }
     ensures failed { OnErr result (Rose (F.faults files.old name.now) (F.faults files.new name.now)) }
+    ensures calm { OnOk result (F.faults files.new ≡ F.faults files.old) }
     ensures fault { IfErr result (λ e. e ≡ Failure.Fault RecordsFault.Failed) }
     ensures continues { Continues F.told F.faults files.old files.new }
 {

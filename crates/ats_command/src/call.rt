@@ -1,15 +1,14 @@
 //! The call that the program makes.
 
-ghost use Rattle.std.specs.Prelude.{◌≡◌, ◌≤◌, ◌⊎◌, IfOk, IsErrOf};
+ghost use Rattle.std.specs.Prelude.{◌≡◌, ◌≤◌, ◌⊎◌, IfOk};
 ghost use Rattle.ats_io.specs.Outside.{Rose, Continues};
-ghost use Rattle.ats_command_input.specs.Command.{command_of};
 ghost use Rattle.ats_command_input.specs.Command as table;
-ghost use Rattle.ats_command_input.specs.Named.{texts_of, view};
+ghost use Rattle.ats_command_input.specs.Named.{named, view};
 ghost use Rattle.ats_command_input.specs.Answer.{HasText};
 ghost use Rattle.ats_command_due.specs.Due.{IsTold};
-ghost use Rattle.ats_command_due.specs.Generated.{HasFewFrames};
-ghost use Rattle.ats_command_due.specs.Soundness.{IsSoundCheck, PrintsSoundly};
-ghost use Rattle.ats_command_due.specs.Calls.{Answers, Printed, PrintedPrefix, ReadRose, IsCalm, StatusIsDue};
+ghost use Rattle.ats_command_due.specs.Soundness.{PrintsAsPromised, Promises};
+ghost use Rattle.ats_command_due.specs.Calls.{Answers, Printed, PrintedPrefix, ReadRose, ReadsFiles, IsCalm};
+ghost use Rattle.ats_command_due.specs.Calls.{StatusIsDue};
 
 use ats_command_input::{Command, Status, Stop, finish, named_by, print};
 use ats_io::{Files, Sink};
@@ -21,79 +20,57 @@ use std::alloc::Global;
 pub fn ats<F: Files, O: Sink>(alloc: Global, words: &[String], files: &mut F, out: &mut O) -> Status
     // Done, Words, Input and Refused have printed a text, whole. Where the files tell their bytes, it is due.
     ensures printed { HasText result
-        → Printed (F.told files.old) (command_of (texts_of words.now)) result (O.held out.old) (O.held out.new) }
+        → Printed (F.told files.old) (named words.now) result (O.held out.old) (O.held out.new) }
 
     // Words comes exactly where the words are not in the command table, but where writing its line failed.
-    ensures words { result ≡ Status.Words → command_of (texts_of words.now) ≡ table.Unknown }
-    ensures unknown { command_of (texts_of words.now) ≡ table.Unknown
+    ensures words { result ≡ Status.Words → named words.now ≡ table.Unknown }
+    ensures unknown { named words.now ≡ table.Unknown
         → (result ≡ Status.Words) ⊎ (result ≡ Status.WriteFailed) }
 
     // Done to `check NET CERT` has printed the bounds and sums of the rows that the files declare for a network. They
     // are sound in each legal run of it, and there each frame of a stream whose talker keeps its buckets arrives within
     // its stream's sum and its deadline.
     ensures sound { result ≡ Status.Done
-        → PrintsSoundly (F.told files.old) (command_of (texts_of words.now)) (O.held out.old) (O.held out.new) }
+        → PrintsAsPromised (F.told files.old) (named words.now) (O.held out.old) (O.held out.new) }
 
     // ReadFailed and WriteFailed have a cause.
     ensures read_failed { result ≡ Status.ReadFailed
-        → ReadRose (F.told files.old) (command_of (texts_of words.now)) (F.faults files.old) (F.faults files.new) }
+        → ReadRose (F.told files.old) (named words.now) (F.faults files.old) (F.faults files.new) }
     ensures write_failed { result ≡ Status.WriteFailed → Rose (O.faults out.old) (O.faults out.new) }
+
+    // They come wherever a count of faults changes: a failed read or write is never told as want of memory.
+    ensures read_told { ¬ (result ≡ Status.ReadFailed) → F.faults files.new ≡ F.faults files.old }
+    ensures write_told { ¬ (result ≡ Status.WriteFailed) → O.faults out.new ≡ O.faults out.old }
 
     // After WriteFailed a front of a due text was printed, and after ReadFailed and NoMemory nothing.
     ensures cut_short { result ≡ Status.WriteFailed
-        → PrintedPrefix (F.told files.old) (command_of (texts_of words.now)) (O.held out.old) (O.held out.new) }
+        → PrintedPrefix (F.told files.old) (named words.now) (O.held out.old) (O.held out.new) }
     ensures silent { (result ≡ Status.ReadFailed) ⊎ (result ≡ Status.NoMemory) → O.held out.new ≡ O.held out.old }
 
     // Where the files tell their bytes and no fault came, the status that is due comes, or NoMemory.
-    ensures complete { IsTold (F.told files.old) (command_of (texts_of words.now))
-        → IsCalm (command_of (texts_of words.now)) (F.faults files.old) (F.faults files.new)
+    ensures complete { IsTold (F.told files.old) (named words.now)
+        → IsCalm (named words.now) (F.faults files.old) (F.faults files.new)
         → ¬ Rose (O.faults out.old) (O.faults out.new)
-        → (result ≡ Status.NoMemory) ⊎ StatusIsDue (F.told files.old) (command_of (texts_of words.now)) result }
+        → (result ≡ Status.NoMemory) ⊎ StatusIsDue (F.told files.old) (named words.now) result }
 
     // The files hold what they held, and no count of faults fell.
     ensures files { Continues F.told F.faults files.old files.new }
     ensures sink { O.faults out.old ≤ O.faults out.new }
 {
     match named_by(words) {
-        Some(command) => carry_out(alloc, command, files, out),
+        Some(command) => {
+            let outcome = outcome_of(alloc, command, files);
+            finish(out, outcome)
+        }
         None => print(out, Status::Words, b"words\n"),
     }
 }
 
-// Carries out a command of the table, and prints its text.
-fn carry_out<F: Files, O: Sink>(
-    alloc: Global,
-    command: Command,
-    files: &mut F,
-    out: &mut O,
-) -> Status
-    requires { HasFewFrames (view command) }
-    ensures printed { HasText result
-        → Printed (F.told files.old) (view command.entry) result (O.held out.old) (O.held out.new) }
-    ensures no_words { ¬ (result ≡ Status.Words) }
-    ensures sound { result ≡ Status.Done
-        → PrintsSoundly (F.told files.old) (view command.entry) (O.held out.old) (O.held out.new) }
-    ensures read_failed { result ≡ Status.ReadFailed
-        → ReadRose (F.told files.old) (view command.entry) (F.faults files.old) (F.faults files.new) }
-    ensures write_failed { result ≡ Status.WriteFailed → Rose (O.faults out.old) (O.faults out.new) }
-    ensures cut_short { result ≡ Status.WriteFailed
-        → PrintedPrefix (F.told files.old) (view command.entry) (O.held out.old) (O.held out.new) }
-    ensures silent { (result ≡ Status.ReadFailed) ⊎ (result ≡ Status.NoMemory) → O.held out.new ≡ O.held out.old }
-    ensures files { Continues F.told F.faults files.old files.new }
-    ensures sink { O.faults out.old ≤ O.faults out.new }
-{
-    let outcome = outcome_of(alloc, command, files);
-    finish(out, outcome)
-}
-
 // What a command of the table comes to.
 fn outcome_of<F: Files>(alloc: Global, command: Command, files: &mut F) -> Result<Vec<u8>, Stop>
-    requires { HasFewFrames (view command) }
     ensures due { Answers (F.told files.old) (view command.entry) result }
-    ensures sound { IfOk result (λ text. IsSoundCheck (F.told files.old) (view command.entry) text.items) }
-    ensures failed { IsErrOf result Stop.ReadFailed
-        → ReadRose (F.told files.old) (view command.entry) (F.faults files.old) (F.faults files.new) }
-    ensures continues { Continues F.told F.faults files.old files.new }
+    ensures sound { IfOk result (λ text. Promises (F.told files.old) (view command.entry) text.items) }
+    ensures reads { ReadsFiles F.told F.faults (view command.entry) files.old files.new result }
 {
     match command {
         Command::Shape(file) => shape(alloc, file, files),

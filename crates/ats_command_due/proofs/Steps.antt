@@ -1,11 +1,14 @@
-use Rattle.std.proofs.Common.{◌≡◌, ℕ, List, [], Option, Some, None, Result, Ok, Err, refl, sym, ap, subst}
+use Rattle.std.proofs.Common.{◌≡◌, ℕ, List, [], Option, Some, None, Result, Ok, Err, refl, sym, ap, subst, ◌∙◌}
 use Rattle.std.specs.Prelude.{IsSome, IfSome, IfOk, IsErrAnd, IsOk, unwrap_or}
 use Rattle.std.specs.Global.{Vec}
 use Rattle.ats_num.specs.Failure.{◌>>=◌}
 use Rattle.ats_io.specs.Outside.{IfTold}
+use Rattle.ats_io.proofs.Outside.{Continues-trans, Rose-since}
 use Rattle.ats_command_input.specs.Answer.{Answer, settled}
-use Rattle.ats_command_due.specs.Due.{told_bytes}
-use Rattle.ats_command_input.specs.Outcome.{Gives, IsStopOf, answer_of}
+use Rattle.ats_command_input.specs.Command.{Command}
+use Rattle.ats_command_due.specs.Calls.{ReadsFiles}
+use Rattle.ats_command_due.specs.Due.{Reaches, told_bytes}
+use Rattle.ats_command_input.specs.Outcome.{Gives, IsStopOf, ReadsFile, answer_of}
 use Rattle.ats_command_input.specs.declared.outcome.Stop.{Stop}
 use Rattle.ats_command_input.specs.declared.outcome.Stop.TheVariants.{Input, Refused, ReadFailed, NoMemory}
 use Rattle.ats_command_input.specs.declared.status.Status.TheVariants as status
@@ -78,3 +81,24 @@ text_then (Err stop) P Q h f = tt
 -- what is declared is no answer
 pub declared_is_ok : {A : Type 0} (due : Result A Answer) (value : A) → due ≡ Ok value → IsOk due
 declared_is_ok due value h = rw h refl
+
+-- a command that comes to a file, and to no other, reads it
+pub reads_one : {S X : Type 0} {told : S → List ℕ → Option (List ℕ)} {faults : S → List ℕ → ℕ} (command : Command)
+    (file : List ℕ) {old new : S} {result : Result X Stop} → ReadsFile told faults file old new result
+    → Reaches (told old) command file → ReadsFiles told faults command old new result
+reads_one command file reads reaches = record {
+  failed = λ h. (file, reaches, reads.failed h);
+  calm = reads.calm;
+  continues = reads.continues;
+}
+
+-- a command that comes to a second file, once the first declared a value, reads both
+pub reads_both : {S X Y : Type 0} (told : S → List ℕ → Option (List ℕ)) (faults : S → List ℕ → ℕ) (command : Command)
+    (net file : List ℕ) (old middle new : S) (value : X) (result : Result Y Stop)
+    → ReadsFile told faults net old middle (Ok value) → ReadsFile told faults file middle new result
+    → Reaches (told old) command file → ReadsFiles told faults command old new result
+reads_both told faults command net file old middle new value result first second reaches = record {
+  failed = λ h. (file, reaches, Rose-since _ _ _ (first.continues.counts file) (second.failed h));
+  calm = λ h. second.calm h ∙ first.calm (λ e. cc);
+  continues = Continues-trans first.continues second.continues;
+}

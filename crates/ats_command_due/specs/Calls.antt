@@ -1,10 +1,11 @@
-use Rattle.std.specs.Prelude.{◌≡◌, ℕ, List, IfSome, Option, Result, All}
+use Rattle.std.specs.Prelude.{◌≡◌, ℕ, List, IfSome, IsErrOf, Option, Result, All}
 use Rattle.std.specs.Global.{Vec}
-use Rattle.ats_io.specs.Outside.{Rose, TakesPrefix, appended}
+use Rattle.ats_io.specs.Outside.{Continues, Rose, TakesPrefix, appended}
 use Rattle.ats_command_input.specs.Command.{Command, file_words}
 use Rattle.ats_command_input.specs.Answer.{Answer}
 use Rattle.ats_command_input.specs.Outcome.{answer_of}
 use Rattle.ats_command_input.specs.declared.outcome.Stop.{Stop}
+use Rattle.ats_command_input.specs.declared.outcome.Stop.TheVariants.{ReadFailed}
 use Rattle.ats_command_due.specs.Due.{IsAnswer, IsDueAnswer, IsTold, Reaches, told_bytes}
 use Rattle.ats_command_input.specs.declared.status.Status.{Status}
 
@@ -25,6 +26,14 @@ PrintedPrefix told command old new = IsTold told command
 -- a fault came at a file that the command comes to
 abbrev pub ReadRose : (List ℕ → Option (List ℕ)) → Command → (List ℕ → ℕ) → (List ℕ → ℕ) → Type 0
 ReadRose told command old new = (name : List ℕ) × Reaches told command name × Rose (old name) (new name)
+
+-- what a command came to that reads its files: it stops with ReadFailed only where a fault came at one that it comes
+-- to, and else no count of faults changed; the outside goes on
+pub record ReadsFiles {S X : Type 0} (told : S → List ℕ → Option (List ℕ)) (faults : S → List ℕ → ℕ)
+    (command : Command) (old new : S) (result : Result X Stop) : Type 0 where
+  pub failed : IsErrOf result ReadFailed → ReadRose (told old) command (faults old) (faults new)
+  pub calm : ¬ IsErrOf result ReadFailed → faults new ≡ faults old
+  pub continues : Continues told faults old new
 
 -- no fault came at a file of the command
 abbrev pub IsCalm : Command → (List ℕ → ℕ) → (List ℕ → ℕ) → Type 0

@@ -1,4 +1,4 @@
-use Rattle.std.specs.Prelude.{◌≡◌, ◌≤◌, ℕ, List, codes, Option, Some, None, Result, Ok, Err}
+use Rattle.std.specs.Prelude.{◌≡◌, ℕ, List, codes, Option, Some, None, Result, Ok, Err}
 use Rattle.ats_network.specs.Network.{DeclaredNetwork}
 use Rattle.ats_tally.specs.Delays.{sums_for}
 use Rattle.ats_tally.specs.declared.reason.Reason.{Reason}
@@ -6,7 +6,6 @@ use Rattle.ats_bound.specs.Least.{least_certificate}
 use Rattle.ats_bound.specs.Reason.{reason_of}
 use Rattle.ats_trace.specs.Journey.{Travel}
 use Rattle.ats_trace.specs.declared.journey.Release.{Release}
-use Rattle.ats_trace.specs.declared.run.TheConstants.{MAX_FRAMES}
 use Rattle.ats_gen.specs.Made.{AreMade, gen_fault}
 use Rattle.ats_gen.specs.declared.fault.GenFault.{GenFault}
 use Rattle.ats_gen.specs.declared.fault.GenFault.TheVariants.{NoStream, Limit}
@@ -14,9 +13,6 @@ use Rattle.ats_replay.specs.Report.{report_text}
 use Rattle.ats_verdict_text.specs.Text.{refused_text}
 use Rattle.ats_num.specs.Failure.{◌>>=◌}
 use Rattle.ats_command_input.specs.Answer.{Answer}
-use Rattle.ats_command_input.specs.Command.{Command, Shape, Show, Bound, Explain, Check, Conform, Replay, Capture}
-use Rattle.ats_command_input.specs.Command.{Generate}
-use Rattle.ats_command_input.specs.Command.{Admit, Unknown}
 use Rattle.ats_command_input.specs.Input.{network_in}
 use Rattle.ats_command_input.specs.declared.order.Order.TheVariants.{Early}
 use Rattle.ats_command_input.specs.declared.status.Status.TheVariants.{Refused}
@@ -67,17 +63,3 @@ unfoldable pub generated_in : List ℕ → ℕ → ℕ → List ℕ → Result D
 generated_in net seed count bytes = do
   network ← network_in net bytes
   made_for seed count network
-
--- a command makes no more frames than a run may have
-abbrev pub HasFewFrames : Command → Type 0
-HasFewFrames (Generate net seed count) = count ≤ MAX_FRAMES
-HasFewFrames (Shape file) = Unit {0}
-HasFewFrames (Show net) = Unit {0}
-HasFewFrames (Bound net) = Unit {0}
-HasFewFrames (Explain net) = Unit {0}
-HasFewFrames (Check net certificate) = Unit {0}
-HasFewFrames (Conform net schedule) = Unit {0}
-HasFewFrames (Admit net requests) = Unit {0}
-HasFewFrames (Replay net schedule order) = Unit {0}
-HasFewFrames (Capture net station file order) = Unit {0}
-HasFewFrames Unknown = Unit {0}

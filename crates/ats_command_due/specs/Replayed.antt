@@ -14,11 +14,15 @@ use Rattle.ats_command_input.specs.declared.order.Order.{Order}
 use Rattle.ats_command_input.specs.declared.outcome.Stop.{Stop}
 use Rattle.ats_command_input.specs.declared.status.Status.TheVariants.{Done}
 
--- a run in this order, with exactly these releases
-pub record IsRunIn (order : Order) (network : DeclaredNetwork) (releases : List Release) (run : List Travel) : Type 0
-  where
-    pub by_order : IsRunBy (key_of order) (wait_of order) network run
-    pub exactly : HasReleases releases run
+-- a run by this key and this wait, with exactly these releases
+pub record IsRunWith (key wait : ℕ → ℕ → ℕ) (network : DeclaredNetwork) (releases : List Release) (run : List Travel)
+    : Type 0 where
+  pub by_order : IsRunBy key wait network run
+  pub exactly : HasReleases releases run
+
+-- such a run by the key and the wait of an order
+abbrev pub IsRunIn : Order → DeclaredNetwork → List Release → List Travel → Type 0
+IsRunIn order = IsRunWith (key_of order) (wait_of order)
 
 -- such a run, and a text that prints each field of each of its journeys
 pub record IsReplay (order : Order) (network : DeclaredNetwork) (releases : List Release) (text : List ℕ)

@@ -8,9 +8,7 @@ use Rattle.ats_soundness_law.specs.Sound.{IsSoundBy}
 use Rattle.ats_checker.specs.InTime.{FramesAreInTimeBy}
 use Rattle.ats_verdict_text.specs.Text.{accepted_text}
 use Rattle.ats_io.specs.Outside.{appended}
-use Rattle.ats_command_input.specs.Command.{Command, Shape, Show, Bound, Explain, Check, Replay, Unknown, Capture}
-use Rattle.ats_command_input.specs.Command.{Conform}
-use Rattle.ats_command_input.specs.Command.{Admit, Generate}
+use Rattle.ats_command_input.specs.Command.{Command, Check}
 use Rattle.ats_command_due.specs.Due.{IsTold, told_bytes}
 use Rattle.ats_command_input.specs.Input.{network_in, rows_in}
 
@@ -38,23 +36,14 @@ pub record AreSound (net certificate net_bytes certificate_bytes text : List ℕ
   pub rows_declared : rows_in network.topology certificate certificate_bytes ≡ Ok rows
   pub is_sound : IsSoundText network rows text
 
--- where a certificate is checked, and the files tell their bytes, they declare a network and rows, of which the text is
--- such a one
-abbrev pub IsSoundCheck : (List ℕ → Option (List ℕ)) → Command → List ℕ → Type 0
-IsSoundCheck told (Check net certificate) text =
+-- what a command promises of the text that it is done with, where the files tell their bytes. `check`: they declare a
+-- network and rows, of which the text is such a one. The others promise nothing beyond that their answer is due
+abbrev pub Promises : (List ℕ → Option (List ℕ)) → Command → List ℕ → Type 0
+Promises told (Check net certificate) text =
     IsTold told (Check net certificate) → (network : DeclaredNetwork) × (rows : List Row)
     × AreSound net certificate (told_bytes told net) (told_bytes told certificate) text network rows
-IsSoundCheck told (Shape file) text = Unit {0}
-IsSoundCheck told (Show net) text = Unit {0}
-IsSoundCheck told (Bound net) text = Unit {0}
-IsSoundCheck told (Explain net) text = Unit {0}
-IsSoundCheck told (Conform net schedule) text = Unit {0}
-IsSoundCheck told (Admit net requests) text = Unit {0}
-IsSoundCheck told (Replay net schedule order) text = Unit {0}
-IsSoundCheck told (Capture net station file order) text = Unit {0}
-IsSoundCheck told (Generate net seed count) text = Unit {0}
-IsSoundCheck told Unknown text = Unit {0}
+Promises told command text = Unit {0}
 
--- a text was printed, whole; where a certificate is checked, it is such a one
-abbrev pub PrintsSoundly : (List ℕ → Option (List ℕ)) → Command → Option (List ℕ) → Option (List ℕ) → Type 0
-PrintsSoundly told command old new = (text : List ℕ) × (new ≡ appended old text) × IsSoundCheck told command text
+-- a text was printed, whole, of which holds what the command promises
+abbrev pub PrintsAsPromised : (List ℕ → Option (List ℕ)) → Command → Option (List ℕ) → Option (List ℕ) → Type 0
+PrintsAsPromised told command old new = (text : List ℕ) × (new ≡ appended old text) × Promises told command text

@@ -1,4 +1,4 @@
-use Rattle.std.proofs.Common.{◌≡◌, ℕ, List, Option, Some, Result, Ok, Err, refl, sym, ap, subst}
+use Rattle.std.proofs.Common.{◌≡◌, ◌∙◌, ℕ, List, Option, Some, Result, Ok, Err, refl, sym, ap, subst}
 use Rattle.std.specs.Prelude.{IfOk, IsErrAnd}
 use Rattle.ats_num.specs.Failure as reading
 use Rattle.ats_num.specs.Failure.{◌>>=◌}
@@ -6,7 +6,7 @@ use Rattle.ats_num.specs.declared.failure.Failure.{Failure}
 use Rattle.ats_num.specs.declared.failure.Failure.TheVariants as failure
 use Rattle.ats_command_input.specs.Answer.{Answer, input_answer}
 use Rattle.ats_command_input.specs.Input.{bytes_in, declared_in}
-use Rattle.ats_command_input.specs.Outcome.{Gives, IsStopOf, PassesOn}
+use Rattle.ats_command_input.specs.Outcome.{Gives, IsStopOf, PassesOn, ReadsFile}
 use Rattle.ats_command_input.specs.declared.outcome.Stop.{Stop}
 use Rattle.ats_command_input.specs.declared.outcome.Stop.TheVariants.{Input, Refused, ReadFailed, NoMemory}
 
@@ -27,6 +27,22 @@ goes_on seen result due value next gives rest = subst (λ d. Gives seen result (
 pub err_is : {X : Type 0} (result : Result X Stop) (stop : Stop) → IsErrAnd result (λ e. e ≡ stop) → result ≡ Err stop
 err_is (Ok x) stop h = absurd h
 err_is (Err e) stop h = ap Err h
+
+err_moved : (X Y : Type 0) (stop other : Stop) → (let one : Result X Stop = Err stop in one ≡ Err other)
+    → (let moved : Result Y Stop = Err stop in moved ≡ Err other)
+err_moved X Y stop other h = cc
+
+-- what stopped the read of a file stops what goes on from it
+pub reads_stopped : {S X Y : Type 0} {told : S → List ℕ → Option (List ℕ)} {faults : S → List ℕ → ℕ} {name : List ℕ}
+    {old new : S} (stop : Stop) (result : Result Y Stop)
+    → (let first : Result X Stop = Err stop in ReadsFile told faults name old new first)
+    → IsErrAnd result (λ e. e ≡ stop) → ReadsFile told faults name old new result
+reads_stopped {X = X} {Y = Y} stop result first is = let same : result ≡ Err stop = err_is result stop is in
+    record {
+      failed = λ h. first.failed (err_moved Y X stop ReadFailed (sym same ∙ h));
+      calm = λ h. first.calm (λ e. h (same ∙ err_moved X Y stop ReadFailed e));
+      continues = first.continues;
+    }
 
 -- what the bytes of a file declare, once they were read
 pub declares : {X A F : Type 0} (seen : X → A) (result : Result X Stop) (most : ℕ) (file bytes whole text : List ℕ)

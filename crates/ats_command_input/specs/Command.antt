@@ -18,23 +18,6 @@ pub data Command : Type 0 where
   Generate : List ℕ → ℕ → ℕ → Command
   Unknown : Command
 
--- the command of a verb and a file
-abbrev pub command_on : List ℕ → List ℕ → Command
-command_on verb file =
-    if bytes_eq verb (codes "shape") then Shape file
-    else if bytes_eq verb (codes "show") then Show file
-    else if bytes_eq verb (codes "bound") then Bound file
-    else if bytes_eq verb (codes "explain") then Explain file
-    else Unknown
-
--- the command of a verb and two files
-abbrev pub command_on_two : List ℕ → List ℕ → List ℕ → Command
-command_on_two verb file second =
-    if bytes_eq verb (codes "check") then Check file second
-    else if bytes_eq verb (codes "conform") then Conform file second
-    else if bytes_eq verb (codes "admit") then Admit file second
-    else Unknown
-
 -- the replay of a schedule in an order, where there is one
 abbrev pub replay_in : List ℕ → List ℕ → Option Order → Command
 replay_in net schedule None = Unknown
@@ -46,32 +29,31 @@ generate_in net None count = Unknown
 generate_in net (Some seed) None = Unknown
 generate_in net (Some seed) (Some count) = Generate net seed count
 
--- the command of a verb, a file, a file or a word, and a word
-abbrev pub command_on_three : List ℕ → List ℕ → List ℕ → List ℕ → Command
-command_on_three verb file second word =
-    if bytes_eq verb (codes "replay") then replay_in file second (order_named word)
-    else if bytes_eq verb (codes "generate") then generate_in file (seed_named second) (count_named word)
-    else Unknown
-
 -- the replay of a capture at a station in an order, where there is one
 abbrev pub capture_in : List ℕ → List ℕ → List ℕ → Option Order → Command
 capture_in net station file None = Unknown
 capture_in net station file (Some order) = Capture net station file order
 
--- the command of a verb, a file, a word, a file and a word
-abbrev pub command_on_four : List ℕ → List ℕ → List ℕ → List ℕ → List ℕ → Command
-command_on_four verb file second third word =
-    if bytes_eq verb (codes "capture") then capture_in file second third (order_named word) else Unknown
-
--- the command that words name
+-- the command that words name: a verb with its words, by their number
 abbrev pub command_of : List (List ℕ) → Command
-command_of [] = Unknown
-command_of (verb ∷ []) = Unknown
-command_of (verb ∷ file ∷ []) = command_on verb file
-command_of (verb ∷ file ∷ second ∷ []) = command_on_two verb file second
-command_of (verb ∷ file ∷ second ∷ word ∷ []) = command_on_three verb file second word
-command_of (verb ∷ file ∷ second ∷ third ∷ word ∷ []) = command_on_four verb file second third word
-command_of (verb ∷ file ∷ second ∷ third ∷ word ∷ next ∷ words) = Unknown
+command_of (verb ∷ file ∷ []) =
+    if bytes_eq verb (codes "shape") then Shape file
+    else if bytes_eq verb (codes "show") then Show file
+    else if bytes_eq verb (codes "bound") then Bound file
+    else if bytes_eq verb (codes "explain") then Explain file
+    else Unknown
+command_of (verb ∷ net ∷ file ∷ []) =
+    if bytes_eq verb (codes "check") then Check net file
+    else if bytes_eq verb (codes "conform") then Conform net file
+    else if bytes_eq verb (codes "admit") then Admit net file
+    else Unknown
+command_of (verb ∷ net ∷ second ∷ third ∷ []) =
+    if bytes_eq verb (codes "replay") then replay_in net second (order_named third)
+    else if bytes_eq verb (codes "generate") then generate_in net (seed_named second) (count_named third)
+    else Unknown
+command_of (verb ∷ net ∷ station ∷ file ∷ order ∷ []) =
+    if bytes_eq verb (codes "capture") then capture_in net station file (order_named order) else Unknown
+command_of words = Unknown
 
 -- the words of a command that name files, from left to right
 abbrev pub file_words : Command → List (List ℕ)

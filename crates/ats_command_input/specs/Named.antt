@@ -10,6 +10,10 @@ use Rattle.ats_command_input.specs.declared.command.Command.TheVariants.{Conform
 abbrev pub texts_of : List (String Global) → List (List ℕ)
 texts_of words = map (λ (word : String Global). string_bytes word) words
 
+-- the command that words of the program name
+abbrev pub named : List (String Global) → table.Command
+named words = table.command_of (texts_of words)
+
 -- the command that a value of the program stands for
 abbrev pub view : Command → table.Command
 view (Shape file) = table.Shape file.now
@@ -21,7 +25,7 @@ view (Conform net schedule) = table.Conform net.now schedule.now
 view (Admit net requests) = table.Admit net.now requests.now
 view (Replay net schedule order) = table.Replay net.now schedule.now order
 view (Capture net station file order) = table.Capture net.now station.now file.now order
-view (Generate net seed count) = table.Generate net.now seed count
+view (Generate net seed count) = table.Generate net.now seed count.frames
 
 -- the same, where there may be none
 abbrev pub view_of : Option Command → table.Command

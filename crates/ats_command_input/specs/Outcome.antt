@@ -1,8 +1,8 @@
-use Rattle.std.specs.Prelude.{◌≡◌, ℕ, List, Option, Some, None, Result, Ok, Err}
+use Rattle.std.specs.Prelude.{◌≡◌, ℕ, List, Option, Some, None, Result, Ok, Err, IsErrOf}
 use Rattle.std.specs.Global.{Vec}
 use Rattle.ats_num.specs.Failure as reading
 use Rattle.ats_num.specs.declared.failure.Failure.{Failure}
-use Rattle.ats_io.specs.Outside.{TakesPrefix, appended}
+use Rattle.ats_io.specs.Outside.{Continues, Rose, TakesPrefix, appended}
 use Rattle.ats_command_input.specs.Answer.{Answer}
 use Rattle.ats_command_input.specs.Input.{declared_in}
 use Rattle.ats_command_input.specs.declared.status.Status.{Status}
@@ -21,6 +21,14 @@ IsStopOf NoMemory due = Unit {0}
 abbrev pub Gives : {X A : Type 0} → (X → A) → Result X Stop → Result A Answer → Type 0
 Gives seen (Ok x) due = due ≡ Ok (seen x)
 Gives seen (Err stop) due = IsStopOf stop due
+
+-- what a call came to that read the file of this name: it stops with ReadFailed only where a fault came at the name,
+-- and else no count of faults changed; the outside goes on
+pub record ReadsFile {S X : Type 0} (told : S → List ℕ → Option (List ℕ)) (faults : S → List ℕ → ℕ) (name : List ℕ)
+    (old new : S) (result : Result X Stop) : Type 0 where
+  pub failed : IsErrOf result ReadFailed → Rose (faults old name) (faults new name)
+  pub calm : ¬ IsErrOf result ReadFailed → faults new ≡ faults old
+  pub continues : Continues told faults old new
 
 -- what was read from a file is passed on: what the reading was to give, or an answer with the words that its fault is
 -- shown as

@@ -12,7 +12,7 @@ pub mod status;
 
 pub use command::{Command, named_by};
 pub use input_file::{certificate_in, network_in, requests_in, schedule_in, shape_in, traffic_in};
-pub use making::{count_named, seed_named};
+pub use making::{FrameCount, count_named, seed_named};
 pub use order::{Order, order_named};
 pub use outcome::{Stop, finish, print};
 pub use station::station_in;

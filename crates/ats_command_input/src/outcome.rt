@@ -28,9 +28,11 @@ pub fn finish<O: Sink>(out: &mut O, outcome: Result<Vec<u8>, Stop>) -> Status
     ensures printed { HasText result → Prints outcome result (O.held out.old) (O.held out.new) }
     ensures no_words { ¬ (result ≡ Status.Words) }
     ensures read_failed { result ≡ Status.ReadFailed → outcome ≡ Err Stop.ReadFailed }
+    ensures read_told { outcome ≡ Err Stop.ReadFailed → result ≡ Status.ReadFailed }
     ensures no_memory { result ≡ Status.NoMemory → outcome ≡ Err Stop.NoMemory }
     ensures write_failed { result ≡ Status.WriteFailed → Rose (O.faults out.old) (O.faults out.new) }
     ensures cut_short { result ≡ Status.WriteFailed → PrintsFront outcome (O.held out.old) (O.held out.new) }
+    ensures calm { ¬ (result ≡ Status.WriteFailed) → O.faults out.new ≡ O.faults out.old }
     ensures silent { (result ≡ Status.ReadFailed) ⊎ (result ≡ Status.NoMemory) → O.held out.new ≡ O.held out.old }
     ensures sink { O.faults out.old ≤ O.faults out.new }
 {
@@ -50,6 +52,7 @@ pub fn print<O: Sink>(out: &mut O, status: Status, text: &[u8]) -> Status
     ensures printed { result ≡ status → O.held out.new ≡ appended (O.held out.old) text.now }
     ensures cut_short { result ≡ Status.WriteFailed → TakesPrefix text.now (O.held out.old) (O.held out.new) }
     ensures failed { result ≡ Status.WriteFailed → Rose (O.faults out.old) (O.faults out.new) }
+    ensures calm { ¬ (result ≡ Status.WriteFailed) → O.faults out.new ≡ O.faults out.old }
     ensures counts { O.faults out.old ≤ O.faults out.new }
 {
     match write_all(out, text) {

@@ -16,9 +16,7 @@ use Rattle.ats_command_input.specs.Input.{network_in, requests_in}
 use Rattle.ats_command_due.specs.Due.{admit_answer}
 use Rattle.ats_command_law.specs.Answered.{Tells}
 use Rattle.ats_command_input.specs.declared.status.Status.{Status}
-use Rattle.ats_command_input.specs.declared.status.Status.TheVariants.{Done, Words, Input, Refused, ReadFailed}
-use Rattle.ats_command_input.specs.declared.status.Status.TheVariants.{WriteFailed}
-use Rattle.ats_command_input.specs.declared.status.Status.TheVariants.{NoMemory}
+use Rattle.ats_command_input.specs.declared.status.Status.TheVariants.{Done, Input, Refused}
 
 -- the least certificate of a network holds and is sound, and by it frames are in time
 pub record IsSoundlyBounded (network : DeclaredNetwork) : Type 0 where
@@ -76,10 +74,7 @@ AdmitSays net requests net_bytes requests_bytes text Input =
 AdmitSays net requests net_bytes requests_bytes text Refused =
     (network : DeclaredNetwork) × (asked : List Request) × (reason : Reason)
     × IsUncertified net requests net_bytes requests_bytes text network asked reason
-AdmitSays net requests net_bytes requests_bytes text Words = ⊥
-AdmitSays net requests net_bytes requests_bytes text ReadFailed = ⊥
-AdmitSays net requests net_bytes requests_bytes text WriteFailed = ⊥
-AdmitSays net requests net_bytes requests_bytes text NoMemory = ⊥
+AdmitSays net requests net_bytes requests_bytes text status = ⊥
 
 -- so for all file words and bytes
 abbrev pub AdmitMeans : Type 0

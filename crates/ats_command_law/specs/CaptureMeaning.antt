@@ -11,9 +11,7 @@ use Rattle.ats_command_input.specs.declared.order.Order.{Order}
 use Rattle.ats_command_due.specs.Captured.{IsCaptureReplay}
 use Rattle.ats_command_due.specs.Due.{IsCaptureAnswer}
 use Rattle.ats_command_input.specs.declared.status.Status.{Status}
-use Rattle.ats_command_input.specs.declared.status.Status.TheVariants.{Done, Words, Input, Refused, ReadFailed}
-use Rattle.ats_command_input.specs.declared.status.Status.TheVariants.{WriteFailed}
-use Rattle.ats_command_input.specs.declared.status.Status.TheVariants.{NoMemory}
+use Rattle.ats_command_input.specs.declared.status.Status.TheVariants.{Done, Input, Refused}
 
 -- a file of these bytes has these records, none of them over a limit, and all of them come to this traffic at a station
 pub record IsCounted (file bytes : List ℕ) (network : DeclaredNetwork) (place : ℕ) (traffic : Traffic)
@@ -58,10 +56,7 @@ CaptureSays net station file net_bytes file_bytes order text Input =
     IsErr (network_in net net_bytes)
     ⊎ ((network : DeclaredNetwork) × (place : ℕ)
     × HasNoTraffic net station file net_bytes file_bytes network place)
-CaptureSays net station file net_bytes file_bytes order text Words = ⊥
-CaptureSays net station file net_bytes file_bytes order text ReadFailed = ⊥
-CaptureSays net station file net_bytes file_bytes order text WriteFailed = ⊥
-CaptureSays net station file net_bytes file_bytes order text NoMemory = ⊥
+CaptureSays net station file net_bytes file_bytes order text status = ⊥
 
 -- so for all words, orders and bytes, and each answer
 abbrev pub CaptureMeans : Type 0

@@ -11,9 +11,7 @@ use Rattle.ats_command_due.specs.Conformed.{broken_text, conforms_text}
 use Rattle.ats_command_due.specs.Due.{IsConformAnswer}
 use Rattle.ats_command_law.specs.ReplayMeaning.{HasNoReleases}
 use Rattle.ats_command_input.specs.declared.status.Status.{Status}
-use Rattle.ats_command_input.specs.declared.status.Status.TheVariants.{Done, Words, Input, Refused, ReadFailed}
-use Rattle.ats_command_input.specs.declared.status.Status.TheVariants.{WriteFailed}
-use Rattle.ats_command_input.specs.declared.status.Status.TheVariants.{NoMemory}
+use Rattle.ats_command_input.specs.declared.status.Status.TheVariants.{Done, Input, Refused}
 
 -- two files of these bytes declare this network and these releases, by which every station keeps its buckets, and the
 -- text gives their number
@@ -48,10 +46,7 @@ ConformSays net schedule net_bytes schedule_bytes text Refused =
 ConformSays net schedule net_bytes schedule_bytes text Input =
     IsErr (network_in net net_bytes)
     ⊎ ((network : DeclaredNetwork) × HasNoReleases net schedule net_bytes schedule_bytes network)
-ConformSays net schedule net_bytes schedule_bytes text Words = ⊥
-ConformSays net schedule net_bytes schedule_bytes text ReadFailed = ⊥
-ConformSays net schedule net_bytes schedule_bytes text WriteFailed = ⊥
-ConformSays net schedule net_bytes schedule_bytes text NoMemory = ⊥
+ConformSays net schedule net_bytes schedule_bytes text status = ⊥
 
 -- so for all file words and bytes, and each answer
 abbrev pub ConformMeans : Type 0

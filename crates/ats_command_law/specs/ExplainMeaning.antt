@@ -10,9 +10,7 @@ use Rattle.ats_verdict_text.specs.Text.{reason_text, refused_text}
 use Rattle.ats_command_input.specs.Input.{network_in}
 use Rattle.ats_command_due.specs.Due.{explain_answer}
 use Rattle.ats_command_input.specs.declared.status.Status.{Status}
-use Rattle.ats_command_input.specs.declared.status.Status.TheVariants.{Done, Words, Input, Refused, ReadFailed}
-use Rattle.ats_command_input.specs.declared.status.Status.TheVariants.{WriteFailed}
-use Rattle.ats_command_input.specs.declared.status.Status.TheVariants.{NoMemory}
+use Rattle.ats_command_input.specs.declared.status.Status.TheVariants.{Done, Input, Refused}
 
 -- a file of these bytes declares this network, of which no port and class is overloaded, and the text gives the parts
 -- of the least bounds: at each hop each is what it stands for, they add up to the bound, and along each path to the
@@ -41,10 +39,7 @@ ExplainSays net bytes text Input = IsErr (network_in net bytes)
 ExplainSays net bytes text Refused =
     (network : DeclaredNetwork) × (port : ℕ) × (class : ℕ) × (load : ℕ)
     × IsOverloaded net bytes text network port class load
-ExplainSays net bytes text Words = ⊥
-ExplainSays net bytes text ReadFailed = ⊥
-ExplainSays net bytes text WriteFailed = ⊥
-ExplainSays net bytes text NoMemory = ⊥
+ExplainSays net bytes text status = ⊥
 
 -- so for each file word and all bytes
 abbrev pub ExplainMeans : Type 0

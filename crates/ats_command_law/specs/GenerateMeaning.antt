@@ -19,9 +19,7 @@ use Rattle.ats_command_law.specs.ConformBounds.{AllDelaysAreWithin}
 use Rattle.ats_command_due.specs.Due.{IsGenerateAnswer}
 use Rattle.ats_command_due.specs.Generated.{IsReport, gen_fault_text, least_sums}
 use Rattle.ats_command_input.specs.declared.status.Status.{Status}
-use Rattle.ats_command_input.specs.declared.status.Status.TheVariants.{Done, Words, Input, Refused, ReadFailed}
-use Rattle.ats_command_input.specs.declared.status.Status.TheVariants.{WriteFailed}
-use Rattle.ats_command_input.specs.declared.status.Status.TheVariants.{NoMemory}
+use Rattle.ats_command_input.specs.declared.status.Status.TheVariants.{Done, Input, Refused}
 
 -- where some certificate of the network holds, each frame of each stream is within the least bounds
 abbrev pub AreWithinLeast : DeclaredNetwork → List Travel → Type 0
@@ -69,10 +67,7 @@ GenerateSays net bytes seed count text Done =
 GenerateSays net bytes seed count text Input = IsErr (network_in net bytes)
 GenerateSays net bytes seed count text Refused =
     (network : DeclaredNetwork) × (fault : GenFault) × HasNoneMade net bytes seed count text network fault
-GenerateSays net bytes seed count text Words = ⊥
-GenerateSays net bytes seed count text ReadFailed = ⊥
-GenerateSays net bytes seed count text WriteFailed = ⊥
-GenerateSays net bytes seed count text NoMemory = ⊥
+GenerateSays net bytes seed count text status = ⊥
 
 -- so for all file words and bytes, seeds and counts, and each answer
 abbrev pub GenerateMeans : Type 0

@@ -9,8 +9,7 @@ use Rattle.ats_network.specs.Senders.{sender_at}
 use Rattle.ats_certificate.specs.declared.row.Row.{Row}
 use Rattle.ats_soundness_law.specs.Sound.{bounds_of}
 use Rattle.ats_verdict_text.specs.Text.{accepted_text, stream_lines}
-use Rattle.ats_command_input.specs.Command.{Command, Shape, Show, Bound, Explain, Check, Replay, Unknown, command_of}
-use Rattle.ats_command_input.specs.Command.{Capture, Conform, Admit, Generate}
+use Rattle.ats_command_input.specs.Command.{Command, Replay, Capture, Generate, command_of}
 use Rattle.ats_command_input.specs.Answer.{Answer}
 use Rattle.ats_command_due.specs.Due.{IsDueAnswer, IsTold, told_bytes}
 use Rattle.ats_command_due.specs.Captured.{captured_in}
@@ -25,19 +24,12 @@ pub record IsOnlyDue (told : List ℕ → Option (List ℕ)) (words : List (List
 -- the bytes that are told leave one answer alone: to each command but `replay`, `capture` and `generate`, which may
 -- print any run in their order, and to these where a file has a fault, no station has the name, or no releases are made
 abbrev pub HasOneAnswer : (List ℕ → Option (List ℕ)) → Command → Type 0
-HasOneAnswer told (Shape file) = Unit {0}
-HasOneAnswer told (Show net) = Unit {0}
-HasOneAnswer told (Bound net) = Unit {0}
-HasOneAnswer told (Explain net) = Unit {0}
-HasOneAnswer told (Check net certificate) = Unit {0}
-HasOneAnswer told (Conform net schedule) = Unit {0}
-HasOneAnswer told (Admit net requests) = Unit {0}
 HasOneAnswer told (Replay net schedule order) =
     IsErr (scheduled_in net schedule (told_bytes told net) (told_bytes told schedule))
 HasOneAnswer told (Capture net station file order) =
     IsErr (captured_in net station file (told_bytes told net) (told_bytes told file))
 HasOneAnswer told (Generate net seed count) = IsErr (generated_in net seed count (told_bytes told net))
-HasOneAnswer told Unknown = Unit {0}
+HasOneAnswer told command = Unit {0}
 
 -- for all words, and all bytes told under the names of their files, just one answer is due, where they leave one alone
 abbrev pub OneAnswerIsDue : Type 0

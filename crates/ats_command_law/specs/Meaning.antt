@@ -17,9 +17,7 @@ use Rattle.ats_verdict_text.specs.Text.{accepted_text, reason_text, refusal_text
 use Rattle.ats_command_input.specs.Input.{network_in, rows_in}
 use Rattle.ats_command_due.specs.Due.{bound_answer, check_answer}
 use Rattle.ats_command_input.specs.declared.status.Status.{Status}
-use Rattle.ats_command_input.specs.declared.status.Status.TheVariants.{Done, Words, Input, Refused, ReadFailed}
-use Rattle.ats_command_input.specs.declared.status.Status.TheVariants.{WriteFailed}
-use Rattle.ats_command_input.specs.declared.status.Status.TheVariants.{NoMemory}
+use Rattle.ats_command_input.specs.declared.status.Status.TheVariants.{Done, Input, Refused}
 
 -- a file of these bytes declares this network, and the text writes its least certificate, which holds and is sound, and
 -- by which frames are in time
@@ -45,10 +43,7 @@ BoundSays net bytes text Done = (network : DeclaredNetwork) × IsBounded net byt
 BoundSays net bytes text Input = IsErr (network_in net bytes)
 BoundSays net bytes text Refused =
     (network : DeclaredNetwork) × (reason : Reason) × HasNone net bytes text network reason
-BoundSays net bytes text Words = ⊥
-BoundSays net bytes text ReadFailed = ⊥
-BoundSays net bytes text WriteFailed = ⊥
-BoundSays net bytes text NoMemory = ⊥
+BoundSays net bytes text status = ⊥
 
 -- so for each file word and all bytes
 abbrev pub BoundMeans : Type 0
@@ -98,10 +93,7 @@ CheckSays net certificate net_bytes certificate_bytes text Input =
 CheckSays net certificate net_bytes certificate_bytes text Refused =
     (network : DeclaredNetwork) × (rows : List Row) × (refusal : Refusal)
     × IsRefused net certificate net_bytes certificate_bytes text network rows refusal
-CheckSays net certificate net_bytes certificate_bytes text Words = ⊥
-CheckSays net certificate net_bytes certificate_bytes text ReadFailed = ⊥
-CheckSays net certificate net_bytes certificate_bytes text WriteFailed = ⊥
-CheckSays net certificate net_bytes certificate_bytes text NoMemory = ⊥
+CheckSays net certificate net_bytes certificate_bytes text status = ⊥
 
 -- so for all file words and bytes
 abbrev pub CheckMeans : Type 0

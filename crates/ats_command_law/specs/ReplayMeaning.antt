@@ -16,9 +16,7 @@ use Rattle.ats_command_due.specs.Due.{IsDueAnswer, told_bytes}
 use Rattle.ats_command_law.specs.Meaning.{IsAccepted}
 use Rattle.ats_command_due.specs.Replayed.{IsOneOf, IsReplay, IsReplayed, scheduled_in}
 use Rattle.ats_command_input.specs.declared.status.Status.{Status}
-use Rattle.ats_command_input.specs.declared.status.Status.TheVariants.{Done, Words, Input, Refused, ReadFailed}
-use Rattle.ats_command_input.specs.declared.status.Status.TheVariants.{WriteFailed}
-use Rattle.ats_command_input.specs.declared.status.Status.TheVariants.{NoMemory}
+use Rattle.ats_command_input.specs.declared.status.Status.TheVariants.{Done, Input}
 
 -- two files of these bytes declare this network and these releases, and the text is that of this run, in this order
 pub record IsRunOut (net schedule net_bytes schedule_bytes : List ℕ) (order : Order) (text : List ℕ)
@@ -42,11 +40,7 @@ ReplaySays net schedule net_bytes schedule_bytes order text Done =
 ReplaySays net schedule net_bytes schedule_bytes order text Input =
     IsErr (network_in net net_bytes)
     ⊎ ((network : DeclaredNetwork) × HasNoReleases net schedule net_bytes schedule_bytes network)
-ReplaySays net schedule net_bytes schedule_bytes order text Refused = ⊥
-ReplaySays net schedule net_bytes schedule_bytes order text Words = ⊥
-ReplaySays net schedule net_bytes schedule_bytes order text ReadFailed = ⊥
-ReplaySays net schedule net_bytes schedule_bytes order text WriteFailed = ⊥
-ReplaySays net schedule net_bytes schedule_bytes order text NoMemory = ⊥
+ReplaySays net schedule net_bytes schedule_bytes order text status = ⊥
 
 -- so for all file words, orders and bytes, and each answer
 abbrev pub ReplayMeans : Type 0

@@ -1,6 +1,6 @@
 //! Files that are read by name.
 
-ghost use Rattle.std.specs.Prelude.{ℕ, ◌<◌, ◌≤◌, List, length, Option, IfOk, OnErr};
+ghost use Rattle.std.specs.Prelude.{◌≡◌, ℕ, ◌<◌, ◌≤◌, List, length, Option, IfOk, OnErr, OnOk};
 ghost use Rattle.ats_io.specs.Outside.{Rose, IfTold, Continues, IsPieceAt};
 
 use crate::fault::Failed;
@@ -16,8 +16,8 @@ pub trait Files {
     ghost faults: { Self → List ℕ → ℕ };
 
     /// Reads bytes of the file `name` from place `at` into the front of the buffer, and gives their
-    /// number: 0 only at or past the end of the file. `Failed` comes only where the count of the
-    /// name rose.
+    /// number, 0 only at or past the end of the file; then no count of faults changed. `Failed` comes
+    /// only where the count of the name rose.
     fn read(&mut self, name: &str, at: u64, buf: &mut [u8]) -> Result<usize, Failed>
         requires room { 0 < length buf.old }
         requires place { at ≤ MAX_PLACE }
@@ -25,5 +25,6 @@ pub trait Files {
         ensures piece { IfOk result
             (λ count. IfTold (told self.old name.now) (λ bytes. IsPieceAt bytes at count buf.new)) }
         ensures failed { OnErr result (Rose (faults self.old name.now) (faults self.new name.now)) }
+        ensures calm { OnOk result (faults self.new ≡ faults self.old) }
         ensures continues { Continues told faults self.old self.new };
 }

@@ -1,7 +1,7 @@
 //! Files in memory whose reads fail where it is planned.
 
 ghost use Rattle.std.specs.Prelude.{◌≡◌, ℕ, ◌<◌, ◌≤◌, ◌||◌, List, length, position, is_err, is_none, Option};
-ghost use Rattle.std.specs.Prelude.{IfOk, IfSome, OnErr};
+ghost use Rattle.std.specs.Prelude.{IfOk, IfSome, OnErr, OnOk};
 ghost use Rattle.ats_io.specs.Outside.{Rose, Continues};
 ghost use Rattle.ats_io.specs.Memory.{pairs_of, bytes_of, count_at, count_of, next_count, has_name, is_named};
 ghost use Rattle.ats_io.specs.Memory.{is_planned, ReadsPiece, ReadsAll};
@@ -83,6 +83,8 @@ impl Files for MemFiles {
         ensures piece { IfOk result (λ count. ReadsPiece self.old.files name.now at count buf.new) }
         ensures failed { OnErr result (Rose (count_of self.old.files self.old.counts self.old.others name.now)
             (count_of self.new.files self.new.counts self.new.others name.now)) }
+        ensures calm { OnOk result
+            (⟦<MemFiles as Files>⟧.faults self.new ≡ ⟦<MemFiles as Files>⟧.faults self.old) }
         ensures continues { Continues ⟦<MemFiles as Files>⟧.told ⟦<MemFiles as Files>⟧.faults self.old self.new }
         ensures full { IfOk result (λ count. ReadsAll self.old.files name.now at count buf.new) }
         ensures fails { is_err result ≡ (is_none (position (is_named name.now) self.old.files)
@@ -122,6 +124,7 @@ fn read_named(
     ensures full { IfOk result (λ count. ReadsAll (pairs_of files.now) name.now at count buf.new) }
     ensures failed { OnErr result (Rose (count_of (pairs_of files.now) counts.old others.old name.now)
         (count_of (pairs_of files.now) counts.new others.new name.now)) }
+    ensures calm { OnOk result ((counts.new ≡ counts.old) × (others.new ≡ others.old)) }
     ensures grows { (other : List ℕ) → count_of (pairs_of files.now) counts.old others.old other
         ≤ count_of (pairs_of files.now) counts.new others.new other }
     ensures fails { is_err result ≡ (is_none (position (is_named name.now) (pairs_of files.now)) || fails) }

@@ -1,7 +1,7 @@
 //! A sink in memory whose writes fail where it is planned.
 
 ghost use Rattle.std.specs.Prelude.{◌≡◌, ◌==◌, ◌+◌, ◌-◌, ◌<◌, ◌≤◌, ◌||◌, [], Some, length, take, min, is_err, IfOk};
-ghost use Rattle.std.specs.Prelude.{OnErr};
+ghost use Rattle.std.specs.Prelude.{OnErr, OnOk};
 ghost use Rattle.ats_io.specs.Outside.{Rose, appended};
 ghost use Rattle.ats_io.specs.Memory.{next_count, is_planned};
 
@@ -90,6 +90,7 @@ impl Sink for MemSink {
         ensures taken { IfOk result
             (λ count. Some self.new.bytes ≡ appended (Some self.old.bytes) (take count piece.now)) }
         ensures failed { OnErr result (Rose self.old.raised self.new.raised) }
+        ensures calm { OnOk result (self.new.raised ≡ self.old.raised) }
         ensures unchanged { OnErr result (Some self.new.bytes ≡ Some self.old.bytes) }
         ensures counts { self.old.raised ≤ self.new.raised }
         ensures full { IfOk result

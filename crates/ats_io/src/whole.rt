@@ -19,7 +19,8 @@ const PIECE: usize = 65_536;
 /// most 268,435,456. At most one byte past the limit is read.
 ///
 /// `Failed`: a read failed, and the count of faults of the name rose. `TooLong`: the file has more
-/// bytes than the limit. `Failure::NoMemory`: memory ran out.
+/// bytes than the limit. `Failure::NoMemory`: memory ran out. Unless it is `Failed`, no count of
+/// faults changed.
 pub fn read_whole<F: Files>(
     alloc: Global,
     files: &mut F,
@@ -33,6 +34,7 @@ pub fn read_whole<F: Files>(
         → IfTold (F.told files.old name.now) (λ bytes. limit < length bytes) }
     ensures failed { IsErrOf result (Failure.Fault ReadFault.Failed)
         → Rose (F.faults files.old name.now) (F.faults files.new name.now) }
+    ensures calm { ¬ IsErrOf result (Failure.Fault ReadFault.Failed) → F.faults files.new ≡ F.faults files.old }
     ensures whole_due { WholeIsDue (F.told files.old name.now) (F.faults files.old name.now)
         (F.faults files.new name.now) limit result }
     ensures long_due { TooLongIsDue (F.told files.old name.now) (F.faults files.old name.now)
@@ -63,13 +65,14 @@ fn new_buffer(alloc: Global) -> Result<Vec<u8>, AllocError>
     Ok(buffer)
 }
 
-/// Writes the whole text, in as many pieces as the sink takes. `Failed` comes only where the count
-/// of faults of the sink rose, and then a front of the text was taken. An empty text makes no call.
-/// It takes no memory.
+/// Writes the whole text, in as many pieces as the sink takes; then the count of faults of the sink
+/// did not change. `Failed` comes only where it rose, and then a front of the text was taken. An
+/// empty text makes no call. It takes no memory.
 pub fn write_all<O: Sink>(out: &mut O, text: &[u8]) -> Result<(), Failed>
     ensures taken { OnOk result (O.held out.new ≡ appended (O.held out.old) text.now) }
     ensures cut_short { OnErr result (TakesPrefix text.now (O.held out.old) (O.held out.new)) }
     ensures failed { OnErr result (Rose (O.faults out.old) (O.faults out.new)) }
+    ensures calm { OnOk result (O.faults out.new ≡ O.faults out.old) }
     ensures counts { O.faults out.old ≤ O.faults out.new }
     ensures empty { text.now ≡ [] → IsOk result }
     ensures untouched { text.now ≡ [] → out.new ≡ out.old }

@@ -1,12 +1,13 @@
 //! `capture NET STATION FILE ORDER`: runs what a station sent by a capture, and gives every journey.
 
-ghost use Rattle.std.specs.Prelude.{◌≡◌, IfOk, IsErrOf};
-ghost use Rattle.ats_io.specs.Outside.{Continues, IfTold, Rose};
+ghost use Rattle.std.specs.Prelude.{IfOk};
+ghost use Rattle.ats_io.specs.Outside.{IfTold};
 ghost use Rattle.ats_capture.specs.Seen.{seen};
 ghost use Rattle.ats_trace.specs.Releases.{AreReleases};
 ghost use Rattle.ats_command_input.specs.Command as table;
 ghost use Rattle.ats_command_input.specs.Input.{traffic_in};
-ghost use Rattle.ats_command_due.specs.Calls.{Answers, ReadRose};
+ghost use Rattle.ats_command_input.specs.Outcome.{ReadsFile};
+ghost use Rattle.ats_command_due.specs.Calls.{Answers, ReadsFiles};
 ghost use Rattle.ats_command_due.specs.Captured.{IsCaptureText};
 ghost use Rattle.ats_command_due.specs.Replayed.{GivesOne};
 
@@ -31,10 +32,8 @@ pub fn capture<F: Files>(
     files: &mut F,
 ) -> Result<Vec<u8>, Stop>
     ensures due { Answers (F.told files.old) (table.Capture net.now station.now file.now order) result }
-    ensures failed { IsErrOf result Stop.ReadFailed
-        → ReadRose (F.told files.old) (table.Capture net.now station.now file.now order) (F.faults files.old)
-        (F.faults files.new) }
-    ensures continues { Continues F.told F.faults files.old files.new }
+    ensures reads { ReadsFiles F.told F.faults (table.Capture net.now station.now file.now order)
+        files.old files.new result }
 {
     let network = network_in(alloc, net, files)?;
     let place = station_in(alloc, station, network.topology())?;
@@ -52,9 +51,7 @@ fn capture_of<F: Files>(
 ) -> Result<Vec<u8>, Stop>
     ensures due { IfTold (F.told files.old file.now) (λ bytes.
         GivesOne (IsCaptureText order network.now) result (traffic_in network.now station file.now bytes)) }
-    ensures failed { IsErrOf result Stop.ReadFailed
-        → Rose (F.faults files.old file.now) (F.faults files.new file.now) }
-    ensures continues { Continues F.told F.faults files.old files.new }
+    ensures reads { ReadsFile F.told F.faults file.now files.old files.new result }
 {
     let traffic = traffic_in(alloc, file, network, station, files)?;
     Ok(text_of(alloc, network, &traffic, order)?)

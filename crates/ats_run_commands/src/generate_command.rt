@@ -1,20 +1,19 @@
 //! `generate NET SEED COUNT`: makes releases by which all talkers keep their buckets, runs them, and gives a summary.
 
 ghost use Rattle.std.specs.Prelude.{◌≡◌, ◌≤◌, All, IfOk, IsErrOf};
-ghost use Rattle.ats_io.specs.Outside.{Continues};
 ghost use Rattle.ats_trace.specs.Journey.{IsJourney};
 ghost use Rattle.ats_trace.specs.Releases.{AreReleases};
 ghost use Rattle.ats_trace.specs.declared.run.TheConstants.{MAX_FRAMES};
 ghost use Rattle.ats_replay.specs.Report.{report_text};
 ghost use Rattle.ats_verdict_text.specs.Text.{refused_text};
 ghost use Rattle.ats_command_input.specs.Command as table;
-ghost use Rattle.ats_command_due.specs.Calls.{Answers, ReadRose};
+ghost use Rattle.ats_command_due.specs.Calls.{Answers, ReadsFiles};
 ghost use Rattle.ats_command_due.specs.Generated.{IsGenerated, IsReportText, gen_fault_text, least_sums, made_for};
 ghost use Rattle.ats_command_due.specs.Replayed.{GivesOne};
 
 use crate::replay_command::run_in;
 use ats_bound::make;
-use ats_command_input::{Order, Stop, network_in};
+use ats_command_input::{FrameCount, Order, Stop, network_in};
 use ats_gen::{GenFault, schedule};
 use ats_io::Files;
 use ats_network::Network;
@@ -32,17 +31,14 @@ pub fn generate<F: Files>(
     alloc: Global,
     net: &str,
     seed: u64,
-    count: u32,
+    count: FrameCount,
     files: &mut F,
 ) -> Result<Vec<u8>, Stop>
-    requires { count ≤ MAX_FRAMES }
-    ensures due { Answers (F.told files.old) (table.Generate net.now seed count) result }
-    ensures failed { IsErrOf result Stop.ReadFailed
-        → ReadRose (F.told files.old) (table.Generate net.now seed count) (F.faults files.old) (F.faults files.new) }
-    ensures continues { Continues F.told F.faults files.old files.new }
+    ensures due { Answers (F.told files.old) (table.Generate net.now seed count.frames) result }
+    ensures reads { ReadsFiles F.told F.faults (table.Generate net.now seed count.frames) files.old files.new result }
 {
     let network = network_in(alloc, net, files)?;
-    summary_of(alloc, &network, seed, count)
+    summary_of(alloc, &network, seed, count.frames)
 }
 
 // What is printed of the releases that are made for a network, or why none are.

@@ -1,12 +1,13 @@
 //! `replay NET SCHEDULE ORDER`: runs a schedule, and gives every journey.
 
-ghost use Rattle.std.specs.Prelude.{◌≡◌, IfOk, IsErrOf};
-ghost use Rattle.ats_io.specs.Outside.{Continues, IfTold, Rose};
+ghost use Rattle.std.specs.Prelude.{IfOk};
+ghost use Rattle.ats_io.specs.Outside.{IfTold};
 ghost use Rattle.ats_trace.specs.Releases.{AreReleases};
 ghost use Rattle.ats_trace.specs.Run.{HasReleases, IsRunBy};
 ghost use Rattle.ats_command_input.specs.Command as table;
 ghost use Rattle.ats_command_input.specs.Input.{releases_in};
-ghost use Rattle.ats_command_due.specs.Calls.{Answers, ReadRose};
+ghost use Rattle.ats_command_input.specs.Outcome.{ReadsFile};
+ghost use Rattle.ats_command_due.specs.Calls.{Answers, ReadsFiles};
 ghost use Rattle.ats_command_due.specs.Replayed.{GivesOne, IsReplayText, IsRunIn};
 
 use ats_command_input::{Order, Stop, network_in, schedule_in};
@@ -30,10 +31,7 @@ pub fn replay<F: Files>(
     files: &mut F,
 ) -> Result<Vec<u8>, Stop>
     ensures due { Answers (F.told files.old) (table.Replay net.now schedule.now order) result }
-    ensures failed { IsErrOf result Stop.ReadFailed
-        → ReadRose (F.told files.old) (table.Replay net.now schedule.now order) (F.faults files.old)
-        (F.faults files.new) }
-    ensures continues { Continues F.told F.faults files.old files.new }
+    ensures reads { ReadsFiles F.told F.faults (table.Replay net.now schedule.now order) files.old files.new result }
 {
     let network = network_in(alloc, net, files)?;
     replay_of(alloc, &network, schedule, order, files)
@@ -49,9 +47,7 @@ fn replay_of<F: Files>(
 ) -> Result<Vec<u8>, Stop>
     ensures due { IfTold (F.told files.old schedule.now) (λ bytes.
         GivesOne (IsReplayText order network.now) result (releases_in network.now schedule.now bytes)) }
-    ensures failed { IsErrOf result Stop.ReadFailed
-        → Rose (F.faults files.old schedule.now) (F.faults files.new schedule.now) }
-    ensures continues { Continues F.told F.faults files.old files.new }
+    ensures reads { ReadsFile F.told F.faults schedule.now files.old files.new result }
 {
     let releases = schedule_in(alloc, schedule, network, files)?;
     Ok(text_of(alloc, network, &releases, order)?)

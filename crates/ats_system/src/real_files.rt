@@ -110,7 +110,9 @@ impl<'a, R: Files + Drop> ats_io::Files for RealFiles<'a, R> {
         ensures piece { IfOk result (λ count. IfTold None (λ bytes. IsPieceAt bytes at count buf.new)) }
         ensures failed { OnErr result (Rose (faults_of self.old.faults name.now) (faults_of self.new.faults name.now)) }
         ensures raised { OnErr result (Raises name.now self.old.faults self.new.faults) }
-        ensures calm { OnOk result (self.new.faults ≡ self.old.faults) }
+        ensures kept { OnOk result (self.new.faults ≡ self.old.faults) }
+        ensures calm { OnOk result (⟦<RealFiles<'a, R> as ats_io::Files>⟧.faults self.new
+            ≡ ⟦<RealFiles<'a, R> as ats_io::Files>⟧.faults self.old) }
         ensures continues { Continues ⟦<RealFiles<'a, R> as ats_io::Files>⟧.told
             ⟦<RealFiles<'a, R> as ats_io::Files>⟧.faults self.old self.new }
     {

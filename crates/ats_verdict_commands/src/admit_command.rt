@@ -1,15 +1,15 @@
 //! `admit NET REQUESTS`: answers requests to admit streams and to withdraw them.
 
 ghost use Rattle.std.specs.Prelude.{◌≡◌, List, All, IfOk, IsErrOf};
-ghost use Rattle.ats_io.specs.Outside.{Continues, IfTold, Rose};
+ghost use Rattle.ats_io.specs.Outside.{IfTold};
 ghost use Rattle.ats_num.specs.Failure.{IsDue};
 ghost use Rattle.ats_bound.specs.Reason.{reason_of};
 ghost use Rattle.ats_requests.specs.Requests.{MayAsk};
 ghost use Rattle.ats_requests.specs.declared.request.Request.{Request};
 ghost use Rattle.ats_admission_text.specs.Text.{admission_text};
 ghost use Rattle.ats_command_input.specs.Command as table;
-ghost use Rattle.ats_command_input.specs.Outcome.{Gives};
-ghost use Rattle.ats_command_due.specs.Calls.{Answers, ReadRose};
+ghost use Rattle.ats_command_input.specs.Outcome.{Gives, ReadsFile};
+ghost use Rattle.ats_command_due.specs.Calls.{Answers, ReadsFiles};
 ghost use Rattle.ats_command_due.specs.Judged.{admission_judged, requests_judged};
 
 use crate::bound_command::refused;
@@ -33,9 +33,7 @@ pub fn admit<F: Files>(
     files: &mut F,
 ) -> Result<Vec<u8>, Stop>
     ensures due { Answers (F.told files.old) (table.Admit net.now requests.now) result }
-    ensures failed { IsErrOf result Stop.ReadFailed
-        → ReadRose (F.told files.old) (table.Admit net.now requests.now) (F.faults files.old) (F.faults files.new) }
-    ensures continues { Continues F.told F.faults files.old files.new }
+    ensures reads { ReadsFiles F.told F.faults (table.Admit net.now requests.now) files.old files.new result }
 {
     let network = network_in(alloc, net, files)?;
     admission_of(alloc, network, requests, files)
@@ -50,9 +48,7 @@ fn admission_of<F: Files>(
 ) -> Result<Vec<u8>, Stop>
     ensures due { IfTold (F.told files.old requests.now) (λ bytes.
         Gives (λ text. text.items) result (requests_judged network requests.now bytes)) }
-    ensures failed { IsErrOf result Stop.ReadFailed
-        → Rose (F.faults files.old requests.now) (F.faults files.new requests.now) }
-    ensures continues { Continues F.told F.faults files.old files.new }
+    ensures reads { ReadsFile F.told F.faults requests.now files.old files.new result }
 {
     let asked = requests_in(alloc, requests, &network, files)?;
     answers_of(alloc, network, asked)

@@ -1,11 +1,10 @@
 //! `bound NET`: the certificate of a network with the least waits.
 
 ghost use Rattle.std.specs.Prelude.{◌≡◌, IfOk, IsErrOf};
-ghost use Rattle.ats_io.specs.Outside.{Continues};
 ghost use Rattle.ats_tally.specs.Reason.{ReasonInside};
 ghost use Rattle.ats_verdict_text.specs.Text.{reason_text, refused_text};
 ghost use Rattle.ats_command_input.specs.Command as table;
-ghost use Rattle.ats_command_due.specs.Calls.{Answers, ReadRose};
+ghost use Rattle.ats_command_due.specs.Calls.{Answers, ReadsFiles};
 ghost use Rattle.ats_command_due.specs.Judged.{bound_judged};
 ghost use Rattle.ats_command_input.specs.Outcome.{Gives};
 
@@ -24,9 +23,7 @@ use std::alloc::{AllocError, Global};
 /// where no certificate of the network holds.
 pub fn bound<F: Files>(alloc: Global, net: &str, files: &mut F) -> Result<Vec<u8>, Stop>
     ensures due { Answers (F.told files.old) (table.Bound net.now) result }
-    ensures failed { IsErrOf result Stop.ReadFailed
-        → ReadRose (F.told files.old) (table.Bound net.now) (F.faults files.old) (F.faults files.new) }
-    ensures continues { Continues F.told F.faults files.old files.new }
+    ensures reads { ReadsFiles F.told F.faults (table.Bound net.now) files.old files.new result }
 {
     let network = network_in(alloc, net, files)?;
     certificate_of(alloc, &network)

@@ -1,14 +1,14 @@
 //! `check NET CERT`: judges a certificate of a network, and gives the sums.
 
 ghost use Rattle.std.specs.Prelude.{◌≡◌, IfOk, IsErrOf};
-ghost use Rattle.ats_io.specs.Outside.{Continues, IfTold, Rose};
+ghost use Rattle.ats_io.specs.Outside.{IfTold};
 ghost use Rattle.ats_checker.specs.Ports.{RefusalInside, RowsInside};
 ghost use Rattle.ats_verdict_text.specs.Text.{refusal_text, refused_text};
 ghost use Rattle.ats_command_input.specs.Command as table;
-ghost use Rattle.ats_command_due.specs.Calls.{Answers, ReadRose};
+ghost use Rattle.ats_command_due.specs.Calls.{Answers, ReadsFiles};
 ghost use Rattle.ats_command_due.specs.Judged.{certificate_judged, check_judged};
-ghost use Rattle.ats_command_input.specs.Outcome.{Gives};
-ghost use Rattle.ats_command_due.specs.Soundness.{IsSoundCheck, IsSoundFile, IsSoundText};
+ghost use Rattle.ats_command_input.specs.Outcome.{Gives, ReadsFile};
+ghost use Rattle.ats_command_due.specs.Soundness.{IsSoundFile, IsSoundText, Promises};
 
 use ats_certificate::Certificate;
 use ats_checker::Refusal;
@@ -30,10 +30,8 @@ pub fn check<F: Files>(
 ) -> Result<Vec<u8>, Stop>
     ensures due { Answers (F.told files.old) (table.Check net.now certificate.now) result }
     ensures sound { IfOk result (λ text.
-        IsSoundCheck (F.told files.old) (table.Check net.now certificate.now) text.items) }
-    ensures failed { IsErrOf result Stop.ReadFailed
-        → ReadRose (F.told files.old) (table.Check net.now certificate.now) (F.faults files.old) (F.faults files.new) }
-    ensures continues { Continues F.told F.faults files.old files.new }
+        Promises (F.told files.old) (table.Check net.now certificate.now) text.items) }
+    ensures reads { ReadsFiles F.told F.faults (table.Check net.now certificate.now) files.old files.new result }
 {
     let network = network_in(alloc, net, files)?;
     verdict_of(alloc, &network, certificate, files)
@@ -50,9 +48,7 @@ fn verdict_of<F: Files>(
         Gives (λ text. text.items) result (certificate_judged network.now certificate.now bytes)) }
     ensures sound { IfOk result (λ text. IfTold (F.told files.old certificate.now)
         (λ bytes. IsSoundFile network.now certificate.now bytes text.items)) }
-    ensures failed { IsErrOf result Stop.ReadFailed
-        → Rose (F.faults files.old certificate.now) (F.faults files.new certificate.now) }
-    ensures continues { Continues F.told F.faults files.old files.new }
+    ensures reads { ReadsFile F.told F.faults certificate.now files.old files.new result }
 {
     let rows = certificate_in(alloc, certificate, network.topology(), files)?;
     judgement_of(alloc, network, &rows)

@@ -1,13 +1,13 @@
 //! `conform NET SCHEDULE`: judges the releases of a schedule by the declared buckets and sizes.
 
-ghost use Rattle.std.specs.Prelude.{◌≡◌, length, IfOk, IfSome, IsErrOf};
-ghost use Rattle.ats_io.specs.Outside.{Continues, IfTold, Rose};
+ghost use Rattle.std.specs.Prelude.{◌≡◌, IfOk, IfSome, IsErrOf};
+ghost use Rattle.ats_io.specs.Outside.{IfTold};
 ghost use Rattle.ats_trace.specs.Releases.{AreReleases};
 ghost use Rattle.ats_verdict_text.specs.Text.{refused_text};
 ghost use Rattle.ats_command_input.specs.Command as table;
 ghost use Rattle.ats_command_input.specs.Input.{releases_in};
-ghost use Rattle.ats_command_input.specs.Outcome.{answer_of};
-ghost use Rattle.ats_command_due.specs.Calls.{Answers, ReadRose};
+ghost use Rattle.ats_command_input.specs.Outcome.{ReadsFile, answer_of};
+ghost use Rattle.ats_command_due.specs.Calls.{Answers, ReadsFiles};
 ghost use Rattle.ats_command_due.specs.Conformed.{ComesTo, JudgesReleases, broken_text, conforms_text};
 
 use ats_command_input::{Stop, network_in, schedule_in};
@@ -28,9 +28,7 @@ pub fn conform<F: Files>(
     files: &mut F,
 ) -> Result<Vec<u8>, Stop>
     ensures due { Answers (F.told files.old) (table.Conform net.now schedule.now) result }
-    ensures failed { IsErrOf result Stop.ReadFailed
-        → ReadRose (F.told files.old) (table.Conform net.now schedule.now) (F.faults files.old) (F.faults files.new) }
-    ensures continues { Continues F.told F.faults files.old files.new }
+    ensures reads { ReadsFiles F.told F.faults (table.Conform net.now schedule.now) files.old files.new result }
 {
     let network = network_in(alloc, net, files)?;
     conformance_of(alloc, &network, schedule, files)
@@ -45,9 +43,7 @@ fn conformance_of<F: Files>(
 ) -> Result<Vec<u8>, Stop>
     ensures due { IfTold (F.told files.old schedule.now) (λ bytes.
         ComesTo (JudgesReleases network.now) result (releases_in network.now schedule.now bytes)) }
-    ensures failed { IsErrOf result Stop.ReadFailed
-        → Rose (F.faults files.old schedule.now) (F.faults files.new schedule.now) }
-    ensures continues { Continues F.told F.faults files.old files.new }
+    ensures reads { ReadsFile F.told F.faults schedule.now files.old files.new result }
 {
     let releases = schedule_in(alloc, schedule, network, files)?;
     judgement_of(alloc, network, &releases)

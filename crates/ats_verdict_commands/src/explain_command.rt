@@ -1,10 +1,9 @@
 //! `explain NET`: why the least bounds of a network are as large as they are.
 
 ghost use Rattle.std.specs.Prelude.{IsErrOf};
-ghost use Rattle.ats_io.specs.Outside.{Continues};
 ghost use Rattle.ats_command_input.specs.Command as table;
 ghost use Rattle.ats_command_input.specs.Outcome.{Gives};
-ghost use Rattle.ats_command_due.specs.Calls.{Answers, ReadRose};
+ghost use Rattle.ats_command_due.specs.Calls.{Answers, ReadsFiles};
 ghost use Rattle.ats_command_due.specs.Judged.{explain_judged};
 
 use crate::bound_command::refused;
@@ -20,9 +19,7 @@ use std::alloc::Global;
 /// where a port and class that some stream uses is overloaded.
 pub fn explain<F: Files>(alloc: Global, net: &str, files: &mut F) -> Result<Vec<u8>, Stop>
     ensures due { Answers (F.told files.old) (table.Explain net.now) result }
-    ensures failed { IsErrOf result Stop.ReadFailed
-        → ReadRose (F.told files.old) (table.Explain net.now) (F.faults files.old) (F.faults files.new) }
-    ensures continues { Continues F.told F.faults files.old files.new }
+    ensures reads { ReadsFiles F.told F.faults (table.Explain net.now) files.old files.new result }
 {
     let network = network_in(alloc, net, files)?;
     explanation_of(alloc, &network)

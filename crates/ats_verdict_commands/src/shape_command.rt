@@ -1,10 +1,9 @@
 //! `shape FILE`: one group of schedulers, from arrivals to verdicts.
 
-ghost use Rattle.std.specs.Prelude.{◌≡◌, IfOk, IsErrOf};
-ghost use Rattle.ats_io.specs.Outside.{Continues};
+ghost use Rattle.std.specs.Prelude.{◌≡◌, IfOk};
 ghost use Rattle.ats_shape.specs.Text.{text_of};
 ghost use Rattle.ats_command_input.specs.Command as table;
-ghost use Rattle.ats_command_due.specs.Calls.{Answers, ReadRose};
+ghost use Rattle.ats_command_due.specs.Calls.{Answers, ReadsFiles};
 
 use ats_command_input::{Stop, shape_in};
 use ats_io::Files;
@@ -14,9 +13,7 @@ use std::alloc::{AllocError, Global};
 /// The text of `shape FILE`. It stops where the file has a fault or can't be read.
 pub fn shape<F: Files>(alloc: Global, file: &str, files: &mut F) -> Result<Vec<u8>, Stop>
     ensures due { Answers (F.told files.old) (table.Shape file.now) result }
-    ensures failed { IsErrOf result Stop.ReadFailed
-        → ReadRose (F.told files.old) (table.Shape file.now) (F.faults files.old) (F.faults files.new) }
-    ensures continues { Continues F.told F.faults files.old files.new }
+    ensures reads { ReadsFiles F.told F.faults (table.Shape file.now) files.old files.new result }
 {
     let shape = shape_in(alloc, file, files)?;
     Ok(text_of(alloc, &shape)?)

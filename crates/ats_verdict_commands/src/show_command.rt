@@ -1,10 +1,9 @@
 //! `show NET`: the ports of a network, and the routes of its streams and flows.
 
 ghost use Rattle.std.specs.Prelude.{Ok, IsErrOf};
-ghost use Rattle.ats_io.specs.Outside.{Continues};
 ghost use Rattle.ats_network_text.specs.Text.{show_text};
 ghost use Rattle.ats_command_input.specs.Command as table;
-ghost use Rattle.ats_command_due.specs.Calls.{Answers, ReadRose};
+ghost use Rattle.ats_command_due.specs.Calls.{Answers, ReadsFiles};
 ghost use Rattle.ats_command_input.specs.Outcome.{Gives};
 
 use ats_command_input::{Stop, network_in};
@@ -15,9 +14,7 @@ use std::alloc::Global;
 /// The text of `show NET`. It stops where the network's file has a fault or can't be read.
 pub fn show<F: Files>(alloc: Global, net: &str, files: &mut F) -> Result<Vec<u8>, Stop>
     ensures due { Answers (F.told files.old) (table.Show net.now) result }
-    ensures failed { IsErrOf result Stop.ReadFailed
-        → ReadRose (F.told files.old) (table.Show net.now) (F.faults files.old) (F.faults files.new) }
-    ensures continues { Continues F.told F.faults files.old files.new }
+    ensures reads { ReadsFiles F.told F.faults (table.Show net.now) files.old files.new result }
 {
     let network = network_in(alloc, net, files)?;
     text_of(alloc, &network)

@@ -18,6 +18,7 @@ loop-reader-init g c = record {
   room = c.in_ok-buffer.ensures;
   within = search rules;
   reads = reads_nothing (g.F.Files.told c.args.files.now c.args.name.now) c.new-reader.result c.new-reader.ensures;
+  calm = refl;
   continues = Continues-refl c.args.files.now;
 }
 
@@ -76,5 +77,6 @@ loop-reader-preserved g c =
           c.in_ok-feed.ensures.answer c.feed.ensures.stands refl c.in_ok-count.ensures.within
           (λ bytes is. c.in_ok-count.ensures.piece bytes
           (ap (λ f. f c.args.name.now) c.loop-reader.invariant.continues.holds ∙ is));
+      calm = c.in_ok-count.ensures.calm ∙ c.loop-reader.invariant.calm;
       continues = Continues-trans c.loop-reader.invariant.continues c.read.ensures.continues;
     }

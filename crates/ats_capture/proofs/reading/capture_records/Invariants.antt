@@ -9,6 +9,7 @@ invariant-loop-reader g l = record {
   room : vec_len l.buffer ≡ PIECE;
   within : l.at ≤ MAX_BYTES;
   reads : Reads (g.F.Files.told l.fn.files l.name) l.at l.reader;
+  calm : g.F.Files.faults l.files ≡ g.F.Files.faults l.fn.files;
   continues : Continues g.F.Files.told g.F.Files.faults l.fn.files l.files;
 }
 

@@ -7,7 +7,7 @@ use Rattle.ats_command_input.specs.Input.{bytes_in, declared_in, rows_in}
 use Rattle.ats_command_input.specs.Outcome.{Gives}
 use Rattle.ats_command_input.specs.declared.outcome.Stop.{Stop}
 use Rattle.ats_command_input.proofs.RowPorts.{rows_inside}
-use Rattle.ats_command_input.proofs.Steps.{stops_all, err_is, declares, declared_keeps}
+use Rattle.ats_command_input.proofs.Steps.{reads_stopped, stops_all, err_is, declares, declared_keeps}
 use Rattle.ats_command_input.proofs.input_file.certificate_in.Goals as goal
 
 pub returns-in_err-bytes-clause-due : goal.returns-in_err-bytes-clause-due
@@ -34,3 +34,7 @@ returns-clause-inside g c =
     c.args.file.now fault_text (rows_of c.args.topology.now c.deref.result.now)
     (c.declared.ensures.due fault_text (rows_of c.args.topology.now c.deref.result.now) (λ fault. refl)
     c.read_certificate.ensures) (rows_inside c.args.topology.now c.deref.result.now)
+
+pub returns-in_err-bytes-clause-reads : goal.returns-in_err-bytes-clause-reads
+returns-in_err-bytes-clause-reads g c =
+    reads_stopped c.in_err-bytes.field-0.0 c.from_residual.result c.in_err-bytes.ensures.reads c.from_residual.ensures.1

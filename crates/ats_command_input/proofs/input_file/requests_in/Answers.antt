@@ -8,7 +8,7 @@ use Rattle.ats_request_file.specs.FaultText.{fault_text}
 use Rattle.ats_command_input.specs.Input.{bytes_in, declared_in, requests_in}
 use Rattle.ats_command_input.specs.Outcome.{Gives}
 use Rattle.ats_command_input.specs.declared.outcome.Stop.{Stop}
-use Rattle.ats_command_input.proofs.Steps.{stops_all, err_is, declares, passes_seen, read_keeps}
+use Rattle.ats_command_input.proofs.Steps.{reads_stopped, stops_all, err_is, declares, passes_seen, read_keeps}
 use Rattle.ats_command_input.proofs.input_file.requests_in.Goals as goal
 
 pub returns-in_err-bytes-clause-due : goal.returns-in_err-bytes-clause-due
@@ -36,3 +36,7 @@ pub returns-clause-allowed : goal.returns-clause-allowed
 returns-clause-allowed g c =
     read_keeps (λ (requests : Vec Request). All (MayAsk c.args.network.now.topology) requests.items)
     c.read_requests.result c.declared.result c.declared.ensures.same c.read_requests.ensures.allowed
+
+pub returns-in_err-bytes-clause-reads : goal.returns-in_err-bytes-clause-reads
+returns-in_err-bytes-clause-reads g c =
+    reads_stopped c.in_err-bytes.field-0.0 c.from_residual.result c.in_err-bytes.ensures.reads c.from_residual.ensures.1

@@ -7,7 +7,7 @@ use Rattle.ats_schedule.specs.FaultText.{fault_text}
 use Rattle.ats_command_input.specs.Input.{bytes_in, declared_in, releases_in}
 use Rattle.ats_command_input.specs.Outcome.{Gives}
 use Rattle.ats_command_input.specs.declared.outcome.Stop.{Stop}
-use Rattle.ats_command_input.proofs.Steps.{stops_all, err_is, declares, passes_seen, read_keeps}
+use Rattle.ats_command_input.proofs.Steps.{reads_stopped, stops_all, err_is, declares, passes_seen, read_keeps}
 use Rattle.ats_command_input.proofs.input_file.schedule_in.Goals as goal
 
 pub returns-in_err-bytes-clause-due : goal.returns-in_err-bytes-clause-due
@@ -34,3 +34,7 @@ pub returns-clause-releases : goal.returns-clause-releases
 returns-clause-releases g c =
     read_keeps (λ (releases : Vec Release). AreReleases c.args.network.now releases.items) c.read_schedule.result
     c.declared.result c.declared.ensures.same c.read_schedule.ensures.releases
+
+pub returns-in_err-bytes-clause-reads : goal.returns-in_err-bytes-clause-reads
+returns-in_err-bytes-clause-reads g c =
+    reads_stopped c.in_err-bytes.field-0.0 c.from_residual.result c.in_err-bytes.ensures.reads c.from_residual.ensures.1

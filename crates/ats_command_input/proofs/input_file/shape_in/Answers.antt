@@ -5,7 +5,7 @@ use Rattle.ats_shape.specs.Shape.{DeclaredShape}
 use Rattle.ats_command_input.specs.Input.{bytes_in, declared_in, shape_in}
 use Rattle.ats_command_input.specs.Outcome.{Gives}
 use Rattle.ats_command_input.specs.declared.outcome.Stop.{Stop}
-use Rattle.ats_command_input.proofs.Steps.{stops_all, err_is, declares}
+use Rattle.ats_command_input.proofs.Steps.{reads_stopped, stops_all, err_is, declares}
 use Rattle.ats_command_input.proofs.input_file.shape_in.Goals as goal
 
 pub returns-in_err-bytes-clause-due : goal.returns-in_err-bytes-clause-due
@@ -24,3 +24,7 @@ returns-clause-due g c = λ bytes told.
     c.declared.result 16777216 c.args.file.now bytes c.in_ok-bytes.bytes.items c.deref.result.now fault_text shape_of
     (c.in_ok-bytes.ensures.due bytes told) c.deref.ensures.value
     (c.declared.ensures.due fault_text (shape_of c.deref.result.now) (λ fault. refl) c.read_shape.ensures)
+
+pub returns-in_err-bytes-clause-reads : goal.returns-in_err-bytes-clause-reads
+returns-in_err-bytes-clause-reads g c =
+    reads_stopped c.in_err-bytes.field-0.0 c.from_residual.result c.in_err-bytes.ensures.reads c.from_residual.ensures.1

@@ -10,7 +10,7 @@ use Rattle.ats_trace.specs.Releases.{AreReleases}
 use Rattle.ats_command_input.specs.Input.{declared_in, records_in, traffic_in}
 use Rattle.ats_command_input.specs.Outcome.{Gives}
 use Rattle.ats_command_input.specs.declared.outcome.Stop.{Stop}
-use Rattle.ats_command_input.proofs.Steps.{stops_all, goes_on, err_is, passes_seen, read_keeps}
+use Rattle.ats_command_input.proofs.Steps.{reads_stopped, stops_all, goes_on, err_is, passes_seen, read_keeps}
 use Rattle.ats_command_input.proofs.input_file.traffic_in.Goals as goal
 
 pub returns-in_err-records-clause-due : goal.returns-in_err-records-clause-due
@@ -41,3 +41,8 @@ returns-clause-releases g c =
     read_keeps (λ (traffic : StationTraffic). AreReleases c.args.network.now traffic.releases.items) c.captured.result
     c.declared.result c.declared.ensures.same
     (c.captured.ensures.releases (subst (All IsLongEnough) (sym c.deref.ensures.value) c.in_ok-records.ensures.octets))
+
+pub returns-in_err-records-clause-reads : goal.returns-in_err-records-clause-reads
+returns-in_err-records-clause-reads g c =
+    reads_stopped c.in_err-records.field-0.0 c.from_residual.result c.in_err-records.ensures.reads
+    c.from_residual.ensures.1

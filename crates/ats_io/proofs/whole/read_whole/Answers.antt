@@ -8,6 +8,7 @@ loop-whole-init g c = record {
   room = c.in_ok-buffer.ensures;
   within = omega (arith, c.new-whole.ensures.len);
   front = λ bytes told. rw c.new-whole.ensures.items refl;
+  calm = refl;
   continues = Continues-refl c.args.files.now;
 }
 
@@ -63,5 +64,6 @@ loop-whole-preserved g c =
           front_more bytes c.loop-whole.whole.items c.extend_from_slice.new.self.items c.read.new.buf
           c.len-in-loop-whole-2.result c.in_ok-count.count (c.loop-whole.invariant.front bytes told) place
           (c.in_ok-count.ensures.piece bytes now) joined;
+      calm = c.in_ok-count.ensures.calm ∙ c.loop-whole.invariant.calm;
       continues = Continues-trans c.loop-whole.invariant.continues c.read.ensures.continues;
     }

@@ -7,6 +7,7 @@ invariant-loop-whole g l = record {
   room : 0 < vec_len l.buffer;
   within : vec_len l.whole ≤ l.limit;
   front : IfTold (g.F.Files.told l.initial.files l.name) (λ bytes. l.whole.items ≡ take (length l.whole.items) bytes);
+  calm : g.F.Files.faults l.files ≡ g.F.Files.faults l.initial.files;
   continues : Continues g.F.Files.told g.F.Files.faults l.initial.files l.files;
 }
 

@@ -28,5 +28,6 @@ loop-done-preserved g c =
           ∙ appended_twice held (take done text) (take count (drop done text))
           ∙ ap (λ xs. appended held xs) (sym (take_two done count text c.loop-done.invariant.within));
       untouched = λ none. absurd (omega (arith, c.in_ok-done.ensures.some));
+      calm = c.in_ok-done.ensures.calm ∙ c.loop-done.invariant.calm;
       counts = omega (arith, c.in_ok-done.ensures.counts, c.loop-done.invariant.counts);
     }

@@ -7,6 +7,7 @@ invariant-loop-done g l = record {
   within : l.done ≤ length l.text;
   taken : g.O.Sink.held l.out ≡ appended (g.O.Sink.held l.initial.out) (take l.done l.text);
   untouched : l.done ≡ 0 → l.out ≡ l.initial.out;
+  calm : g.O.Sink.faults l.out ≡ g.O.Sink.faults l.initial.out;
   counts : g.O.Sink.faults l.initial.out ≤ g.O.Sink.faults l.out;
 }
 

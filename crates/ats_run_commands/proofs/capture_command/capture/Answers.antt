@@ -1,18 +1,18 @@
-use Rattle.std.proofs.Common.{ℕ, List, [], Option, Some, Ok, lit<, ap, refl, inr, ◌≡◌, ◌∙◌, Result, subst}
+use Rattle.std.proofs.Common.{ℕ, List, [], Option, Some, Ok, lit<, ap, refl, inr, ◌≡◌, ◌∙◌, Result, subst, inl}
 use Rattle.ats_topology.specs.Topology.{DeclaredTopology}
 use Rattle.ats_network.specs.Network.{DeclaredNetwork}
 use Rattle.ats_capture.specs.Traffic.{Traffic}
 use Rattle.ats_num.specs.Failure.{◌>>=◌}
 use Rattle.ats_command_input.specs.Answer.{Answer}
+use Rattle.ats_command_input.specs.Command.{Capture}
 use Rattle.ats_command_input.specs.Input.{network_in, traffic_in}
 use Rattle.ats_command_input.specs.Outcome.{IsStopOf}
 use Rattle.ats_command_input.specs.Station.{station_in}
-use Rattle.ats_command_input.proofs.Steps.{stops_all}
+use Rattle.ats_command_input.proofs.Steps.{stops_all, reads_stopped}
 use Rattle.ats_command_due.specs.Due.{told_bytes}
 use Rattle.ats_command_due.specs.Captured.{IsCaptureText, IsCaptured, captured_in}
-use Rattle.ats_command_due.proofs.Steps.{told_is, declared_is_ok}
+use Rattle.ats_command_due.proofs.Steps.{told_is, declared_is_ok, reads_both, reads_one}
 use Rattle.ats_run_commands.proofs.Replays.{one_settles, stop_gives_one, one_goes_on, one_made}
-use Rattle.ats_io.proofs.Outside.{Rose-since}
 use Rattle.ats_run_commands.proofs.capture_command.capture.Goals as goal
 
 pub returns-in_err-network-clause-due : goal.returns-in_err-network-clause-due
@@ -62,7 +62,7 @@ returns-clause-due g c = λ is_told.
     let named = subst (λ (t : DeclaredTopology). station_in t station ≡ Ok place) c.topology.ensures.value
     c.in_ok-place.ensures.due in
     let still : g.F.Files.told c.network_in.new.files file ≡ Some (told_bytes told file) =
-    ap (λ (t : List ℕ → Option (List ℕ)). t file) c.network_in.ensures.continues.holds
+    ap (λ (t : List ℕ → Option (List ℕ)). t file) c.in_ok-network.ensures.reads.continues.holds
     ∙ told_is told file (is_told 1 [] (lit< tt)) in
     one_settles (IsCaptured c.args.order) c.capture_of.result
     (captured_in net station file (told_bytes told net) (told_bytes told file))
@@ -78,19 +78,25 @@ returns-clause-due g c = λ is_told.
     (traffic_in network place file (told_bytes told file)) (λ traffic text is. is)
     (c.capture_of.ensures.due (told_bytes told file) still))))
 
-pub returns-clause-failed : goal.returns-clause-failed
-returns-clause-failed g c = λ failed.
+pub returns-clause-reads : goal.returns-clause-reads
+returns-clause-reads g c =
     let station : List ℕ = c.args.station.now in
     let file : List ℕ = c.args.file.now in
     let place : ℕ = c.in_ok-place.place in
     let named = subst (λ (t : DeclaredTopology). station_in t station ≡ Ok place) c.topology.ensures.value
-    c.in_ok-place.ensures.due in (
-      file,
-      inr (
-        refl,
-        λ bytes told. declared_is_ok _ place
-            (ap (λ (d : Result DeclaredNetwork Answer). d >>= λ n. station_in n.topology station)
-            (c.in_ok-network.ensures.due bytes told) ∙ named),
-      ),
-      Rose-since _ _ _ (c.network_in.ensures.continues.counts file) (c.capture_of.ensures.failed failed),
-    )
+    c.in_ok-place.ensures.due in
+    reads_both g.F.Files.told g.F.Files.faults (Capture c.args.net.now station file c.args.order) c.args.net.now file
+    c.args.files.now c.network_in.new.files c.capture_of.new.files c.in_ok-network.network c.capture_of.result
+    c.in_ok-network.ensures.reads c.capture_of.ensures.reads
+    (inr (
+      refl,
+      λ bytes told. declared_is_ok _ place
+          (ap (λ (d : Result DeclaredNetwork Answer). d >>= λ n. station_in n.topology station)
+          (c.in_ok-network.ensures.due bytes told) ∙ named),
+    ))
+
+pub returns-in_err-network-clause-reads : goal.returns-in_err-network-clause-reads
+returns-in_err-network-clause-reads g c =
+    reads_one (Capture c.args.net.now c.args.station.now c.args.file.now c.args.order) c.args.net.now
+    (reads_stopped c.in_err-network.field-0.0 c.from_residual.result c.in_err-network.ensures.reads
+    c.from_residual.ensures.1) (inl refl)

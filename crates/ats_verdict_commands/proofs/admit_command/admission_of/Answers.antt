@@ -4,7 +4,7 @@ use Rattle.ats_network.specs.Network.{DeclaredNetwork}
 use Rattle.ats_command_input.specs.Input.{requests_in}
 use Rattle.ats_command_input.specs.Outcome.{Gives}
 use Rattle.ats_command_input.specs.declared.outcome.Stop.{Stop}
-use Rattle.ats_command_input.proofs.Steps.{stops_all, goes_on, err_is}
+use Rattle.ats_command_input.proofs.Steps.{stops_all, goes_on, err_is, reads_stopped}
 use Rattle.ats_command_due.specs.Judged.{admission_judged, requests_judged}
 use Rattle.ats_verdict_commands.proofs.admit_command.admission_of.Goals as goal
 
@@ -25,3 +25,7 @@ returns-clause-due g c = λ bytes told.
     goes_on (λ (text : Vec ℕ). text.items) c.answers_of.result (requests_in network.topology requests bytes)
     c.in_ok-asked.asked.items (λ asked. admission_judged network asked)
     (c.in_ok-asked.ensures.due bytes told) c.answers_of.ensures.due
+
+pub returns-in_err-asked-clause-reads : goal.returns-in_err-asked-clause-reads
+returns-in_err-asked-clause-reads g c =
+    reads_stopped c.in_err-asked.field-0.0 c.from_residual.result c.in_err-asked.ensures.reads c.from_residual.ensures.1

@@ -1,9 +1,10 @@
-use Rattle.std.proofs.Common.{ℕ, List, [], Option, Some, lit<, ap, refl, inr, ◌≡◌, ◌∙◌}
+use Rattle.std.proofs.Common.{ℕ, List, [], Option, Some, lit<, ap, refl, inr, ◌≡◌, ◌∙◌, inl}
+use Rattle.ats_command_input.specs.Command.{Admit}
 use Rattle.ats_command_input.specs.Input.{network_in}
 use Rattle.ats_command_due.specs.Judged.{requests_judged}
 use Rattle.ats_command_due.specs.Due.{told_bytes, admit_answer}
-use Rattle.ats_command_due.proofs.Steps.{told_is, file_settles, file_goes_on, declared_is_ok}
-use Rattle.ats_io.proofs.Outside.{Rose-since}
+use Rattle.ats_command_due.proofs.Steps.{told_is, file_settles, file_goes_on, declared_is_ok, reads_both, reads_one}
+use Rattle.ats_command_input.proofs.Steps.{reads_stopped}
 use Rattle.ats_verdict_commands.proofs.admit_command.admit.Goals as goal
 
 pub returns-in_err-network-clause-due : goal.returns-in_err-network-clause-due
@@ -21,16 +22,21 @@ returns-clause-due g c = λ is_told.
     let told : List ℕ → Option (List ℕ) = g.F.Files.told c.args.files.now in
     let requests : List ℕ = c.args.requests.now in
     let still : g.F.Files.told c.network_in.new.files requests ≡ Some (told_bytes told requests) =
-    ap (λ (t : List ℕ → Option (List ℕ)). t requests) c.network_in.ensures.continues.holds
+    ap (λ (t : List ℕ → Option (List ℕ)). t requests) c.in_ok-network.ensures.reads.continues.holds
     ∙ told_is told requests (is_told 1 [] (lit< tt)) in
     file_goes_on told c.args.net.now c.admission_of.result c.in_ok-network.network (network_in c.args.net.now)
     (λ n. requests_judged n requests (told_bytes told requests)) c.in_ok-network.ensures.due
     (is_told 0 [] (lit< tt)) (c.admission_of.ensures.due (told_bytes told requests) still)
 
-pub returns-clause-failed : goal.returns-clause-failed
-returns-clause-failed g c = λ failed.
-    let requests : List ℕ = c.args.requests.now in (
-      requests,
-      inr (refl, λ bytes told. declared_is_ok _ _ (c.in_ok-network.ensures.due bytes told)),
-      Rose-since _ _ _ (c.network_in.ensures.continues.counts requests) (c.admission_of.ensures.failed failed),
-    )
+pub returns-clause-reads : goal.returns-clause-reads
+returns-clause-reads g c =
+    reads_both g.F.Files.told g.F.Files.faults (Admit c.args.net.now c.args.requests.now) c.args.net.now
+    c.args.requests.now c.args.files.now c.network_in.new.files c.admission_of.new.files c.in_ok-network.network
+    c.admission_of.result c.in_ok-network.ensures.reads c.admission_of.ensures.reads
+    (inr (refl, λ bytes told. declared_is_ok _ _ (c.in_ok-network.ensures.due bytes told)))
+
+pub returns-in_err-network-clause-reads : goal.returns-in_err-network-clause-reads
+returns-in_err-network-clause-reads g c =
+    reads_one (Admit c.args.net.now c.args.requests.now) c.args.net.now
+    (reads_stopped c.in_err-network.field-0.0 c.from_residual.result c.in_err-network.ensures.reads
+    c.from_residual.ensures.1) (inl refl)

@@ -1,13 +1,14 @@
-use Rattle.std.proofs.Common.{ℕ, List, [], Option, Some, lit<, ap, refl, inr, ◌≡◌, ◌∙◌}
+use Rattle.std.proofs.Common.{ℕ, List, [], Option, Some, lit<, ap, refl, inr, ◌≡◌, ◌∙◌, inl}
 use Rattle.ats_io.specs.Outside.{IfTold}
 use Rattle.ats_network.specs.Network.{DeclaredNetwork}
 use Rattle.ats_command_input.specs.Command.{Check}
 use Rattle.ats_command_input.specs.Input.{network_in}
 use Rattle.ats_command_due.specs.Judged.{certificate_judged}
 use Rattle.ats_command_due.specs.Due.{told_bytes, check_answer}
-use Rattle.ats_command_due.specs.Soundness.{IsSoundCheck, IsSoundFile}
-use Rattle.ats_command_due.proofs.Steps.{told_is, file_settles, file_goes_on, text_then, declared_is_ok}
-use Rattle.ats_io.proofs.Outside.{Rose-since}
+use Rattle.ats_command_due.specs.Soundness.{IsSoundFile, Promises}
+use Rattle.ats_command_due.proofs.Steps.{told_is, file_settles, file_goes_on, text_then, declared_is_ok, reads_both}
+use Rattle.ats_command_due.proofs.Steps.{reads_one}
+use Rattle.ats_command_input.proofs.Steps.{reads_stopped}
 use Rattle.ats_verdict_commands.proofs.check_command.check.Goals as goal
 
 pub returns-in_err-network-clause-due : goal.returns-in_err-network-clause-due
@@ -25,19 +26,18 @@ returns-clause-due g c = λ is_told.
     let told : List ℕ → Option (List ℕ) = g.F.Files.told c.args.files.now in
     let certificate : List ℕ = c.args.certificate.now in
     let still : g.F.Files.told c.network_in.new.files certificate ≡ Some (told_bytes told certificate) =
-    ap (λ (t : List ℕ → Option (List ℕ)). t certificate) c.network_in.ensures.continues.holds
+    ap (λ (t : List ℕ → Option (List ℕ)). t certificate) c.in_ok-network.ensures.reads.continues.holds
     ∙ told_is told certificate (is_told 1 [] (lit< tt)) in
     file_goes_on told c.args.net.now c.verdict_of.result c.in_ok-network.network (network_in c.args.net.now)
     (λ n. certificate_judged n certificate (told_bytes told certificate)) c.in_ok-network.ensures.due
     (is_told 0 [] (lit< tt)) (c.verdict_of.ensures.due (told_bytes told certificate) still)
 
-pub returns-clause-failed : goal.returns-clause-failed
-returns-clause-failed g c = λ failed.
-    let certificate : List ℕ = c.args.certificate.now in (
-      certificate,
-      inr (refl, λ bytes told. declared_is_ok _ _ (c.in_ok-network.ensures.due bytes told)),
-      Rose-since _ _ _ (c.network_in.ensures.continues.counts certificate) (c.verdict_of.ensures.failed failed),
-    )
+pub returns-clause-reads : goal.returns-clause-reads
+returns-clause-reads g c =
+    reads_both g.F.Files.told g.F.Files.faults (Check c.args.net.now c.args.certificate.now) c.args.net.now
+    c.args.certificate.now c.args.files.now c.network_in.new.files c.verdict_of.new.files c.in_ok-network.network
+    c.verdict_of.result c.in_ok-network.ensures.reads c.verdict_of.ensures.reads
+    (inr (refl, λ bytes told. declared_is_ok _ _ (c.in_ok-network.ensures.due bytes told)))
 
 pub returns-clause-sound : goal.returns-clause-sound
 returns-clause-sound g c =
@@ -48,10 +48,10 @@ returns-clause-sound g c =
     text_then c.verdict_of.result
     (λ text. IfTold (g.F.Files.told c.network_in.new.files certificate)
     (λ bytes. IsSoundFile network certificate bytes text))
-    (IsSoundCheck told (Check net certificate)) c.verdict_of.ensures.sound
+    (Promises told (Check net certificate)) c.verdict_of.ensures.sound
     (λ text sound is_told.
     let still : g.F.Files.told c.network_in.new.files certificate ≡ Some (told_bytes told certificate) =
-    ap (λ (t : List ℕ → Option (List ℕ)). t certificate) c.network_in.ensures.continues.holds
+    ap (λ (t : List ℕ → Option (List ℕ)). t certificate) c.in_ok-network.ensures.reads.continues.holds
     ∙ told_is told certificate (is_told 1 [] (lit< tt)) in
     let file : IsSoundFile network certificate (told_bytes told certificate) text =
     sound (told_bytes told certificate) still in (
@@ -64,3 +64,9 @@ returns-clause-sound g c =
         is_sound = file.2;
       },
     ))
+
+pub returns-in_err-network-clause-reads : goal.returns-in_err-network-clause-reads
+returns-in_err-network-clause-reads g c =
+    reads_one (Check c.args.net.now c.args.certificate.now) c.args.net.now
+    (reads_stopped c.in_err-network.field-0.0 c.from_residual.result c.in_err-network.ensures.reads
+    c.from_residual.ensures.1) (inl refl)

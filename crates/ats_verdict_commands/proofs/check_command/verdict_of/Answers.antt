@@ -6,7 +6,7 @@ use Rattle.ats_certificate.specs.declared.row.Row.{Row}
 use Rattle.ats_command_input.specs.Input.{rows_in}
 use Rattle.ats_command_input.specs.Outcome.{Gives, IsStopOf}
 use Rattle.ats_command_input.specs.declared.outcome.Stop.{Stop}
-use Rattle.ats_command_input.proofs.Steps.{stops_all, goes_on, err_is}
+use Rattle.ats_command_input.proofs.Steps.{stops_all, goes_on, err_is, reads_stopped}
 use Rattle.ats_command_due.specs.Judged.{certificate_judged, check_judged}
 use Rattle.ats_command_due.specs.Soundness.{IsSoundFile, IsSoundText}
 use Rattle.ats_command_due.proofs.Steps.{text_then}
@@ -49,3 +49,7 @@ returns-clause-sound g c =
           (c.in_ok-rows.ensures.due bytes told),
       sound,
     ))
+
+pub returns-in_err-rows-clause-reads : goal.returns-in_err-rows-clause-reads
+returns-in_err-rows-clause-reads g c =
+    reads_stopped c.in_err-rows.field-0.0 c.from_residual.result c.in_err-rows.ensures.reads c.from_residual.ensures.1

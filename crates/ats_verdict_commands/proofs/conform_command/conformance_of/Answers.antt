@@ -1,6 +1,7 @@
 use Rattle.ats_command_input.specs.Input.{releases_in}
 use Rattle.ats_command_due.specs.Conformed.{JudgesReleases}
 use Rattle.ats_verdict_commands.proofs.Conforms.{stop_comes_to}
+use Rattle.ats_command_input.proofs.Steps.{reads_stopped}
 use Rattle.ats_verdict_commands.proofs.conform_command.conformance_of.Goals as goal
 
 pub returns-in_err-releases-clause-due : goal.returns-in_err-releases-clause-due
@@ -8,3 +9,8 @@ returns-in_err-releases-clause-due g c = λ bytes told.
     stop_comes_to (JudgesReleases c.args.network.now) c.from_residual.result c.in_err-releases.field-0.0
     (releases_in c.args.network.now c.args.schedule.now bytes) c.from_residual.ensures.1
     (c.in_err-releases.ensures.due bytes told)
+
+pub returns-in_err-releases-clause-reads : goal.returns-in_err-releases-clause-reads
+returns-in_err-releases-clause-reads g c =
+    reads_stopped c.in_err-releases.field-0.0 c.from_residual.result c.in_err-releases.ensures.reads
+    c.from_residual.ensures.1

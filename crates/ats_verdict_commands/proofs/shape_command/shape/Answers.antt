@@ -1,9 +1,11 @@
-use Rattle.std.proofs.Common.{ℕ, List, [], Option, Ok, lit<, sym, ap, ◌∙◌}
+use Rattle.std.proofs.Common.{ℕ, List, [], Option, Ok, lit<, sym, ap, ◌∙◌, refl}
 use Rattle.ats_shape.specs.Text.{text_of}
 use Rattle.ats_num.specs.Failure.{◌>>=◌}
 use Rattle.ats_command_input.specs.Input.{shape_in}
 use Rattle.ats_command_due.specs.Due.{told_bytes, shape_answer}
-use Rattle.ats_command_due.proofs.Steps.{told_is, text_settles, file_settles}
+use Rattle.ats_command_due.proofs.Steps.{told_is, text_settles, file_settles, reads_one}
+use Rattle.ats_command_input.specs.Command.{Shape}
+use Rattle.ats_command_input.proofs.Steps.{reads_stopped}
 use Rattle.ats_verdict_commands.proofs.shape_command.shape.Goals as goal
 
 pub returns-in_err-shape-clause-due : goal.returns-in_err-shape-clause-due
@@ -21,3 +23,9 @@ returns-clause-due g c = λ is_told.
     text_settles c.in_ok-text_of.field-0.items (shape_in file (told_bytes told file) >>= λ shape. Ok (text_of shape))
     (ap (λ d. d >>= λ shape. Ok (text_of shape)) (c.in_ok-shape.ensures.due (told_bytes told file)
     (told_is told file (is_told 0 [] (lit< tt)))) ∙ ap Ok (sym c.in_ok-text_of.ensures))
+
+pub returns-in_err-shape-clause-reads : goal.returns-in_err-shape-clause-reads
+returns-in_err-shape-clause-reads g c =
+    reads_one (Shape c.args.file.now) c.args.file.now
+    (reads_stopped c.in_err-shape.field-0.0 c.from_residual.result c.in_err-shape.ensures.reads
+    c.from_residual.ensures.1) refl
