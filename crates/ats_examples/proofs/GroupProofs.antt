@@ -10,7 +10,7 @@ use Rattle.ats_bucket.specs.Conforming.{Frame, Conforms}
 use Rattle.ats_group_law.specs.Shaping.{Passage, IsEligibleAgain}
 use Rattle.ats_group_law.specs.Windows.{is_within, bits_within, KeepsWindows}
 use Rattle.ats_examples.specs.Groups.{frame_at, fast, passage, out_of_order, ConformedBefore, both_at_2, BucketEmptied}
-use Rattle.ats_examples.specs.Groups.{RoundedUp, OrderCounts, NumbersAreOwn}
+use Rattle.ats_examples.specs.Groups.{narrow, RoundedUp, OrderCounts, NumbersAreOwn, LateIsSoon}
 
 -- two frames at these times have more bits than the rate and the burst allow
 pub too_early : (rate burst first second bits : ℕ)
@@ -96,4 +96,17 @@ numbers_are_own = record {
   renaming = record { one_to_one = λ a b here there same. omega (arith, same); same = λ member there. refl };
   kept = refl;
   shared = refl;
+}
+
+too_narrow : ¬ IsRuled (narrow 0)
+too_narrow ruled = let covers : 12336 ≤ 672 = ruled.covers in absurd (omega arith)
+
+pub late_is_soon : LateIsSoon
+late_is_soon = record {
+  ruled = bucket_emptied.ruled;
+  told = refl;
+  last = refl;
+  not_ruled = too_narrow;
+  told_later = refl;
+  not_soon = refl;
 }

@@ -1,13 +1,14 @@
-use Rattle.std.specs.Prelude.{◌≡◌, ℕ, ◌+◌, ◌*◌, ◌≤◌, true, pos, List, [], ◌∷◌, All, map}
+use Rattle.std.specs.Prelude.{◌≡◌, ℕ, ◌+◌, ◌*◌, ◌≤◌, max, true, pos, List, [], ◌∷◌, All, map}
 use Rattle.std.specs.List.{AllZip}
-use Rattle.ats_num.specs.declared.time.TheConstants.{PS_PER_NS}
+use Rattle.ats_num.specs.Division.{ceiling}
+use Rattle.ats_num.specs.declared.time.TheConstants.{PS_PER_NS, PS_PER_SECOND}
 use Rattle.ats_bucket.specs.Conforming.{Frame, Conforms}
 use Rattle.ats_streams.specs.declared.traffic.Declared.{Declared}
 use Rattle.ats_group.specs.declared.verdict.Verdict.{Verdict}
-use Rattle.ats_group.specs.declared.verdict.Verdict.TheVariants.{Eligible}
+use Rattle.ats_group.specs.declared.verdict.Verdict.TheVariants.{Eligible, Late}
 use Rattle.ats_group.specs.Group.{Offer, first, verdicts_of, state_after}
 use Rattle.ats_streams.specs.Traffic.{IsRuled, is_declared_size}
-use Rattle.ats_group_law.specs.Laws.{passed_of}
+use Rattle.ats_group_law.specs.Laws.{passed_of, group_time, next_verdict}
 use Rattle.ats_group_law.specs.Shaping.{Passage, offers_of, frames_before, IsEligibleAgain}
 use Rattle.ats_group_law.specs.Windows.{KeepsWindows}
 use Rattle.ats_group.specs.Judge.{ats_judge}
@@ -97,3 +98,25 @@ pub record NumbersAreOwn : Type 0 where
   pub renaming : IsRenaming (λ member. true) (λ member. member + 5) fast fast
   pub kept : ats_judge fast 1000000 (map (renamed_offer (λ member. member + 5)) of_two_members) ≡ second_at 0
   pub shared : ats_judge fast 1000000 (map (renamed_offer (λ member. 0)) of_two_members) ≡ second_at 123360000
+
+-- the same member with a burst that covers no frame of 1522 octets
+abbrev pub narrow : ℕ → Declared
+narrow member = record { rate = 100000000; burst_bits = 672; min_octets = 64; max_octets = 1522 }
+
+-- the last time that a late frame may be told, behind one of 1522 octets at 0 ps, where it comes at 12336000 ps with as
+-- many
+abbrev pub last_told : (ℕ → Declared) → ℕ → ℕ
+last_told declared residence_ns =
+    max 12336000 (group_time declared residence_ns (offer_at 0 1522 ∷ [])
+    + ceiling (PS_PER_SECOND * 12336) (declared 0).rate)
+
+-- a late frame is told just the last time that it may be, until which the rate gives its bits behind the frame before.
+-- That the burst covers a frame counts: by a shorter one it is told a later time
+pub record LateIsSoon : Type 0 where
+  pub ruled : IsRuled (fast 0)
+  pub told : next_verdict fast 12336 (offer_at 0 1522 ∷ []) (offer_at 12336000 1522) ≡ Late (record { 0 = 123360000 })
+  pub last : last_told fast 12336 ≡ 123360000
+  pub not_ruled : ¬ IsRuled (narrow 0)
+  pub told_later : next_verdict narrow 116640 (offer_at 0 1522 ∷ []) (offer_at 12336000 1522)
+      ≡ Late (record { 0 = 356640000 })
+  pub not_soon : last_told narrow 116640 ≡ 240000000

@@ -12,6 +12,7 @@ pub mod Renaming
 pub mod ShapingFree
 pub mod ShapingStep
 pub mod ShapingUse
+pub mod Soon
 pub mod Tracked
 pub mod VerdictParts
 pub mod WindowBits

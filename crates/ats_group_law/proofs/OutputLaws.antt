@@ -27,7 +27,7 @@ passed-full : (declared : ℕ → Declared) (residence_ns : ℕ) (offers : List 
     → passed declared residence_ns offers ≡ accepted offers (full_verdicts declared residence_ns full_first offers)
 passed-full declared residence_ns offers = ap (accepted offers) (full_fold declared residence_ns offers).verdicts
 
-next_verdict-full : (declared : ℕ → Declared) (residence_ns : ℕ) (offers : List Offer) (offer : Offer)
+pub next_verdict-full : (declared : ℕ → Declared) (residence_ns : ℕ) (offers : List Offer) (offer : Offer)
     → next_verdict declared residence_ns offers offer
     ≡ full_judged declared residence_ns (full_state_after declared residence_ns full_first offers) offer
 next_verdict-full declared residence_ns offers offer =

@@ -49,7 +49,8 @@ eligible_by true latest eligible e v =
     eligible_at (nat_le eligible latest) latest eligible e (leb-true eligible latest) v
 eligible_by false latest eligible e v = absurd (cc)
 
-late_by : (size : Bool) (latest eligible : ℕ) (e : Ps) → (if size then verdict_by latest eligible else Size) ≡ Late e
+pub late_by : (size : Bool) (latest eligible : ℕ) (e : Ps)
+    → (if size then verdict_by latest eligible else Size) ≡ Late e
     → IsLateBy size latest eligible e.0
 late_by true latest eligible e v = late_at (nat_le eligible latest) latest eligible e (leb-false eligible latest) v
 late_by false latest eligible e v = absurd (cc)

@@ -1,7 +1,8 @@
-use Rattle.std.specs.Prelude.{◌≡◌, ℕ, ◌*◌, ◌≤◌, ◌↔◌, pos, ◌-ℤ◌, List, [], ◌∷◌, ◌++◌, fold}
+use Rattle.std.specs.Prelude.{◌≡◌, ℕ, ◌+◌, ◌*◌, ◌≤◌, ◌↔◌, max, pos, ◌-ℤ◌, List, [], ◌∷◌, ◌++◌, fold}
 use Rattle.std.specs.List.Sorted.{IsNonDecreasing}
 use Rattle.ats_num.specs.declared.time.TheConstants.{PS_PER_SECOND}
 use Rattle.ats_num.specs.declared.time.Ps.{Ps}
+use Rattle.ats_num.specs.Division.{ceiling}
 use Rattle.ats_num.specs.Wire.{bits_of}
 use Rattle.ats_bucket.specs.Conforming.{Frame, times_of, Conforms}
 use Rattle.ats_streams.specs.declared.traffic.Declared.{Declared}
@@ -63,6 +64,14 @@ abbrev pub LateTimeIsLeast : Type 0
 LateTimeIsLeast = (declared : ℕ → Declared) (residence_ns : ℕ) (offers : List Offer) (offer : Offer) (e : Ps)
     → IsRuled (declared offer.member) → next_verdict declared residence_ns offers offer ≡ Late e
     → IsLeastFor declared residence_ns offers offer e.0
+
+-- and it is no later than the arrival or, if that is later, than the time in which the rate gives the frame's bits,
+-- counted from the group eligibility time
+abbrev pub LateTimeIsSoon : Type 0
+LateTimeIsSoon = (declared : ℕ → Declared) (residence_ns : ℕ) (offers : List Offer) (offer : Offer) (e : Ps)
+    → IsRuled (declared offer.member) → next_verdict declared residence_ns offers offer ≡ Late e
+    → e.0 ≤ max offer.arrival (group_time declared residence_ns offers
+    + ceiling (PS_PER_SECOND * bits_of offer.octets) (declared offer.member).rate)
 
 -- the group eligibility time is the time of the frame that the group accepted last, or 0
 abbrev pub GroupTimeIsLast : Type 0

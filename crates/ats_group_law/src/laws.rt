@@ -1,7 +1,8 @@
 //! What is proved of the definitions, for all lists of frames and of offers.
 
-ghost use Rattle.ats_group_law.specs.Laws.{ConformingByWindows, EligibilityIsLeast, LateTimeIsLeast, GroupTimeIsLast};
-ghost use Rattle.ats_group_law.specs.Laws.{OutputConforms, OutputConformsByWindows, OutputAscends, FoldIsFullFold};
+ghost use Rattle.ats_group_law.specs.Laws.{ConformingByWindows, EligibilityIsLeast, LateTimeIsLeast, LateTimeIsSoon};
+ghost use Rattle.ats_group_law.specs.Laws.{GroupTimeIsLast, OutputConforms, OutputConformsByWindows, OutputAscends};
+ghost use Rattle.ats_group_law.specs.Laws.{FoldIsFullFold};
 ghost use Rattle.ats_group_law.specs.GroupsLaws.{GroupsOutputConforms, GroupsOutputAscends, GroupsEligibilityIsLeast};
 ghost use Rattle.ats_group_law.specs.Regulator.{AtsIsRegulator};
 ghost use Rattle.ats_group_law.specs.Renaming.{VerdictsAreKept};
@@ -26,6 +27,12 @@ pub fn eligibility_is_least()
 /// frame, conforms.
 pub fn late_time_is_least()
     ensures { LateTimeIsLeast }
+{}
+
+/// That time is no later than the frame's arrival or, where this is later, than the time in which the rate gives the
+/// frame's bits, counted from the group eligibility time. So no verdict tells a time far behind what a group accepted.
+pub fn late_time_is_soon()
+    ensures { LateTimeIsSoon }
 {}
 
 /// The group eligibility time is that of the frame that the group accepted last, or 0.
