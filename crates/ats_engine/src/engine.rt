@@ -70,8 +70,8 @@ impl<'a, T: Tie, O: TimeOrder, P: Pace> Engine<'a, T, O, P> {
         Ok(Engine { runner, agenda })
     }
 
-    /// The whole run: what happened to each frame. Each of its times is below `END`, but for that
-    /// of a verdict on a late frame, at which nothing happens. It takes no memory.
+    /// The whole run: what happened to each frame. Each of its times is below `END`, also that of a
+    /// verdict on a late frame, at which nothing happens. It takes no memory.
     pub fn run(self) -> Run
         ensures by { IsRunBy (T.key self.entry.tie) (P.wait self.entry.pace) self.entry.network result }
         ensures releases { HasReleases self.entry.releases result }

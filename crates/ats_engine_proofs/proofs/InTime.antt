@@ -6,7 +6,6 @@ use Rattle.std.proofs.lemmas.Bool.{eq-eqb}
 use Rattle.std.proofs.lemmas.List.Elements.{All-nil, All-cons, All-head, All-tail}
 use Rattle.ats_facts.proofs.Lists.{all_left, all_right, all_unmapped, All-from_filter}
 use Rattle.ats_num.specs.declared.time.Ps.{Ps}
-use Rattle.ats_num.specs.declared.time.TheConstants.{END}
 use Rattle.ats_topology.specs.Port.{port_at, no_port}
 use Rattle.ats_topology.specs.Topology.{IsPort}
 use Rattle.ats_topology.proofs.Rules.{ports_are_lawful}
@@ -33,9 +32,10 @@ use Rattle.ats_run_records.specs.Progress.{finished}
 use Rattle.ats_engine_steps.specs.Course.{Course, travels}
 use Rattle.ats_engine_steps.specs.Invariant.{Holds}
 use Rattle.ats_engine_steps.specs.declared.event.Event.{Event}
-use Rattle.ats_engine_proofs.specs.InTime.{IsEligibleBefore, IsSentBefore, IsHopBefore, IsEndBefore, IsJourneyBefore}
-use Rattle.ats_engine_proofs.specs.InTime.{IsRunInTime}
+use Rattle.ats_engine_proofs.specs.InTime.{IsSentBefore, IsEndBefore, IsRunInTime}
 use Rattle.ats_engine_proofs.proofs.Conclusion.{ended-run, run-finished}
+use Rattle.ats_engine_proofs.proofs.LateTimes.{IsEligibleBefore, IsHopDoneBefore, IsJourneyDoneBefore, after_all}
+use Rattle.ats_engine_proofs.proofs.LateTimes.{in-time-with-late}
 
 -- a transmission starts when the frame is eligible or later, and ends when it starts or later
 record IsLater (x : Transmission) : Type 0 where
@@ -69,7 +69,7 @@ record IsHopDone (time : ℕ) (verdict : Verdict) (given : Option (Ps × Ps)) (h
 
 -- all that is left of a way is before this time
 record IsWayBefore (time : ℕ) (records : List HopRecord) (end : Ending) : Type 0 where
-  hops : All (IsHopBefore time) records
+  hops : All (IsHopDoneBefore time) records
   ending : IsEndBefore time end
 
 -- nothing comes of a frame that was discarded
@@ -82,7 +82,7 @@ ended-before : (time : ℕ) (hops : List HopRecord) (ending : Ending) → hops �
     → IsWayBefore time hops ending
 ended-before time hops ending none is =
     let nothing : List HopRecord = [] in
-    let over : IsWayBefore time nothing Discard = record { hops = All-nil (IsHopBefore time); ending = tt } in
+    let over : IsWayBefore time nothing Discard = record { hops = All-nil (IsHopDoneBefore time); ending = tt } in
     rw (none, is) over
 
 -- a frame that is released before this time comes to its first port before it
@@ -151,7 +151,7 @@ way-before : (time ports frame : ℕ) (release : Release) (sender : Sender) (pat
     → All (IsCrossedAt time ports) (crossings_along frame release sender path hops ending)
     → ComesBefore time hops ending → IsWayBefore time hops ending
 way-before time ports frame release sender [] [] ending within way later crossed comes =
-    record { hops = All-nil (IsHopBefore time); ending = comes }
+    record { hops = All-nil (IsHopDoneBefore time); ending = comes }
 way-before time ports frame release sender [] (hop ∷ hops) ending within way later crossed comes = absurd way
 way-before time ports frame release sender (p ∷ path) [] ending within way later crossed comes = absurd way
 way-before time ports frame release sender (p ∷ path) (hop ∷ hops) ending within way later crossed comes =
@@ -169,7 +169,7 @@ way-before time ports frame release sender (p ∷ path) (hop ∷ hops) ending wi
     (all_right (IsCrossedAt time ports) across (crossings_along frame release sender path hops ending) crossed)
     done.comes) way in
     record {
-      hops = All-cons (IsHopBefore time) hop hops
+      hops = All-cons (IsHopDoneBefore time) hop hops
           (record { arrival = comes; eligible = done.eligible; sent = done.sent }) rest.hops;
       ending = rest.ending;
     }
@@ -195,7 +195,8 @@ release-before time ports frame release sender (p ∷ path) (hop ∷ hops) endin
 -- so a journey is before it
 journey-before : (network : DeclaredNetwork) (time n : ℕ) (j : Travel) → IsNetwork network → IsJourney network j
     → All (IsLaterAt (length network.topology.ports)) (journey_hops network n j)
-    → All (IsCrossedAt time (length network.topology.ports)) (journey_crossings network n j) → IsJourneyBefore time j
+    → All (IsCrossedAt time (length network.topology.ports)) (journey_crossings network n j)
+    → IsJourneyDoneBefore time j
 journey-before network time n j rules is later crossed =
     let s : Sender = sender_at network j.release.sender in
     let ports : ℕ = length network.topology.ports in
@@ -211,11 +212,11 @@ run-before : (network : DeclaredNetwork) (time n : ℕ) (run : List Travel) → 
     → All (IsJourney network) run
     → All (IsLaterAt (length network.topology.ports)) (hops_from network n run)
     → All (IsCrossedAt time (length network.topology.ports)) (crossings_from network n run)
-    → All (IsJourneyBefore time) run
-run-before network time n [] rules journeys later crossed = All-nil (IsJourneyBefore time)
+    → All (IsJourneyDoneBefore time) run
+run-before network time n [] rules journeys later crossed = All-nil (IsJourneyDoneBefore time)
 run-before network time n (j ∷ run) rules journeys later crossed =
     let ports : ℕ = length network.topology.ports in
-    All-cons (IsJourneyBefore time) j run
+    All-cons (IsJourneyDoneBefore time) j run
     (journey-before network time n j rules (All-head (IsJourney network) j run journeys)
     (all_left (IsLaterAt ports) (journey_hops network n j) (hops_from network (n + 1) run) later)
     (all_left (IsCrossedAt time ports) (journey_crossings network n j) (crossings_from network (n + 1) run) crossed))
@@ -246,15 +247,15 @@ each-later network run rule =
       takes = omega (arith, (rule p within).takes k d h);
     }))
 
--- the run so far crosses each port before the end of time
+-- the run so far crosses each port before this time
 each-crossed : {T : Type 0} {key : T → ℕ → ℕ → ℕ} {wait : ℕ → ℕ → ℕ} {network : DeclaredNetwork}
     {releases : List Release} {course : Course T} {entries : List (Moment × Event)}
     → Holds key wait network releases course entries
-    → All (IsCrossedAt END (length network.topology.ports)) (crossings_from network 0 (travels course))
+    → All (IsCrossedAt after_all (length network.topology.ports)) (crossings_from network 0 (travels course))
 each-crossed {T} {key} {wait} {network} {releases} {course} {entries} holds =
     let crossings : List Crossing = crossings_from network 0 (travels course) in
     let ports : ℕ = length network.topology.ports in
-    each-of-port (λ (x : Crossing). x.port) (IsCrossedBefore END) ports crossings (λ p within k d h.
+    each-of-port (λ (x : Crossing). x.port) (IsCrossedBefore after_all) ports crossings (λ p within k d h.
     let link : IsPort (length network.topology.nodes) (port_at network.topology.ports p) =
     (ports_are_lawful network.topology holds.rules.topology).each p no_port within in
     let last = holds.bounds.last in
@@ -265,15 +266,16 @@ each-crossed {T} {key} {wait} {network} {releases} {course} {entries} holds =
       arrival = omega (arith, ends, arrives.latest, link.latency, last);
     })
 
--- where it is legal, all that it tells was before the end of time
-run-in-time : {T : Type 0} {key : T → ℕ → ℕ → ℕ} {wait : ℕ → ℕ → ℕ} {network : DeclaredNetwork}
+-- where it is legal, each of its moments was before it
+run-done : {T : Type 0} {key : T → ℕ → ℕ → ℕ} {wait : ℕ → ℕ → ℕ} {network : DeclaredNetwork}
     {releases : List Release} {course : Course T} {entries : List (Moment × Event)}
-    → Holds key wait network releases course entries → IsLegal network (travels course) → IsRunInTime (travels course)
-run-in-time {T} {key} {wait} {network} {releases} {course} holds legal =
-    run-before network END 0 (travels course) holds.rules legal.journeys
+    → Holds key wait network releases course entries → IsLegal network (travels course)
+    → All (IsJourneyDoneBefore after_all) (travels course)
+run-done {T} {key} {wait} {network} {releases} {course} holds legal =
+    run-before network after_all 0 (travels course) holds.rules legal.journeys
     (each-later network (travels course) legal.ports) (each-crossed holds)
 
--- so where nothing is to happen any more, all that the run tells was
+-- so where nothing is to happen any more, all that the run tells was before the end of time
 pub ended-in-time : {T : Type 0} {key : T → ℕ → ℕ → ℕ} {wait : ℕ → ℕ → ℕ} {network : DeclaredNetwork}
     {releases : List Release} {course : Course T} → Holds key wait network releases course []
     → IsRunInTime (map finished course.records)
@@ -281,4 +283,4 @@ ended-in-time {T} {key} {wait} {network} {releases} {course} holds =
     let same : travels course ≡ map finished course.records = run-finished holds in
     let legal : IsLegal network (travels course) =
     subst (IsLegal network) (sym same) (ended-run holds).1.legal in
-    subst IsRunInTime same (run-in-time holds legal)
+    subst IsRunInTime same (in-time-with-late network (travels course) holds.rules legal (run-done holds legal))

@@ -17,6 +17,7 @@ pub mod Hops
 pub mod InTime
 pub mod Judged
 pub mod Kept
+pub mod LateTimes
 pub mod Left
 pub mod Moving
 pub mod Now
