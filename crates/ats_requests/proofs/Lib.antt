@@ -2,4 +2,3 @@ pub mod Keeps
 pub mod Classes
 pub mod Requests
 pub mod Entry
-pub mod Worked

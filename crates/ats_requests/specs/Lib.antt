@@ -2,4 +2,3 @@ pub mod Admission
 pub mod Entry
 pub mod Requests
 pub mod Laws
-pub mod Worked

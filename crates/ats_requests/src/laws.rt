@@ -2,7 +2,6 @@
 
 ghost use Rattle.ats_requests.specs.Laws.{AdmitIsJudged, EntryIsPush, LowestIsFirst, NoClassHasReasons, RequestKeeps};
 ghost use Rattle.ats_requests.specs.Laws.{RequestsKeep};
-ghost use Rattle.ats_requests.specs.Worked.{AreAnswered};
 
 /// A law: a network for which a certificate holds stays one after a request, and keeps its topology.
 pub fn request_keeps()
@@ -34,10 +33,4 @@ pub fn admit_is_judged()
 /// to the network, and for the same cause.
 pub fn entry_is_push()
     ensures { EntryIsPush }
-{}
-
-/// A law: eight worked requests to a worked network get the answers that are written out beside them, to the
-/// picosecond.
-pub fn worked_requests()
-    ensures { AreAnswered }
 {}

@@ -1,0 +1,10 @@
+pub mod Captures
+pub mod Conformances
+pub mod Explanations
+pub mod Less
+pub mod Making
+pub mod NetworkProofs
+pub mod Reasoned
+pub mod Refused
+pub mod Requests
+pub mod Walked

@@ -1,0 +1,66 @@
+use Rattle.std.proofs.Common.{◌≡◌, Bool, true, ◌&&◌, [], All, Option, Some, None, refl, sym}
+use Rattle.std.specs.Prelude.{codes, is_none}
+use Rattle.std.proofs.lemmas.Bool.{and_parts, false≢true}
+use Rattle.ats_streams.specs.Stream.{DeclaredStream}
+use Rattle.ats_requests.specs.Laws.{IsCertified}
+use Rattle.ats_requests.specs.Requests.{MayEnter, MayAsk}
+use Rattle.ats_requests.specs.declared.request.Request.{Request}
+use Rattle.ats_requests.specs.declared.request.Request.TheVariants.{Admit, Lowest, Withdraw}
+use Rattle.ats_requests.proofs.Classes.{lowest_is_first, no_class_has_reasons}
+use Rattle.ats_requests.proofs.Keeps.{admit_is_judged}
+use Rattle.ats_requests.proofs.Requests.{requests_keep}
+use Rattle.ats_examples.specs.Networks.{line_nodes, line_links}
+use Rattle.ats_examples.proofs.NetworkTest.{network_by, is_stream, stream_by, is_valid_from, valid_from_by}
+use Rattle.ats_examples.proofs.Tests.{all_by}
+use Rattle.ats_verdict_examples.specs.Requested.{bridged, large, small, asked, late_in_each, RequestsAreMet}
+
+-- Requests by computation, and what the laws say of them.
+
+certified : IsCertified bridged
+certified = record { rules = network_by line_nodes line_links bridged.streams [] refl refl; free = refl }
+
+-- a stream may enter
+abbrev enters : DeclaredStream → Bool
+enters stream = is_stream stream && (is_valid_from bridged.topology 0 stream.path && is_none stream.identity)
+
+none_by : {A : Type 0} (given : Option A) → is_none given ≡ true → given ≡ None
+none_by None h = refl
+none_by (Some a) h = absurd (false≢true h)
+
+enters_by : (stream : DeclaredStream) → enters stream ≡ true → MayEnter bridged.topology stream
+enters_by stream h =
+    let path : Bool = is_valid_from bridged.topology 0 stream.path in
+    let first = and_parts (is_stream stream) (path && is_none stream.identity) h in
+    let second = and_parts path (is_none stream.identity) first.1 in
+    record {
+      rules = stream_by stream first.0;
+      path = valid_from_by bridged.topology 0 stream.path second.0;
+      unidentified = none_by stream.identity second.1;
+    }
+
+-- a request may be made
+abbrev asks : Request → Bool
+asks (Admit stream) = enters stream
+asks (Lowest stream) = enters stream
+asks (Withdraw name) = true
+
+asks_by : (request : Request) → asks request ≡ true → MayAsk bridged.topology request
+asks_by (Admit stream) h = enters_by stream h
+asks_by (Lowest stream) h = enters_by stream h
+asks_by (Withdraw name) h = tt
+
+may_ask : All (MayAsk bridged.topology) asked
+may_ask = all_by (MayAsk bridged.topology) asks asks_by asked refl
+
+pub requests_are_met : RequestsAreMet
+requests_are_met = record {
+  certified = certified;
+  may_ask = may_ask;
+  answered = refl;
+  left = refl;
+  stays = requests_keep bridged asked certified may_ask;
+  lowest = lowest_is_first bridged (small (codes "c") 1) 1 30757334 refl;
+  no_class = no_class_has_reasons bridged (large (codes "d") 1) late_in_each refl;
+  reason = refl;
+  judged = sym (admit_is_judged bridged (large (codes "c") 5) certified (enters_by (large (codes "c") 5) refl) refl);
+}

@@ -1,0 +1,10 @@
+pub mod Networks
+pub mod Conformance
+pub mod Reasons
+pub mod Refusals
+pub mod Explained
+pub mod OneLess
+pub mod Requested
+pub mod Made
+pub mod Ways
+pub mod Captured
