@@ -41,7 +41,7 @@ use Rattle.ats_requests.proofs.Keeps.{entered, enters_with}
 use Rattle.ats_requests.proofs.Requests.{request_keeps}
 use Rattle.ats_command_law.specs.AdmitMeaning.{AreAnswers, network_after}
 use Rattle.ats_command_law.specs.Answered.{AdmitDenied, AdmitTells, AreFirstReasons, HasFirstReason}
-use Rattle.ats_command_law.specs.Answered.{IsFull, IsNameFree, IsNameTaken, LowestDenied, LowestTells, Tells}
+use Rattle.ats_command_law.specs.Answered.{IsFull, IsNameFree, IsNameTaken, LowestDenied, LowestTells, AnswerTells}
 use Rattle.ats_command_law.specs.Answered.{WithdrawTells}
 use Rattle.ats_command_law.proofs.OneClass.{AsksOneClass, IsOfOneClass}
 
@@ -212,7 +212,7 @@ withdraw_tells network name = by (place_of name (stream_names network.streams)) 
         }
 
 tells : (network : DeclaredNetwork) (request : Request) → IsNetwork network → MayAsk network.topology request
-    → AsksOneClass request → Tells network (after network request) request (answer network request)
+    → AsksOneClass request → AnswerTells network (after network request) request (answer network request)
 tells network (Admit stream) is may one = admit_tells network stream is may one
 tells network (Lowest stream) is may one = lowest_tells network stream is may
 tells network (Withdraw name) is may one = withdraw_tells network name
@@ -224,19 +224,20 @@ pub record AreAsked (topology : DeclaredTopology) (asked : List Request) : Type 
 
 -- what is answered to the first request, and to those behind it
 answers_from : (network : DeclaredNetwork) (request : Request) (asked : List Request)
-    → Tells network (after network request) request (answer network request) → AreAnswers (after network request) asked
+    → AnswerTells network (after network request) request (answer network request)
+    → AreAnswers (after network request) asked
     → AreAnswers network (request ∷ asked)
 answers_from network request asked first later =
     record { as_many = omega (arith, later.as_many); each = each }
   where
     each : (k : ℕ) (r : Request) (a : Answer) → slice_get (request ∷ asked) k ≡ Some r
         → slice_get (answers network (request ∷ asked)) k ≡ Some a
-        → Tells (network_after network (request ∷ asked) k) (network_after network (request ∷ asked) (k + 1)) r a
+        → AnswerTells (network_after network (request ∷ asked) k) (network_after network (request ∷ asked) (k + 1)) r a
     each zero r a asks gives =
-        subst (λ (q : Request). Tells network (after network request) q a) (same_Some request r asks)
-        (subst (Tells network (after network request) request) (same_Some (answer network request) a gives) first)
+        subst (λ (q : Request). AnswerTells network (after network request) q a) (same_Some request r asks)
+        (subst (AnswerTells network (after network request) request) (same_Some (answer network request) a gives) first)
     each (suc k) r a asks gives =
-        subst (λ (n : ℕ). Tells (network_after network (request ∷ asked) (suc k))
+        subst (λ (n : ℕ). AnswerTells (network_after network (request ∷ asked) (suc k))
         (network_after network (request ∷ asked) n) r a)
         (let e : suc (k + 1) ≡ suc k + 1 = omega arith in e) (later.each k r a asks gives)
 

@@ -14,7 +14,7 @@ use Rattle.ats_verdict_text.specs.Text.{reason_text, refused_text}
 use Rattle.ats_admission_text.specs.Text.{admission_text}
 use Rattle.ats_command_input.specs.Input.{network_in, requests_in}
 use Rattle.ats_command_due.specs.Due.{admit_answer}
-use Rattle.ats_command_law.specs.Answered.{Tells}
+use Rattle.ats_command_law.specs.Answered.{AnswerTells}
 use Rattle.ats_command_input.specs.declared.status.Status.{Status}
 use Rattle.ats_command_input.specs.declared.status.Status.TheVariants.{Done, Input, Refused}
 
@@ -34,7 +34,7 @@ pub record AreAnswers (network : DeclaredNetwork) (asked : List Request) : Type 
   pub as_many : length (answers network asked) ≡ length asked
   pub each : (k : ℕ) (request : Request) (answer : Answer) → slice_get asked k ≡ Some request
       → slice_get (answers network asked) k ≡ Some answer
-      → Tells (network_after network asked k) (network_after network asked (k + 1)) request answer
+      → AnswerTells (network_after network asked k) (network_after network asked (k + 1)) request answer
 
 -- two files of these bytes declare this network and make these requests; before and after each of them the least
 -- certificate is sound; and the text gives the answers, each of which says what its request made of the network

@@ -114,7 +114,7 @@ WithdrawTells old new name (Admitted class sum) = ⊥
 WithdrawTells old new name Withdrawn = IsGone old new name
 WithdrawTells old new name (Refused denied) = IsUnchanged old new (WithdrawDenied old name denied)
 
-abbrev pub Tells : DeclaredNetwork → DeclaredNetwork → Request → Answer → Type 0
-Tells old new (Admit stream) answer = AdmitTells old new stream answer
-Tells old new (Lowest stream) answer = LowestTells old new stream answer
-Tells old new (Withdraw name) answer = WithdrawTells old new name answer
+abbrev pub AnswerTells : DeclaredNetwork → DeclaredNetwork → Request → Answer → Type 0
+AnswerTells old new (Admit stream) answer = AdmitTells old new stream answer
+AnswerTells old new (Lowest stream) answer = LowestTells old new stream answer
+AnswerTells old new (Withdraw name) answer = WithdrawTells old new name answer

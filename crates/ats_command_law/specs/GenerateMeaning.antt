@@ -26,7 +26,7 @@ abbrev pub AreWithinLeast : DeclaredNetwork → List Travel → Type 0
 AreWithinLeast network run = ((rows : List Row) × Holds network rows)
     → AllDelaysAreWithin network (least_certificate network) run
 
--- what is printed of a sender as its worst delay is at most what is printed as its bound, where one is printed
+-- of each sender the worst delay that `report_text` writes is at most the bound that it writes, where it writes one
 abbrev pub EachWorstIsWithin : DeclaredNetwork → List Travel → Type 0
 EachWorstIsWithin network run = (i : ℕ) (summary : Summary) (bound : ℕ)
     → slice_get (summaries_of (length (senders_of network)) run) i ≡ Some summary

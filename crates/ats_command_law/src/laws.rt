@@ -67,9 +67,9 @@ pub fn what_conform_answers()
 /// network as it is, and after each request, the least certificate holds and is sound, and by it each frame of a talker
 /// that keeps its buckets arrives within its stream's sum and deadline; and the text gives the answers, one to each
 /// request, and the number of streams at the end. A stream that is admitted is the one asked for, in the printed class
-/// at each port of its path, beside all that was there, and the printed sum is that of its least bounds; where the
-/// lowest class was asked for, there is a first reason against the network with it in each lower class. A stream that
-/// is withdrawn is gone, and it alone. A denial changes nothing, and its cause holds: a printed reason is the first
+/// at each port of its path, beside all that was there; the printed sum is that of its least bounds. Where the lowest
+/// class was asked for, there is a first reason against the network with it in each lower class. A stream that is
+/// withdrawn is gone, and it alone. A denial changes nothing, and its cause holds: a printed reason is the first
 /// against the network with the stream, for `no-class` in each class. `Refused`: they declare a network, for which no
 /// certificate holds, and make requests, and the text gives the first reason against the network. `Input`: one of them
 /// does not declare what it should. No other status comes.
@@ -131,10 +131,10 @@ pub fn accepted_text_is_sound()
     ensures { AcceptedTextIsSound }
 {}
 
-/// Where `Done` is due to `check` of a certificate and to `capture` at a station for one network: each frame of a
-/// stream whose talker keeps its buckets in the releases of the capture is, in the run that `capture` prints, never
-/// discarded, eligible at each next hop within the bound that `check` prints for the hop before, and arrives within the
-/// printed sum of its stream and within its deadline.
+/// Let `Done` be due to `check` of a certificate and to `capture` at a station, for one network. Take the run that
+/// `capture` prints, and a frame of a stream whose talker keeps its buckets in the releases of the capture. It is never
+/// discarded, is eligible at each next hop within the bound that `check` prints for the hop before, and arrives within
+/// its stream's printed sum and deadline.
 pub fn capture_keeps_bounds()
     ensures { CaptureKeepsBounds }
 {}

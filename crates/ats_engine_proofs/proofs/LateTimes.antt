@@ -14,7 +14,8 @@ use Rattle.ats_network.specs.Class.{class_at}
 use Rattle.ats_network.specs.Sender.{Sender}
 use Rattle.ats_network.specs.Senders.{IsSender, sender_at}
 use Rattle.ats_network.proofs.SenderLemmas.{sender_keeps}
-use Rattle.ats_group.specs.Group.{Offer, IsRuled}
+use Rattle.ats_group.specs.Group.{Offer}
+use Rattle.ats_streams.specs.Traffic.{IsRuled}
 use Rattle.ats_group.specs.Judge.{ats_judge}
 use Rattle.ats_group.specs.declared.verdict.Verdict.{Verdict}
 use Rattle.ats_group.specs.declared.verdict.Verdict.TheVariants.{Eligible, Late, Size}

@@ -26,8 +26,8 @@ Carries network = first_some (overload network) (places_of network) ≡ None
 abbrev pub AddUp : Parts → Type 0
 AddUp parts = parts.lower + parts.bursts + parts.higher + parts.frame + parts.latency ≡ parts.bound
 
--- of the senders of a network, the first that uses a port, is of a lower class than this one there, and whose longest
--- frame has as many bits as the longest of a lower class
+-- the first of a network's senders that uses a port, is of a lower class than this one there, and whose longest frame
+-- has as many bits as the longest of a lower class, has this name
 pub record SendsLongest (network : DeclaredNetwork) (port class : ℕ) (name : List ℕ) : Type 0 where
   pub sender : Sender
   pub named : sender.name ≡ name
@@ -37,7 +37,7 @@ pub record SendsLongest (network : DeclaredNetwork) (port class : ℕ) (name : L
   pub first : IsFirstBreach (λ s. sends_lower port class (port_sums network port class).lower s ≡ false)
       (senders_of network) sender
 
--- this is its name, where there is one
+-- a name is that of such a sender; where there is no name, there is none
 abbrev pub IsOfLongest : DeclaredNetwork → ℕ → ℕ → Option (List ℕ) → Type 0
 IsOfLongest network port class (Some name) = SendsLongest network port class name
 IsOfLongest network port class None =
