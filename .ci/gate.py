@@ -42,12 +42,16 @@ def write(path, text):
         file.write(text)
 
 
+def answer(*words, room=None):
+    """The status and the bytes of a call of the program, in a folder where one is given."""
+    ran = subprocess.run([PROGRAM, *words], cwd=room, capture_output=True, timeout=LAST_SECONDS, check=False)
+    return ran.returncode, ran.stdout
+
+
 def run(*words, room=None):
     """The status and the lines of a call of the program, in a folder where one is given."""
-    ran = subprocess.run(
-        [PROGRAM, *words], cwd=room, capture_output=True, text=True, timeout=LAST_SECONDS, check=False
-    )
-    return ran.returncode, ran.stdout.splitlines()
+    status, text = answer(*words, room=room)
+    return status, text.decode().splitlines()
 
 
 def numbers(*defaults):
@@ -99,8 +103,10 @@ class Tally:
         if number < max(1, least):
             self.add(f"{number} {what}, where {max(1, int(least))} are the least")
 
-    def end(self):
-        """Prints how many cases passed and failed, and ends the script."""
-        self.floor("cases", self.passed + self.failed, 1)
+    def end(self, least=1):
+        """Prints how many cases passed and failed, and ends the script; so many are the least, 0 where it said that
+        it can try nothing."""
+        if least:
+            self.floor("cases", self.passed + self.failed, least)
         print(f"{self.passed} passed, {self.failed} failed", flush=True)
         sys.exit(self.failed > 0)

@@ -6,6 +6,10 @@ import tomllib
 from typing import NamedTuple
 
 SECOND = 10**12
+
+# The rates that a link may have, in megabits per second.
+RATES = (10, 100, 1000, 2500, 5000, 10000, 25000, 40000, 50000, 100000)
+
 HEADER = "port,class,higher,equal,bursts,lower,least,wait,bound"
 
 
@@ -221,7 +225,7 @@ class Network:
 
     # How many bridges there may be, how many stations more, rates and propagations of links, and the greatest
     # processing and the residences of bridges, in nanoseconds.
-    BRIDGES, MORE_STATIONS, RATES, PROPAGATIONS = (1, 2, 3, 4), (1, 2), (100, 1000), (0, 500)
+    BRIDGES, MORE_STATIONS, RATES, PROPAGATIONS = (1, 2, 3, 4), (1, 2), (100, 1000, *RATES), (0, 500)
     PROCESSING, RESIDENCES = (0, 1000, 5000), (100_000, 400_000, 10_000_000)
 
     def __init__(self, draw):
@@ -268,9 +272,9 @@ class Network:
 
 
 class Varied(Network):
-    """A random network with streams and flows of many kinds, over links of three rates."""
+    """A random network with streams and flows of many kinds, over links of every rate."""
 
-    RATES, PROPAGATIONS = (100, 1000, 10000), (0, 10, 500)
+    RATES, PROPAGATIONS = RATES, (0, 10, 500)
     PROCESSING, RESIDENCES = (0, 100, 1000, 5000), (50_000, 1_000_000, 10_000_000)
     ALIKE = False
 

@@ -1,6 +1,7 @@
 """A program that answers as the real one, but wrongly in one way: stand_in.py WRONG PROGRAM WORD..
 
-WRONG is a key of WRONGS below; `none` changes nothing. `wrong_programs` runs the scripts of the gate over it."""
+WRONG is a key of ASKS or WRONGS below; `none` changes nothing. `wrong_programs` runs the scripts of the gate over
+it."""
 
 import os
 import re
@@ -122,20 +123,26 @@ def shifted_row(line, by):
     return ",".join(fields)
 
 
-def shifted_file(name):
-    """A copy of a network file whose residences are a nanosecond longer, or of a certificate whose waits are."""
+def other_file(name, change):
+    """A copy of a file with this change in its text."""
     with open(name, encoding="ascii") as file:
-        text = re.sub(r"residence_ns = (\d+)", lambda found: f"residence_ns = {int(found[1]) + 1}", file.read())
-    with open(f"{name}.shifted", "w", encoding="ascii") as file:
-        file.write("\n".join(shifted_row(line, LESS) for line in text.split("\n")))
-    return f"{name}.shifted"
+        text = change(file.read())
+    with open(f"{name}.other", "w", encoding="ascii") as file:
+        file.write(text)
+    return f"{name}.other"
+
+
+def shifted_text(text):
+    """A network file whose residences are a nanosecond longer, or a certificate whose waits are."""
+    text = re.sub(r"residence_ns = (\d+)", lambda found: f"residence_ns = {int(found[1]) + 1}", text)
+    return "\n".join(shifted_row(line, LESS) for line in text.split("\n"))
 
 
 def short_waits(program, words):
     """Each wait above 2 ns is 1 ns too small, in `bound` and `check` alike, and so what is printed of residences."""
     if not is_about(words, "bound", "check"):
         return call(program, words)
-    status, text = call(program, [words[0], *map(shifted_file, words[1:])])
+    status, text = call(program, [words[0], *(other_file(name, shifted_text) for name in words[1:])])
     text = "\n".join(shifted_row(line, -LESS) for line in text.split("\n"))
     if status == 3:
         named = r"(refused (?:wait|residence) .*) (\d+)$"
@@ -143,10 +150,51 @@ def short_waits(program, words):
     return status, text
 
 
-# What each wrong program makes of the words, the status and the text of the right one.
+def slow_links(program, words):
+    """Links of 5, 40 and 50 Gb/s count as such of 2.5 Gb/s, but for `show`."""
+    if is_about(words, "bound", "explain", "check", "conform", "replay", "capture", "generate", "admit"):
+        rate = r"^mbps = (5000|40000|50000)$"
+        words = (words[0], other_file(words[1], lambda text: re.sub(rate, "mbps = 2500", text, flags=re.M)), *words[2:])
+    return call(program, words)
+
+
+def orders_early(program, words):
+    """A `capture` whose order is `early`, whatever is asked."""
+    return call(program, (*words[:-1], "early") if is_about(words, "capture") else words)
+
+
+def seeds_as_1(program, words):
+    """A `generate` to which all seeds but the least and the greatest are the seed 1."""
+    if is_about(words, "generate") and words[2] not in ("0", str(2**64 - 1)):
+        words = (*words[:2], "1", *words[3:])
+    return call(program, words)
+
+
+def worst_halved(program, words):
+    """Summaries whose longest delays are half as long, of networks of format 2 and of those with `classes`."""
+    status, text = call(program, words)
+    if not is_about(words, "generate"):
+        return status, text
+    with open(words[1], encoding="ascii") as file:
+        more = re.search("^format = 2$|^classes = ", file.read(), re.M)
+    return status, re.sub(r"worst (\d+)", lambda it: f"worst {int(it[1]) // 2}", text) if more else text
+
+
+def one_less_of(verb):
+    """A program that answers one command with numbers that are less by one at the ends of lines."""
+    return lambda words, status, text: one_less(words, status, text) if is_about(words, verb) else (status, text)
+
+
+# What answers for the wrong programs that ask the right one otherwise, or look into its files.
+ASKS = {
+    it.__name__.replace("_", "-"): it for it in (short_waits, slow_links, orders_early, seeds_as_1, worst_halved)
+}  # fmt: skip
+
+# What each other wrong program makes of the words, the status and the text of the right one.
 WRONGS = {
     "none": lambda words, status, text: (status, text),
     "output-lost": lambda words, status, text: (status, text),
+    **{f"one-less-{verb}": one_less_of(verb) for verb in ("show", "explain", "shape", "conform")},
     **{
         it.__name__.replace("_", "-"): it
         for it in (
@@ -160,8 +208,8 @@ WRONGS = {
 
 def main(wrong, program, *words):
     """Runs the real program, and prints and answers otherwise."""
-    if wrong == "short-waits":
-        status, text = short_waits(program, words)
+    if wrong in ASKS:
+        status, text = ASKS[wrong](program, words)
     else:
         status, text = WRONGS[wrong](words, *call(program, words))
     left = text.encode("utf-8", "surrogateescape")
