@@ -5,6 +5,7 @@ use Rattle.std.specs.List.{find, list_any}
 use Rattle.std.specs.Str.{bytes_eq}
 use Rattle.std.specs.declared.alloc.Global.{Global}
 use Rattle.ats_io.specs.Outside.{IfTold, IsPieceAt}
+use Rattle.ats_io.specs.Reads.{Read}
 
 -- files as contracts see them: the bytes of each name beside the bytes of the file
 abbrev pub pairs_of : List (String Global × Vec ℕ Global) → List (List ℕ × List ℕ)
@@ -15,13 +16,19 @@ abbrev pub has_name : List ℕ → String Global × Vec ℕ Global → Bool
 has_name name file = bytes_eq (string_bytes file.0) name
 
 -- files in memory: their names and bytes, the count of faults of each, the count that all other names share, the number
--- of calls so far, and the numbers of the calls that are to fail
+-- of calls so far, the numbers of the calls that are to fail, and the reads that were made
 pub record HeldFiles : Type 0 where
   pub files : List (List ℕ × List ℕ)
   pub counts : List ℕ
   pub others : ℕ
   pub calls : ℕ
   pub fails : List ℕ
+  pub reads : List Read
+
+-- files in memory that never fail: their names and bytes, and the reads that were made
+pub record SureHeld : Type 0 where
+  pub files : List (List ℕ × List ℕ)
+  pub reads : List Read
 
 -- a sink in memory: its bytes, how many there may be, how many it takes a call at most, the numbers of the calls that
 -- are to fail, the number of calls so far, and the count of faults

@@ -1,5 +1,5 @@
 //! The outside of the simulator: files that are read by name and a sink that takes text, each with a count of faults;
-//! whole reads and writes over them; lines of a text.
+//! the reads that were made; whole reads and writes; lines of a text.
 #![tactic(auto)]
 
 pub mod fault;
@@ -7,6 +7,7 @@ pub mod files;
 pub mod mem_files;
 pub mod mem_sink;
 mod plan;
+pub mod reads;
 pub mod sink;
 pub mod sure;
 pub mod text;
@@ -16,6 +17,7 @@ pub use fault::{Failed, ReadFault};
 pub use files::{Files, MAX_PLACE};
 pub use mem_files::MemFiles;
 pub use mem_sink::MemSink;
+pub use reads::{ReadCall, Reads};
 pub use sink::Sink;
 pub use sure::{SureFiles, SureSink};
 pub use text::line_at;

@@ -1,14 +1,16 @@
 //! Files in memory whose reads fail where it is planned.
 
 ghost use Rattle.std.specs.Prelude.{◌≡◌, ℕ, ◌<◌, ◌≤◌, ◌||◌, List, length, position, is_err, is_none, Option};
-ghost use Rattle.std.specs.Prelude.{IfOk, IfSome, OnErr, OnOk};
+ghost use Rattle.std.specs.Prelude.{IfOk, IfSome, OnErr, OnOk, []};
 ghost use Rattle.ats_io.specs.Outside.{Rose, Continues};
 ghost use Rattle.ats_io.specs.Memory.{pairs_of, bytes_of, count_at, count_of, next_count, has_name, is_named};
 ghost use Rattle.ats_io.specs.Memory.{is_planned, ReadsPiece, ReadsAll};
+ghost use Rattle.ats_io.specs.Reads.{and_read};
 
 use crate::fault::Failed;
 use crate::files::{Files, MAX_PLACE};
 use crate::plan;
+use crate::reads::{ReadCall, Reads};
 use std::alloc::{AllocError, Global};
 use std::marker::Model;
 
@@ -26,6 +28,7 @@ pub struct MemFiles {
     others: u64,
     calls: u64,
     fails: Vec<u32>,
+    reads: Reads,
 }
 
 impl Model for MemFiles {
@@ -40,6 +43,7 @@ impl Model for MemFiles {
       others = s.others;
       calls = s.calls;
       fails = s.fails.items;
+      reads = s.reads.made;
     } };
 
     ghost invariant = { λ s. vec_len s.counts ≡ vec_len s.files };
@@ -56,6 +60,7 @@ impl MemFiles {
         ensures told { IfOk result
             (λ made. (name : List ℕ) → ⟦<MemFiles as Files>⟧.told made name ≡ bytes_of (pairs_of files.items) name) }
         ensures faults { IfOk result (λ made. (name : List ℕ) → ⟦<MemFiles as Files>⟧.faults made name ≡ 0) }
+        ensures reads { IfOk result (λ made. ⟦<MemFiles as Files>⟧.reads made ≡ []) }
         ensures held { IfOk result (λ made. made.files ≡ pairs_of files.items) }
         ensures calls { IfOk result (λ made. made.calls ≡ 0) }
         ensures fails { IfOk result (λ made. made.fails ≡ fails.items) }
@@ -67,6 +72,7 @@ impl MemFiles {
             others: 0,
             calls: 0,
             fails,
+            reads: Reads::new(),
         })
     }
 }
@@ -75,6 +81,8 @@ impl Files for MemFiles {
     ghost told = { λ s name. bytes_of s.files name };
 
     ghost faults = { λ s name. count_of s.files s.counts s.others name };
+
+    ghost reads = { λ s. s.reads };
 
     fn read(&mut self, name: &str, at: u64, buf: &mut [u8]) -> Result<usize, Failed>
         requires room { 0 < length buf.old }
@@ -86,6 +94,7 @@ impl Files for MemFiles {
         ensures calm { OnOk result
             (⟦<MemFiles as Files>⟧.faults self.new ≡ ⟦<MemFiles as Files>⟧.faults self.old) }
         ensures continues { Continues ⟦<MemFiles as Files>⟧.told ⟦<MemFiles as Files>⟧.faults self.old self.new }
+        ensures made { self.new.reads ≡ and_read self.old.reads name.now at result }
         ensures full { IfOk result (λ count. ReadsAll self.old.files name.now at count buf.new) }
         ensures fails { is_err result ≡ (is_none (position (is_named name.now) self.old.files)
             || is_planned self.old.fails (next_count self.old.calls)) }
@@ -94,7 +103,7 @@ impl Files for MemFiles {
     {
         self.calls = plan::next_count(self.calls);
         let fails = plan::is_planned(&self.fails, self.calls);
-        read_named(
+        let answer = read_named(
             &self.files,
             &mut self.counts,
             &mut self.others,
@@ -102,7 +111,9 @@ impl Files for MemFiles {
             name,
             at,
             buf,
-        )
+        );
+        self.reads = self.reads.and(&ReadCall { name, at, answer });
+        answer
     }
 }
 

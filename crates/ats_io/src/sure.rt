@@ -5,47 +5,53 @@ ghost use Rattle.std.specs.Prelude.{unwrap_or};
 ghost use Rattle.std.specs.List.{find};
 ghost use Rattle.ats_io.specs.Outside.{IfTold, Continues, IsPieceAt};
 ghost use Rattle.ats_io.specs.Memory.{pairs_of, has_name, bytes_or_none};
+ghost use Rattle.ats_io.specs.Reads.{and_read};
 
 use crate::fault::Failed;
 use crate::files::{Files, MAX_PLACE};
 use crate::plan;
+use crate::reads::{ReadCall, Reads};
 use crate::sink::Sink;
 use std::marker::Model;
 
 /// Files in memory that cannot fail: there is no fault to count, and a name without an entry is an
-/// empty file. What a name has is always told. In contracts it is the list of its entries, names
-/// and bytes.
+/// empty file. What a name has is always told. In contracts it is the record `SureHeld`.
 #[derive(Drop)]
 pub struct SureFiles {
     files: Vec<(String, Vec<u8>)>,
+    reads: Reads,
 }
 
 impl Model for SureFiles {
-    ghost use Rattle.std.specs.Prelude.{List, ℕ};
-    ghost use Rattle.ats_io.specs.Memory.{pairs_of};
+    ghost use Rattle.ats_io.specs.Memory.{SureHeld, pairs_of};
 
-    ghost Value = { List (List ℕ × List ℕ) };
+    ghost Value = { SureHeld };
 
-    ghost view = { λ s. pairs_of s.files.items };
+    ghost view = { λ s. record { files = pairs_of s.files.items; reads = s.reads.made } };
 }
 
 impl SureFiles {
     /// Files that hold these entries, each a name and its bytes. Names may be the same: then the
     /// first is held. It takes no memory and has no errors.
     pub fn new(files: Vec<(String, Vec<u8>)>) -> Self
-        ensures held { result ≡ pairs_of files.items }
+        ensures held { result ≡ record { files = pairs_of files.items; reads = [] } }
         ensures told { (name : List ℕ)
             → ⟦<SureFiles as Files>⟧.told result name ≡ Some (bytes_or_none (pairs_of files.items) name) }
         ensures faults { (name : List ℕ) → ⟦<SureFiles as Files>⟧.faults result name ≡ 0 }
     {
-        SureFiles { files }
+        SureFiles {
+            files,
+            reads: Reads::new(),
+        }
     }
 }
 
 impl Files for SureFiles {
-    ghost told = { λ s name. Some (bytes_or_none s name) };
+    ghost told = { λ s name. Some (bytes_or_none s.files name) };
 
     ghost faults = { λ _ _. 0 };
+
+    ghost reads = { λ s. s.reads };
 
     /// Puts bytes of the file `name` from place `at`, in bytes, into the front of the buffer, as
     /// many as are there and fit, and gives their number. It is never `Failed`.
@@ -55,12 +61,16 @@ impl Files for SureFiles {
         requires place { at ≤ MAX_PLACE }
         ensures within { IfOk result (λ count. count ≤ length buf.new) }
         ensures piece { IfOk result
-            (λ count. IfTold (Some (bytes_or_none self.old name.now)) (λ bytes. IsPieceAt bytes at count buf.new)) }
+            (λ count. IfTold (Some (bytes_or_none self.old.files name.now))
+            (λ bytes. IsPieceAt bytes at count buf.new)) }
         ensures continues { Continues ⟦<SureFiles as Files>⟧.told ⟦<SureFiles as Files>⟧.faults self.old self.new }
-        ensures full { result ≡ Ok (min (length buf.new) (length (drop at (bytes_or_none self.old name.now)))) }
-        ensures same { self.new ≡ self.old }
+        ensures made { self.new.reads ≡ and_read self.old.reads name.now at result }
+        ensures full { result ≡ Ok (min (length buf.new) (length (drop at (bytes_or_none self.old.files name.now)))) }
+        ensures same { self.new.files ≡ self.old.files }
     {
-        Ok(plan::put_piece(bytes_of(&self.files, name), at, buf))
+        let answer = Ok(plan::put_piece(bytes_of(&self.files, name), at, buf));
+        self.reads = self.reads.and(&ReadCall { name, at, answer });
+        answer
     }
 }
 

@@ -1,8 +1,9 @@
 //! Reads of whole files and writes of whole texts.
 
-ghost use Rattle.std.specs.Prelude.{◌≡◌, ◌+◌, ◌-◌, ◌<◌, ◌≤◌, [], length, take, IfOk, OnOk, OnErr, IsOk, IsErrOf};
+ghost use Rattle.std.specs.Prelude.{◌≡◌, ◌+◌, ◌-◌, ◌<◌, ◌≤◌, [], ◌∷◌, length, take, IfOk, OnOk, OnErr, IsOk, IsErrOf};
 ghost use Rattle.std.specs.Prelude.{vec_len};
 ghost use Rattle.ats_io.specs.Outside.{Rose, IfTold, Continues, TakesPrefix, appended};
+ghost use Rattle.ats_io.specs.Reads.{ReadsInTurn};
 ghost use Rattle.ats_io.specs.Whole.{WholeIsDue, TooLongIsDue};
 ghost use Rattle.ats_io.specs.declared.files.TheConstants.{MAX_PLACE};
 
@@ -15,8 +16,8 @@ use std::alloc::{AllocError, Global};
 /// The most bytes that one call asks of a file.
 const PIECE: usize = 65_536;
 
-/// The bytes of the file `name`, read from front to end. Conditions: the limit, in bytes, is at
-/// most 268,435,456. At most one byte past the limit is read.
+/// The bytes of the file `name`, read once, from front to end. Conditions: the limit, in bytes, is
+/// at most 268,435,456. At most one byte past the limit is read.
 ///
 /// `Failed`: a read failed, and the count of faults of the name rose. `TooLong`: the file has more
 /// bytes than the limit. `Failure::NoMemory`: memory ran out. Unless it is `Failed`, no count of
@@ -40,6 +41,7 @@ pub fn read_whole<F: Files>(
     ensures long_due { TooLongIsDue (F.told files.old name.now) (F.faults files.old name.now)
         (F.faults files.new name.now) limit result }
     ensures continues { Continues F.told F.faults files.old files.new }
+    ensures in_turn { ReadsInTurn (name.now ∷ []) (F.reads files.old) (F.reads files.new) }
 {
     let mut buffer = new_buffer(alloc)?;
     let mut whole = Vec::new(alloc);
