@@ -54,7 +54,7 @@ meet topology p q is in_p in_q next onward = record {
     by true e = absurd (never e)
     by false e = e
 
--- so do all neighbours on a walk that comes to no node twice
+-- all neighbours on a walk that comes to no node twice meet at bridges
 meet_along : (topology : DeclaredTopology) (a : ℕ) (path : List ℕ) (b : ℕ) → IsTopology topology
     → IsWalk topology.ports a b path → AllPairs (λ m n. m ≢ n) (a ∷ nodes_to topology.ports path)
     → AllNeighbours (MeetAtBridge topology) path

@@ -1,5 +1,5 @@
 use Rattle.std.proofs.Common.{◌≡◌, ◌≢◌, ℕ, zero, suc, ◌<◌, ◌≤◌, Bool, true, false, cond, ◌||◌, List, [], ◌∷◌, length}
-use Rattle.std.proofs.Common.{get_or, map, refl, sym, ap, ◌∙◌, arith, eqb}
+use Rattle.std.proofs.Common.{Some, get_or, map, refl, sym, ap, ◌∙◌, arith, eqb}
 use Rattle.std.specs.List.{All, AllPairs, list_any}
 use Rattle.std.proofs.lemmas.Bool.{eq-eqb, ne_eqb, or_parts, false≢true}
 use Rattle.std.proofs.lemmas.List.Elements.{All-head, All-tail}
@@ -7,7 +7,7 @@ use Rattle.ats_streams.specs.Stream.{DeclaredStream, IsStream, IsClass}
 use Rattle.ats_streams.specs.Flow.{DeclaredFlow}
 use Rattle.ats_streams.specs.declared.stream.TheConstants.{MAX_CLASS}
 use Rattle.ats_network.specs.Sender.{Sender, stream_sender, flow_sender}
-use Rattle.ats_network.specs.Class.{class_along, class_at}
+use Rattle.ats_network.specs.Class.{before_along, class_along, class_at}
 use Rattle.ats_network.specs.Laws.{ClassIsByHop}
 use Rattle.ats_facts.proofs.Lists.{pairs_head, pairs_tail}
 
@@ -41,7 +41,7 @@ class_at-flow f port = along f.path
         by true further = refl
         by false further = further
 
--- and so is its class at a hop
+-- a flow's class at a hop is 0
 pub no_classes : (path : List ℕ) (hop : ℕ) → get_or {A = ℕ} (map (λ p. 0) path) hop 0 ≡ 0
 no_classes [] hop = refl
 no_classes (p ∷ path) zero = refl
@@ -58,7 +58,7 @@ class_along-past port (p ∷ path) (class ∷ classes) none =
     ap (λ (t : Bool). cond t class (class_along port path classes)) parts.0
     ∙ class_along-past port path classes parts.1
 
--- so where the class at a port is not 0, the path has the port
+-- where the class at a port is not 0, the path has the port
 pub class_along-has : (port : ℕ) (path classes : List ℕ) → 1 ≤ class_along port path classes
     → list_any (λ p. eqb p port) path ≡ true
 class_along-has port path classes positive = by (list_any (λ p. eqb p port) path) refl
@@ -103,7 +103,7 @@ class_along-at (p ∷ path) (class ∷ classes) (suc hop) apart many within =
 pub class_is_by_hop : ClassIsByHop
 class_is_by_hop topology s hop is within = class_along-at s.path s.classes hop is.apart is.each_port within
 
--- so it is where the ports of a stream's path and its classes are given under other names
+-- a stream's class at a hop is its class at the port there, where its ports and classes are given under other names
 pub class_listed : (s : DeclaredStream) (ports classes : List ℕ) (hop : ℕ) → ports ≡ s.path → classes ≡ s.classes
     → AllPairs (λ p q. p ≢ q) s.path → length s.classes ≡ length s.path → hop < length ports
     → get_or classes hop 0 ≡ class_at (stream_sender s) (get_or ports hop 0)
@@ -112,3 +112,17 @@ class_listed s ports classes hop path_is classes_are apart many within =
     ap (λ (l : List ℕ). get_or l hop 0) classes_are
     ∙ sym (class_along-at s.path s.classes hop apart many (omega (arith, long)))
     ∙ ap (λ (l : List ℕ). class_at (stream_sender s) (get_or l hop 0)) (sym path_is)
+
+-- where a list has no element twice, the port before the one at a place but the first is the one at the place before
+pub before_along-at : (path : List ℕ) (hop : ℕ) → AllPairs (λ p q. p ≢ q) path → suc hop < length path
+    → before_along (get_or path (suc hop) 0) path ≡ Some (get_or path hop 0)
+before_along-at [] hop apart within = absurd (omega arith)
+before_along-at (p ∷ []) hop apart within = absurd (omega arith)
+before_along-at (p ∷ q ∷ path) zero apart within =
+    ap (λ (t : Bool). cond t (Some p) (before_along q (q ∷ path))) (eq-eqb q q refl)
+before_along-at (p ∷ q ∷ path) (suc hop) apart within =
+    let rest : AllPairs (λ p q. p ≢ q) (q ∷ path) = pairs_tail (λ p q. p ≢ q) p (q ∷ path) apart in
+    let port : ℕ = get_or path hop 0 in
+    let other : q ≢ port = pairs_head (λ p q. p ≢ q) q path rest hop 0 (omega arith) in
+    ap (λ (t : Bool). cond t (Some p) (before_along port (q ∷ path))) (ne_eqb q port other)
+    ∙ before_along-at (q ∷ path) hop rest (omega arith)

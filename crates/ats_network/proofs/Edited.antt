@@ -12,8 +12,9 @@ use Rattle.ats_num.specs.Places.{place_of}
 use Rattle.ats_num.proofs.Numbered.{place_of-lt}
 use Rattle.ats_topology.specs.Node.{AreApart}
 use Rattle.ats_topology.specs.Topology.{DeclaredTopology}
-use Rattle.ats_streams.specs.Stream.{DeclaredStream, IsClass, IsStream, with_class}
-use Rattle.ats_network.specs.Edits.{classed, less_at, no_stream, with_class_at, without_named}
+use Rattle.ats_streams.specs.Rules.{CoversLongest, IsBurst}
+use Rattle.ats_streams.specs.Stream.{DeclaredStream, IsClass, IsStream, with_burst, with_class}
+use Rattle.ats_network.specs.Edits.{less_at, no_stream, with_burst_at, with_class_at, without_named}
 use Rattle.ats_network.specs.Network.{AreIdentified, DeclaredNetwork, IsNetwork, Share}
 use Rattle.ats_network.specs.Path.{IsValidPath}
 use Rattle.ats_network.specs.Sender.{Sender, stream_sender, flow_sender}
@@ -58,34 +59,42 @@ identified_alike xs ys same apart i j d before within it shared =
         sym (get_or-map identity xs k d None (omega (arith, many, below)))
         ∙ ap (λ (l : List (Option (ℕ × ℕ))). get_or l k None) (sym same) ∙ get_or-map identity ys k d None below
 
--- a network in which a stream has another class keeps what a network keeps
-pub classed_network : (network : DeclaredNetwork) (n class : ℕ) → IsNetwork network → n < length network.streams
-    → IsClass class → IsNetwork (with_class_at network n class)
-classed_network network n class is within valid = record {
+-- a stream with another burst, which covers its longest frame, keeps a stream's rules
+is_burst_changed : (s : DeclaredStream) (burst_bits : ℕ) → IsStream s → CoversLongest burst_bits s.max_octets
+    → IsBurst burst_bits → IsStream (with_burst s burst_bits)
+is_burst_changed s burst_bits is covers most = record {
+  classes = is.classes;
+  each_port = is.each_port;
+  rules = record { rate = is.rules.rate; sizes = is.rules.sizes; covers = covers; burst = most };
+  path = is.path;
+  deadline = is.deadline;
+  identity = is.identity;
+}
+
+-- a network in which another stream with the same name, path and identity stands in the place of one keeps what a
+-- network keeps
+replaced_network : (network : DeclaredNetwork) (n : ℕ) (it : DeclaredStream) → IsNetwork network
+    → n < length network.streams → IsStream it → it.name ≡ (get_or network.streams n no_stream).name
+    → it.path ≡ (get_or network.streams n no_stream).path → it.identity ≡ (get_or network.streams n no_stream).identity
+    → IsNetwork (record network { streams = set network.streams n it })
+replaced_network network n it is within keeps same_name same_path same_identity = record {
   topology = is.topology;
-  streams = All-set IsStream network.streams n it (is_classed before class
-      (is.streams n no_stream within) valid) is.streams;
+  streams = All-set IsStream network.streams n it keeps is.streams;
   flows = is.flows;
   paths =
       rw (map-set stream_sender network.streams n it)
       (All-append (Goes network.topology) (set streams n (stream_sender it)) flows
       (All-set (Goes network.topology) streams n (stream_sender it) path left)
       (all_right (Goes network.topology) streams flows is.paths));
-  names = subst AreApart (sym (names_of-senders (with_class_at network n class)
+  names = subst AreApart (sym (names_of-senders (record network { streams = set network.streams n it })
       ∙ ap (λ (t : List (List ℕ)). t ++ flow_names network.flows)
-      (map-set_same name network.streams n it no_stream refl) ∙ sym (names_of-senders network))) is.names;
-  identities = identified_alike network.streams (classed network.streams n class)
-      (map-set_same identity network.streams n it no_stream refl) is.identities;
+      (map-set_same name network.streams n it no_stream same_name) ∙ sym (names_of-senders network))) is.names;
+  identities = identified_alike network.streams (set network.streams n it)
+      (map-set_same identity network.streams n it no_stream same_identity) is.identities;
   few_streams = omega (arith, length-set network.streams n it, is.few_streams);
   few_flows = is.few_flows;
 }
   where
-    before : DeclaredStream
-    before = get_or network.streams n no_stream
-
-    it : DeclaredStream
-    it = with_class (get_or network.streams n no_stream) class
-
     streams : List Sender
     streams = map stream_sender network.streams
 
@@ -95,10 +104,30 @@ classed_network network n class is within valid = record {
     left : All (Goes network.topology) (map stream_sender network.streams)
     left = all_left (Goes network.topology) (map stream_sender network.streams) (map flow_sender network.flows) is.paths
 
-    path : IsValidPath network.topology (get_or network.streams n no_stream).path
-    path = subst (λ (s : Sender). IsValidPath network.topology s.path)
+    before : IsValidPath network.topology (get_or network.streams n no_stream).path
+    before = subst (λ (s : Sender). IsValidPath network.topology s.path)
         (get_or-map stream_sender network.streams n no_stream (stream_sender no_stream) within)
         (left n (stream_sender no_stream) (omega (arith, length-map network.streams stream_sender, within)))
+
+    path : IsValidPath network.topology it.path
+    path = subst (IsValidPath network.topology) (sym same_path) before
+
+-- a network in which a stream has another class keeps what a network keeps
+pub classed_network : (network : DeclaredNetwork) (n class : ℕ) → IsNetwork network → n < length network.streams
+    → IsClass class → IsNetwork (with_class_at network n class)
+classed_network network n class is within valid =
+    let before : DeclaredStream = get_or network.streams n no_stream in
+    replaced_network network n (with_class before class) is within
+    (is_classed before class (is.streams n no_stream within) valid) refl refl refl
+
+-- a network in which a stream has another burst, which covers its longest frame, keeps what a network keeps
+pub burst_changed_network : (network : DeclaredNetwork) (n burst_bits : ℕ) → IsNetwork network
+    → n < length network.streams → CoversLongest burst_bits (get_or network.streams n no_stream).max_octets
+    → IsBurst burst_bits → IsNetwork (with_burst_at network n burst_bits)
+burst_changed_network network n burst_bits is within covers most =
+    let before : DeclaredStream = get_or network.streams n no_stream in
+    replaced_network network n (with_burst before burst_bits) is within
+    (is_burst_changed before burst_bits (is.streams n no_stream within) covers most) refl refl refl
 
 -- what holds of each element holds of each of the others without one
 all_remove : {X : Type 0} (P : X → Type 0) (xs : List X) (n : ℕ) → n < length xs → All P xs → All P (remove xs n)
@@ -163,7 +192,7 @@ less_network network n is within = record {
     flows : List Sender
     flows = map flow_sender network.flows
 
--- so does a network without the stream that has a name, where one has it
+-- a network without the stream that has a name, where one has it, keeps what a network keeps
 pub without_network : (network : DeclaredNetwork) (q : List ℕ) → IsNetwork network
     → IsNetwork (without_named network q)
 without_network network q is = by (place_of q (stream_names network.streams)) refl

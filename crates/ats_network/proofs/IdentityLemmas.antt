@@ -29,14 +29,14 @@ identifies old new identity declared given same updates address vlan =
     put old new identity given updates address vlan
     ∙ ap (λ (d : Option (ℕ × ℕ)). cond (is_identity (address, vlan) d) given (number_at old address vlan)) same
 
--- and for a name
+-- a map of names in which one name is given another number, or none
 pub names_it : (old new : BTreeMap (List ℕ) ℕ) (asked name : List ℕ) (given : Option ℕ) → asked ≡ name
     → Updates (slice_cmp nat_cmp) old new asked given → Names old new name given
 names_it old new asked name given same updates q =
     updates.0 q ∙ ap (λ (b : Bool). cond b given (serial_at old q))
     (is_eq-slice_cmp asked q ∙ nat_list_eq_equiv.symm asked q ∙ ap (bytes_eq q) same)
 
--- and taken out again: the map has what it had, where it had none for that identity
+-- where an identity that a map did not have was put in and taken out again, the map has what it had
 pub taken_back : (old mid new : BTreeMap (ℕ × ℕ) ℕ) (identity : ℕ × ℕ) (declared : Option (ℕ × ℕ)) (place : ℕ)
     → Some identity ≡ declared → IsUnidentified old declared
     → Updates pair_cmp old mid identity (Some place) → Updates pair_cmp mid new identity None → FindsSame old new
@@ -75,7 +75,7 @@ refl_eqb n = grind arith
 pub same_identity : (identity : ℕ × ℕ) → is_identity identity (Some identity) ≡ true
 same_identity identity = ap (λ (b : Bool). b && eqb identity.1 identity.1) (refl_eqb identity.0) ∙ refl_eqb identity.1
 
--- and no two have one identity
+-- streams of different identities and one more, whose identity is not taken, have different identities
 pub share_push : (streams : List DeclaredStream) (stream : DeclaredStream) → AreIdentified streams
     → is_identity_taken streams stream.identity ≡ false → AreIdentified (streams ++ stream ∷ [])
 share_push streams stream apart free =

@@ -6,6 +6,7 @@ pub mod TableLemmas
 pub mod Pushed
 pub mod Edited
 pub mod PathLemmas
+pub mod PathTests
 pub mod CountLemmas
 pub mod BridgeLemmas
 pub mod SenderLemmas

@@ -92,7 +92,7 @@ pub no_ends : (topology : DeclaredTopology) (path : List ℕ) → ends_of topolo
 no_ends topology path none valid =
     none-some (valid.talker, valid.listener) (sym none ∙ ends_of-valid topology path valid)
 
--- and they are its talker and its listener
+-- the ends of a valid path are its talker and its listener
 pub talker_is : (topology : DeclaredTopology) (path : List ℕ) (a b : ℕ) → ends_of topology.ports path ≡ Some (a, b)
     → (valid : IsValidPath topology path) → valid.talker ≡ a
 talker_is topology path a b h valid = ap (λ (pair : ℕ × ℕ). pair.0)

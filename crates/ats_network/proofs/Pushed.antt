@@ -57,7 +57,7 @@ pushed_stream network stream is keeps valid absent free room = record {
     Goes : Sender → Type 0
     Goes s = IsValidPath network.topology s.path
 
--- and so does one with one flow more
+-- a network with one flow more keeps what a network keeps
 pub pushed_flow : (network : DeclaredNetwork) (flow : DeclaredFlow) → IsNetwork network → IsFlow flow
     → IsValidPath network.topology flow.path
     → place_of flow.name (names_of (senders_of network)) ≡ None → length network.flows < MAX_FLOWS

@@ -146,7 +146,7 @@ shortest_least topology a b is in_a in_b = record {
       (length topology.nodes) none (length s.walk) (simple_short topology a b is in_a s));
 }
 
--- so what a search found is what is computed
+-- a walk that a search found is the one that is computed
 pub found_is : (topology : DeclaredTopology) (a b : ℕ) (found : Option (Vec ℕ)) → IsTopology topology
     → a < length topology.nodes → b < length topology.nodes
     → IfSome found (λ walk. IsLeastWalk topology.ports a b walk.items) → IfNone found (NoWalk topology.ports a b)
@@ -171,7 +171,7 @@ pub result_is : (topology : DeclaredTopology) (a b : ℕ) (result : Result (Opti
 result_is topology a b (Ok found) is in_a in_b walk none = found_is topology a b found is in_a in_b walk none
 result_is topology a b (Err e) is in_a in_b walk none = tt
 
--- the same where the topology is known to be one only once the walk was found
+-- what a search answers is what is computed, where the topology is known to be one only once it answered
 pub ok_result_is : (topology : DeclaredTopology) (a b : ℕ) (result : Result (Option (Vec ℕ)) AllocError)
     → OnOk result (IsTopology topology) → a < length topology.nodes → b < length topology.nodes
     → IfOk result (λ found. IfSome found (λ walk. IsLeastWalk topology.ports a b walk.items))

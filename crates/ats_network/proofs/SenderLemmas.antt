@@ -97,7 +97,7 @@ each_is_sender network is =
     (streams_are network.topology network.streams is.topology is.streams (all_left Goes streams flows is.paths))
     (flows_are network.topology network.flows is.topology is.flows (all_right Goes streams flows is.paths))
 
--- so each sender that a number tells keeps a sender's rules
+-- the sender with a number keeps a sender's rules
 pub sender_keeps : (network : DeclaredNetwork) (n : ℕ) → IsNetwork network → n < length (senders_of network)
     → IsSender network.topology (sender_at network n)
 sender_keeps network n is within = each_is_sender network is n no_sender within

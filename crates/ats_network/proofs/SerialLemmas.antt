@@ -35,7 +35,7 @@ serial_place t (x ∷ xs) (serial ∷ serials) many =
     by true h = refl
     by false h = h
 
--- so where none is found, no element passes
+-- where no serial number is found, no element passes
 pub unfound : {X : Type 0} (t : X → Bool) (xs : List X) (serials : List ℕ) → length serials ≡ length xs
     → serial_of t xs serials ≡ None → position_from t 0 xs ≡ None
 unfound t xs serials many none = by (position_from t 0 xs) (sym (serial_place t xs serials many) ∙ none)
@@ -44,7 +44,7 @@ unfound t xs serials many none = by (position_from t 0 xs) (sym (serial_place t 
     by None h = refl
     by (Some n) h = absurd (none-some (get_or serials n 0) (sym h))
 
--- and where one is found, an element passes
+-- where a serial number is found, an element passes
 pub record IsNumbered {X : Type 0} (t : X → Bool) (xs : List X) (serials : List ℕ) (serial : ℕ) : Type 0 where
   pub place : ℕ
   pub is : position_from t 0 xs ≡ Some place

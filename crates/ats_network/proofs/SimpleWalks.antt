@@ -82,7 +82,7 @@ nodes_below topology a (p ∷ walk) b is goes =
     ((ports_are_lawful topology is).each p no_port goes.0.within).between.to
     (nodes_below topology (port_at topology.ports p).to walk b is goes.1)
 
--- so such a walk has fewer ports than there are nodes
+-- a walk that comes to no node twice has fewer ports than there are nodes
 pub simple_short : (topology : DeclaredTopology) (a b : ℕ) → IsTopology topology → a < length topology.nodes
     → (s : SimpleWalk topology.ports a b) → length s.walk < length topology.nodes
 simple_short topology a b is inside s =

@@ -251,7 +251,7 @@ place_some streams serials names identities q serial given result table same som
     is = placed it.place (omega (arith, ap length same, many, it.within))
         (ap (λ (xs : List ℕ). get_or xs it.place 0) same ∙ it.stands) ∙ sym it.is
 
--- and the place is one of the streams
+-- the place that a look-up by name finds is one of the streams
 pub place_within : (streams : List DeclaredStream) (serials : List ℕ) (names : BTreeMap (List ℕ) ℕ)
     (identities : BTreeMap (ℕ × ℕ) ℕ) (q : List ℕ) (serial : ℕ) (given : List ℕ) (result : Option ℕ)
     → AreStreams streams serials names identities → given ≡ serials → Some serial ≡ serial_at names q
@@ -264,7 +264,7 @@ place_within streams serials names identities q serial given result table same s
     let below : both.0.place < length streams = omega (arith, both.0.within, length-map streams name) in
     subst (λ (o : Option ℕ). IfSome o (λ place. place < length streams)) (sym (both.1 ∙ both.0.is)) below
 
--- the same of a look-up by identity
+-- a look-up by identity that finds no serial number, and one that finds its place
 pub identity_none : (streams : List DeclaredStream) (serials : List ℕ) (names : BTreeMap (List ℕ) ℕ)
     (identities : BTreeMap (ℕ × ℕ) ℕ) (address vlan : ℕ) → AreStreams streams serials names identities
     → None ≡ number_at identities address vlan → None ≡ place_identified (address, vlan) streams

@@ -1,4 +1,4 @@
-use Rattle.std.specs.Prelude.{ℕ, ◌==◌, if◌then◌else◌, List, ◌∷◌}
+use Rattle.std.specs.Prelude.{ℕ, ◌==◌, if◌then◌else◌, List, ◌∷◌, Option, Some, None}
 use Rattle.ats_network.specs.Sender.{Sender}
 
 -- of classes that belong to the ports of a path, one by one, that of this port; 0 where the path does not have it
@@ -10,8 +10,17 @@ class_along port path classes = 0
 abbrev pub class_at : Sender → ℕ → ℕ
 class_at sender port = class_along port sender.path sender.classes
 
--- a sender as a port sees it: its class there, its committed rate in bits per second, its committed burst in bits, and
--- its least and greatest octets
+-- the port just before another one on a path, where the path has one before it
+abbrev pub before_along : ℕ → List ℕ → Option ℕ
+before_along port (p ∷ q ∷ path) = if q == port then Some p else before_along port (q ∷ path)
+before_along port path = None
+
+-- the port just before another one on a sender's path; the first port of the path has none before it
+abbrev pub port_before : Sender → ℕ → Option ℕ
+port_before sender port = before_along port sender.path
+
+-- what a port sees of a sender: its class there, its committed rate in bits per second, its committed burst in bits,
+-- and its least and greatest octets
 pub record PortSender : Type 0 where
   pub class : ℕ
   pub rate : ℕ
@@ -19,7 +28,7 @@ pub record PortSender : Type 0 where
   pub min_octets : ℕ
   pub max_octets : ℕ
 
--- so a port sees a sender
+-- a sender as a port sees it
 abbrev pub seen_at : ℕ → Sender → PortSender
 seen_at port s = record {
   class = class_at s port;

@@ -2,11 +2,11 @@ use Rattle.std.specs.Prelude.{◌≡◌, ℕ, List, [], ◌∷◌, ◌++◌, Opt
 use Rattle.std.specs.List.{remove}
 use Rattle.std.specs.Option.{option_map}
 use Rattle.ats_num.specs.Places.{place_of}
-use Rattle.ats_streams.specs.Stream.{DeclaredStream, with_class}
+use Rattle.ats_streams.specs.Stream.{DeclaredStream, with_burst, with_class}
 use Rattle.ats_network.specs.Network.{DeclaredNetwork}
 use Rattle.ats_network.specs.Tables.{stream_names}
 
--- for numbers past the last stream
+-- the stream at a number past the last one
 abbrev pub no_stream : DeclaredStream
 no_stream = record {
   name = [];
@@ -27,6 +27,14 @@ classed streams n class = slice_set streams n (with_class (slice_index_or stream
 -- the network, where the stream with this number has this class at each port of its path
 abbrev pub with_class_at : DeclaredNetwork → ℕ → ℕ → DeclaredNetwork
 with_class_at network n class = record network { streams = classed network.streams n class }
+
+-- streams, where the one with this number has this committed burst, in bits
+abbrev pub burst_changed : List DeclaredStream → ℕ → ℕ → List DeclaredStream
+burst_changed streams n burst_bits = slice_set streams n (with_burst (slice_index_or streams n no_stream) burst_bits)
+
+-- the network, where the stream with this number has this committed burst, in bits
+abbrev pub with_burst_at : DeclaredNetwork → ℕ → ℕ → DeclaredNetwork
+with_burst_at network n burst_bits = record network { streams = burst_changed network.streams n burst_bits }
 
 -- the stream with this name, if there is one
 abbrev pub stream_named : List DeclaredStream → List ℕ → Option DeclaredStream

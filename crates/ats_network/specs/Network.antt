@@ -13,7 +13,7 @@ pub record DeclaredNetwork : Type 0 where
   pub streams : List DeclaredStream
   pub flows : List DeclaredFlow
 
--- these as one network
+-- a topology, streams and flows as one network
 abbrev pub declared_network : DeclaredTopology → List DeclaredStream → List DeclaredFlow → DeclaredNetwork
 declared_network topology streams flows = record { topology = topology; streams = streams; flows = flows }
 
@@ -25,7 +25,7 @@ senders_of network = map stream_sender network.streams ++ map flow_sender networ
 abbrev pub names_of : List Sender → List (List ℕ)
 names_of senders = map (λ (s : Sender). s.name) senders
 
--- both streams have this destination address and VLAN identifier
+-- two streams have this destination address and VLAN identifier
 pub record Share (s t : DeclaredStream) (identity : ℕ × ℕ) : Type 0 where
   pub one : s.identity ≡ Some identity
   pub other : t.identity ≡ Some identity

@@ -1,3 +1,5 @@
+-- How `is_valid_path` goes over ports, step by step: what the clauses of its private functions speak of. What a valid
+-- path is, `Path` alone says.
 use Rattle.std.specs.Prelude.{ℕ, Bool, true, ◌&&◌, ◌==◌, nat_lt, not, if◌then◌else◌, List, [], ◌∷◌, length, Option}
 use Rattle.std.specs.Prelude.{Some, None}
 use Rattle.std.specs.List.{list_any}
@@ -11,7 +13,7 @@ walk_end ports a [] = Some a
 walk_end ports a (p ∷ path) = if nat_lt p (length ports) && (port_at ports p).from == a
     then walk_end ports (port_at ports p).to path else None
 
--- the nodes between which these ports make a walk, if they are any ports and make one
+-- the nodes between which some ports make a walk, if there are any ports and they make one
 abbrev pub ends_of : List Port → List ℕ → Option (ℕ × ℕ)
 ends_of ports [] = None
 ends_of ports (p ∷ path) =

@@ -26,11 +26,11 @@ abbrev pub is_identity : ℕ × ℕ → Option (ℕ × ℕ) → Bool
 is_identity identity None = false
 is_identity identity (Some declared) = declared.0 == identity.0 && declared.1 == identity.1
 
--- the stream declares them
+-- a stream declares this destination address and VLAN identifier
 abbrev pub has_identity : ℕ × ℕ → DeclaredStream → Bool
 has_identity identity stream = is_identity identity stream.identity
 
--- the number of the stream that declares them, if there is one
+-- the number of the stream that declares this destination address and VLAN identifier, if there is one
 abbrev pub place_identified : ℕ × ℕ → List DeclaredStream → Option ℕ
 place_identified identity streams = position_from (has_identity identity) 0 streams
 

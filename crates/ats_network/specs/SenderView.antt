@@ -10,7 +10,7 @@ abbrev pub sender_of : SenderView → Sender
 sender_of (Stream s) = stream_sender s.now
 sender_of (Flow f) = flow_sender f.now
 
--- it is a stream
+-- a sender is a stream
 abbrev pub is_stream : SenderView → Bool
 is_stream (Stream s) = true
 is_stream (Flow f) = false

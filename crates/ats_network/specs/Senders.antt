@@ -11,7 +11,7 @@ use Rattle.ats_network.specs.Path.{IsValidPath}
 use Rattle.ats_network.specs.Bridges.{MeetAtBridge}
 use Rattle.ats_network.specs.Network.{DeclaredNetwork, senders_of}
 
--- for numbers past the last sender
+-- the sender at a number past the last one
 abbrev pub no_sender : Sender
 no_sender = record {
   name = [];

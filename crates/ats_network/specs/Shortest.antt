@@ -22,6 +22,6 @@ first_walk (suc n) ports a b =
     first_along (λ p. option_map (λ walk. p ∷ walk) (first_walk n ports (port_at ports p).to b)) (leaving a ports)
 
 -- the walk of fewest ports from one node to another, and of those the first in lexicographic order, if any leads there;
--- it has fewer ports than there are nodes
+-- such a walk has fewer ports than there are nodes
 abbrev pub shortest_of : DeclaredTopology → ℕ → ℕ → Option (List ℕ)
 shortest_of topology a b = first_of (λ n. first_walk n topology.ports a b) (length topology.nodes)

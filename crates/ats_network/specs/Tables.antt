@@ -31,12 +31,12 @@ serial_of test xs serials = None
 abbrev pub serial_at : BTreeMap (List ℕ) ℕ → List ℕ → Option ℕ
 serial_at names name = get (slice_cmp nat_cmp) names name
 
--- the new map has this, or nothing, for the name, and for all else what the old one has
+-- a new map has this serial number, or none, for a name, and for all other names what an old one has
 abbrev pub Names : BTreeMap (List ℕ) ℕ → BTreeMap (List ℕ) ℕ → List ℕ → Option ℕ → Type 0
 Names old new name given =
     (q : List ℕ) → serial_at new q ≡ (if bytes_eq q name then given else serial_at old q)
 
--- both maps have the same serial numbers for names
+-- two maps have the same serial numbers for names
 abbrev pub NamesSame : BTreeMap (List ℕ) ℕ → BTreeMap (List ℕ) ℕ → Type 0
 NamesSame old new = (q : List ℕ) → serial_at new q ≡ serial_at old q
 
@@ -45,18 +45,19 @@ abbrev pub number_at : BTreeMap (ℕ × ℕ) ℕ → ℕ → ℕ → Option ℕ
 number_at identities address vlan =
     get (λ x y. ordering_then (nat_cmp x.0 y.0) (nat_cmp x.1 y.1)) identities (address, vlan)
 
--- the map has no number for what may be declared
+-- a map has no serial number for an identity that may be declared
 abbrev pub IsUnidentified : BTreeMap (ℕ × ℕ) ℕ → Option (ℕ × ℕ) → Type 0
 IsUnidentified identities declared = (address vlan : ℕ) → IsTrue (is_identity (address, vlan) declared)
     → number_at identities address vlan ≡ None
 
--- the new map has this, or nothing, for what is declared, where it is, and for all else what the old one has
+-- a new map has this serial number, or none, for an identity, where one is declared, and for all others what an old one
+-- has
 abbrev pub Identifies : BTreeMap (ℕ × ℕ) ℕ → BTreeMap (ℕ × ℕ) ℕ → Option (ℕ × ℕ) → Option ℕ → Type 0
 Identifies old new declared given =
     (address vlan : ℕ) → number_at new address vlan
     ≡ (if is_identity (address, vlan) declared then given else number_at old address vlan)
 
--- both maps have the same numbers
+-- two maps have the same serial numbers for identities
 abbrev pub FindsSame : BTreeMap (ℕ × ℕ) ℕ → BTreeMap (ℕ × ℕ) ℕ → Type 0
 FindsSame old new = (address vlan : ℕ) → number_at new address vlan ≡ number_at old address vlan
 

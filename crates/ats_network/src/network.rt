@@ -4,6 +4,7 @@ ghost use Rattle.std.specs.Prelude.{◌≡◌, ◌↔◌, ◌<◌, ◌≤◌, []
 ghost use Rattle.std.specs.Prelude.{OnErr, nat_lt, slice_index_or};
 ghost use Rattle.ats_num.specs.Failure.{IsDue};
 ghost use Rattle.ats_num.specs.Places.{place_of};
+ghost use Rattle.ats_streams.specs.Rules.{CoversLongest, IsBurst};
 ghost use Rattle.ats_streams.specs.Stream.{IsClass};
 ghost use Rattle.ats_network.specs.Network.{IsNetwork, declared_network, senders_of, names_of};
 ghost use Rattle.ats_network.specs.Path.{IsValidPath};
@@ -13,7 +14,7 @@ ghost use Rattle.ats_network.specs.SenderView.{sender_of, is_stream};
 ghost use Rattle.ats_network.specs.Residence.{residence_after, leads_to_station};
 ghost use Rattle.ats_network.specs.Pushes.{with_stream, with_flow, place_identified, is_identity_taken};
 ghost use Rattle.ats_network.specs.Pushes.{stream_push_fault, flow_push_fault};
-ghost use Rattle.ats_network.specs.Edits.{IsLess, with_class_at, stream_named, without_named};
+ghost use Rattle.ats_network.specs.Edits.{IsLess, no_stream, with_burst_at, with_class_at, stream_named, without_named};
 
 use crate::fault::PushFault;
 use crate::flow_table::FlowTable;
@@ -228,6 +229,17 @@ impl Network {
         ensures { self.new ≡ with_class_at self.old stream class }
     {
         self.stream_table.set_class(stream, class);
+    }
+
+    /// Sets a stream's committed burst, in bits: at least the wire bits of its longest frame, and at most 1,000,000,000
+    /// (IEEE Std 802.1Qcr, CommittedBurstSize). All else stays, and it takes no memory.
+    pub fn set_burst(&mut self, stream: u32, burst_bits: u64)
+        requires stream { stream < length self.old.streams }
+        requires covers { CoversLongest burst_bits (slice_index_or self.old.streams stream no_stream).max_octets }
+        requires most { IsBurst burst_bits }
+        ensures { self.new ≡ with_burst_at self.old stream burst_bits }
+    {
+        self.stream_table.set_burst(stream, burst_bits);
     }
 
     /// Takes out the stream with this name and gives it back; `None` exactly where no stream has the

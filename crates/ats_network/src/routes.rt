@@ -30,8 +30,8 @@ pub fn shortest(
     topology.shortest(alloc, a, b)
 }
 
-/// The same by walks that are kept for this topology: there is a search only at the first call for
-/// a node `b`.
+/// What `shortest` gives, by walks that are kept for this topology: there is a search only at the
+/// first call for a node `b`.
 ///
 /// # Errors
 ///

@@ -1,11 +1,12 @@
 //! Streams, found by their names and by the addresses of their frames.
 
 ghost use Rattle.std.specs.Prelude.{◌≡◌, ◌<◌, [], ◌∷◌, ◌++◌, length, Some, None, false};
-ghost use Rattle.std.specs.Prelude.{IfSome, OnOk, OnErr};
+ghost use Rattle.std.specs.Prelude.{IfSome, OnOk, OnErr, slice_index_or};
 ghost use Rattle.ats_num.specs.Places.{place_of};
+ghost use Rattle.ats_streams.specs.Rules.{CoversLongest, IsBurst};
 ghost use Rattle.ats_streams.specs.Stream.{IsClass};
 ghost use Rattle.ats_topology.specs.Node.{AreApart};
-ghost use Rattle.ats_network.specs.Edits.{IsLess, classed, stream_named, less_named};
+ghost use Rattle.ats_network.specs.Edits.{IsLess, classed, no_stream, burst_changed, stream_named, less_named};
 ghost use Rattle.ats_network.specs.Network.{AreIdentified};
 ghost use Rattle.ats_network.specs.Pushes.{place_identified, is_identity_taken};
 ghost use Rattle.ats_network.specs.Tables.{stream_names, serial_at, IsUnidentified, Identifies, FindsSame};
@@ -104,6 +105,16 @@ impl StreamTable {
         ensures { self.new ≡ classed self.old stream class }
     {
         self.streams[stream as usize].set_class(class);
+    }
+
+    /// Sets a stream's committed burst, in bits. All else stays.
+    pub(crate) fn set_burst(&mut self, stream: u32, burst_bits: u64)
+        requires stream { stream < length self.old }
+        requires covers { CoversLongest burst_bits (slice_index_or self.old stream no_stream).max_octets }
+        requires most { IsBurst burst_bits }
+        ensures { self.new ≡ burst_changed self.old stream burst_bits }
+    {
+        self.streams[stream as usize].set_burst(burst_bits);
     }
 
     /// Takes out the stream with this name; `None` exactly where none has it. The others keep their order.

@@ -72,6 +72,10 @@ HasZerosBehind ports classes = drop ports classes ≡ replicate (16 - ports) 0
 abbrev pub with_class : DeclaredStream → ℕ → DeclaredStream
 with_class stream class = record stream { classes = replicate (length stream.path) class }
 
+-- the stream with this committed burst, in bits
+abbrev pub with_burst : DeclaredStream → ℕ → DeclaredStream
+with_burst stream burst_bits = record stream { burst_bits = burst_bits }
+
 -- what each stream keeps
 pub record IsStream (stream : DeclaredStream) : Type 0 where
   pub classes : All IsClass stream.classes

@@ -4,10 +4,10 @@ ghost use Rattle.std.specs.Prelude.{◌≡◌, ◌↔◌, ◌*◌, length, IsTru
 ghost use Rattle.std.specs.Result.{result_err};
 ghost use Rattle.ats_num.specs.Rate.{IsRate};
 ghost use Rattle.ats_num.specs.declared.time.TheConstants.{PS_PER_NS};
-ghost use Rattle.ats_streams.specs.Rules.{KeepsRules};
+ghost use Rattle.ats_streams.specs.Rules.{CoversLongest, IsBurst, KeepsRules};
 ghost use Rattle.ats_streams.specs.Path.{IsPath};
 ghost use Rattle.ats_streams.specs.Stream.{IsDeadline, IsIdentity, MayIdentify, IsStream, declared_stream};
-ghost use Rattle.ats_streams.specs.Stream.{IsClass, classes_for, with_class, limit_fault, stream_fault};
+ghost use Rattle.ats_streams.specs.Stream.{IsClass, classes_for, with_burst, with_class, limit_fault, stream_fault};
 ghost use Rattle.ats_streams.specs.Traffic.{IsRuled, traffic_of};
 
 use crate::classes::{are_bad_classes, classes_for};
@@ -209,6 +209,16 @@ impl Stream {
         ensures { self.new ≡ with_class self.old class }
     {
         self.classes = classes_for(self.path.len(), &[u64::from(class)]);
+    }
+
+    /// Sets the committed burst, in bits: at least the wire bits of the longest frame, and at most 1,000,000,000 (IEEE
+    /// Std 802.1Qcr, CommittedBurstSize). All else stays, and it takes no memory.
+    pub fn set_burst(&mut self, burst_bits: u64)
+        requires covers { CoversLongest burst_bits self.old.max_octets }
+        requires most { IsBurst burst_bits }
+        ensures { self.new ≡ with_burst self.old burst_bits }
+    {
+        self.declared.burst_bits = burst_bits;
     }
 }
 
