@@ -11,7 +11,7 @@ use Rattle.ats_network.specs.Class.{class_at}
 use Rattle.ats_network.specs.Network.{DeclaredNetwork}
 use Rattle.ats_network.specs.Senders.{sender_at}
 use Rattle.ats_group.specs.Group.{State, Offer, judged, after, next, verdicts_of, state_after, verdict_on, empty_once}
-use Rattle.ats_group.specs.GroupsState.{GroupsState, member_at, time_at, empty_at, group_of, declared_of}
+use Rattle.ats_group.specs.GroupsState.{GroupsState, member_at, time_at, empty_at, group_of, declared_at}
 use Rattle.ats_group.specs.GroupsState.{residence_of, verdict_of, groups_after, no_member}
 use Rattle.ats_streams.specs.declared.traffic.Declared.{Declared}
 use Rattle.ats_group.specs.declared.member.Member.{Member}
@@ -137,7 +137,7 @@ state-own network groups stream hop port class state arrival octets (Eligible e)
     (scheduler_within network stream hop is.is_hop) in
     let grouped : group_of groups member < length groups.times =
     omega (arith, are.lawful.times, (are.lawful.members member no_member there).group) in
-    let once : ℤ = empty_once (declared_of groups member) (empty_at groups.empties member) e.0 octets in
+    let once : ℤ = empty_once (declared_at groups member) (empty_at groups.empties member) e.0 octets in
     let once_is : once ≡ empty_once (declared_by network stream) (state.empty stream) e.0 octets =
     ap (λ (m : Member). empty_once m.declared (empty_at groups.empties member) e.0 octets)
     (member-is network groups stream hop port class are is)

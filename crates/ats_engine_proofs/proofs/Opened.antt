@@ -37,7 +37,7 @@ use Rattle.ats_trace.specs.Projections.{Crossing, Handed, sent_by, crossings_by,
 use Rattle.ats_trace.specs.Releases.{AreReleases, IsRelease}
 use Rattle.ats_trace.specs.declared.journey.Release.{Release}
 use Rattle.ats_run_records.specs.Progress.{Progress, progress_at, no_progress}
-use Rattle.ats_engine_steps.specs.Bounds.{all_left, most_left, IsInTime}
+use Rattle.ats_engine_steps.specs.Bounds.{all_left, most_left, EndsInTime}
 use Rattle.ats_engine_steps.specs.Course.{Course, stage_at, turn_at, travels, travels_of, arrives_from_at}
 use Rattle.ats_engine_steps.specs.Entries.{AreAwaited, IsReached, moment_of, arrival_by, eligibility_by, end_by}
 use Rattle.ats_engine_steps.specs.Entries.{selection_by}
@@ -410,7 +410,7 @@ opened-groups network releases course opened port class =
 -- all is over in time
 opened-bounds : {T : Type 0} (network : DeclaredNetwork) (releases : List Release) (course : Course T)
     → IsNetwork network → AreReleases network releases → IsOpened network releases course
-    → IsInTime course (released_from 0 releases)
+    → EndsInTime course (released_from 0 releases)
 opened-bounds network releases course rules are opened =
     let left : all_left course ≡ sum_by most_left (zip (map coming releases) (map (start network) releases)) =
     ap (λ (ss : List Stage). sum_by most_left (zip ss course.records)) opened.stages

@@ -26,7 +26,7 @@ use Rattle.ats_trace.specs.Projections.{Crossing, crossings_by}
 use Rattle.ats_trace.specs.declared.journey.Ending.TheVariants.{Sink}
 use Rattle.ats_trace.specs.declared.journey.Release.{Release}
 use Rattle.ats_run_records.specs.Progress.{Progress, progress_at, last_hop, with_ending, with_hop, with_sent}
-use Rattle.ats_engine_steps.specs.Bounds.{IsInTime, all_left, events_left, horizon, most_latency, most_left}
+use Rattle.ats_engine_steps.specs.Bounds.{EndsInTime, all_left, events_left, horizon, most_latency, most_left}
 use Rattle.ats_engine_steps.specs.Bounds.{most_sending}
 use Rattle.ats_engine_steps.specs.Bounds.{ports_left, steps_left}
 use Rattle.ats_engine_steps.specs.Course.{Course, path_of, place_at, stage_at, travels, turn_at}
@@ -59,7 +59,7 @@ in-time : {T : Type 0} {key : T → ℕ → ℕ → ℕ} {wait : ℕ → ℕ →
     (new : Course T) (more : List (Moment × Event)) (was is : ℕ)
     → IsNext key wait network releases old now event entries → new.last ≡ now
     → all_left new + was ≡ all_left old + is → is ≤ was
-    → All (λ (x : Moment × Event). x.0.at.0 + is ≤ now.at.0 + was) more → IsInTime new (more ++ entries)
+    → All (λ (x : Moment × Event). x.0.at.0 + is ≤ now.at.0 + was) more → EndsInTime new (more ++ entries)
 in-time {T} {key} {wait} {network} {releases} {old} {now} {event} {entries} new more was is next last moved less each =
     let InTime : ℕ → Moment × Event → Type 0 = λ (left : ℕ) (x : Moment × Event). x.0.at.0 + left ≤ horizon in
     let first : now.at.0 + all_left old ≤ horizon =
@@ -142,7 +142,7 @@ comes-left {T} {key} {wait} {network} {releases} {old} {new} {now} {frame} f nex
 pub comes-bounds : {T : Type 0} {key : T → ℕ → ℕ → ℕ} {wait : ℕ → ℕ → ℕ} {network : DeclaredNetwork}
     {releases : List Release} {old new : Course T} {now : Moment} {frame : ℕ} {entries more : List (Moment × Event)}
     → IsNext key wait network releases old now (Arrival frame) entries → Comes network old new now frame more
-    → IsInTime new (more ++ entries)
+    → EndsInTime new (more ++ entries)
 comes-bounds {T} {key} {wait} {network} {releases} {old} {new} {now} {frame} {entries} {more} next step =
     let p : Progress = progress_at old.records frame in
     let takes = comes-takes next step in
@@ -190,7 +190,7 @@ offered-now now was is port Occupied less = All-nil (λ (x : Moment × Event). x
 pub offered-bounds : {T : Type 0} {key : T → ℕ → ℕ → ℕ} {wait : ℕ → ℕ → ℕ} {network : DeclaredNetwork}
     {releases : List Release} {old new : Course T} {now : Moment} {frame : ℕ} {entries more : List (Moment × Event)}
     → IsNext key wait network releases old now (Eligibility frame) entries
-    → BecomesEligible key network old new now frame more → IsInTime new (more ++ entries)
+    → BecomesEligible key network old new now frame more → EndsInTime new (more ++ entries)
 offered-bounds {T} {key} {wait} {network} {releases} {old} {new} {now} {frame} {entries} {more} next step =
     let p : Progress = progress_at old.records frame in
     let was : ℕ = most_left (Due now.at, p) in
@@ -261,7 +261,7 @@ selects-soon {T} {key} {wait} {network} {releases} {old} {new} {now} {port} next
 pub selects-bounds : {T : Type 0} {key : T → ℕ → ℕ → ℕ} {wait : ℕ → ℕ → ℕ} {network : DeclaredNetwork}
     {releases : List Release} {old new : Course T} {now : Moment} {port : ℕ} {entries more : List (Moment × Event)}
     → IsNext key wait network releases old now (Selection port) entries → Selects key old new now port more
-    → IsInTime new (more ++ entries)
+    → EndsInTime new (more ++ entries)
 selects-bounds {T} {key} {wait} {network} {releases} {old} {new} {now} {port} {entries} {more} next step =
     let p : Progress = progress_at old.records step.frame in
     let q : Progress = with_sent p now.at step.end in
@@ -383,7 +383,7 @@ selects-now standing Occupied now port was is next free eligible less =
 pub ends-bounds : {T : Type 0} {key : T → ℕ → ℕ → ℕ} {wait : ℕ → ℕ → ℕ} {network : DeclaredNetwork}
     {releases : List Release} {old new : Course T} {now : Moment} {frame : ℕ} {entries more : List (Moment × Event)}
     → WaitsWithin wait → IsNext key wait network releases old now (End frame) entries
-    → Ends key wait network old new now frame more → IsInTime new (more ++ entries)
+    → Ends key wait network old new now frame more → EndsInTime new (more ++ entries)
 ends-bounds {T} {key} {wait} {network} {releases} {old} {new} {now} {frame} {entries} {more} within next step =
     let p : Progress = progress_at old.records frame in
     let was : ℕ = most_left (Sending now.at, p) in

@@ -111,6 +111,6 @@ soon_now network state progress now rules members =
     on_if (length progress.hops == 0) own (judged_by network state class progress now) (IsSoon now) (λ _. same)
     (on_if (class == 0) flow stream (IsSoon now)
     (λ _. on_if (is_declared_size declared octets) own Size (IsSoon now) (λ _. same) tt)
-    (soon_on (groups.declared_of state member) (groups.residence_of state (groups.group_of state member))
+    (soon_on (groups.declared_at state member) (groups.residence_of state (groups.group_of state member))
     (groups.time_at state.times (groups.group_of state member)) (groups.empty_at state.empties member) now octets
     (residence_most network state (groups.group_of state member) rules members)))

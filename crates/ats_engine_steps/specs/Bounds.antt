@@ -52,6 +52,6 @@ abbrev pub horizon : ℕ
 horizon = 100000000000000000 + 3200000 * most_hop
 
 -- no event that is to happen is so late that the rest would pass the horizon, and neither is the last one
-pub record IsInTime {T : Type 0} (course : Course T) (entries : List (Moment × Event)) : Type 0 where
+pub record EndsInTime {T : Type 0} (course : Course T) (entries : List (Moment × Event)) : Type 0 where
   pub last : course.last.at.0 + all_left course ≤ horizon
   pub each : All (λ (entry : Moment × Event). entry.0.at.0 + all_left course ≤ horizon) entries

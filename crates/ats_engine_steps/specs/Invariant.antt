@@ -11,7 +11,7 @@ use Rattle.ats_engine_steps.specs.Frames.{IsFrame}
 use Rattle.ats_engine_steps.specs.Ports.{IsPortOf, port_state_at}
 use Rattle.ats_engine_steps.specs.Paces.{IsPaced}
 use Rattle.ats_engine_steps.specs.Judging.{AreGroupsOf, IsGroupOf, ArePassed}
-use Rattle.ats_engine_steps.specs.Bounds.{IsInTime}
+use Rattle.ats_engine_steps.specs.Bounds.{EndsInTime}
 use Rattle.ats_engine_steps.specs.declared.event.Event.{Event}
 
 -- the lists fit the network and the releases
@@ -40,4 +40,4 @@ pub record Holds {T : Type 0} (key : T → ℕ → ℕ → ℕ) (wait : ℕ → 
   pub groups : (port class : ℕ) → port < length network.topology.ports → 1 ≤ class → class ≤ 7
       → IsGroupOf network course port class
   pub flows : (port : ℕ) → port < length network.topology.ports → ArePassed network course port
-  pub bounds : IsInTime course entries
+  pub bounds : EndsInTime course entries

@@ -8,7 +8,7 @@ use Rattle.ats_streams.specs.declared.traffic.Declared.{Declared}
 use Rattle.ats_group.specs.declared.member.Member.{Member}
 use Rattle.ats_group.specs.declared.verdict.Verdict.{Verdict}
 use Rattle.ats_group.specs.Group.{State, Offer, judged, next, verdicts_of, state_after}
-use Rattle.ats_group.specs.GroupsState.{GroupsState, member_at, declared_of, group_of, residence_of, state_of}
+use Rattle.ats_group.specs.GroupsState.{GroupsState, member_at, declared_at, group_of, residence_of, state_of}
 use Rattle.ats_group.specs.Laws.{verdict_at, groups_next, IsStep, groups_last, verdicts_in, offers_to}
 use Rattle.ats_group.specs.Laws.{EachGroupIsAFold}
 use Rattle.ats_group.proofs.StepLemmas.{each_frame, the_rest}
@@ -36,20 +36,20 @@ state_more false declared residence state later last offer offers e n s =
 
 -- the same fold, told by the members and residences of another moment
 like : (s t : GroupsState) (group : ℕ) (offers : List Offer) → t.members ≡ s.members → t.residences_ns ≡ s.residences_ns
-    → (state : State) → verdicts_of (declared_of t) (residence_of t group) state (offers_to t group offers)
-    ≡ verdicts_of (declared_of s) (residence_of s group) state (offers_to s group offers)
+    → (state : State) → verdicts_of (declared_at t) (residence_of t group) state (offers_to t group offers)
+    ≡ verdicts_of (declared_at s) (residence_of s group) state (offers_to s group offers)
 like s t group offers m r state =
     ap (λ (ms : List Member). verdicts_of (λ (i : ℕ). (member_at ms i).declared) (residence_of t group) state
     (filter (λ (o : Offer). (member_at ms o.member).group == group) offers)) m
-    ∙ ap (λ (rs : List ℕ). verdicts_of (declared_of s) (slice_index rs group) state (offers_to s group offers)) r
+    ∙ ap (λ (rs : List ℕ). verdicts_of (declared_at s) (slice_index rs group) state (offers_to s group offers)) r
 
 state_like : (s t : GroupsState) (group : ℕ) (offers : List Offer) → t.members ≡ s.members
-    → t.residences_ns ≡ s.residences_ns → (state : State) → state_after (declared_of t) (residence_of t group) state
-    (offers_to t group offers) ≡ state_after (declared_of s) (residence_of s group) state (offers_to s group offers)
+    → t.residences_ns ≡ s.residences_ns → (state : State) → state_after (declared_at t) (residence_of t group) state
+    (offers_to t group offers) ≡ state_after (declared_at s) (residence_of s group) state (offers_to s group offers)
 state_like s t group offers m r state =
     ap (λ (ms : List Member). state_after (λ (i : ℕ). (member_at ms i).declared) (residence_of t group) state
     (filter (λ (o : Offer). (member_at ms o.member).group == group) offers)) m
-    ∙ ap (λ (rs : List ℕ). state_after (declared_of s) (slice_index rs group) state (offers_to s group offers)) r
+    ∙ ap (λ (rs : List ℕ). state_after (declared_at s) (slice_index rs group) state (offers_to s group offers)) r
 
 step_in : (groups : GroupsState) (offer : Offer) (group : ℕ) → IsStep groups offer (group_of groups offer.member)
     → group_of groups offer.member ≡ group → IsStep groups offer group
@@ -73,12 +73,12 @@ each_group groups (offer ∷ offers) group k a =
     let elsewhere : test ≡ false → state_of later group ≡ state_of groups group =
     λ e. step.others group (λ p. eqb-false (group_of groups offer.member) group e (sym p)) in
     record {
-      verdicts = verdicts_more test (declared_of groups) (residence_of groups group) (state_of groups group)
+      verdicts = verdicts_more test (declared_at groups) (residence_of groups group) (state_of groups group)
           (state_of later group) offer (verdict_at groups offer) (verdicts_in later group offers)
           (offers_to groups group offers)
           (rest.verdicts ∙ like groups later group offers kept.members kept.residences (state_of later group))
           (λ e. (in_group e).verdict) (λ e. (in_group e).own) elsewhere;
-      state = state_more test (declared_of groups) (residence_of groups group) (state_of groups group)
+      state = state_more test (declared_at groups) (residence_of groups group) (state_of groups group)
           (state_of later group) (state_of (groups_last later offers) group) offer (offers_to groups group offers)
           (rest.state ∙ state_like groups later group offers kept.members kept.residences (state_of later group))
           (λ e. (in_group e).own) elsewhere;

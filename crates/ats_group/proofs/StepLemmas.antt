@@ -11,7 +11,7 @@ use Rattle.ats_group.specs.declared.member.Member.{Member}
 use Rattle.ats_group.specs.declared.verdict.Verdict.{Verdict}
 use Rattle.ats_group.specs.declared.verdict.Verdict.TheVariants.{Eligible, Late, Size}
 use Rattle.ats_group.specs.Group.{State, Offer, judged, after, verdict_on, empty_once}
-use Rattle.ats_group.specs.GroupsState.{GroupsState, AreGroups, no_member, declared_of, group_of, time_at, empty_at}
+use Rattle.ats_group.specs.GroupsState.{GroupsState, AreGroups, no_member, declared_at, group_of, time_at, empty_at}
 use Rattle.ats_group.specs.GroupsState.{opened}
 use Rattle.ats_group.specs.GroupsState.{residence_of, state_of, groups_after}
 use Rattle.ats_group.specs.Laws.{verdict_at, EachFrameIsAStep, OpenedIsFirst, Outlasts, EachFrameKeepsTheRest}
@@ -39,11 +39,11 @@ state_is : (s t : ℕ) (e f : ℕ → ℤ) → s ≡ t → ((i : ℕ) → e i �
 state_is s t e f p q = let g : e ≡ f = fun_ext q in cc
 
 -- the member's own group
-own_verdict : (groups : GroupsState) (offer : Offer) → verdict_at groups offer ≡ judged (declared_of groups)
+own_verdict : (groups : GroupsState) (offer : Offer) → verdict_at groups offer ≡ judged (declared_at groups)
     (residence_of groups (group_of groups offer.member)) (state_of groups (group_of groups offer.member)) offer
 own_verdict groups offer =
     ap (λ (b : ℤ).
-    verdict_on (declared_of groups offer.member) (residence_of groups (group_of groups offer.member))
+    verdict_on (declared_at groups offer.member) (residence_of groups (group_of groups offer.member))
     (time_at groups.times (group_of groups offer.member)) b offer.arrival offer.octets)
     (sym (same (group_of groups offer.member) (empty_at groups.empties offer.member) _))
 
@@ -95,12 +95,12 @@ other_empty empties member group x groups firsts n i =
 own_after : (groups : GroupsState) (offer : Offer) (v : Verdict)
     → group_of groups offer.member < length groups.times → offer.member < length groups.empties
     → state_of (groups_after groups offer.member offer.octets v) (group_of groups offer.member)
-    ≡ after (declared_of groups) (state_of groups (group_of groups offer.member)) offer v
+    ≡ after (declared_at groups) (state_of groups (group_of groups offer.member)) offer v
 own_after groups offer (Eligible e) t m =
     state_is _ _ _ _
     (ap (λ (p : Ps). p.0) (get_or-set_same groups.times (group_of groups offer.member) e (record { 0 = 0 }) t))
-    (own_empty groups.empties offer.member _ (λ (i : ℕ) (b : ℤ). empty_once (declared_of groups i)
-    b e.0 offer.octets) (group_of groups) (λ (i : ℕ). first_empty (declared_of groups i).burst_bits) m refl)
+    (own_empty groups.empties offer.member _ (λ (i : ℕ) (b : ℤ). empty_once (declared_at groups i)
+    b e.0 offer.octets) (group_of groups) (λ (i : ℕ). first_empty (declared_at groups i).burst_bits) m refl)
 own_after groups offer (Late e) t m = refl
 own_after groups offer Size t m = refl
 
@@ -112,7 +112,7 @@ other_after groups offer (Eligible e) group n =
     (ap (λ (p : Ps). p.0)
     (get_or-set_other groups.times (group_of groups offer.member) group e (record { 0 = 0 }) n))
     (other_empty groups.empties offer.member group _ (group_of groups)
-    (λ (i : ℕ). first_empty (declared_of groups i).burst_bits) n)
+    (λ (i : ℕ). first_empty (declared_at groups i).burst_bits) n)
 other_after groups offer (Late e) group n = refl
 other_after groups offer Size group n = refl
 
@@ -130,7 +130,7 @@ each_frame groups offer k h = record {
   own =
       own_after groups offer (verdict_at groups offer) (group_in groups offer.member k h)
       (member_in groups offer.member k h)
-      ∙ ap (after (declared_of groups) (state_of groups (group_of groups offer.member)) offer)
+      ∙ ap (after (declared_at groups) (state_of groups (group_of groups offer.member)) offer)
       (own_verdict groups offer);
   others = λ group n. other_after groups offer (verdict_at groups offer) group n;
 }
@@ -158,7 +158,7 @@ pub opened_first : OpenedIsFirst
 opened_first residences members group =
     state_is _ _ _ _ (zero_at (length residences) group)
     (λ (i : ℕ). ap (λ (z : ℤ). if group_of (opened residences members) i == group
-    then z else first_empty (declared_of (opened residences members) i).burst_bits)
+    then z else first_empty (declared_at (opened residences members) i).burst_bits)
     (get_or-map (λ (m : Member). first_empty m.declared.burst_bits) members i no_member)
     ∙ either (group_of (opened residences members) i == group)
-    (first_empty (declared_of (opened residences members) i).burst_bits))
+    (first_empty (declared_at (opened residences members) i).burst_bits))

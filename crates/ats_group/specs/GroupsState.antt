@@ -35,8 +35,8 @@ empty_at empties member = slice_index_or empties member (pos 0)
 abbrev pub group_of : GroupsState → ℕ → ℕ
 group_of groups member = (member_at groups.members member).group
 
-abbrev pub declared_of : GroupsState → ℕ → Declared
-declared_of groups member = (member_at groups.members member).declared
+abbrev pub declared_at : GroupsState → ℕ → Declared
+declared_at groups member = (member_at groups.members member).declared
 
 -- the maximum residence time of a group, in nanoseconds
 abbrev pub residence_of : GroupsState → ℕ → ℕ
@@ -48,7 +48,7 @@ state_of groups group =
     record {
       time = time_at groups.times group;
       empty = λ member. if group_of groups member == group then empty_at groups.empties member
-          else first_empty (declared_of groups member).burst_bits;
+          else first_empty (declared_at groups member).burst_bits;
     }
 
 -- each member's bucket-empty time at first
@@ -69,7 +69,7 @@ opened residences_ns members =
 abbrev pub verdict_of : GroupsState → ℕ → ℕ → ℕ → Verdict
 verdict_of groups member arrival octets =
     let group = group_of groups member in
-    verdict_on (declared_of groups member) (residence_of groups group) (time_at groups.times group)
+    verdict_on (declared_at groups member) (residence_of groups group) (time_at groups.times group)
     (empty_at groups.empties member) arrival octets
 
 -- what the groups keep after a verdict on a frame of a member
@@ -78,7 +78,7 @@ groups_after groups member octets (Eligible e) =
     record groups {
       times = slice_set groups.times (group_of groups member) e;
       empties = slice_set groups.empties member
-          (empty_once (declared_of groups member) (empty_at groups.empties member) e.0 octets);
+          (empty_once (declared_at groups member) (empty_at groups.empties member) e.0 octets);
     }
 groups_after groups member octets (Late e) = groups
 groups_after groups member octets Size = groups

@@ -2,7 +2,7 @@ use Rattle.std.specs.Prelude.{◌≡◌, ◌≢◌, ℕ, ◌<◌, ◌==◌, List
 use Rattle.ats_group.specs.declared.member.Member.{Member}
 use Rattle.ats_group.specs.declared.verdict.Verdict.{Verdict}
 use Rattle.ats_group.specs.Group.{Offer, first, judged, next, verdicts_of, state_after}
-use Rattle.ats_group.specs.GroupsState.{GroupsState, AreGroups, declared_of, group_of, opened, residence_of, state_of}
+use Rattle.ats_group.specs.GroupsState.{GroupsState, AreGroups, declared_at, group_of, opened, residence_of, state_of}
 use Rattle.ats_group.specs.GroupsState.{value_after, verdict_of}
 
 -- the verdict on an offered frame, and what the groups keep after it
@@ -15,9 +15,9 @@ groups_next groups offer = value_after groups offer.member offer.arrival offer.o
 -- the frame is judged by its member's group alone, which takes the step of the fold; every other group stays as it is
 pub record IsStep (groups : GroupsState) (offer : Offer) (group : ℕ) : Type 0 where
   pub verdict : verdict_at groups offer
-      ≡ judged (declared_of groups) (residence_of groups group) (state_of groups group) offer
+      ≡ judged (declared_at groups) (residence_of groups group) (state_of groups group) offer
   pub own : state_of (groups_next groups offer) group
-      ≡ next (declared_of groups) (residence_of groups group) (state_of groups group) offer
+      ≡ next (declared_at groups) (residence_of groups group) (state_of groups group) offer
   pub others : (other : ℕ) → other ≢ group → state_of (groups_next groups offer) other ≡ state_of groups other
 
 -- each frame of a member is one step of its group's fold
@@ -28,7 +28,7 @@ EachFrameIsAStep = (groups : GroupsState) (offer : Offer) → AreGroups groups �
 -- opened groups are at the fold's first state
 abbrev pub OpenedIsFirst : Type 0
 OpenedIsFirst = (residences_ns : List ℕ) (members : List Member) (group : ℕ)
-    → state_of (opened residences_ns members) group ≡ first (declared_of (opened residences_ns members))
+    → state_of (opened residences_ns members) group ≡ first (declared_at (opened residences_ns members))
 
 -- what the groups keep after frames to any groups, one after another
 abbrev pub groups_last : GroupsState → List Offer → GroupsState
@@ -49,9 +49,9 @@ offers_to groups group offers = filter (λ (o : Offer). group_of groups o.member
 
 -- whatever comes to the other groups, a group's verdicts and its state at the end are the fold's over its own frames
 pub record IsFold (groups : GroupsState) (offers : List Offer) (group : ℕ) : Type 0 where
-  pub verdicts : verdicts_in groups group offers ≡ verdicts_of (declared_of groups) (residence_of groups group)
+  pub verdicts : verdicts_in groups group offers ≡ verdicts_of (declared_at groups) (residence_of groups group)
       (state_of groups group) (offers_to groups group offers)
-  pub state : state_of (groups_last groups offers) group ≡ state_after (declared_of groups)
+  pub state : state_of (groups_last groups offers) group ≡ state_after (declared_at groups)
       (residence_of groups group) (state_of groups group) (offers_to groups group offers)
 
 abbrev pub EachGroupIsAFold : Type 0

@@ -6,7 +6,7 @@ use Rattle.ats_bucket.specs.Conforming.{Frame, times_of, Conforms}
 use Rattle.ats_group.specs.declared.member.Member.{Member}
 use Rattle.ats_group.specs.declared.verdict.Verdict.TheVariants.{Eligible}
 use Rattle.ats_group.specs.Group.{Offer}
-use Rattle.ats_group.specs.GroupsState.{AreMembers, declared_of, group_of, opened, time_at}
+use Rattle.ats_group.specs.GroupsState.{AreMembers, declared_at, group_of, opened, time_at}
 use Rattle.ats_group.specs.Laws.{verdict_at, groups_last, verdicts_in, offers_to}
 use Rattle.ats_group_law.specs.Accepted.{accepted, accepted_of}
 use Rattle.ats_group_law.specs.Laws.{IsLeastConforming}
@@ -36,7 +36,7 @@ passed_of_member residences_ns members offers member =
 abbrev pub GroupsOutputConforms : Type 0
 GroupsOutputConforms = (residences_ns : List ℕ) (members : List Member) (offers : List Offer) (member : ℕ)
     → IsUse residences_ns members offers → member < length members
-    → Conforms (declared_of (opened residences_ns members) member).rate (declared_of (opened residences_ns members)
+    → Conforms (declared_at (opened residences_ns members) member).rate (declared_at (opened residences_ns members)
     member).burst_bits (passed_of_member residences_ns members offers member)
 
 -- the times of all that each group accepts do not descend
@@ -51,7 +51,7 @@ GroupsEligibilityIsLeast =
     (residences_ns : List ℕ) (members : List Member) (offers : List Offer) (offer : Offer) (e : Ps)
     → IsUse residences_ns members offers → offer.member < length members
     → verdict_at (groups_last (opened residences_ns members) offers) offer ≡ Eligible e
-    → IsLeastConforming (declared_of (opened residences_ns members) offer.member).rate (declared_of
+    → IsLeastConforming (declared_at (opened residences_ns members) offer.member).rate (declared_at
     (opened residences_ns members) offer.member).burst_bits (passed_of_member residences_ns members offers offer.member)
     (time_at (groups_last (opened residences_ns members) offers).times
     (group_among residences_ns members offer.member)) offer.arrival (bits_of offer.octets) e.0

@@ -10,7 +10,7 @@ use Rattle.ats_group.specs.declared.member.Member.{Member}
 use Rattle.ats_group.specs.declared.verdict.Verdict.{Verdict}
 use Rattle.ats_group.specs.declared.verdict.Verdict.TheVariants.{Eligible, Late, Size}
 use Rattle.ats_group.specs.Group.{Offer, State, first, verdicts_of}
-use Rattle.ats_group.specs.GroupsState.{GroupsState, opened, declared_of, group_of, state_of, groups_after, no_member}
+use Rattle.ats_group.specs.GroupsState.{GroupsState, opened, declared_at, group_of, state_of, groups_after, no_member}
 use Rattle.ats_group.specs.GroupsState.{AreMembers, IsMember, AreGroups}
 use Rattle.ats_group.specs.Laws.{verdict_at, groups_next, verdicts_in, offers_to, IsFold}
 use Rattle.ats_group.proofs.FoldLemmas.{each_group}
@@ -66,7 +66,7 @@ lone_offers groups (offer ∷ offers) lone =
 at_first_lone : (shape : DeclaredShape) → IsLone (at_first shape)
 at_first_lone shape = λ member. ap (λ (m : Member). m.group) (get_or-map member_of shape.streams member no_stream)
 
-at_first_declared : (shape : DeclaredShape) → declared_of (at_first shape) ≡ declared_in shape.streams
+at_first_declared : (shape : DeclaredShape) → declared_at (at_first shape) ≡ declared_in shape.streams
 at_first_declared shape =
     fun_ext (λ member. ap (λ (m : Member). m.declared) (get_or-map member_of shape.streams member no_stream))
 
@@ -96,9 +96,9 @@ all_verdicts shape h =
     each_group (at_first shape) offers 0 (at_first_stands shape h) (offers_within shape h) in
     sym (lone_verdicts (at_first shape) offers (at_first_lone shape))
     ∙ fold.verdicts
-    ∙ ap (λ (os : List Offer). verdicts_of (declared_of (at_first shape)) shape.residence_ns
+    ∙ ap (λ (os : List Offer). verdicts_of (declared_at (at_first shape)) shape.residence_ns
     (state_of (at_first shape) 0) os) (lone_offers (at_first shape) offers (at_first_lone shape))
-    ∙ ap (λ (s : State). verdicts_of (declared_of (at_first shape)) shape.residence_ns s offers)
+    ∙ ap (λ (s : State). verdicts_of (declared_at (at_first shape)) shape.residence_ns s offers)
     (opened_first (shape.residence_ns ∷ []) (map member_of shape.streams) 0)
     ∙ ap (λ (d : ℕ → Declared). verdicts_of d shape.residence_ns (first d) offers) (at_first_declared shape)
 
