@@ -1,3 +1,5 @@
+-- Proofs of the laws of `TimeOrder`. They stand here, and not in proofs/, since what an `impl` gives for a law cites
+-- the specs/ of its own crate alone. A reader of meanings passes over them.
 use Rattle.std.specs.Prelude.{◌≡◌, ◌≢◌, ℕ, ◌<◌, ◌≤◌, ◌⊎◌, bit_xor}
 use Rattle.std.proofs.Common.{sym, ◌∙◌, ap, refl, inl, inr, arith}
 use Rattle.std.proofs.lemmas.Bool.{cases_order}

@@ -1,4 +1,4 @@
-use Rattle.std.proofs.Common.{◌≡◌, ℕ, ◌<◌, true, List, [], ◌∷◌, length, get_or, replicate, Option, Some, None, refl}
+use Rattle.std.proofs.Common.{◌≡◌, ℕ, ◌<◌, true, List, length, get_or, replicate, Option, Some, None, refl}
 use Rattle.std.proofs.Common.{sym, ap, subst, ◌∙◌, arith}
 use Rattle.std.specs.Prelude.{◌==◌, option_and_then, IfSome}
 use Rattle.std.specs.List.{All}
@@ -14,9 +14,7 @@ use Rattle.ats_topology.specs.Topology.{DeclaredTopology, HasLawfulPorts, IsPort
 use Rattle.ats_topology.specs.declared.port.Port.{Port}
 use Rattle.ats_topology.proofs.KeptRules.{goes_between}
 use Rattle.ats_topology.proofs.NameLemmas.{name_at, length-names_of}
-use Rattle.ats_network_toml.specs.Document as file
-use Rattle.ats_network_file.specs.Routes.{in_front, nodes_named, ports_along, ports_through, ports_of, port_to}
-use Rattle.ats_network_file.specs.Routes.{ports_onward}
+use Rattle.ats_network_file.specs.Routes.{port_to}
 use Rattle.ats_network_file.specs.KeptSteps.{IsStep, AreSteps, goes_to}
 use Rattle.ats_network_file.specs.declared.kept_steps.KeptSteps.{KeptSteps}
 use Rattle.ats_network_file.specs.declared.kept_steps.TheConstants.{PLACES}
@@ -89,55 +87,6 @@ to_within topology a p name is = by (place_of name (names_of topology.nodes)) is
         → p < length topology.ports
     by None e = cc
     by (Some b) e = (goes_between topology.ports a b (Some p) (sym e)).within
-
--- the ports through named nodes are found one after another
-pub onward_is : (topology : DeclaredTopology) (a : ℕ) (names : List (List ℕ))
-    → option_and_then (ports_through topology.ports a) (nodes_named topology names) ≡ ports_onward topology a names
-onward_is topology a [] = refl
-onward_is topology a (name ∷ names) = by (place_of name (names_of topology.nodes)) (λ b. onward_is topology b names)
-  where
-    unfolds : (b : ℕ) (nodes : Option (List ℕ))
-        → option_and_then (ports_through topology.ports a) (in_front (Some b) nodes)
-        ≡ option_and_then (λ ns. in_front (port_between a b topology.ports) (ports_through topology.ports b ns)) nodes
-    unfolds b None = refl
-    unfolds b (Some ns) = refl
-
-    onto : (b : ℕ) (o : Option ℕ) → IfSome o (GoesBetween topology.ports a b) → (nodes : Option (List ℕ))
-        → option_and_then (ports_through topology.ports b) nodes ≡ ports_onward topology b names
-        → option_and_then (λ ns. in_front o (ports_through topology.ports b ns)) nodes
-        ≡ option_and_then (λ p. in_front (Some p) (ports_onward topology (port_at topology.ports p).to names)) o
-    onto b None goes None rest = refl
-    onto b None goes (Some ns) rest = refl
-    onto b (Some p) goes None rest =
-        sym (ap (in_front (Some p)) (ap (λ (n : ℕ). ports_onward topology n names) goes.to ∙ sym rest))
-    onto b (Some p) goes (Some ns) rest =
-        ap (in_front (Some p)) (rest ∙ ap (λ (n : ℕ). ports_onward topology n names) (sym goes.to))
-
-    by : (place : Option ℕ)
-        → ((b : ℕ) → option_and_then (ports_through topology.ports b) (nodes_named topology names)
-        ≡ ports_onward topology b names)
-        → option_and_then (ports_through topology.ports a) (in_front place (nodes_named topology names))
-        ≡ option_and_then (λ p. in_front (Some p) (ports_onward topology (port_at topology.ports p).to names))
-        (option_and_then (λ b. port_between a b topology.ports) place)
-    by None rest = refl
-    by (Some b) rest =
-        unfolds b (nodes_named topology names)
-        ∙ onto b (port_between a b topology.ports)
-        (goes_between topology.ports a b (port_between a b topology.ports) refl) (nodes_named topology names) (rest b)
-
--- the ports of a path whose first node has this number
-pub through_is : (topology : DeclaredTopology) (first : List ℕ) (rest : List (List ℕ)) (from : ℕ)
-    → place_of first (names_of topology.nodes) ≡ Some from
-    → ports_of topology (file.path (first ∷ rest)) ≡ ports_onward topology from rest
-through_is topology first rest from is =
-    ap (λ (place : Option ℕ).
-    option_and_then (ports_along topology.ports) (in_front place (nodes_named topology rest))) is
-    ∙ begins (nodes_named topology rest) ∙ onward_is topology from rest
-  where
-    begins : (nodes : Option (List ℕ)) → option_and_then (ports_along topology.ports) (in_front (Some from) nodes)
-        ≡ option_and_then (ports_through topology.ports from) nodes
-    begins None = refl
-    begins (Some ns) = refl
 
 -- what only None fulfils is fulfilled by None alone
 pub none_only : (C : Option ℕ → Type 0) → ((n : ℕ) → C (Some n) → ⊥) → (o : Option ℕ) → C o → o ≡ None
