@@ -5,26 +5,26 @@ use Rattle.std.specs.List.{All}
 use Rattle.std.specs.Option.{ForSome}
 use Rattle.std.proofs.lemmas.List.Elements.{All-nil, All-cons}
 use Rattle.toml.specs.Data.{Members, get_member}
-use Rattle.ats_network_toml.specs.Document.{DeclaredDocument, DeclaredStream, DeclaredFlow, IsIdentity}
+use Rattle.ats_network_table.specs.Kinds.{address_in}
+use Rattle.ats_network_table.specs.Walk.{Entry, has, formed, name_at, whole_at, classes_at, identity_at}
+use Rattle.ats_network_table.specs.Walk.{at, IsIdentity}
+use Rattle.ats_network_table.specs.Words.{key_text}
+use Rattle.ats_network_table.specs.declared.fault.DocumentFault.{DocumentFault}
+use Rattle.ats_network_table.specs.declared.fault.DocumentFault.TheVariants as fault
+use Rattle.ats_network_table.specs.declared.format.Format.{Format}
+use Rattle.ats_network_table.specs.declared.format.Format.TheVariants.{One}
+use Rattle.ats_network_table.specs.declared.key.Key.TheVariants as key
+use Rattle.ats_network_table.specs.declared.table.Table.{Table}
+use Rattle.ats_network_table.specs.declared.table.Table.TheVariants as table
+use Rattle.ats_network_toml.specs.Document.{DeclaredDocument, DeclaredStream, DeclaredFlow}
 use Rattle.ats_network_toml.specs.Entries.{station_in, bridge_in, link_in, stream_in, flow_in, route_at}
 use Rattle.ats_network_toml.specs.Entries.{numbers_in}
-use Rattle.ats_network_toml.specs.Kinds.{address_in}
 use Rattle.ats_network_toml.specs.Reading.{Arrays, entries_from, entries_in, arrays_in, arrays_read, document_in}
 use Rattle.ats_network_toml.specs.Reading.{document_of, tree_of}
 use Rattle.ats_num.specs.Failure.{◌>>=◌, or_fault}
-use Rattle.ats_network_toml.specs.Walk.{Entry, has, formed, name_at, whole_at, classes_at, identity_at}
-use Rattle.ats_network_toml.specs.Walk.{at}
-use Rattle.ats_network_toml.specs.Words.{key_text}
 use Rattle.ats_network_toml.specs.declared.entries.StationEntry.{StationEntry}
 use Rattle.ats_network_toml.specs.declared.entries.BridgeEntry.{BridgeEntry}
 use Rattle.ats_network_toml.specs.declared.entries.LinkEntry.{LinkEntry}
-use Rattle.ats_network_toml.specs.declared.fault.DocumentFault.{DocumentFault}
-use Rattle.ats_network_toml.specs.declared.fault.DocumentFault.TheVariants as fault
-use Rattle.ats_network_toml.specs.declared.format.Format.{Format}
-use Rattle.ats_network_toml.specs.declared.format.Format.TheVariants.{One}
-use Rattle.ats_network_toml.specs.declared.key.Key.TheVariants as key
-use Rattle.ats_network_toml.specs.declared.table.Table.{Table}
-use Rattle.ats_network_toml.specs.declared.table.Table.TheVariants as table
 use Rattle.ats_network_file.proofs.Steps.{both, or_fault_ok}
 use Rattle.ats_network_file.proofs.Identities.{address_kept, whole_kept}
 

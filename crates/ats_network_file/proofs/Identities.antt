@@ -5,9 +5,9 @@ use Rattle.std.specs.Char.{digit_value}
 use Rattle.std.proofs.lemmas.Bool.{and_parts, ltb-true}
 use Rattle.std.proofs.lemmas.Bool.Decides.{nat_tests}
 use Rattle.toml.specs.Data.{Data, as_str, as_integer}
-use Rattle.ats_network_toml.specs.Kinds.{◌>>=◌, some_where, digit_at, pair_at, joined_at, two_more, address_of}
-use Rattle.ats_network_toml.specs.Kinds.{address_in}
-use Rattle.ats_network_toml.specs.Kinds.{ranged, whole_in}
+use Rattle.ats_network_table.specs.Kinds.{◌>>=◌, some_where, digit_at, pair_at, joined_at, two_more, address_of}
+use Rattle.ats_network_table.specs.Kinds.{address_in}
+use Rattle.ats_network_table.specs.Kinds.{ranged, whole_in}
 
 -- The address and the VLAN identifier that a table may give are within their limits.
 

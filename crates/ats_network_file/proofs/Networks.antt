@@ -18,9 +18,10 @@ use Rattle.ats_network.specs.Pushes.{stream_push_fault, flow_push_fault}
 use Rattle.ats_network.specs.declared.network.TheConstants.{MAX_STREAMS, MAX_FLOWS}
 use Rattle.ats_network.proofs.Pushed.{pushed_stream, pushed_flow}
 use Rattle.ats_facts.proofs.Options.{is_some-false}
+use Rattle.ats_network_table.specs.Walk.{IsIdentity}
+use Rattle.ats_network_table.specs.declared.fault.DocumentFault.{DocumentFault}
 use Rattle.ats_network_toml.specs.Document as file
 use Rattle.ats_network_toml.specs.Reading.{document_of}
-use Rattle.ats_network_toml.specs.declared.fault.DocumentFault.{DocumentFault}
 use Rattle.ats_num.specs.Failure.{◌>>=◌, or_fault, ok_where, unless}
 use Rattle.ats_network_file.specs.Reading.{tables_of, nodes_of, links_of, topology_in, network_in, network_of}
 use Rattle.ats_network_file.specs.Senders.{path_in, stream_over, flow_over, stream_made, flow_made, refusal_of}
@@ -83,7 +84,7 @@ stream_add_kept network n e next identified is h =
     λ s same. unless_ok (refusal_of Stream n) (stream_push_fault network s) (with_stream network s) next
     (subst (λ s. unless (refusal_of Stream n) (stream_push_fault network s) (with_stream network s) ≡ Ok next)
     (sym same) made.then) in
-    let may : MayIdentify e.identity = λ pair given. let one : file.IsIdentity pair = identified pair given in
+    let may : MayIdentify e.identity = λ pair given. let one : IsIdentity pair = identified pair given in
     record { within = one.address; least = one.vlan_least; most = one.vlan_most } in
     stream_push_kept network stream next is (stream_keeps e.classes stream refl may sound.none)
     (path_kept network.topology Stream n e.route routed.first routed.is) (added stream sound.same)

@@ -1,7 +1,7 @@
 use Rattle.std.specs.Prelude.{ℕ, List, ◌++◌, codes, decimal}
 use Rattle.ats_topology.specs.FaultText as topology
 use Rattle.ats_streams.specs.Fault.{text_of}
-use Rattle.ats_network_toml.specs.FaultText as form
+use Rattle.ats_network_table.specs.FaultText as form
 use Rattle.ats_network_file.specs.Senders.{table_of}
 use Rattle.ats_network_file.specs.declared.fault.NetFault.{NetFault}
 use Rattle.ats_network_file.specs.declared.fault.NetFault.TheVariants.{Form, Topology, BadPath, Sender, SenderTwice}

@@ -5,12 +5,12 @@ use Rattle.ats_topology.specs.declared.node.Kind.TheVariants.{Station, Bridge}
 use Rattle.ats_topology.specs.declared.node.Node.{Node}
 use Rattle.ats_topology.specs.declared.link.Link.{Link}
 use Rattle.ats_network.specs.Network.{DeclaredNetwork, declared_network}
+use Rattle.ats_network_table.specs.declared.fault.DocumentFault.{DocumentFault}
 use Rattle.ats_network_toml.specs.Document as file
 use Rattle.ats_network_toml.specs.Reading.{document_of}
 use Rattle.ats_network_toml.specs.declared.entries.StationEntry.{StationEntry}
 use Rattle.ats_network_toml.specs.declared.entries.BridgeEntry.{BridgeEntry}
 use Rattle.ats_network_toml.specs.declared.entries.LinkEntry.{LinkEntry}
-use Rattle.ats_network_toml.specs.declared.fault.DocumentFault.{DocumentFault}
 use Rattle.ats_num.specs.Failure.{◌>>=◌, unless}
 use Rattle.ats_network_file.specs.Senders.{all_added, stream_added, flow_added}
 use Rattle.ats_network_file.specs.declared.fault.NetFault.{NetFault}

@@ -6,10 +6,10 @@ use Rattle.ats_network.specs.Network.{DeclaredNetwork}
 use Rattle.ats_network.specs.Pushes.{with_stream, with_flow, stream_push_fault, flow_push_fault}
 use Rattle.ats_network.specs.declared.fault.PushFault.{PushFault}
 use Rattle.ats_network.specs.declared.fault.PushFault.TheVariants.{NameTaken, IdentityTaken, Limit}
+use Rattle.ats_network_table.specs.declared.table.Table.{Table}
+use Rattle.ats_network_table.specs.declared.table.Table.TheVariants as table
+use Rattle.ats_network_table.specs.declared.fault.DocumentFault.TheVariants as form
 use Rattle.ats_network_toml.specs.Document as file
-use Rattle.ats_network_toml.specs.declared.table.Table.{Table}
-use Rattle.ats_network_toml.specs.declared.table.Table.TheVariants as table
-use Rattle.ats_network_toml.specs.declared.fault.DocumentFault.TheVariants as form
 use Rattle.ats_num.specs.Failure.{◌>>=◌, or_fault, ok_where, unless}
 use Rattle.ats_network_file.specs.Routes.{ports_of, is_valid}
 use Rattle.ats_network_file.specs.declared.senders.SenderTable.{SenderTable}

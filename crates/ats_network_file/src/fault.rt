@@ -4,7 +4,7 @@ ghost use Rattle.std.specs.Prelude.{◌≡◌, Some};
 ghost use Rattle.ats_network_file.specs.FaultText.{fault_text};
 
 use crate::senders::SenderTable;
-use ats_network_toml::DocumentFault;
+use ats_network_table::DocumentFault;
 use ats_num::Fault;
 use ats_streams::StreamFault;
 use ats_topology::TopologyFault;

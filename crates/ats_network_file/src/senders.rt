@@ -12,7 +12,7 @@ ghost use Rattle.ats_network.specs.declared.fault.PushFault.{PushFault};
 use crate::fault::NetFault;
 use crate::kept_routes::KeptRoutes;
 use ats_network::{Network, PushFault};
-use ats_network_toml::{DocumentFault, Table};
+use ats_network_table::{DocumentFault, Table};
 use ats_num::Failure;
 use ats_streams::StreamFault;
 use std::alloc::Global;

@@ -11,9 +11,9 @@ use Rattle.ats_streams.specs.Flow.{DeclaredFlow, flow_fault}
 use Rattle.ats_network.specs.Network.{DeclaredNetwork, declared_network}
 use Rattle.ats_network.specs.Path.{IsValidPath}
 use Rattle.ats_network.specs.Pushes.{flow_push_fault, stream_push_fault, with_flow, with_stream}
+use Rattle.ats_network_table.specs.declared.fault.DocumentFault.{DocumentFault}
 use Rattle.ats_network_toml.specs.Document as file
 use Rattle.ats_network_toml.specs.Reading.{document_of}
-use Rattle.ats_network_toml.specs.declared.fault.DocumentFault.{DocumentFault}
 use Rattle.ats_network_file.specs.Reading.{links_of, network_in, nodes_of, tables_of, topology_in}
 use Rattle.ats_network_file.specs.Routes.{is_valid, ports_of}
 use Rattle.ats_network_file.specs.Senders.{all_added, flow_added, flow_made, flow_over, path_in, refusal_of}

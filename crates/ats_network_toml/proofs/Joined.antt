@@ -5,9 +5,9 @@ use Rattle.toml.specs.Data.{Data, Members, as_table}
 use Rattle.toml.specs.View.{view, items_view}
 use Rattle.toml.specs.declared.value.Value.{Value}
 use Rattle.toml.proofs.Views.{items_view-drop}
-use Rattle.ats_network_toml.specs.Kinds.{in_front, all_in}
+use Rattle.ats_network_table.specs.Kinds.{in_front, all_in}
+use Rattle.ats_network_table.specs.declared.fault.DocumentFault.{DocumentFault}
 use Rattle.ats_network_toml.specs.Views.{are_tables, tables_of}
-use Rattle.ats_network_toml.specs.declared.fault.DocumentFault.{DocumentFault}
 
 -- an item of an array, and those behind it
 pub all_in_drop : {A : Type 0} (kind : Data → Option A) (vs : List Value) (i : ℕ) (d : Value) → i < length vs

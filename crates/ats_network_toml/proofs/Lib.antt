@@ -1,4 +1,2 @@
 pub mod Joined
 pub mod Trees
-pub mod Places
-pub mod Others

@@ -1,5 +1,6 @@
-use Rattle.std.specs.Prelude.{ℕ, ◌≤◌, ◌<◌, ◌^◌, ◌+◌, List, length, Option}
+use Rattle.std.specs.Prelude.{ℕ, ◌≤◌, ◌+◌, List, length, Option}
 use Rattle.std.specs.Option.{ForSome}
+use Rattle.ats_network_table.specs.Walk.{IsIdentity}
 use Rattle.ats_network_toml.specs.declared.entries.StationEntry.{StationEntry}
 use Rattle.ats_network_toml.specs.declared.entries.BridgeEntry.{BridgeEntry}
 use Rattle.ats_network_toml.specs.declared.entries.LinkEntry.{LinkEntry}
@@ -39,12 +40,6 @@ pub record DeclaredDocument : Type 0 where
 abbrev pub IsRoute : DeclaredRoute → Type 0
 IsRoute (path names) = 2 ≤ length names
 IsRoute (ends from to) = Unit {0}
-
--- an address has 48 bits, and a VLAN identifier is 1 to 4094
-pub record IsIdentity (identity : ℕ × ℕ) : Type 0 where
-  pub address : identity.0 < 2 ^ 48
-  pub vlan_least : 1 ≤ identity.1
-  pub vlan_most : identity.1 ≤ 4094
 
 -- what each stream entry keeps
 pub record IsStreamEntry (stream : DeclaredStream) : Type 0 where

@@ -1,23 +1,15 @@
-use Rattle.std.specs.Prelude.{ℕ, Result, Ok, if◌then◌else◌}
+use Rattle.std.specs.Prelude.{Result, Ok, if◌then◌else◌}
 use Rattle.ats_num.specs.Failure.{◌>>=◌}
-use Rattle.ats_network_toml.specs.Walk.{Entry, has, formed, name_at, whole_at, path_at, classes_at, deadline_at}
-use Rattle.ats_network_toml.specs.Walk.{identity_at}
-use Rattle.ats_network_toml.specs.Words.{least_processing_key, greatest_processing_key}
+use Rattle.ats_network_table.specs.Walk.{Entry, has, formed, name_at, short_at, long_at, path_at, classes_at}
+use Rattle.ats_network_table.specs.Walk.{deadline_at, identity_at}
+use Rattle.ats_network_table.specs.Words.{least_processing_key, greatest_processing_key}
+use Rattle.ats_network_table.specs.declared.key.Key.TheVariants as key
+use Rattle.ats_network_table.specs.declared.fault.DocumentFault.{DocumentFault}
 use Rattle.ats_network_toml.specs.Document.{DeclaredRoute, path, ends, DeclaredStream, DeclaredFlow}
 use Rattle.ats_network_toml.specs.declared.entries.StationEntry.{StationEntry}
 use Rattle.ats_network_toml.specs.declared.entries.BridgeEntry.{BridgeEntry}
 use Rattle.ats_network_toml.specs.declared.entries.LinkEntry.{LinkEntry}
 use Rattle.ats_network_toml.specs.declared.entries.StreamNumbers.{StreamNumbers}
-use Rattle.ats_network_toml.specs.declared.key.Key.{Key}
-use Rattle.ats_network_toml.specs.declared.key.Key.TheVariants as key
-use Rattle.ats_network_toml.specs.declared.fault.DocumentFault.{DocumentFault}
-
--- a whole number of 32 bits, and one that is as great as TOML allows
-abbrev pub short_at : Entry → Key → Result ℕ DocumentFault
-short_at e k = whole_at e k 0 4294967295
-
-abbrev pub long_at : Entry → Key → Result ℕ DocumentFault
-long_at e k = whole_at e k 0 9223372036854775807
 
 -- the path, or its two ends
 abbrev pub route_at : Entry → Result DeclaredRoute DocumentFault

@@ -1,11 +1,6 @@
-pub mod Words
-pub mod Kinds
-pub mod Walk
 pub mod Document
 pub mod Entries
 pub mod Views
 pub mod Reading
 pub mod ArraysView
 pub mod PartsView
-pub mod FaultText
-pub mod Slots

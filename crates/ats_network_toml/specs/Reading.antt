@@ -1,18 +1,20 @@
 use Rattle.std.specs.Prelude.{ℕ, ◌+◌, ◌-◌, nat_lt, List, [], ◌∷◌, length, Option, None, Result, Ok, Err, if◌then◌else◌}
 use Rattle.std.specs.Str.{is_utf8}
-use Rattle.toml.specs.Data.{Members}
+use Rattle.toml.specs.Data.{Data, Members, as_table}
 use Rattle.toml.specs.Parse.{parse_document}
 use Rattle.ats_num.specs.Failure.{◌>>=◌, or_fault}
-use Rattle.ats_network_toml.specs.Walk.{Entry, formed, format_at, tables_at}
+use Rattle.ats_network_table.specs.Kinds.{list_in}
+use Rattle.ats_network_table.specs.Walk.{Entry, has, formed, at, format_at}
+use Rattle.ats_network_table.specs.declared.format.Format.{Format}
+use Rattle.ats_network_table.specs.declared.format.Format.TheVariants.{One}
+use Rattle.ats_network_table.specs.declared.table.Table.{Table}
+use Rattle.ats_network_table.specs.declared.table.Table.TheVariants.{Top, Station, Bridge, Link, Stream, Flow}
+use Rattle.ats_network_table.specs.declared.key.Key.{Key}
+use Rattle.ats_network_table.specs.declared.key.Key.TheVariants as key
+use Rattle.ats_network_table.specs.declared.fault.DocumentFault.{DocumentFault}
+use Rattle.ats_network_table.specs.declared.fault.DocumentFault.TheVariants.{NotToml, Limit}
 use Rattle.ats_network_toml.specs.Document.{DeclaredDocument}
 use Rattle.ats_network_toml.specs.Entries.{station_in, bridge_in, link_in, stream_in, flow_in}
-use Rattle.ats_network_toml.specs.declared.format.Format.{Format}
-use Rattle.ats_network_toml.specs.declared.format.Format.TheVariants.{One}
-use Rattle.ats_network_toml.specs.declared.table.Table.{Table}
-use Rattle.ats_network_toml.specs.declared.table.Table.TheVariants.{Top, Station, Bridge, Link, Stream, Flow}
-use Rattle.ats_network_toml.specs.declared.key.Key.TheVariants as key
-use Rattle.ats_network_toml.specs.declared.fault.DocumentFault.{DocumentFault}
-use Rattle.ats_network_toml.specs.declared.fault.DocumentFault.TheVariants.{NotToml, Limit}
 
 -- the entries of an array from the one with this number on, or the first fault in them
 abbrev pub entries_from : {A : Type 0} → (Entry → Result A DocumentFault) → Format → Table → ℕ → List Members
@@ -28,6 +30,14 @@ abbrev pub entries_in : {A : Type 0} → (Entry → Result A DocumentFault) → 
     → Result (List A) DocumentFault
 entries_in read format table most tables = if nat_lt most (length tables) then Err (Limit table)
     else entries_from read format table 1 tables
+
+-- an array of tables
+abbrev pub tables_in : Data → Option (List Members)
+tables_in = list_in as_table
+
+-- the tables of an array; an absent one has none
+abbrev pub tables_at : Entry → Key → Result (List Members) DocumentFault
+tables_at e k = if has e k then at e k tables_in else Ok []
 
 -- the format and the arrays of the top table
 pub record Arrays : Type 0 where

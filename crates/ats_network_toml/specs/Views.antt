@@ -1,17 +1,11 @@
 use Rattle.std.specs.Prelude.{Bool, List, [], unwrap_or, is_some}
 use Rattle.toml.specs.Data.{Members, as_table}
-use Rattle.toml.specs.View.{items_view, members_view}
+use Rattle.toml.specs.View.{items_view}
 use Rattle.toml.specs.declared.value.Value.{Value}
-use Rattle.ats_network_toml.specs.Kinds.{all_in}
-use Rattle.ats_network_toml.specs.Walk.{Entry}
+use Rattle.ats_network_table.specs.Kinds.{all_in}
 use Rattle.ats_network_toml.specs.Document.{DeclaredRoute, path, ends}
-use Rattle.ats_network_toml.specs.declared.section.Section.{Section}
 use Rattle.ats_network_toml.specs.declared.entries.Route.{Route}
 use Rattle.ats_network_toml.specs.declared.entries.Route.TheVariants.{Path, Ends}
-
--- the table that a section stands for
-abbrev pub entry_of : Section → Entry
-entry_of s = record { format = s.format; table = s.table; number = s.number; members = members_view s.slots }
 
 -- values of TOML, as they are held
 abbrev pub Values : Type 0

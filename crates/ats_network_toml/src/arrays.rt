@@ -6,12 +6,8 @@ ghost use Rattle.ats_network_toml.specs.Reading.{entries_in, arrays_in};
 ghost use Rattle.ats_network_toml.specs.Views.{tables_of};
 
 use crate::entries::FromSection;
-use crate::fault::DocumentFault;
-use crate::format::Format;
-use crate::key::Key;
-use crate::section::Section;
-use crate::table::Table;
 use crate::tables::Tables;
+use ats_network_table::{DocumentFault, Format, Key, Section, Table};
 use ats_num::Failure;
 use std::alloc::Global;
 
@@ -52,7 +48,7 @@ pub(crate) struct Arrays<'a> {
 }
 
 impl<'a> Arrays<'a> {
-    ghost use Rattle.ats_network_toml.specs.Views.{entry_of};
+    ghost use Rattle.ats_network_table.specs.SectionView.{entry_of};
     ghost use Rattle.ats_network_toml.specs.ArraysView.{arrays_view};
 
     /// The format and the arrays of a top table, or its first fault.
@@ -62,11 +58,11 @@ impl<'a> Arrays<'a> {
     {
         top.formed()?;
         let format = top.format_given()?;
-        let stations = top.tables(Key::Station)?;
-        let bridges = top.tables(Key::Bridge)?;
-        let links = top.tables(Key::Link)?;
-        let streams = top.tables(Key::Stream)?;
-        let flows = top.tables(Key::Flow)?;
+        let stations = Tables::read(top, Key::Station)?;
+        let bridges = Tables::read(top, Key::Bridge)?;
+        let links = Tables::read(top, Key::Link)?;
+        let streams = Tables::read(top, Key::Stream)?;
+        let flows = Tables::read(top, Key::Flow)?;
         Ok(Arrays {
             format,
             stations,

@@ -1,14 +1,12 @@
 //! What the tables of a network file declare.
 
-ghost use Rattle.std.specs.Prelude.{◌≡◌, Result};
-ghost use Rattle.ats_num.specs.Failure.{Gives};
-ghost use Rattle.ats_network_toml.specs.Walk.{Entry};
-ghost use Rattle.ats_network_toml.specs.Views.{entry_of};
-ghost use Rattle.ats_network_toml.specs.declared.fault.DocumentFault.{DocumentFault};
+ghost use Rattle.std.specs.Prelude.{◌≡◌, IfOk, Result};
+ghost use Rattle.ats_num.specs.Failure.{Gives, GivesSeen};
+ghost use Rattle.ats_network_table.specs.Walk.{Entry};
+ghost use Rattle.ats_network_table.specs.SectionView.{entry_of};
+ghost use Rattle.ats_network_table.specs.declared.fault.DocumentFault.{DocumentFault};
 
-use crate::fault::DocumentFault;
-use crate::key::Key;
-use crate::section::Section;
+use ats_network_table::{DocumentFault, Key, Section};
 use ats_num::{Failure, Name};
 use std::alloc::Global;
 use std::marker::Model;
@@ -118,6 +116,25 @@ pub enum Route {
     Ends(Name, Name),
 }
 
+impl Route {
+    ghost use Rattle.ats_network_toml.specs.Document.{IsRoute};
+    ghost use Rattle.ats_network_toml.specs.Entries.{route_at};
+    ghost use Rattle.ats_network_toml.specs.Views.{route_view};
+
+    // The way of a stream or a flow: its path, or its two ends.
+    fn read(alloc: Global, section: &Section) -> Result<Self, Failure<DocumentFault>>
+        ensures value { GivesSeen route_view result (route_at (entry_of section.now)) }
+        ensures route { IfOk result (λ route. IsRoute (route_view route)) }
+    {
+        if section.has(Key::Path) {
+            return Ok(Route::Path(section.path(alloc)?));
+        }
+        let from = section.name(Key::From)?;
+        let to = section.name(Key::To)?;
+        Ok(Route::Ends(from, to))
+    }
+}
+
 /// A stream. Contracts see its path and its classes as lists.
 #[derive(Drop)]
 pub struct StreamEntry {
@@ -182,7 +199,7 @@ impl FromSection for StreamEntry {
     fn read(alloc: Global, section: &Section) -> Result<Self, Failure<DocumentFault>> {
         section.formed()?;
         let name = section.name(Key::Name)?;
-        let route = section.route(alloc)?;
+        let route = Route::read(alloc, section)?;
         let classes = section.classes(alloc)?;
         let numbers = StreamNumbers::read(section)?;
         let identity = section.identity()?;
@@ -262,7 +279,7 @@ impl FromSection for FlowEntry {
     fn read(alloc: Global, section: &Section) -> Result<Self, Failure<DocumentFault>> {
         section.formed()?;
         let name = section.name(Key::Name)?;
-        let route = section.route(alloc)?;
+        let route = Route::read(alloc, section)?;
         let max_octets = section.long(Key::MaxOctets)?;
         Ok(FlowEntry {
             name,

@@ -8,10 +8,7 @@ ghost use Rattle.ats_network_toml.specs.Reading.{tree_of, document_in, document_
 
 use crate::arrays::{Arrays, read_entries};
 use crate::document::{Document, MAX_FLOWS, MAX_LINKS, MAX_NODES, MAX_STREAMS};
-use crate::fault::DocumentFault;
-use crate::format::Format;
-use crate::section::Section;
-use crate::table::Table;
+use ats_network_table::{DocumentFault, Format, Section, Table};
 use ats_num::Failure;
 use std::alloc::Global;
 

@@ -1,11 +1,15 @@
 //! Arrays of tables.
 
 ghost use Rattle.std.specs.Prelude.{◌≡◌, ◌<◌, [], length, slice_index_or, option_map, IsTrue, IsSome, Some};
+ghost use Rattle.std.specs.Prelude.{IfOk, IfErr};
 ghost use Rattle.toml.specs.Data.{as_table, no_members};
 ghost use Rattle.toml.specs.View.{view, items_view, table_view};
-ghost use Rattle.ats_network_toml.specs.Kinds.{all_in};
+ghost use Rattle.ats_network_table.specs.Kinds.{all_in};
+ghost use Rattle.ats_network_table.specs.SectionView.{entry_of};
+ghost use Rattle.ats_network_toml.specs.Reading.{tables_in, tables_at};
 ghost use Rattle.ats_network_toml.specs.Views.{are_tables, tables_of};
 
+use ats_network_table::{DocumentFault, Key, Section};
 use std::marker::Model;
 use toml::Value;
 
@@ -31,8 +35,19 @@ impl<'a> Model for Tables<'a> {
 }
 
 impl<'a> Tables<'a> {
-    /// The tables that these values are, where each is one.
-    pub(crate) fn of(values: &'a [Value]) -> Option<Self>
+    /// The tables of the array that stands with a key; none where nothing stands there.
+    pub(crate) fn read(section: &Section<'a>, key: Key) -> Result<Self, DocumentFault>
+        ensures ok { IfOk result (λ tables. tables_at (entry_of section.now) key ≡ Ok (tables_of tables)) }
+        ensures err { IfErr result (λ e. tables_at (entry_of section.now) key ≡ Err e) }
+    {
+        if !section.has(key) {
+            return Ok(Tables::none());
+        }
+        tables_in(section.at(key)?).ok_or(section.wrong_kind(key))
+    }
+
+    // The tables that these values are, where each is one.
+    fn of(values: &'a [Value]) -> Option<Self>
         ensures { option_map tables_of result ≡ all_in as_table (items_view values.now) }
     {
         if are_tables(values) {
@@ -42,8 +57,8 @@ impl<'a> Tables<'a> {
         }
     }
 
-    /// No tables.
-    pub(crate) fn none() -> Self
+    // No tables.
+    fn none() -> Self
         ensures { tables_of result ≡ [] }
     {
         Tables { values: &[] }
@@ -62,6 +77,16 @@ impl<'a> Tables<'a> {
         ensures { table_view result.now ≡ slice_index_or (tables_of self.now) place no_members }
     {
         table_at(self.values, place)
+    }
+}
+
+// The tables that a value is, where it is an array of tables.
+fn tables_in(value: &Value) -> Option<Tables<'_>>
+    ensures { option_map tables_of result ≡ tables_in (view value.now) }
+{
+    match value.as_array() {
+        Some(values) => Tables::of(values.as_slice()),
+        None => None,
     }
 }
 

@@ -1,7 +1,7 @@
 use Rattle.std.proofs.Common.{sym, ap, ◌∙◌}
 use Rattle.toml.specs.Parse.{parse_document}
 use Rattle.ats_num.specs.Failure.{or_fault}
-use Rattle.ats_network_toml.specs.declared.fault.DocumentFault.TheVariants.{NotToml}
+use Rattle.ats_network_table.specs.declared.fault.DocumentFault.TheVariants.{NotToml}
 use Rattle.ats_network_toml.proofs.Trees.{no_utf8_no_tree, utf8_tree}
 use Rattle.ats_network_toml.proofs.reading.tree_of.Goals as goal
 

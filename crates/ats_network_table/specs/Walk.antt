@@ -1,0 +1,132 @@
+use Rattle.std.specs.Prelude.{ℕ, ◌≤◌, ◌<◌, ◌^◌, ◌==◌, nat_le, Bool, true, false, not, ◌&&◌, ◌||◌, if◌then◌else◌}
+use Rattle.std.specs.Prelude.{List, [], ◌∷◌, length, Option, Some, None, is_some, option_and_then, Result, Ok, Err}
+use Rattle.std.specs.List.{list_any, find}
+use Rattle.std.specs.Str.{bytes_eq}
+use Rattle.toml.specs.Data.{Data, Members, no_members, member, get_member}
+use Rattle.ats_network_table.specs.Words.{key_text, keys_of}
+use Rattle.ats_num.specs.Failure.{◌>>=◌, or_fault, ok_where}
+use Rattle.ats_network_table.specs.Kinds.{name_in, whole_in, long_in, address_in, list_in}
+use Rattle.ats_network_table.specs.declared.format.Format.{Format}
+use Rattle.ats_network_table.specs.declared.format.Format.TheVariants.{One, Two}
+use Rattle.ats_network_table.specs.declared.table.Table.{Table}
+use Rattle.ats_network_table.specs.declared.key.Key.{Key}
+use Rattle.ats_network_table.specs.declared.key.Key.TheVariants as key
+use Rattle.ats_network_table.specs.declared.fault.DocumentFault.{DocumentFault}
+use Rattle.ats_network_table.specs.declared.fault.DocumentFault.TheVariants.{Missing, Unknown, WrongKind}
+
+-- one table of a file: the file's format, which table it is, its number among those of its array, counted from 1 (0 for
+-- the top table), and what stands in it
+pub record Entry : Type 0 where
+  pub format : Format
+  pub table : Table
+  pub number : ℕ
+  pub members : Members
+
+-- a key stands in the table
+abbrev pub has : Entry → Key → Bool
+has e k = is_some (get_member (key_text k) e.members)
+
+-- a key of the table's list has to stand there: all but the arrays at the top, the deadline, and these: a path, or both
+-- its ends; a class, or classes; address and VLAN, or neither
+abbrev pub is_due : Entry → Key → Bool
+is_due e key.Station = false
+is_due e key.Bridge = false
+is_due e key.Link = false
+is_due e key.Stream = false
+is_due e key.Flow = false
+is_due e key.Path = not (has e key.From || has e key.To)
+is_due e key.From = has e key.To
+is_due e key.To = has e key.From
+is_due e key.Class = not (has e key.Classes)
+is_due e key.Classes = false
+is_due e key.DeadlineNs = false
+is_due e key.Address = has e key.Vlan
+is_due e key.Vlan = has e key.Address
+is_due e _ = true
+
+-- a key that has to stand there does not
+abbrev pub is_missing : Entry → Key → Bool
+is_missing e k = is_due e k && not (has e k)
+
+-- the first missing key in the order of the table's list
+abbrev pub missing_key : Entry → Option Key
+missing_key e = find (is_missing e) (keys_of e.format e.table)
+
+-- one of these keys is written so
+abbrev pub is_known : List Key → List ℕ → Bool
+is_known ks text = list_any (λ k. bytes_eq text (key_text k)) ks
+
+-- a key stands in the table that is none of these
+abbrev pub has_unknown : List Key → Members → Bool
+has_unknown ks no_members = false
+has_unknown ks (member text d ms) = not (is_known ks text) || has_unknown ks ms
+
+abbrev pub none_missing : Entry → Option Key → Result (Unit {0}) DocumentFault
+none_missing e None = Ok tt
+none_missing e (Some k) = Err (Missing e.table e.number k)
+
+-- no key is missing, and then, no key is unknown
+abbrev pub formed : Entry → Result (Unit {0}) DocumentFault
+formed e = do
+  complete ← none_missing e (missing_key e)
+  ok_where (not (has_unknown (keys_of e.format e.table) e.members)) (Unknown e.table e.number) complete
+
+-- the fault of a key whose value is of the wrong kind
+abbrev pub wrong_kind : Entry → Key → DocumentFault
+wrong_kind e k = WrongKind e.table e.number k
+
+-- what stands with a key, where it is of the right kind
+abbrev pub at : {A : Type 0} → Entry → Key → (Data → Option A) → Result A DocumentFault
+at e k kind = or_fault (wrong_kind e k) (option_and_then kind (get_member (key_text k) e.members))
+
+abbrev pub name_at : Entry → Key → Result (List ℕ) DocumentFault
+name_at e k = at e k name_in
+
+abbrev pub whole_at : Entry → Key → ℕ → ℕ → Result ℕ DocumentFault
+whole_at e k least most = at e k (whole_in least most)
+
+-- a whole number of 32 bits, and one that is as great as TOML allows
+abbrev pub short_at : Entry → Key → Result ℕ DocumentFault
+short_at e k = whole_at e k 0 4294967295
+
+abbrev pub long_at : Entry → Key → Result ℕ DocumentFault
+long_at e k = whole_at e k 0 9223372036854775807
+
+-- the names of a path, at least two, which has none of its ends beside it
+abbrev pub path_at : Entry → Result (List (List ℕ)) DocumentFault
+path_at e =
+    if has e key.From || has e key.To then Err (wrong_kind e key.Path)
+    else (at e key.Path (list_in name_in)
+    >>= λ names. ok_where (nat_le 2 (length names)) (wrong_kind e key.Path) names)
+
+-- the classes of a stream: one, or a list in its place
+abbrev pub classes_at : Entry → Result (List ℕ) DocumentFault
+classes_at e =
+    if has e key.Class
+    then (at e key.Class long_in
+    >>= λ class. ok_where (not (has e key.Classes)) (wrong_kind e key.Classes) (class ∷ []))
+    else at e key.Classes (list_in long_in)
+
+-- the format of the file, 1 or 2
+abbrev pub format_of : ℕ → Format
+format_of n = if n == 1 then One else Two
+
+abbrev pub format_at : Entry → Result Format DocumentFault
+format_at top = whole_at top key.Format 1 2 >>= λ n. Ok (format_of n)
+
+-- the deadline; an absent one is a second
+abbrev pub deadline_at : Entry → Result ℕ DocumentFault
+deadline_at e = if has e key.DeadlineNs then long_at e key.DeadlineNs else Ok 1000000000
+
+-- an address has 48 bits, and a VLAN identifier is 1 to 4094
+pub record IsIdentity (identity : ℕ × ℕ) : Type 0 where
+  pub address : identity.0 < 2 ^ 48
+  pub vlan_least : 1 ≤ identity.1
+  pub vlan_most : identity.1 ≤ 4094
+
+-- destination address and VLAN identifier, where they are given
+abbrev pub identity_at : Entry → Result (Option (ℕ × ℕ)) DocumentFault
+identity_at e =
+    if has e key.Address then (at e key.Address address_in >>= λ address. whole_at e key.Vlan 1 4094
+    >>= λ vlan. Ok (Some (address, vlan)))
+    else Ok None
