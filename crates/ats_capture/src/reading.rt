@@ -1,8 +1,9 @@
 //! Captures that are read from a file through a window.
 
 ghost use Rattle.std.specs.Prelude.{◌≡◌, ◌+◌, ◌++◌, ◌≤◌, ◌<◌, ℕ, List, All, IfErr, IfOk, IsErrOf, OnErr, length};
-ghost use Rattle.std.specs.Prelude.{OnOk, vec_len};
+ghost use Rattle.std.specs.Prelude.{OnOk, vec_len, [], ◌∷◌};
 ghost use Rattle.ats_io.specs.Outside.{Rose, IfTold, Continues, IsPieceAt};
+ghost use Rattle.ats_io.specs.Reads.{ReadsInTurn, and_read};
 ghost use Rattle.ats_io.specs.declared.files.TheConstants.{MAX_PLACE};
 ghost use Rattle.ats_pcap.specs.Capture.{records_of};
 ghost use Rattle.ats_pcap.specs.Reading.{StandsFor, UnlessMemory};
@@ -21,8 +22,9 @@ pub const MAX_BYTES: u64 = 268_435_456;
 /// The most bytes that one call asks of a file.
 const PIECE: usize = 65_536;
 
-/// The records of the capture in the file `name`, at most 1,000,000. The file is read in pieces of at
-/// most 65,536 bytes, of which none is kept; reading stops at the piece that shows a fault.
+/// The records of the capture in the file `name`, at most 1,000,000. The file is read once, from its
+/// front, in pieces of at most 65,536 bytes, of which none is kept; reading stops at the piece that
+/// shows a fault.
 ///
 /// # Errors
 ///
@@ -42,6 +44,7 @@ pub fn capture_records<F: Files>(
     ensures few { IfOk result (λ records. vec_len records ≤ 1_000_000) }
     ensures octets { IfOk result (λ records. All IsLongEnough records.items) }
     ensures continues { Continues F.told F.faults files.old files.new }
+    ensures in_turn { ReadsInTurn (name.now ∷ []) (F.reads files.old) (F.reads files.new) }
 {
     let mut buffer = new_buffer(alloc)?;
     let mut reader = Reader::new(alloc);
@@ -86,6 +89,7 @@ fn read<F: Files>(
     ensures calm { OnOk result (F.faults files.new ≡ F.faults files.old) }
     ensures fault { IfErr result (λ e. e ≡ Failure.Fault RecordsFault.Failed) }
     ensures continues { Continues F.told F.faults files.old files.new }
+    ensures made { F.reads files.new ≡ and_read (F.reads files.old) name.now at result }
 {
     match files.read(name, at, buf) {
         Ok(count) => Ok(count),

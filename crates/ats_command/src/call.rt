@@ -2,6 +2,7 @@
 
 ghost use Rattle.std.specs.Prelude.{◌≡◌, ◌≤◌, ◌⊎◌, IfOk};
 ghost use Rattle.ats_io.specs.Outside.{Rose, Continues};
+ghost use Rattle.ats_io.specs.Reads.{ReadsInTurn};
 ghost use Rattle.ats_command_input.specs.Command as table;
 ghost use Rattle.ats_command_input.specs.Named.{named, view};
 ghost use Rattle.ats_command_input.specs.Answer.{HasText};
@@ -33,12 +34,13 @@ pub fn ats<F: Files, O: Sink>(alloc: Global, words: &[String], files: &mut F, ou
     ensures sound { result ≡ Status.Done
         → PrintsAsPromised (F.told files.old) (named words.now) (O.held out.old) (O.held out.new) }
 
-    // ReadFailed and WriteFailed have a cause.
+    // ReadFailed comes only where the count of faults of a file that the command comes to rose, or stands at 2^64 - 1,
+    // and WriteFailed only where that of the sink did.
     ensures read_failed { result ≡ Status.ReadFailed
         → ReadRose (F.told files.old) (named words.now) (F.faults files.old) (F.faults files.new) }
     ensures write_failed { result ≡ Status.WriteFailed → Rose (O.faults out.old) (O.faults out.new) }
 
-    // They come wherever a count of faults changes: a failed read or write is never told as want of memory.
+    // They come wherever a count of faults changes: what changed a count is never told as want of memory.
     ensures read_told { ¬ (result ≡ Status.ReadFailed) → F.faults files.new ≡ F.faults files.old }
     ensures write_told { ¬ (result ≡ Status.WriteFailed) → O.faults out.new ≡ O.faults out.old }
 
@@ -56,6 +58,9 @@ pub fn ats<F: Files, O: Sink>(alloc: Global, words: &[String], files: &mut F, ou
     // The files hold what they held, and no count of faults fell.
     ensures files { Continues F.told F.faults files.old files.new }
     ensures sink { O.faults out.old ≤ O.faults out.new }
+
+    // Files are read in the order of the words that name them, each at most once and from its front, and no others are.
+    ensures in_turn { ReadsInTurn (table.file_words (named words.now)) (F.reads files.old) (F.reads files.new) }
 {
     match named_by(words) {
         Some(command) => {
@@ -70,7 +75,7 @@ pub fn ats<F: Files, O: Sink>(alloc: Global, words: &[String], files: &mut F, ou
 fn outcome_of<F: Files>(alloc: Global, command: Command, files: &mut F) -> Result<Vec<u8>, Stop>
     ensures due { Answers (F.told files.old) (view command.entry) result }
     ensures sound { IfOk result (λ text. Promises (F.told files.old) (view command.entry) text.items) }
-    ensures reads { ReadsFiles F.told F.faults (view command.entry) files.old files.new result }
+    ensures reads { ReadsFiles F.told F.faults F.reads (view command.entry) files.old files.new result }
 {
     match command {
         Command::Shape(file) => shape(alloc, file, files),

@@ -1,11 +1,13 @@
-use Rattle.std.proofs.Common.{◌≡◌, ℕ, List, [], Option, Some, None, Result, Ok, Err, refl, sym, ap, subst, ◌∙◌}
-use Rattle.std.specs.Prelude.{IsSome, IfSome, IfOk, IsErrAnd, IsOk, unwrap_or}
+use Rattle.std.proofs.Common.{◌≡◌, ℕ, List, [], ◌∷◌, Option, Some, None, Result, Ok, Err, refl, sym, ap, subst, ◌∙◌}
+use Rattle.std.specs.Prelude.{IsSome, IfSome, IfOk, IsErrAnd, IsErrOf, IsOk, unwrap_or}
 use Rattle.std.specs.Global.{Vec}
 use Rattle.ats_num.specs.Failure.{◌>>=◌}
 use Rattle.ats_io.specs.Outside.{IfTold}
+use Rattle.ats_io.specs.Reads.{Read, ReadsInTurn}
 use Rattle.ats_io.proofs.Outside.{Continues-trans, Rose-since}
+use Rattle.ats_io.proofs.Turns.{none_read, read_behind}
 use Rattle.ats_command_input.specs.Answer.{Answer, settled}
-use Rattle.ats_command_input.specs.Command.{Command}
+use Rattle.ats_command_input.specs.Command.{Command, file_words}
 use Rattle.ats_command_due.specs.Calls.{ReadsFiles}
 use Rattle.ats_command_due.specs.Due.{Reaches, told_bytes}
 use Rattle.ats_command_input.specs.Outcome.{Gives, IsStopOf, ReadsFile, answer_of}
@@ -82,23 +84,49 @@ text_then (Err stop) P Q h f = tt
 pub declared_is_ok : {A : Type 0} (due : Result A Answer) (value : A) → due ≡ Ok value → IsOk due
 declared_is_ok due value h = rw h refl
 
+-- the files of a command were read in turn, where the first was read and the others were not
+read_of : (command : Command) (file : List ℕ) (others : List (List ℕ)) (old new : List Read)
+    → ReadsInTurn (file ∷ []) old new → file_words command ≡ file ∷ others → ReadsInTurn (file_words command) old new
+read_of command file others old new one words =
+    subst (λ (names : List (List ℕ)). ReadsInTurn names old new) (sym words)
+    (read_behind (file ∷ []) others old new new one (none_read others new))
+
 -- a command that comes to a file, and to no other, reads it
-pub reads_one : {S X : Type 0} {told : S → List ℕ → Option (List ℕ)} {faults : S → List ℕ → ℕ} (command : Command)
-    (file : List ℕ) {old new : S} {result : Result X Stop} → ReadsFile told faults file old new result
-    → Reaches (told old) command file → ReadsFiles told faults command old new result
-reads_one command file reads reaches = record {
-  failed = λ h. (file, reaches, reads.failed h);
-  calm = reads.calm;
-  continues = reads.continues;
+pub reads_one : {S X : Type 0} {told : S → List ℕ → Option (List ℕ)} {faults : S → List ℕ → ℕ}
+    {reads : S → List Read} (command : Command) (file : List ℕ) (others : List (List ℕ)) {old new : S}
+    {result : Result X Stop} → ReadsFile told faults reads file old new result
+    → Reaches (told old) command file → file_words command ≡ file ∷ others
+    → ReadsFiles told faults reads command old new result
+reads_one {reads = reads} command file others {old = old} {new = new} one reaches words = record {
+  failed = λ h. (file, reaches, one.failed h);
+  calm = one.calm;
+  continues = one.continues;
+  in_turn = read_of command file others (reads old) (reads new) one.in_turn words;
+}
+
+-- a command that stops behind its first file, and not for a read that failed, read that one
+pub reads_first : {S X Y : Type 0} {told : S → List ℕ → Option (List ℕ)} {faults : S → List ℕ → ℕ}
+    {reads : S → List Read} (command : Command) (net : List ℕ) (others : List (List ℕ)) {old new : S} (value : X)
+    (result : Result Y Stop) → ReadsFile told faults reads net old new (Ok value) → ¬ IsErrOf result ReadFailed
+    → file_words command ≡ net ∷ others → ReadsFiles told faults reads command old new result
+reads_first {reads = reads} command net others {old = old} {new = new} value result first read words = record {
+  failed = λ h. absurd (read h);
+  calm = λ h. first.calm (λ e. cc);
+  continues = first.continues;
+  in_turn = read_of command net others (reads old) (reads new) first.in_turn words;
 }
 
 -- a command that comes to a second file, once the first declared a value, reads both
-pub reads_both : {S X Y : Type 0} (told : S → List ℕ → Option (List ℕ)) (faults : S → List ℕ → ℕ) (command : Command)
-    (net file : List ℕ) (old middle new : S) (value : X) (result : Result Y Stop)
-    → ReadsFile told faults net old middle (Ok value) → ReadsFile told faults file middle new result
-    → Reaches (told old) command file → ReadsFiles told faults command old new result
-reads_both told faults command net file old middle new value result first second reaches = record {
+pub reads_both : {S X Y : Type 0} (told : S → List ℕ → Option (List ℕ)) (faults : S → List ℕ → ℕ)
+    (reads : S → List Read) (command : Command) (net file : List ℕ) (old middle new : S) (value : X)
+    (result : Result Y Stop)
+    → ReadsFile told faults reads net old middle (Ok value) → ReadsFile told faults reads file middle new result
+    → Reaches (told old) command file → file_words command ≡ net ∷ file ∷ []
+    → ReadsFiles told faults reads command old new result
+reads_both told faults reads command net file old middle new value result first second reaches words = record {
   failed = λ h. (file, reaches, Rose-since _ _ _ (first.continues.counts file) (second.failed h));
   calm = λ h. second.calm h ∙ first.calm (λ e. cc);
   continues = Continues-trans first.continues second.continues;
+  in_turn = subst (λ (names : List (List ℕ)). ReadsInTurn names (reads old) (reads new)) (sym words)
+      (read_behind (net ∷ []) (file ∷ []) (reads old) (reads middle) (reads new) first.in_turn second.in_turn);
 }

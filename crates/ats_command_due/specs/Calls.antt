@@ -1,6 +1,7 @@
 use Rattle.std.specs.Prelude.{◌≡◌, ℕ, List, IfSome, IsErrOf, Option, Result, All}
 use Rattle.std.specs.Global.{Vec}
 use Rattle.ats_io.specs.Outside.{Continues, Rose, TakesPrefix, appended}
+use Rattle.ats_io.specs.Reads.{Read, ReadsInTurn}
 use Rattle.ats_command_input.specs.Command.{Command, file_words}
 use Rattle.ats_command_input.specs.Answer.{Answer}
 use Rattle.ats_command_input.specs.Outcome.{answer_of}
@@ -28,12 +29,13 @@ abbrev pub ReadRose : (List ℕ → Option (List ℕ)) → Command → (List ℕ
 ReadRose told command old new = (name : List ℕ) × Reaches told command name × Rose (old name) (new name)
 
 -- what a command came to that reads its files: it stops with ReadFailed only where a fault came at one that it comes
--- to, and else no count of faults changed; the outside goes on
+-- to, and else no count of faults changed; the outside goes on; its files were read in turn, and no others
 pub record ReadsFiles {S X : Type 0} (told : S → List ℕ → Option (List ℕ)) (faults : S → List ℕ → ℕ)
-    (command : Command) (old new : S) (result : Result X Stop) : Type 0 where
+    (reads : S → List Read) (command : Command) (old new : S) (result : Result X Stop) : Type 0 where
   pub failed : IsErrOf result ReadFailed → ReadRose (told old) command (faults old) (faults new)
   pub calm : ¬ IsErrOf result ReadFailed → faults new ≡ faults old
   pub continues : Continues told faults old new
+  pub in_turn : ReadsInTurn (file_words command) (reads old) (reads new)
 
 -- no fault came at a file of the command
 abbrev pub IsCalm : Command → (List ℕ → ℕ) → (List ℕ → ℕ) → Type 0

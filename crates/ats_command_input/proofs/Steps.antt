@@ -1,5 +1,6 @@
 use Rattle.std.proofs.Common.{◌≡◌, ◌∙◌, ℕ, List, Option, Some, Result, Ok, Err, refl, sym, ap, subst}
-use Rattle.std.specs.Prelude.{IfOk, IsErrAnd}
+use Rattle.std.specs.Prelude.{IfOk, IsErrAnd, IsErrOf}
+use Rattle.ats_io.specs.Reads.{Read}
 use Rattle.ats_num.specs.Failure as reading
 use Rattle.ats_num.specs.Failure.{◌>>=◌}
 use Rattle.ats_num.specs.declared.failure.Failure.{Failure}
@@ -33,16 +34,24 @@ err_moved : (X Y : Type 0) (stop other : Stop) → (let one : Result X Stop = Er
 err_moved X Y stop other h = cc
 
 -- what stopped the read of a file stops what goes on from it
-pub reads_stopped : {S X Y : Type 0} {told : S → List ℕ → Option (List ℕ)} {faults : S → List ℕ → ℕ} {name : List ℕ}
-    {old new : S} (stop : Stop) (result : Result Y Stop)
-    → (let first : Result X Stop = Err stop in ReadsFile told faults name old new first)
-    → IsErrAnd result (λ e. e ≡ stop) → ReadsFile told faults name old new result
+pub reads_stopped : {S X Y : Type 0} {told : S → List ℕ → Option (List ℕ)} {faults : S → List ℕ → ℕ}
+    {reads : S → List Read} {name : List ℕ} {old new : S} (stop : Stop) (result : Result Y Stop)
+    → (let first : Result X Stop = Err stop in ReadsFile told faults reads name old new first)
+    → IsErrAnd result (λ e. e ≡ stop) → ReadsFile told faults reads name old new result
 reads_stopped {X = X} {Y = Y} stop result first is = let same : result ≡ Err stop = err_is result stop is in
     record {
       failed = λ h. first.failed (err_moved Y X stop ReadFailed (sym same ∙ h));
       calm = λ h. first.calm (λ e. h (same ∙ err_moved X Y stop ReadFailed e));
       continues = first.continues;
+      in_turn = first.in_turn;
     }
+
+-- what stopped a step, if not a read that failed, is none further on
+pub not_failed : {X Y : Type 0} (stop : Stop) (result : Result Y Stop)
+    → (let first : Result X Stop = Err stop in ¬ IsErrOf first ReadFailed) → IsErrAnd result (λ e. e ≡ stop)
+    → ¬ IsErrOf result ReadFailed
+not_failed {X} {Y} stop result first is =
+    λ h. first (err_moved Y X stop ReadFailed (sym (err_is result stop is) ∙ h))
 
 -- what the bytes of a file declare, once they were read
 pub declares : {X A F : Type 0} (seen : X → A) (result : Result X Stop) (most : ℕ) (file bytes whole text : List ℕ)

@@ -1,8 +1,9 @@
-use Rattle.std.specs.Prelude.{◌≡◌, ℕ, List, Option, Some, None, Result, Ok, Err, IsErrOf}
+use Rattle.std.specs.Prelude.{◌≡◌, ℕ, List, [], ◌∷◌, Option, Some, None, Result, Ok, Err, IsErrOf}
 use Rattle.std.specs.Global.{Vec}
 use Rattle.ats_num.specs.Failure as reading
 use Rattle.ats_num.specs.declared.failure.Failure.{Failure}
 use Rattle.ats_io.specs.Outside.{Continues, Rose, TakesPrefix, appended}
+use Rattle.ats_io.specs.Reads.{Read, ReadsInTurn}
 use Rattle.ats_command_input.specs.Answer.{Answer}
 use Rattle.ats_command_input.specs.Input.{declared_in}
 use Rattle.ats_command_input.specs.declared.status.Status.{Status}
@@ -23,12 +24,13 @@ Gives seen (Ok x) due = due ≡ Ok (seen x)
 Gives seen (Err stop) due = IsStopOf stop due
 
 -- what a call came to that read the file of this name: it stops with ReadFailed only where a fault came at the name,
--- and else no count of faults changed; the outside goes on
-pub record ReadsFile {S X : Type 0} (told : S → List ℕ → Option (List ℕ)) (faults : S → List ℕ → ℕ) (name : List ℕ)
-    (old new : S) (result : Result X Stop) : Type 0 where
+-- and else no count of faults changed; the outside goes on; the file was read once, from its front, and no other was
+pub record ReadsFile {S X : Type 0} (told : S → List ℕ → Option (List ℕ)) (faults : S → List ℕ → ℕ)
+    (reads : S → List Read) (name : List ℕ) (old new : S) (result : Result X Stop) : Type 0 where
   pub failed : IsErrOf result ReadFailed → Rose (faults old name) (faults new name)
   pub calm : ¬ IsErrOf result ReadFailed → faults new ≡ faults old
   pub continues : Continues told faults old new
+  pub in_turn : ReadsInTurn (name ∷ []) (reads old) (reads new)
 
 -- what was read from a file is passed on: what the reading was to give, or an answer with the words that its fault is
 -- shown as

@@ -43,7 +43,7 @@ pub const MAX_SCHEDULE_BYTES: u64 = 33_554_432;
 pub fn shape_in<F: Files>(alloc: Global, file: &str, files: &mut F) -> Result<Shape, Stop>
     ensures due { IfTold (F.told files.old file.now)
         (λ bytes. Gives (λ shape. shape) result (shape_in file.now bytes)) }
-    ensures reads { ReadsFile F.told F.faults file.now files.old files.new result }
+    ensures reads { ReadsFile F.told F.faults F.reads file.now files.old files.new result }
 {
     let bytes = bytes_in(alloc, file, MAX_BYTES, files)?;
     declared(alloc, file, read_shape(alloc, &bytes))
@@ -54,7 +54,7 @@ pub fn shape_in<F: Files>(alloc: Global, file: &str, files: &mut F) -> Result<Sh
 pub fn network_in<F: Files>(alloc: Global, file: &str, files: &mut F) -> Result<Network, Stop>
     ensures due { IfTold (F.told files.old file.now)
         (λ bytes. Gives (λ network. network) result (network_in file.now bytes)) }
-    ensures reads { ReadsFile F.told F.faults file.now files.old files.new result }
+    ensures reads { ReadsFile F.told F.faults F.reads file.now files.old files.new result }
 {
     let bytes = bytes_in(alloc, file, MAX_BYTES, files)?;
     declared(alloc, file, read_network(alloc, &bytes))
@@ -72,7 +72,7 @@ pub fn certificate_in<F: Files>(
     ensures due { IfTold (F.told files.old file.now)
         (λ bytes. Gives (λ rows. rows) result (rows_in topology.now file.now bytes)) }
     ensures inside { IfOk result (All (λ row. row.port < length topology.now.ports)) }
-    ensures reads { ReadsFile F.told F.faults file.now files.old files.new result }
+    ensures reads { ReadsFile F.told F.faults F.reads file.now files.old files.new result }
 {
     let bytes = bytes_in(alloc, file, MAX_BYTES, files)?;
     declared(alloc, file, read_certificate(alloc, &bytes, topology))
@@ -89,7 +89,7 @@ pub fn schedule_in<F: Files>(
     ensures due { IfTold (F.told files.old file.now)
         (λ bytes. Gives (λ releases. releases.items) result (releases_in network.now file.now bytes)) }
     ensures releases { IfOk result (λ releases. AreReleases network.now releases.items) }
-    ensures reads { ReadsFile F.told F.faults file.now files.old files.new result }
+    ensures reads { ReadsFile F.told F.faults F.reads file.now files.old files.new result }
 {
     let bytes = bytes_in(alloc, file, MAX_SCHEDULE_BYTES, files)?;
     declared(alloc, file, read_schedule(alloc, &bytes, network))
@@ -106,7 +106,7 @@ pub fn requests_in<F: Files>(
     ensures due { IfTold (F.told files.old file.now)
         (λ bytes. Gives (λ requests. requests.items) result (requests_in network.now.topology file.now bytes)) }
     ensures allowed { IfOk result (λ requests. All (MayAsk network.now.topology) requests.items) }
-    ensures reads { ReadsFile F.told F.faults file.now files.old files.new result }
+    ensures reads { ReadsFile F.told F.faults F.reads file.now files.old files.new result }
 {
     let bytes = bytes_in(alloc, file, MAX_BYTES, files)?;
     declared(alloc, file, read_requests(alloc, &bytes, network))
@@ -125,7 +125,7 @@ pub fn traffic_in<F: Files>(
     ensures due { IfTold (F.told files.old file.now)
         (λ bytes. Gives seen result (traffic_in network.now station file.now bytes)) }
     ensures releases { IfOk result (λ traffic. AreReleases network.now traffic.releases.items) }
-    ensures reads { ReadsFile F.told F.faults file.now files.old files.new result }
+    ensures reads { ReadsFile F.told F.faults F.reads file.now files.old files.new result }
 {
     let records = records_in(alloc, file, files)?;
     declared(alloc, file, captured(alloc, network, station, &records))
@@ -138,7 +138,7 @@ fn records_in<F: Files>(alloc: Global, file: &str, files: &mut F) -> Result<Vec<
         (λ bytes. Gives (λ records. records.items) result (records_in file.now bytes)) }
     ensures few { IfOk result (λ records. vec_len records ≤ 1_000_000) }
     ensures octets { IfOk result (λ records. All IsLongEnough records.items) }
-    ensures reads { ReadsFile F.told F.faults file.now files.old files.new result }
+    ensures reads { ReadsFile F.told F.faults F.reads file.now files.old files.new result }
 {
     match capture_records(alloc, files, file) {
         Ok(records) => Ok(records),
@@ -159,7 +159,7 @@ fn bytes_in<F: Files>(alloc: Global, file: &str, most: u64, files: &mut F) -> Re
     ensures few { IfOk result (λ bytes. length bytes.items ≤ most) }
     ensures due { IfTold (F.told files.old file.now)
         (λ bytes. Gives (λ whole. whole.items) result (bytes_in most file.now bytes)) }
-    ensures reads { ReadsFile F.told F.faults file.now files.old files.new result }
+    ensures reads { ReadsFile F.told F.faults F.reads file.now files.old files.new result }
 {
     match read_whole(alloc, files, file, most) {
         Ok(bytes) => Ok(bytes),

@@ -32,7 +32,7 @@ pub fn capture<F: Files>(
     files: &mut F,
 ) -> Result<Vec<u8>, Stop>
     ensures due { Answers (F.told files.old) (table.Capture net.now station.now file.now order) result }
-    ensures reads { ReadsFiles F.told F.faults (table.Capture net.now station.now file.now order)
+    ensures reads { ReadsFiles F.told F.faults F.reads (table.Capture net.now station.now file.now order)
         files.old files.new result }
 {
     let network = network_in(alloc, net, files)?;
@@ -51,7 +51,7 @@ fn capture_of<F: Files>(
 ) -> Result<Vec<u8>, Stop>
     ensures due { IfTold (F.told files.old file.now) (λ bytes.
         GivesOne (IsCaptureText order network.now) result (traffic_in network.now station file.now bytes)) }
-    ensures reads { ReadsFile F.told F.faults file.now files.old files.new result }
+    ensures reads { ReadsFile F.told F.faults F.reads file.now files.old files.new result }
 {
     let traffic = traffic_in(alloc, file, network, station, files)?;
     Ok(text_of(alloc, network, &traffic, order)?)

@@ -35,7 +35,8 @@ pub fn generate<F: Files>(
     files: &mut F,
 ) -> Result<Vec<u8>, Stop>
     ensures due { Answers (F.told files.old) (table.Generate net.now seed count.frames) result }
-    ensures reads { ReadsFiles F.told F.faults (table.Generate net.now seed count.frames) files.old files.new result }
+    ensures reads { ReadsFiles F.told F.faults F.reads (table.Generate net.now seed count.frames)
+        files.old files.new result }
 {
     let network = network_in(alloc, net, files)?;
     summary_of(alloc, &network, seed, count.frames)

@@ -31,7 +31,8 @@ pub fn replay<F: Files>(
     files: &mut F,
 ) -> Result<Vec<u8>, Stop>
     ensures due { Answers (F.told files.old) (table.Replay net.now schedule.now order) result }
-    ensures reads { ReadsFiles F.told F.faults (table.Replay net.now schedule.now order) files.old files.new result }
+    ensures reads { ReadsFiles F.told F.faults F.reads (table.Replay net.now schedule.now order)
+        files.old files.new result }
 {
     let network = network_in(alloc, net, files)?;
     replay_of(alloc, &network, schedule, order, files)
@@ -47,7 +48,7 @@ fn replay_of<F: Files>(
 ) -> Result<Vec<u8>, Stop>
     ensures due { IfTold (F.told files.old schedule.now) (λ bytes.
         GivesOne (IsReplayText order network.now) result (releases_in network.now schedule.now bytes)) }
-    ensures reads { ReadsFile F.told F.faults schedule.now files.old files.new result }
+    ensures reads { ReadsFile F.told F.faults F.reads schedule.now files.old files.new result }
 {
     let releases = schedule_in(alloc, schedule, network, files)?;
     Ok(text_of(alloc, network, &releases, order)?)

@@ -1,16 +1,17 @@
 //! Files of the system, read by name.
 
 ghost use Rattle.std.specs.Prelude.{◌≡◌, ℕ, ◌+◌, ◌<◌, ◌≤◌, List, length, None, IsSomeAnd, IfSome, IfNone, OnSome, IfOk};
-ghost use Rattle.std.specs.Prelude.{OnOk, OnErr};
+ghost use Rattle.std.specs.Prelude.{OnOk, OnErr, []};
 ghost use Rattle.std.specs.Io.KnownBytes.{ReadConsumes};
 ghost use Rattle.ats_io.specs.Outside.{Rose, IfTold, Continues, IsPieceAt};
+ghost use Rattle.ats_io.specs.Reads.{and_read};
 ghost use Rattle.ats_system.specs.Faults.{faults_of, Raises};
 ghost use Rattle.ats_system.specs.Words.{place_of};
 ghost use Rattle.ats_system.specs.Open.{Stands};
 
 use crate::fault_counts::FaultCounts;
-use ats_io::Failed;
 use ats_io::files::MAX_PLACE;
+use ats_io::{Failed, ReadCall, Reads};
 use std::alloc::{AllocError, Global};
 use std::fs::File;
 use std::io;
@@ -32,6 +33,7 @@ pub struct RealFiles<'a, R: Files + Drop> {
     rt: R,
     faults: FaultCounts<'a>,
     current: Option<OpenWord<R::File>>,
+    reads: Reads,
 }
 
 // An open file, the place of its word among the words, and the place in the file where it stands, in bytes.
@@ -49,11 +51,13 @@ impl<'a, R: Files + Drop> RealFiles<'a, R> {
         ensures words { IfOk result (λ made. made.faults.words.now ≡ words.entry.now) }
         ensures faults { IfOk result
             (λ made. (name : List ℕ) → ⟦<RealFiles<'a, R> as ats_io::Files>⟧.faults made name ≡ 0) }
+        ensures reads { IfOk result (λ made. ⟦<RealFiles<'a, R> as ats_io::Files>⟧.reads made ≡ []) }
     {
         Ok(RealFiles {
             rt,
             faults: FaultCounts::new(alloc, words)?,
             current: None,
+            reads: Reads::new(),
         })
     }
 
@@ -62,6 +66,7 @@ impl<'a, R: Files + Drop> RealFiles<'a, R> {
         requires { at ≤ MAX_PLACE }
         ensures within { IfOk result (λ count. count ≤ length buf.new) }
         ensures faults { self.new.faults ≡ self.old.faults }
+        ensures reads { self.new.reads ≡ self.old.reads }
         ensures stands { IfOk result (λ count. IfSome (place_of self.old.faults.words.now name.now)
             (λ word. IsSomeAnd self.new.current (Stands word (at + count)))) }
         ensures closed { OnErr result (OnSome (place_of self.old.faults.words.now name.now) (self.new.current ≡ None)) }
@@ -103,6 +108,8 @@ impl<'a, R: Files + Drop> ats_io::Files for RealFiles<'a, R> {
 
     ghost faults = { λ s name. faults_of s.faults name };
 
+    ghost reads = { λ s. s.reads.made };
+
     fn read(&mut self, name: &str, at: u64, buf: &mut [u8]) -> Result<usize, Failed>
         requires room { 0 < length buf.old }
         requires place { at ≤ MAX_PLACE }
@@ -115,12 +122,19 @@ impl<'a, R: Files + Drop> ats_io::Files for RealFiles<'a, R> {
             ≡ ⟦<RealFiles<'a, R> as ats_io::Files>⟧.faults self.old) }
         ensures continues { Continues ⟦<RealFiles<'a, R> as ats_io::Files>⟧.told
             ⟦<RealFiles<'a, R> as ats_io::Files>⟧.faults self.old self.new }
+        ensures made { self.new.reads.made ≡ and_read self.old.reads.made name.now at result }
     {
         match self.read_piece(name, at, buf) {
-            Ok(count) => Ok(count),
+            Ok(count) => {
+                let answer = Ok(count);
+                self.reads = self.reads.and(&ReadCall { name, at, answer });
+                answer
+            }
             Err(_) => {
+                let answer = Err(Failed);
                 self.faults.raise(name);
-                Err(Failed)
+                self.reads = self.reads.and(&ReadCall { name, at, answer });
+                answer
             }
         }
     }

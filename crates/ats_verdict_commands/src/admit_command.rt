@@ -33,7 +33,7 @@ pub fn admit<F: Files>(
     files: &mut F,
 ) -> Result<Vec<u8>, Stop>
     ensures due { Answers (F.told files.old) (table.Admit net.now requests.now) result }
-    ensures reads { ReadsFiles F.told F.faults (table.Admit net.now requests.now) files.old files.new result }
+    ensures reads { ReadsFiles F.told F.faults F.reads (table.Admit net.now requests.now) files.old files.new result }
 {
     let network = network_in(alloc, net, files)?;
     admission_of(alloc, network, requests, files)
@@ -48,7 +48,7 @@ fn admission_of<F: Files>(
 ) -> Result<Vec<u8>, Stop>
     ensures due { IfTold (F.told files.old requests.now) (λ bytes.
         Gives (λ text. text.items) result (requests_judged network requests.now bytes)) }
-    ensures reads { ReadsFile F.told F.faults requests.now files.old files.new result }
+    ensures reads { ReadsFile F.told F.faults F.reads requests.now files.old files.new result }
 {
     let asked = requests_in(alloc, requests, &network, files)?;
     answers_of(alloc, network, asked)

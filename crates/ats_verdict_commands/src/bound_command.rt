@@ -23,7 +23,7 @@ use std::alloc::{AllocError, Global};
 /// where no certificate of the network holds.
 pub fn bound<F: Files>(alloc: Global, net: &str, files: &mut F) -> Result<Vec<u8>, Stop>
     ensures due { Answers (F.told files.old) (table.Bound net.now) result }
-    ensures reads { ReadsFiles F.told F.faults (table.Bound net.now) files.old files.new result }
+    ensures reads { ReadsFiles F.told F.faults F.reads (table.Bound net.now) files.old files.new result }
 {
     let network = network_in(alloc, net, files)?;
     certificate_of(alloc, &network)

@@ -31,7 +31,8 @@ pub fn check<F: Files>(
     ensures due { Answers (F.told files.old) (table.Check net.now certificate.now) result }
     ensures sound { IfOk result (λ text.
         Promises (F.told files.old) (table.Check net.now certificate.now) text.items) }
-    ensures reads { ReadsFiles F.told F.faults (table.Check net.now certificate.now) files.old files.new result }
+    ensures reads { ReadsFiles F.told F.faults F.reads (table.Check net.now certificate.now)
+        files.old files.new result }
 {
     let network = network_in(alloc, net, files)?;
     verdict_of(alloc, &network, certificate, files)
@@ -48,7 +49,7 @@ fn verdict_of<F: Files>(
         Gives (λ text. text.items) result (certificate_judged network.now certificate.now bytes)) }
     ensures sound { IfOk result (λ text. IfTold (F.told files.old certificate.now)
         (λ bytes. IsSoundFile network.now certificate.now bytes text.items)) }
-    ensures reads { ReadsFile F.told F.faults certificate.now files.old files.new result }
+    ensures reads { ReadsFile F.told F.faults F.reads certificate.now files.old files.new result }
 {
     let rows = certificate_in(alloc, certificate, network.topology(), files)?;
     judgement_of(alloc, network, &rows)

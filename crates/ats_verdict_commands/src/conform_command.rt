@@ -28,7 +28,7 @@ pub fn conform<F: Files>(
     files: &mut F,
 ) -> Result<Vec<u8>, Stop>
     ensures due { Answers (F.told files.old) (table.Conform net.now schedule.now) result }
-    ensures reads { ReadsFiles F.told F.faults (table.Conform net.now schedule.now) files.old files.new result }
+    ensures reads { ReadsFiles F.told F.faults F.reads (table.Conform net.now schedule.now) files.old files.new result }
 {
     let network = network_in(alloc, net, files)?;
     conformance_of(alloc, &network, schedule, files)
@@ -43,7 +43,7 @@ fn conformance_of<F: Files>(
 ) -> Result<Vec<u8>, Stop>
     ensures due { IfTold (F.told files.old schedule.now) (λ bytes.
         ComesTo (JudgesReleases network.now) result (releases_in network.now schedule.now bytes)) }
-    ensures reads { ReadsFile F.told F.faults schedule.now files.old files.new result }
+    ensures reads { ReadsFile F.told F.faults F.reads schedule.now files.old files.new result }
 {
     let releases = schedule_in(alloc, schedule, network, files)?;
     judgement_of(alloc, network, &releases)

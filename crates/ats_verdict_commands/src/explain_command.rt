@@ -19,7 +19,7 @@ use std::alloc::Global;
 /// where a port and class that some stream uses is overloaded.
 pub fn explain<F: Files>(alloc: Global, net: &str, files: &mut F) -> Result<Vec<u8>, Stop>
     ensures due { Answers (F.told files.old) (table.Explain net.now) result }
-    ensures reads { ReadsFiles F.told F.faults (table.Explain net.now) files.old files.new result }
+    ensures reads { ReadsFiles F.told F.faults F.reads (table.Explain net.now) files.old files.new result }
 {
     let network = network_in(alloc, net, files)?;
     explanation_of(alloc, &network)

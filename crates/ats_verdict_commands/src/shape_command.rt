@@ -13,7 +13,7 @@ use std::alloc::{AllocError, Global};
 /// The text of `shape FILE`. It stops where the file has a fault or can't be read.
 pub fn shape<F: Files>(alloc: Global, file: &str, files: &mut F) -> Result<Vec<u8>, Stop>
     ensures due { Answers (F.told files.old) (table.Shape file.now) result }
-    ensures reads { ReadsFiles F.told F.faults (table.Shape file.now) files.old files.new result }
+    ensures reads { ReadsFiles F.told F.faults F.reads (table.Shape file.now) files.old files.new result }
 {
     let shape = shape_in(alloc, file, files)?;
     Ok(text_of(alloc, &shape)?)

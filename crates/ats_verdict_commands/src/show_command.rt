@@ -14,7 +14,7 @@ use std::alloc::Global;
 /// The text of `show NET`. It stops where the network's file has a fault or can't be read.
 pub fn show<F: Files>(alloc: Global, net: &str, files: &mut F) -> Result<Vec<u8>, Stop>
     ensures due { Answers (F.told files.old) (table.Show net.now) result }
-    ensures reads { ReadsFiles F.told F.faults (table.Show net.now) files.old files.new result }
+    ensures reads { ReadsFiles F.told F.faults F.reads (table.Show net.now) files.old files.new result }
 {
     let network = network_in(alloc, net, files)?;
     text_of(alloc, &network)

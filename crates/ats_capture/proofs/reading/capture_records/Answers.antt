@@ -1,7 +1,8 @@
 use Rattle.std.proofs.Common.{◌≡◌, ◌≤◌, ◌+◌, ◌++◌, ℕ, List, length, take, Option, Result, Err, refl, rules, arith, sym}
-use Rattle.std.proofs.Common.{ap, ◌∙◌, subst}
+use Rattle.std.proofs.Common.{ap, ◌∙◌, subst, [], ◌∷◌}
 use Rattle.std.specs.Global.{Vec}
 use Rattle.ats_io.proofs.Outside.{Continues-refl, Continues-trans}
+use Rattle.ats_io.proofs.Turns.{nothing_read, none_read, read_more, read_last}
 use Rattle.ats_num.specs.declared.failure.Failure.{Failure}
 use Rattle.ats_pcap.specs.declared.record.Record.{Record}
 use Rattle.ats_pcap.proofs.Tests.{err_is}
@@ -20,7 +21,17 @@ loop-reader-init g c = record {
   reads = reads_nothing (g.F.Files.told c.args.files.now c.args.name.now) c.new-reader.result c.new-reader.ensures;
   calm = refl;
   continues = Continues-refl c.args.files.now;
+  reading = nothing_read c.args.name.now (g.F.Files.reads c.args.files.now);
 }
+
+pub returns-in_err-buffer-clause-in_turn : goal.returns-in_err-buffer-clause-in_turn
+returns-in_err-buffer-clause-in_turn g c = none_read (c.args.name.now ∷ []) (g.F.Files.reads c.args.files.now)
+
+pub returns-in_err-count-clause-in_turn : goal.returns-in_err-count-clause-in_turn
+returns-in_err-count-clause-in_turn g c =
+    read_last c.args.name.now c.loop-reader.at c.loop-reader.at (g.F.Files.reads c.args.files.now)
+    (g.F.Files.reads c.loop-reader.files) (g.F.Files.reads c.read.new.files) c.read.result
+    c.loop-reader.invariant.reading refl c.read.ensures.made
 
 pub returns-then-count-eq0-clause-due : goal.returns-then-count-eq0-clause-due
 returns-then-count-eq0-clause-due g c = λ bytes is.
@@ -34,12 +45,24 @@ returns-then-count-eq0-clause-octets g c =
     let r = c.loop-reader.invariant.reads in
     read_long c.finish.result r.read (c.finish.ensures.due r.read r.stands)
 
+pub returns-then-count-eq0-clause-in_turn : goal.returns-then-count-eq0-clause-in_turn
+returns-then-count-eq0-clause-in_turn g c =
+    read_last c.args.name.now c.loop-reader.at c.loop-reader.at (g.F.Files.reads c.args.files.now)
+    (g.F.Files.reads c.loop-reader.files) (g.F.Files.reads c.read.new.files) c.read.result
+    c.loop-reader.invariant.reading refl c.read.ensures.made
+
 pub returns-then-at-eq-MAX_BYTES-clause-due : goal.returns-then-at-eq-MAX_BYTES-clause-due
 returns-then-at-eq-MAX_BYTES-clause-due g c = λ bytes is.
     let now = ap (λ f. f c.args.name.now) c.loop-reader.invariant.continues.holds ∙ is in
     over_due (g.F.Files.told c.args.files.now c.args.name.now) c.loop-reader.at c.in_ok-count.count
     c.loop-reader.reader bytes c.read.new.buf c.loop-reader.invariant.reads is (omega arith)
     c.if-at-eq-MAX_BYTES.true (c.in_ok-count.ensures.piece bytes now)
+
+pub returns-then-at-eq-MAX_BYTES-clause-in_turn : goal.returns-then-at-eq-MAX_BYTES-clause-in_turn
+returns-then-at-eq-MAX_BYTES-clause-in_turn g c =
+    read_last c.args.name.now c.loop-reader.at c.loop-reader.at (g.F.Files.reads c.args.files.now)
+    (g.F.Files.reads c.loop-reader.files) (g.F.Files.reads c.read.new.files) c.read.result
+    c.loop-reader.invariant.reading refl c.read.ensures.made
 
 pub returns-in_err-feed-clause-due : goal.returns-in_err-feed-clause-due
 returns-in_err-feed-clause-due g c = λ bytes is.
@@ -64,6 +87,12 @@ returns-in_err-feed-clause-due g c = λ bytes is.
     subst (λ (x : Result (Vec Record) (Failure RecordsFault)). GivesUnlessFailed x (records_in bytes))
     (sym (err_is c.from_residual-in_err-feed.result e c.from_residual-in_err-feed.ensures.1)) due
 
+pub returns-in_err-feed-clause-in_turn : goal.returns-in_err-feed-clause-in_turn
+returns-in_err-feed-clause-in_turn g c =
+    read_last c.args.name.now c.loop-reader.at c.loop-reader.at (g.F.Files.reads c.args.files.now)
+    (g.F.Files.reads c.loop-reader.files) (g.F.Files.reads c.read.new.files) c.read.result
+    c.loop-reader.invariant.reading refl c.read.ensures.made
+
 pub loop-reader-preserved : goal.loop-reader-preserved
 loop-reader-preserved g c =
     let told : Option (List ℕ) = g.F.Files.told c.args.files.now c.args.name.now in
@@ -79,4 +108,8 @@ loop-reader-preserved g c =
           (ap (λ f. f c.args.name.now) c.loop-reader.invariant.continues.holds ∙ is));
       calm = c.in_ok-count.ensures.calm ∙ c.loop-reader.invariant.calm;
       continues = Continues-trans c.loop-reader.invariant.continues c.read.ensures.continues;
+      reading = read_more c.args.name.now c.loop-reader.at c.loop-reader.at c.in_ok-count.count
+          (c.loop-reader.at + c.in_ok-count.count) (g.F.Files.reads c.args.files.now)
+          (g.F.Files.reads c.loop-reader.files) (g.F.Files.reads c.read.new.files) c.read.result
+          c.loop-reader.invariant.reading refl c.read.ensures.made c.in_ok-count.was refl;
     }

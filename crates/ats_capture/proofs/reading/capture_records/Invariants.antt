@@ -1,5 +1,6 @@
 use Rattle.std.proofs.Common.{◌≡◌, ◌-◌, ◌≤◌, vec_len}
 use Rattle.ats_io.specs.Outside.{Continues}
+use Rattle.ats_io.proofs.Turns.{ReadsUpTo}
 use Rattle.ats_capture.specs.declared.reading.TheConstants.{MAX_BYTES, PIECE}
 use Rattle.ats_capture.proofs.ReadBytes.{Reads}
 use Rattle.ats_capture.proofs.reading.capture_records.Given as goal
@@ -11,6 +12,7 @@ invariant-loop-reader g l = record {
   reads : Reads (g.F.Files.told l.fn.files l.name) l.at l.reader;
   calm : g.F.Files.faults l.files ≡ g.F.Files.faults l.fn.files;
   continues : Continues g.F.Files.told g.F.Files.faults l.fn.files l.files;
+  reading : ReadsUpTo l.name l.at (g.F.Files.reads l.fn.files) (g.F.Files.reads l.files);
 }
 
 abbrev pub decreases-loop-reader : goal.decreases-loop-reader

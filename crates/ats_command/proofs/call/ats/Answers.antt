@@ -1,9 +1,11 @@
 use Rattle.std.proofs.Common.{◌≡◌, ℕ, List, Option, Some, ap, subst, sym, ◌∙◌}
 use Rattle.std.specs.Prelude.{◌⊎◌}
 use Rattle.ats_io.specs.Outside.{Rose}
+use Rattle.ats_io.specs.Reads.{ReadsInTurn}
+use Rattle.ats_io.proofs.Turns.{none_read}
 use Rattle.ats_command_input.specs.Answer.{HasText}
-use Rattle.ats_command_input.specs.Command.{Command}
-use Rattle.ats_command_input.specs.Named.{view}
+use Rattle.ats_command_input.specs.Command.{Command, file_words}
+use Rattle.ats_command_input.specs.Named.{named, view}
 use Rattle.ats_command_input.specs.declared.status.Status.{Status}
 use Rattle.ats_command_input.specs.declared.status.Status.TheVariants.{NoMemory}
 use Rattle.ats_command_due.specs.Due.{IsTold}
@@ -55,6 +57,11 @@ pub returns-in-Some-clause-read_told : goal.returns-in-Some-clause-read_told
 returns-in-Some-clause-read_told g c = λ h.
     c.outcome_of-outcome.ensures.reads.calm (λ failed. h (c.finish.ensures.read_told failed))
 
+pub returns-in-Some-clause-in_turn : goal.returns-in-Some-clause-in_turn
+returns-in-Some-clause-in_turn g c =
+    subst (λ (command : Command). ReadsInTurn (file_words command) (g.F.Files.reads c.args.files.now)
+    (g.F.Files.reads c.outcome_of-outcome.new.files)) c.in-Some.ensures c.outcome_of-outcome.ensures.reads.in_turn
+
 pub returns-in-Some-clause-complete : goal.returns-in-Some-clause-complete
 returns-in-Some-clause-complete g c =
     let told : List ℕ → Option (List ℕ) = g.F.Files.told c.args.files.now in
@@ -92,6 +99,10 @@ returns-in-None-clause-complete g c =
     subst Ends c.in-None.ensures
     (λ is_told calm quiet.
     words_end_as_due told c.print.result write is_told c.print.ensures.ends c.print.ensures.failed quiet)
+
+pub returns-in-None-clause-in_turn : goal.returns-in-None-clause-in_turn
+returns-in-None-clause-in_turn g c =
+    none_read (file_words (named c.args.words.now)) (g.F.Files.reads c.args.files.now)
 
 pub returns-in-None-clause-sound : goal.returns-in-None-clause-sound
 returns-in-None-clause-sound g c = λ done.

@@ -1,4 +1,4 @@
-use Rattle.std.proofs.Common.{ℕ, List, [], Option, Some, Ok, lit<, ap, refl, inr, ◌≡◌, ◌∙◌, Result, subst, inl}
+use Rattle.std.proofs.Common.{ℕ, List, [], ◌∷◌, Option, Some, Ok, lit<, ap, refl, inr, ◌≡◌, ◌∙◌, Result, subst, inl}
 use Rattle.ats_topology.specs.Topology.{DeclaredTopology}
 use Rattle.ats_network.specs.Network.{DeclaredNetwork}
 use Rattle.ats_capture.specs.Traffic.{Traffic}
@@ -8,10 +8,10 @@ use Rattle.ats_command_input.specs.Command.{Capture}
 use Rattle.ats_command_input.specs.Input.{network_in, traffic_in}
 use Rattle.ats_command_input.specs.Outcome.{IsStopOf}
 use Rattle.ats_command_input.specs.Station.{station_in}
-use Rattle.ats_command_input.proofs.Steps.{stops_all, reads_stopped}
+use Rattle.ats_command_input.proofs.Steps.{stops_all, reads_stopped, not_failed}
 use Rattle.ats_command_due.specs.Due.{told_bytes}
 use Rattle.ats_command_due.specs.Captured.{IsCaptureText, IsCaptured, captured_in}
-use Rattle.ats_command_due.proofs.Steps.{told_is, declared_is_ok, reads_both, reads_one}
+use Rattle.ats_command_due.proofs.Steps.{told_is, declared_is_ok, reads_both, reads_first, reads_one}
 use Rattle.ats_run_commands.proofs.Replays.{one_settles, stop_gives_one, one_goes_on, one_made}
 use Rattle.ats_run_commands.proofs.capture_command.capture.Goals as goal
 
@@ -85,7 +85,8 @@ returns-clause-reads g c =
     let place : ℕ = c.in_ok-place.place in
     let named = subst (λ (t : DeclaredTopology). station_in t station ≡ Ok place) c.topology.ensures.value
     c.in_ok-place.ensures.due in
-    reads_both g.F.Files.told g.F.Files.faults (Capture c.args.net.now station file c.args.order) c.args.net.now file
+    reads_both g.F.Files.told g.F.Files.faults g.F.Files.reads
+    (Capture c.args.net.now station file c.args.order) c.args.net.now file
     c.args.files.now c.network_in.new.files c.capture_of.new.files c.in_ok-network.network c.capture_of.result
     c.in_ok-network.ensures.reads c.capture_of.ensures.reads
     (inr (
@@ -93,10 +94,18 @@ returns-clause-reads g c =
       λ bytes told. declared_is_ok _ place
           (ap (λ (d : Result DeclaredNetwork Answer). d >>= λ n. station_in n.topology station)
           (c.in_ok-network.ensures.due bytes told) ∙ named),
-    ))
+    )) refl
+
+pub returns-in_err-place-clause-reads : goal.returns-in_err-place-clause-reads
+returns-in_err-place-clause-reads g c =
+    reads_first (Capture c.args.net.now c.args.station.now c.args.file.now c.args.order) c.args.net.now
+    (c.args.file.now ∷ []) c.in_ok-network.network c.from_residual-in_err-place.result c.in_ok-network.ensures.reads
+    (not_failed c.in_err-place.field-0.0 c.from_residual-in_err-place.result c.in_err-place.ensures.was_read
+    c.from_residual-in_err-place.ensures.1) refl
 
 pub returns-in_err-network-clause-reads : goal.returns-in_err-network-clause-reads
 returns-in_err-network-clause-reads g c =
-    reads_one (Capture c.args.net.now c.args.station.now c.args.file.now c.args.order) c.args.net.now
+    reads_one (Capture c.args.net.now c.args.station.now c.args.file.now c.args.order)
+    c.args.net.now (c.args.file.now ∷ [])
     (reads_stopped c.in_err-network.field-0.0 c.from_residual.result c.in_err-network.ensures.reads
-    c.from_residual.ensures.1) (inl refl)
+    c.from_residual.ensures.1) (inl refl) refl

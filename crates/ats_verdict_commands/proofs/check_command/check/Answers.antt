@@ -1,4 +1,4 @@
-use Rattle.std.proofs.Common.{ℕ, List, [], Option, Some, lit<, ap, refl, inr, ◌≡◌, ◌∙◌, inl}
+use Rattle.std.proofs.Common.{ℕ, List, [], ◌∷◌, Option, Some, lit<, ap, refl, inr, ◌≡◌, ◌∙◌, inl}
 use Rattle.ats_io.specs.Outside.{IfTold}
 use Rattle.ats_network.specs.Network.{DeclaredNetwork}
 use Rattle.ats_command_input.specs.Command.{Check}
@@ -34,10 +34,11 @@ returns-clause-due g c = λ is_told.
 
 pub returns-clause-reads : goal.returns-clause-reads
 returns-clause-reads g c =
-    reads_both g.F.Files.told g.F.Files.faults (Check c.args.net.now c.args.certificate.now) c.args.net.now
-    c.args.certificate.now c.args.files.now c.network_in.new.files c.verdict_of.new.files c.in_ok-network.network
+    reads_both g.F.Files.told g.F.Files.faults g.F.Files.reads (Check c.args.net.now c.args.certificate.now)
+    c.args.net.now c.args.certificate.now c.args.files.now c.network_in.new.files
+    c.verdict_of.new.files c.in_ok-network.network
     c.verdict_of.result c.in_ok-network.ensures.reads c.verdict_of.ensures.reads
-    (inr (refl, λ bytes told. declared_is_ok _ _ (c.in_ok-network.ensures.due bytes told)))
+    (inr (refl, λ bytes told. declared_is_ok _ _ (c.in_ok-network.ensures.due bytes told))) refl
 
 pub returns-clause-sound : goal.returns-clause-sound
 returns-clause-sound g c =
@@ -67,6 +68,6 @@ returns-clause-sound g c =
 
 pub returns-in_err-network-clause-reads : goal.returns-in_err-network-clause-reads
 returns-in_err-network-clause-reads g c =
-    reads_one (Check c.args.net.now c.args.certificate.now) c.args.net.now
+    reads_one (Check c.args.net.now c.args.certificate.now) c.args.net.now (c.args.certificate.now ∷ [])
     (reads_stopped c.in_err-network.field-0.0 c.from_residual.result c.in_err-network.ensures.reads
-    c.from_residual.ensures.1) (inl refl)
+    c.from_residual.ensures.1) (inl refl) refl

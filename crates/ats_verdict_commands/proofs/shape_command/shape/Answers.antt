@@ -26,6 +26,6 @@ returns-clause-due g c = λ is_told.
 
 pub returns-in_err-shape-clause-reads : goal.returns-in_err-shape-clause-reads
 returns-in_err-shape-clause-reads g c =
-    reads_one (Shape c.args.file.now) c.args.file.now
+    reads_one (Shape c.args.file.now) c.args.file.now []
     (reads_stopped c.in_err-shape.field-0.0 c.from_residual.result c.in_err-shape.ensures.reads
-    c.from_residual.ensures.1) refl
+    c.from_residual.ensures.1) refl refl

@@ -23,6 +23,6 @@ returns-clause-due g c = λ is_told.
 
 pub returns-in_err-network-clause-reads : goal.returns-in_err-network-clause-reads
 returns-in_err-network-clause-reads g c =
-    reads_one (Show c.args.net.now) c.args.net.now
+    reads_one (Show c.args.net.now) c.args.net.now []
     (reads_stopped c.in_err-network.field-0.0 c.from_residual.result c.in_err-network.ensures.reads
-    c.from_residual.ensures.1) refl
+    c.from_residual.ensures.1) refl refl
