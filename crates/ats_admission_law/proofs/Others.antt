@@ -22,7 +22,8 @@ use Rattle.ats_admission_law.specs.Near.{shares}
 use Rattle.ats_admission_law.proofs.LeastRows.{bound_used, bound_unused}
 use Rattle.ats_admission_law.proofs.Networks.{Parts, less, more, behind, senders_less, senders_more, parts_of, by_parts}
 use Rattle.ats_admission_law.proofs.Networks.{less_is}
-use Rattle.ats_admission_law.proofs.PortFalls.{at_same, streams_less, streams_more}
+use Rattle.ats_tally.proofs.SeenLemmas.{at_same}
+use Rattle.ats_admission_law.proofs.PortFalls.{streams_less, streams_more}
 
 -- where no element passes, each fails
 pub none_pass : {X : Type 0} (test : X → Bool) (xs : List X) → list_any test xs ≡ false

@@ -1,6 +1,6 @@
 -- What the senders at a port make of a class when one goes.
-use Rattle.std.proofs.Common.{◌≡◌, ℕ, ◌≤◌, Bool, true, false, cond, List, ◌∷◌, ◌++◌, map, filter, get_or}
-use Rattle.std.proofs.Common.{refl, sym, ap, ◌∙◌, subst, arith}
+use Rattle.std.proofs.Common.{◌≡◌, ℕ, ◌≤◌, Bool, true, false, cond, List, ◌∷◌, ◌++◌, map, get_or}
+use Rattle.std.proofs.Common.{sym, ap, ◌∙◌, subst, arith}
 use Rattle.std.specs.Prelude.{◌||◌}
 use Rattle.std.specs.List.{All, list_any}
 use Rattle.std.proofs.Math.Nat.{mul-le-mul_left}
@@ -8,44 +8,19 @@ use Rattle.std.proofs.lemmas.Bool.{eqb-true, or_right}
 use Rattle.std.proofs.lemmas.List.{map-append}
 use Rattle.ats_topology.specs.Port.{port_at}
 use Rattle.ats_streams.specs.Stream.{DeclaredStream}
-use Rattle.ats_network.specs.Sender.{Sender, stream_sender}
+use Rattle.ats_network.specs.Sender.{stream_sender}
 use Rattle.ats_network.specs.Class.{PortSender, seen_at}
 use Rattle.ats_network.specs.Network.{IsNetwork, senders_of}
 use Rattle.ats_network.proofs.SenderLemmas.{each_is_sender}
 use Rattle.ats_certificate.specs.PortSums.{PortSums, uses, is_above, is_of, is_below, longest, shortest, senders_at}
 use Rattle.ats_certificate.specs.PortSums.{sums_over, port_sums, is_used}
 use Rattle.ats_tally.proofs.Places.{used_by_sender, used_class}
-use Rattle.ats_tally.proofs.SeenLemmas.{IsSeen, all_seen, senders_at-append}
+use Rattle.ats_tally.proofs.SeenLemmas.{IsSeen, all_seen, at_more, senders_at-append}
 use Rattle.ats_admission_law.proofs.Lists.{any_less}
 use Rattle.ats_admission_law.proofs.Networks.{Parts, less, more, behind, senders_less, senders_more, less_is}
 use Rattle.ats_admission_law.proofs.Sums.{sum_less, greatest_less, least_less, least_in_sum}
 
--- what a port sees of a sender, where it uses the port, and of those behind it
-at_first : (port : ℕ) (s : Sender) (ss : List Sender)
-    → senders_at port (s ∷ ss) ≡ cond (uses port s) (seen_at port s ∷ senders_at port ss) (senders_at port ss)
-at_first port s ss = by (uses port s)
-  where
-    by : (b : Bool) → map (seen_at port) (cond b (s ∷ filter (uses port) ss) (filter (uses port) ss))
-        ≡ cond b (seen_at port s ∷ senders_at port ss) (senders_at port ss)
-    by true = refl
-    by false = refl
-
-pub at_more : (port : ℕ) (xs : List Sender) (s : Sender) (ys : List Sender)
-    → senders_at port (xs ++ s ∷ ys) ≡ senders_at port xs
-    ++ cond (uses port s) (seen_at port s ∷ senders_at port ys) (senders_at port ys)
-at_more port xs s ys =
-    senders_at-append port xs (s ∷ ys)
-    ∙ ap (λ (ss : List PortSender). senders_at port xs ++ ss) (at_first port s ys)
-
--- a port that the stream does not use sees the same senders
-pub at_same : (port : ℕ) (xs : List Sender) (s : Sender) (ys : List Sender) → uses port s ≡ false
-    → senders_at port (xs ++ ys) ≡ senders_at port (xs ++ s ∷ ys)
-at_same port xs s ys unused =
-    let seen : PortSender = seen_at port s in
-    senders_at-append port xs ys ∙ sym (at_more port xs s ys
-    ∙ ap (λ (b : Bool). senders_at port xs ++ cond b (seen ∷ senders_at port ys) (senders_at port ys)) unused)
-
--- the same of streams
+-- a stream among the others, as a sender
 pub streams_more : (p : Parts) (x : DeclaredStream) → map stream_sender (more p x).streams
     ≡ map stream_sender p.front ++ stream_sender x ∷ map stream_sender p.back
 streams_more p x = map-append stream_sender p.front (x ∷ p.back)

@@ -1,10 +1,14 @@
 -- The shares of a network that a stream enters or leaves.
-use Rattle.std.proofs.Common.{◌≡◌, ℕ, zero, suc, ◌+◌, ◌*◌, ◌<◌, ◌≤◌, true, eqb, [], ◌∷◌, List, length, get_or, set, map}
-use Rattle.std.proofs.Common.{take, drop, refl, sym, ap, subst, ◌∙◌, arith, length-append}
+use Rattle.std.proofs.Common.{◌≡◌, ℕ, zero, suc, ◌<◌, ◌≤◌, Bool, true, false, eqb, [], ◌∷◌, ◌++◌, List, length, get_or}
+use Rattle.std.proofs.Common.{set, map, take, drop, Some, refl, sym, ap, subst, ◌∙◌, ◌⊎◌, inl, inr, arith}
+use Rattle.std.proofs.Common.{length-append}
+use Rattle.std.specs.Prelude.{slice_get, ◌&&◌}
 use Rattle.std.specs.List.{list_any}
-use Rattle.std.proofs.lemmas.Bool.{eq-eqb, or_left, or_right}
+use Rattle.std.proofs.lemmas.Bool.{cases_eq, eq-eqb, ne_eqb, or_left, or_right}
+use Rattle.std.proofs.lemmas.Option.{get_or_from_slice_get}
 use Rattle.std.proofs.Math.Seq.{split_at}
 use Rattle.std.proofs.lemmas.List.{get_or_append_left, get_or-map, length-map}
+use Rattle.ats_class_table.specs.Table.{Table, value_at}
 use Rattle.ats_streams.specs.Stream.{DeclaredStream}
 use Rattle.ats_network.specs.Class.{PortSender, class_at, seen_at}
 use Rattle.ats_network.specs.Edits.{no_stream}
@@ -16,12 +20,12 @@ use Rattle.ats_certificate.specs.PortSums.{senders_at, uses}
 use Rattle.ats_admission_law.specs.Less.{IsLessBy}
 use Rattle.ats_admission_law.proofs.Networks.{Parts, behind, by_parts, parts_of, senders_less}
 use Rattle.ats_admission_law.proofs.Networks.{senders_more}
-use Rattle.ats_admission_shares.specs.Changes.{ChangesAlong, IsEntered}
-use Rattle.ats_admission_shares.specs.PortShares.{AreSharesAt, AreSharesOf, stream_at, without_at}
-use Rattle.ats_admission_shares.specs.Shares.{no_share, share_of, share_with, AreShares}
-use Rattle.ats_admission_shares.specs.declared.share.Share.{Share}
-use Rattle.ats_admission_shares.proofs.Changed.{entered_are, left_are, share_before, shares_set}
-use Rattle.ats_admission_shares.proofs.Entries.{IsEntry, entry_is}
+use Rattle.ats_tally.specs.Shares.{no_share, share_of, share_with, AreShares, AreSharesAt, AreSharesOf, Enters}
+use Rattle.ats_tally.specs.declared.share.Share.{Share}
+use Rattle.ats_tally.proofs.Changed.{ChangesAlong, entered_are, left_are, share_at, share_before}
+use Rattle.ats_tally.proofs.Eight.{got_else, got_here}
+use Rattle.ats_tally.proofs.Entries.{IsEntry, entry_is}
+use Rattle.ats_admission_shares.specs.PortShares.{stream_at, without_at}
 
 -- a network without one of its streams is less by it
 pub less_by : (network : DeclaredNetwork) (n : ℕ) → n < length network.streams
@@ -45,14 +49,13 @@ stream_is network n within =
     (omega (arith, within, length-map network.streams stream_sender))
     ∙ get_or-map stream_sender network.streams n no_stream no_sender within
 
-module _ (old new : DeclaredNetwork) (x : DeclaredStream) (is : IsLessBy old new x) (before now : List Share) where
+module _ (old new : DeclaredNetwork) (x : DeclaredStream) (is : IsLessBy old new x) (before now : Table Share) where
   -- with a stream that enters along its path
-  pub shares_entered : AreSharesOf new before
-      → ChangesAlong (IsEntered (stream_sender x) before) (stream_sender x) x.path before now → AreSharesOf old now
-  shares_entered = by_parts Goes old new x is (λ are changes.
+  pub shares_entered : AreSharesOf new before → Enters (stream_sender x) before now → AreSharesOf old now
+  shares_entered = by_parts Goes old new x is (λ are enters.
       subst (λ (ss : List Sender). AreSharesAt ports ss now) (sym (senders_more parts x))
       (entered_are ports (map stream_sender parts.front) (stream_sender x) (behind parts) before now
-      (subst (λ (ss : List Sender). AreSharesAt ports ss before) (senders_less parts) are) changes))
+      (subst (λ (ss : List Sender). AreSharesAt ports ss before) (senders_less parts) are) enters))
     where
       parts : Parts
       parts = parts_of old new x is
@@ -61,18 +64,17 @@ module _ (old new : DeclaredNetwork) (x : DeclaredStream) (is : IsLessBy old new
       ports = length old.topology.ports
 
       Goes : DeclaredNetwork → DeclaredNetwork → Type 0
-      Goes o n = AreSharesOf n before
-          → ChangesAlong (IsEntered (stream_sender x) before) (stream_sender x) x.path before now → AreSharesOf o now
+      Goes o n = AreSharesOf n before → Enters (stream_sender x) before now → AreSharesOf o now
 
   -- and without one that leaves
   pub shares_left : AreSharesOf old before
-      → ChangesAlong (λ port class share. share ≡ share_of class (senders_at port (senders_of new))) (stream_sender x)
-      x.path before now → AreSharesOf new now
+      → ChangesAlong (λ port class. Some (share_of class (senders_at port (senders_of new)))) (stream_sender x) x.path
+      before now → AreSharesOf new now
   shares_left = by_parts Goes old new x is (λ are changes.
       subst (λ (ss : List Sender). AreSharesAt ports ss now) (sym (senders_less parts))
       (left_are ports (map stream_sender parts.front) (stream_sender x) (behind parts) before now
       (subst (λ (ss : List Sender). AreSharesAt ports ss before) (senders_more parts x) are)
-      (subst (λ (ss : List Sender). ChangesAlong (λ port class share. share ≡ share_of class (senders_at port ss))
+      (subst (λ (ss : List Sender). ChangesAlong (λ port class. Some (share_of class (senders_at port ss)))
       (stream_sender x) x.path before now) (senders_less parts) changes)))
     where
       parts : Parts
@@ -83,19 +85,19 @@ module _ (old new : DeclaredNetwork) (x : DeclaredStream) (is : IsLessBy old new
 
       Goes : DeclaredNetwork → DeclaredNetwork → Type 0
       Goes o n = AreSharesOf o before
-          → ChangesAlong (λ port class share. share ≡ share_of class (senders_at port (senders_of n))) (stream_sender x)
-          x.path before now → AreSharesOf n now
+          → ChangesAlong (λ port class. Some (share_of class (senders_at port (senders_of n)))) (stream_sender x) x.path
+          before now → AreSharesOf n now
 
   -- what the share of a class at a port of the path of one that leaves is made of
-  pub share_left : AreSharesOf old before → (port class : ℕ) (d : Share) → port < length old.topology.ports → class ≤ 7
-      → uses port (stream_sender x) ≡ true → class_at (stream_sender x) port ≡ class
-      → get_or before (8 * port + class) d
-      ≡ share_with (seen_at port (stream_sender x)) (share_of class (senders_at port (senders_of new)))
-  share_left are port class d within most used of = by_parts Goes old new x is (λ are.
+  pub share_left : AreSharesOf old before → (port class : ℕ) → port < length old.topology.ports → class ≤ 7
+      → uses port (stream_sender x) ≡ true → class_at (stream_sender x) port ≡ class → value_at before port class
+      ≡ Some (share_with (seen_at port (stream_sender x)) (share_of class (senders_at port (senders_of new))))
+  share_left are port class within most used of = by_parts Goes old new x is (λ are.
       share_before ports (map stream_sender parts.front) (stream_sender x) (behind parts) before now
-      (subst (λ (ss : List Sender). AreSharesAt ports ss before) (senders_more parts x) are) port class d within most
+      (subst (λ (ss : List Sender). AreSharesAt ports ss before) (senders_more parts x) are) port class within most
       used of
-      ∙ ap (λ (ss : List Sender). share_with (seen_at port (stream_sender x)) (share_of class (senders_at port ss)))
+      ∙ ap (λ (ss : List Sender).
+      Some (share_with (seen_at port (stream_sender x)) (share_of class (senders_at port ss))))
       (sym (senders_less parts))) are
     where
       parts : Parts
@@ -105,20 +107,53 @@ module _ (old new : DeclaredNetwork) (x : DeclaredStream) (is : IsLessBy old new
       ports = length old.topology.ports
 
       Goes : DeclaredNetwork → DeclaredNetwork → Type 0
-      Goes o n = AreSharesOf o before → get_or before (8 * port + class) d
-          ≡ share_with (seen_at port (stream_sender x)) (share_of class (senders_at port (senders_of n)))
+      Goes o n = AreSharesOf o before → value_at before port class
+          ≡ Some (share_with (seen_at port (stream_sender x)) (share_of class (senders_at port (senders_of n))))
+
+-- the shares of one port with a sender that uses it
+shares_set : (port : ℕ) (front : List Sender) (s : Sender) (back : List Sender) (seen : PortSender)
+    (eight : List Share) → length eight ≡ 8 → uses port s ≡ true → seen ≡ seen_at port s → seen.class ≤ 7
+    → AreShares (senders_at port (front ++ back)) eight
+    → AreShares (senders_at port (front ++ s ∷ back))
+    (set eight seen.class (share_with seen (get_or eight seen.class no_share)))
+shares_set port front s back seen eight long used same low are class most = by (cases_eq class seen.class)
+  where
+    more : Share
+    more = share_with seen (get_or eight seen.class no_share)
+
+    class_is : seen.class ≡ class_at s port
+    class_is = ap (λ (t : PortSender). t.class) same
+
+    by : (class ≡ seen.class) ⊎ (class ≡ seen.class → ⊥)
+        → slice_get (set eight seen.class more) class ≡ Some (share_of class (senders_at port (front ++ s ∷ back)))
+    by (inl e) =
+        got_here eight seen.class class more (omega (arith, low, long)) e
+        ∙ ap (λ (x : Share). Some (share_with seen x))
+        (get_or_from_slice_get eight seen.class (share_of seen.class (senders_at port (front ++ back))) no_share
+        (are seen.class low))
+        ∙ ap (λ (k : ℕ). Some (share_with seen (share_of k (senders_at port (front ++ back))))) (sym e)
+        ∙ ap (λ (t : PortSender). Some (share_with t (share_of class (senders_at port (front ++ back))))) same
+        ∙ ap Some (sym (share_at port class front s back true
+        (ap (λ (u : Bool). u && eqb (class_at s port) class) used
+        ∙ eq-eqb (class_at s port) class (sym class_is ∙ sym e))))
+    by (inr other) =
+        got_else eight seen.class class more (omega (arith, most, long)) other
+        ∙ are class most
+        ∙ ap Some (sym (share_at port class front s back false
+        (ap (λ (u : Bool). u && eqb (class_at s port) class) used
+        ∙ ne_eqb (class_at s port) class (λ e. other (sym (class_is ∙ e))))))
 
 -- the eight shares of a port of its path with a stream more
 pub eight_entered : (old new : DeclaredNetwork) (x : DeclaredStream) → IsLessBy old new x → (port : ℕ)
-    (seen : PortSender) (eight : List Share) → uses port (stream_sender x) ≡ true
-    → seen ≡ seen_at port (stream_sender x) → seen.class < length eight
+    (seen : PortSender) (eight : List Share) → length eight ≡ 8 → uses port (stream_sender x) ≡ true
+    → seen ≡ seen_at port (stream_sender x) → seen.class ≤ 7
     → AreShares (senders_at port (senders_of new)) eight
     → AreShares (senders_at port (senders_of old))
     (set eight seen.class (share_with seen (get_or eight seen.class no_share)))
-eight_entered old new x is port seen eight used same within = by_parts Goes old new x is (λ are.
+eight_entered old new x is port seen eight long used same low = by_parts Goes old new x is (λ are.
     subst (λ (ss : List Sender). AreShares (senders_at port ss)
     (set eight seen.class (share_with seen (get_or eight seen.class no_share)))) (sym (senders_more parts x))
-    (shares_set port (map stream_sender parts.front) (stream_sender x) (behind parts) seen eight used same within
+    (shares_set port (map stream_sender parts.front) (stream_sender x) (behind parts) seen eight long used same low
     (subst (λ (ss : List Sender). AreShares (senders_at port ss) eight) (senders_less parts) are)))
   where
     parts : Parts

@@ -3,7 +3,7 @@ use Rattle.std.proofs.Common.{◌≡◌, ℕ, ◌+◌, ◌<◌, ◌≤◌, min, 
 use Rattle.std.proofs.Common.{length, get_or, map, filter, take, drop, Option, Some, None, refl, sym, ap, ◌∙◌, arith}
 use Rattle.std.specs.Prelude.{fold, ◌&&◌}
 use Rattle.std.specs.Option.{option_eq}
-use Rattle.std.proofs.lemmas.Bool.{eqb-true, ltb-true, true≢false}
+use Rattle.std.proofs.lemmas.Bool.{and_parts, eqb-true, ltb-true, true≢false}
 use Rattle.std.proofs.lemmas.List.{append-nil, map-append, take_more, take-append-drop}
 use Rattle.std.proofs.lemmas.List.Elements.{filter-append}
 use Rattle.std.proofs.lemmas.List.Sums.{fold-append}
@@ -14,11 +14,10 @@ use Rattle.ats_certificate.specs.PortSums.{is_of, longest, shortest, senders_at}
 use Rattle.ats_tally.specs.Tally.{least_with, least_known}
 use Rattle.ats_tally.proofs.SeenLemmas.{flows_class, senders_at-append}
 use Rattle.ats_admission_shares.specs.Frames.{exceeds, frames_in, frames_of, frames_with, is_inside}
-use Rattle.ats_admission_shares.specs.Shares.{share_of, share_with}
+use Rattle.ats_tally.specs.Shares.{share_of, share_with}
 use Rattle.ats_admission_shares.specs.declared.frames.Frames.{Frames}
-use Rattle.ats_admission_shares.proofs.Changed.{both_true}
-use Rattle.ats_admission_shares.proofs.Inserted.{made, share_in}
-use Rattle.ats_admission_shares.proofs.ShareLemmas.{none_kept}
+use Rattle.ats_tally.proofs.Inserted.{made, share_in}
+use Rattle.ats_tally.proofs.ShareLemmas.{none_kept}
 
 -- frames with the same parts are the same
 same_frames : (a b : Frames) → a.longest ≡ b.longest → a.shortest ≡ b.shortest → a ≡ b
@@ -34,7 +33,7 @@ frames_equal a b h =
     same_frames a b (eqb-true a.longest b.longest (parts.0)) (options a.shortest b.shortest (parts.1))
   where
     parts : (eqb a.longest b.longest ≡ true) × (option_eq eqb a.shortest b.shortest ≡ true)
-    parts = both_true (eqb a.longest b.longest) (option_eq eqb a.shortest b.shortest) h
+    parts = and_parts (eqb a.longest b.longest) (option_eq eqb a.shortest b.shortest) h
 
     options : (o p : Option ℕ) → option_eq eqb o p ≡ true → o ≡ p
     options None None h = refl
@@ -139,7 +138,7 @@ frames_inside s frames before is inside =
     (sym (ap (λ (f : Frames). exceeds (shortest s) f.shortest) is) ∙ parts.1))
   where
     parts : (ltb (longest s) before.longest ≡ true) × (exceeds (shortest s) before.shortest ≡ true)
-    parts = both_true (ltb (longest s) before.longest) (exceeds (shortest s) before.shortest) inside
+    parts = and_parts (ltb (longest s) before.longest) (exceeds (shortest s) before.shortest) inside
 
     short : (o : Option ℕ) → ltb (least_with o (shortest s)) (shortest s) ≡ true
         → Some (least_with o (shortest s)) ≡ o

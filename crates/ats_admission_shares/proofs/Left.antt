@@ -1,6 +1,9 @@
 -- A stream that has left a network, at a hop of its path.
-use Rattle.std.proofs.Common.{◌≡◌, ℕ, ◌+◌, ◌*◌, ◌<◌, ◌≤◌, List, length, get_or, map, take, sym, ap, subst, ◌∙◌, arith}
+use Rattle.std.proofs.Common.{◌≡◌, ℕ, ◌<◌, ◌≤◌, List, length, get_or, map, take, Option, Some, sym, ap, subst, ◌∙◌}
+use Rattle.std.proofs.Common.{arith}
 use Rattle.std.specs.List.{All}
+use Rattle.std.proofs.lemmas.Option.{same_Some}
+use Rattle.ats_class_table.specs.Table.{Table, value_at}
 use Rattle.ats_topology.specs.Topology.{DeclaredTopology}
 use Rattle.ats_streams.specs.Stream.{DeclaredStream, IsStream}
 use Rattle.ats_network.specs.Class.{PortSender, seen_at}
@@ -12,14 +15,14 @@ use Rattle.ats_network.proofs.SenderLemmas.{each_is_sender}
 use Rattle.ats_certificate.specs.PortSums.{senders_at}
 use Rattle.ats_admission_law.proofs.Lists.{all_one}
 use Rattle.ats_admission_law.proofs.Networks.{Parts, behind, by_parts, more, parts_of, senders_more}
-use Rattle.ats_admission_shares.specs.Changes.{ChangesAlong}
+use Rattle.ats_tally.specs.Shares.{share_of, share_with}
+use Rattle.ats_tally.specs.declared.share.Share.{Share}
+use Rattle.ats_tally.proofs.Changed.{ChangesAlong}
+use Rattle.ats_tally.proofs.Entries.{IsEntry, entry_is, same_until}
 use Rattle.ats_admission_shares.specs.PortShares.{AreSharesBefore}
-use Rattle.ats_admission_shares.specs.Shares.{no_share, share_of, share_with}
-use Rattle.ats_admission_shares.specs.declared.share.Share.{Share}
 use Rattle.ats_admission_shares.proofs.Entered.{entry_used, share_left}
-use Rattle.ats_admission_shares.proofs.Entries.{IsEntry, entry_is, same_until}
 
-module _ (network : DeclaredNetwork) (x : DeclaredStream) (shares : List Share)
+module _ (network : DeclaredNetwork) (x : DeclaredStream) (shares : Table Share)
     (b : AreSharesBefore network x shares) where
   -- it keeps what a sender keeps
   pub left_keeps : IsSender b.old.topology (stream_sender x)
@@ -52,14 +55,14 @@ module _ (network : DeclaredNetwork) (x : DeclaredStream) (shares : List Share)
   )
 
   -- until its hop, its share is that without it and it
-  pub leaving_share : (Is : ℕ → ℕ → Share → Type 0) (now : List Share) (port hop place : ℕ) (seen : PortSender)
-      → IsEntry b.old (stream_sender x) port hop seen → place ≡ 8 * port + seen.class
-      → ChangesAlong Is (stream_sender x) (take hop x.path) shares now
-      → get_or now place no_share ≡ share_with seen (share_of seen.class (senders_at port (senders_of network)))
-  leaving_share Is now port hop place seen entry place_is before =
-      same_until b.old (stream_sender x) port hop place seen shares now Is entry place_is before
-      ∙ ap (λ (k : ℕ). get_or shares k no_share) place_is
-      ∙ share_left b.old network x b.is_less shares now b.counted port seen.class no_share entry.inside entry.most
+  pub leaving_share : (given : ℕ → ℕ → Option Share) (now : Table Share) (port hop : ℕ) (seen : PortSender)
+      (share : Share) → IsEntry b.old (stream_sender x) port hop seen
+      → ChangesAlong given (stream_sender x) (take hop x.path) shares now → value_at now port seen.class ≡ Some share
+      → share ≡ share_with seen (share_of seen.class (senders_at port (senders_of network)))
+  leaving_share given now port hop seen share entry before there =
+      same_Some share (share_with seen (share_of seen.class (senders_at port (senders_of network)))) (sym there
+      ∙ same_until b.old (stream_sender x) port hop seen shares now given entry before
+      ∙ share_left b.old network x b.is_less shares now b.counted port seen.class entry.inside entry.most
       (entry_used b.old (stream_sender x) port hop seen entry) (sym (ap (λ (t : PortSender). t.class) entry.is))
-      ∙ ap (λ (t : PortSender). share_with t (share_of seen.class (senders_at port (senders_of network))))
-      (sym entry.is)
+      ∙ ap (λ (t : PortSender). Some (share_with t (share_of seen.class (senders_at port (senders_of network)))))
+      (sym entry.is))

@@ -2,9 +2,9 @@ use Rattle.std.specs.Prelude.{ℕ, max, Bool, false, ◌&&◌, nat_lt, List, Opt
 use Rattle.ats_network.specs.Class.{PortSender}
 use Rattle.ats_certificate.specs.PortSums.{longest, shortest}
 use Rattle.ats_tally.specs.Tally.{least_with}
-use Rattle.ats_admission_shares.specs.Shares.{share_of}
+use Rattle.ats_tally.specs.Shares.{share_of}
 use Rattle.ats_admission_shares.specs.declared.frames.Frames.{Frames}
-use Rattle.ats_admission_shares.specs.declared.share.Share.{Share}
+use Rattle.ats_tally.specs.declared.share.Share.{Share}
 
 -- no sender is counted
 abbrev pub no_frames : Frames

@@ -10,11 +10,11 @@ ghost use Rattle.ats_tally.specs.SenderAtPort.{port_sender, KeepsLimits};
 ghost use Rattle.ats_admission_shares.specs.Frames.{frames_of, frames_with, is_inside, no_frames};
 ghost use Rattle.ats_admission_shares.specs.PortShares.{stream_paths};
 
-use crate::share::least_with;
 use ats_admission_users::PortUsers;
 use ats_network::Network;
 use ats_num::wire_bits;
 use ats_tally::SeenSender;
+use ats_tally::tally::least_with;
 
 /// The longest and the shortest frame of some senders.
 #[derive(Clone, Copy, PartialEq)]

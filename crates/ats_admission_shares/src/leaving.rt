@@ -7,20 +7,19 @@ ghost use Rattle.ats_network.specs.Sender.{stream_sender};
 ghost use Rattle.ats_certificate.specs.PortSums.{senders_at};
 ghost use Rattle.ats_admission_users.specs.Users.{ListsPaths};
 ghost use Rattle.ats_tally.specs.SenderAtPort.{port_sender, KeepsLimits};
-ghost use Rattle.ats_admission_shares.specs.PortShares.{AreSharesBefore, AreSharesOf, stream_paths};
-ghost use Rattle.ats_admission_shares.specs.Shares.{share_of, share_with};
+ghost use Rattle.ats_tally.specs.Shares.{AreSharesOf, share_of, share_with};
+ghost use Rattle.ats_admission_shares.specs.PortShares.{AreSharesBefore, stream_paths};
 
-use crate::entering::place;
 use crate::frames::{Frames, frames_left};
-use crate::share::Share;
 use ats_admission_users::PortUsers;
+use ats_class_table::PortClassTable;
 use ats_network::Network;
 use ats_streams::Stream;
-use ats_tally::SeenSender;
+use ats_tally::{SeenSender, Share};
 
 /// Takes a stream that has left a network out of the share of its class at each port of its path.
 pub(crate) fn leave_along(
-    shares: &mut [Share],
+    shares: &mut PortClassTable<Share>,
     network: &Network,
     stream: &Stream,
     streams: &PortUsers,
@@ -31,9 +30,9 @@ pub(crate) fn leave_along(
 {
     for (hop, port) in stream.path().iter().enumerate() {
         let seen = seen_stream(stream, hop);
-        let at = place(*port, seen.class);
-        let share = &mut shares[at];
-        *share = share_left(*share, network, streams, *port, &seen);
+        let share = shares.get(*port, seen.class);
+        let left = share_left(share, network, streams, *port, &seen);
+        shares.set(*port, seen.class, left);
     }
 }
 

@@ -2,12 +2,8 @@
 #![tactic(auto)]
 
 mod at_port;
-mod class_tallies;
-mod entering;
 mod frames;
 mod leaving;
 pub mod port_shares;
-pub mod share;
 
 pub use port_shares::PortShares;
-pub use share::Share;

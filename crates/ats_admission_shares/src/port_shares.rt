@@ -1,39 +1,37 @@
 //! The shares of all ports of a network.
 
-ghost use Rattle.std.specs.Prelude.{◌≡◌, ◌+◌, ◌*◌, ◌<◌, [], length, slice_index_or, IfOk};
+ghost use Rattle.std.specs.Prelude.{◌<◌, length, slice_index_or, IfOk};
 ghost use Rattle.ats_network.specs.Network.{senders_of};
 ghost use Rattle.ats_certificate.specs.PortSums.{senders_at};
-ghost use Rattle.ats_admission_shares.specs.ClassTallies.{AreClassTallies};
+ghost use Rattle.ats_tally.specs.Shares.{AreSharesOf};
+ghost use Rattle.ats_tally.specs.Tallies.{AreClassTallies};
 ghost use Rattle.ats_admission_users.specs.Users.{ListsPaths};
-ghost use Rattle.ats_admission_shares.specs.PortShares.{AreSharesAt, AreSharesBefore, AreSharesOf, stream_at};
-ghost use Rattle.ats_admission_shares.specs.PortShares.{stream_paths};
-ghost use Rattle.ats_admission_shares.specs.PortShares.{without_at};
+ghost use Rattle.ats_admission_shares.specs.PortShares.{AreSharesBefore, stream_at, stream_paths, without_at};
 
-use crate::at_port::{tallies_at, tallies_entered};
-use crate::entering::enter_along;
+use crate::at_port::tallies_entered;
 use crate::leaving::leave_along;
-use crate::share::Share;
 use ats_admission_users::PortUsers;
+use ats_class_table::{CLASSES, PortClassTable};
 use ats_network::Network;
 use ats_streams::Stream;
-use ats_tally::Tally;
+use ats_tally::{Share, Tally, enter_along, shares_of, tallies_at};
 use std::alloc::{AllocError, Global};
 use std::marker::Model;
 
-/// What the senders of each class from 0 to 7 make at each port of a network. Contracts see the shares, eight to a
-/// port, that of a class at `8 * port + class`, and say of which network they are (`AreSharesOf`).
+/// What the senders of each class from 0 to 7 make at each port of a network. Contracts see the shares by port and
+/// class, and say of which network they are (`AreSharesOf`).
 #[derive(Drop)]
 pub struct PortShares {
-    shares: Vec<Share>,
+    shares: PortClassTable<Share>,
 }
 
 impl Model for PortShares {
-    ghost use Rattle.std.specs.Prelude.{List};
-    ghost use Rattle.ats_admission_shares.specs.declared.share.Share.{Share};
+    ghost use Rattle.ats_class_table.specs.Table.{Table};
+    ghost use Rattle.ats_tally.specs.declared.share.Share.{Share};
 
-    ghost Value = { List Share };
+    ghost Value = { Table Share };
 
-    ghost view = { λ p. p.shares.items };
+    ghost view = { λ p. p.shares };
 }
 
 impl PortShares {
@@ -42,13 +40,12 @@ impl PortShares {
     pub fn new(alloc: Global, network: &Network) -> Result<Self, AllocError>
         ensures { IfOk result (AreSharesOf network.now) }
     {
-        let mut shares = vec![in alloc; Share::new(); 8 * network.topology().ports().len()]?;
-        enter_all(&mut shares, network);
+        let shares = shares_of(alloc, network)?;
         Ok(PortShares { shares })
     }
 
     /// What the senders at a port make of each class from 1 to 7, at the class.
-    pub fn tallies(&self, network: &Network, port: u32) -> [Tally; 8]
+    pub fn tallies(&self, network: &Network, port: u32) -> [Tally; CLASSES]
         requires port { port < length network.now.topology.ports }
         requires shares { AreSharesOf network.now self.now }
         ensures { AreClassTallies (senders_at port (senders_of network.now)) result }
@@ -58,7 +55,7 @@ impl PortShares {
 
     /// What the senders make of each class from 1 to 7 at the port at one hop of a stream's path, counted from 0, where
     /// the shares are those of the network without this stream.
-    pub fn tallies_with(&self, network: &Network, stream: u32, hop: u32) -> [Tally; 8]
+    pub fn tallies_with(&self, network: &Network, stream: u32, hop: u32) -> [Tally; CLASSES]
         requires stream { stream < length network.now.streams }
         requires hop { hop < length (stream_at network.now stream).path }
         requires shares { AreSharesOf (without_at network.now stream) self.now }
@@ -91,18 +88,8 @@ impl PortShares {
     }
 }
 
-// Counts all senders of a network, where none is counted.
-fn enter_all(shares: &mut [Share], network: &Network)
-    requires { AreSharesAt (length network.now.topology.ports) [] shares.old }
-    ensures { AreSharesOf network.now shares.new }
-{
-    for sender in 0..network.senders() {
-        enter_along(shares, network, sender);
-    }
-}
-
 // Counts the stream with this number, where it is not counted.
-fn enter_stream(shares: &mut [Share], network: &Network, stream: u32)
+fn enter_stream(shares: &mut PortClassTable<Share>, network: &Network, stream: u32)
     requires stream { stream < length network.now.streams }
     requires shares { AreSharesOf (without_at network.now stream) shares.old }
     ensures { AreSharesOf network.now shares.new }

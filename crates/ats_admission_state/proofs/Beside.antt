@@ -1,5 +1,5 @@
 -- Beside the path of a stream that comes or goes, the least bounds are the same.
-use Rattle.std.proofs.Common.{◌≡◌, ℕ, ◌*◌, Bool, false, cond, length, sym, ap, ◌∙◌, arith}
+use Rattle.std.proofs.Common.{◌≡◌, ℕ, Bool, false, cond, Some, length, sym, ap, ◌∙◌, arith}
 use Rattle.ats_topology.specs.Topology.{DeclaredTopology}
 use Rattle.ats_streams.specs.Stream.{DeclaredStream}
 use Rattle.ats_network.specs.Network.{DeclaredNetwork}
@@ -26,15 +26,15 @@ bounds_stay_beside old new x bounds is =
     ap (λ (t : DeclaredTopology). length t.ports) is.topology in
     record {
       left = λ before. record {
-        count = before.count ∙ ap (λ (n : ℕ). 8 * n) (sym same);
-        each = λ port class d within least most off.
-            before.each port class d (omega (arith, same, within)) least most off
-            ∙ sym (same_beside old new x port class is off);
+        count = before.count ∙ sym same;
+        each = λ port class within least most off.
+            before.each port class (omega (arith, same, within)) least most off
+            ∙ ap Some (sym (same_beside old new x port class is off));
       };
       entered = λ before. record {
-        count = before.count ∙ ap (λ (n : ℕ). 8 * n) same;
-        each = λ port class d within least most off.
-            before.each port class d (omega (arith, same, within)) least most off
-            ∙ same_beside old new x port class is off;
+        count = before.count ∙ same;
+        each = λ port class within least most off.
+            before.each port class (omega (arith, same, within)) least most off
+            ∙ ap Some (same_beside old new x port class is off);
       };
     }

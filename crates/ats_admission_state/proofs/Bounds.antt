@@ -1,6 +1,7 @@
 -- The least bounds as the bounds of the least certificate, and how great they are.
-use Rattle.std.proofs.Common.{◌≡◌, ◌≢◌, ℕ, zero, suc, ◌+◌, ◌-◌, ◌*◌, ◌/◌, ◌<◌, ◌≤◌, ◌^◌, Bool, cond, List, []}
-use Rattle.std.proofs.Common.{◌∷◌, length, map, filter, get_or, sum_by, refl, sym, ap, subst, ◌∙◌, inl, inr, arith}
+use Rattle.std.proofs.Common.{◌≡◌, ◌≢◌, ℕ, zero, suc, ◌+◌, ◌-◌, ◌*◌, ◌/◌, ◌%◌, ◌<◌, ◌≤◌, ◌^◌, Bool, cond, List, []}
+use Rattle.std.proofs.Common.{◌∷◌, length, map, filter, get_or, sum_by, Option, Some, refl, sym, ap, subst}
+use Rattle.std.proofs.Common.{◌∙◌, inl, inr, arith}
 use Rattle.std.specs.Prelude.{unwrap_or}
 use Rattle.std.specs.List.{All, AllPairs}
 use Rattle.std.proofs.lemmas.List.{get_or_default}
@@ -13,6 +14,7 @@ use Rattle.ats_num.specs.Division.{ceiling}
 use Rattle.ats_num.specs.declared.time.TheConstants.{PS_PER_SECOND}
 use Rattle.ats_num.specs.declared.wire.TheConstants.{MAX_WIRE_BITS}
 use Rattle.ats_num.proofs.Ceiling.{ceiling-is}
+use Rattle.ats_class_table.specs.Table.{Table, value_at}
 use Rattle.ats_streams.specs.Stream.{DeclaredStream, IsClass, IsStream}
 use Rattle.ats_topology.specs.Port.{port_at}
 use Rattle.ats_topology.specs.declared.port.Port.{Port}
@@ -32,8 +34,8 @@ use Rattle.ats_tally.proofs.Places.{IsPlace, is_place}
 use Rattle.ats_bound.specs.Least.{least_certificate, least_row}
 use Rattle.ats_admission_law.proofs.LeastRows.{bound_used, bound_unused}
 use Rattle.ats_admission_state.specs.Kept.{AreLeast, least_bound}
-use Rattle.ats_admission_state.specs.Routes.{AreBounded, IsBounded, places_along, ports_along, route_of, route_paths}
-use Rattle.ats_admission_state.specs.Routes.{sum_along}
+use Rattle.ats_admission_state.specs.Routes.{AreBounded, IsBounded, bound_of, places_along, ports_along, route_of}
+use Rattle.ats_admission_state.specs.Routes.{route_paths, sum_along}
 use Rattle.ats_admission_state.proofs.Places.{places-length, places_at}
 
 -- a least bound is that of the least certificate
@@ -50,16 +52,16 @@ least_is network port class is =
     ]
 
 -- at a hop of a stream's path, whose port and class stand at the same place of the path and of the classes
-pub hop_is : (network : DeclaredNetwork) (stream : DeclaredStream) (bounds : List ℕ) (hop port class : ℕ)
+pub hop_is : (network : DeclaredNetwork) (stream : DeclaredStream) (bounds : Table ℕ) (hop port class : ℕ)
     → IsNetwork network → IsStream stream → All (λ p. p < length network.topology.ports) stream.path
     → AreLeast network bounds → hop < length stream.path → port ≡ get_or stream.path hop 0
     → class ≡ get_or stream.classes hop 0
-    → get_or bounds (8 * port + class) 0 ≡ bound_at (least_certificate network) port class
+    → value_at bounds port class ≡ Some (bound_at (least_certificate network) port class)
 hop_is network stream bounds hop port class rules is inside least within port_is class_is =
     let at : IsClass (get_or stream.classes hop 0) = is.classes hop 0 (omega (arith, is.each_port, within)) in
-    least.each port class 0 (omega (arith, port_is, inside hop 0 within)) (omega (arith, class_is, at.least))
+    least.each port class (omega (arith, port_is, inside hop 0 within)) (omega (arith, class_is, at.least))
     (omega (arith, class_is, at.most))
-    ∙ least_is network port class rules
+    ∙ ap Some (least_is network port class rules)
 
 -- a quotient that is rounded up is at most the divided number
 ceiling-le : (n d : ℕ) → ceiling n d ≤ n
@@ -136,22 +138,34 @@ sum_same f g (x ∷ xs) (y ∷ ys) same each =
     (sum_same f g xs ys (omega arith) (λ k h. each (suc k) (omega arith)))
     ∙ sym (sum_by-cons g y ys)
 
-module _ (network : DeclaredNetwork) (stream : DeclaredStream) (bounds : List ℕ) (rules : IsNetwork network)
+-- the bound at the place of a port and a class
+bound_at_place : (bounds : Table ℕ) (port class : ℕ) → class ≤ 7
+    → bound_of bounds (8 * port + class) ≡ unwrap_or (value_at bounds port class) 0
+bound_at_place bounds port class most =
+    let port_is : (8 * port + class) / 8 ≡ port = omega (arith, most) in
+    let class_is : (8 * port + class) % 8 ≡ class = omega (arith, most) in
+    ap (λ (p : ℕ). unwrap_or (value_at bounds p ((8 * port + class) % 8)) 0) port_is
+    ∙ ap (λ (c : ℕ). unwrap_or (value_at bounds port c) 0) class_is
+
+module _ (network : DeclaredNetwork) (stream : DeclaredStream) (bounds : Table ℕ) (rules : IsNetwork network)
     (is : IsStream stream) (inside : All (λ p. p < length network.topology.ports) stream.path)
     (least : AreLeast network bounds) where
   place_is : (hop : ℕ) → hop < length stream.path
-      → get_or bounds (get_or (places_along stream.path stream.classes) hop 0) 0
+      → bound_of bounds (get_or (places_along stream.path stream.classes) hop 0)
       ≡ bound_at (least_certificate network) (get_or stream.path hop 0) (get_or stream.classes hop 0)
   place_is hop within =
-      ap (λ (place : ℕ). get_or bounds place 0) (places_at stream.path stream.classes hop 0 is.each_port within)
-      ∙ hop_is network stream bounds hop (get_or stream.path hop 0) (get_or stream.classes hop 0) rules is inside
-      least within refl refl
+      let class : IsClass (get_or stream.classes hop 0) = is.classes hop 0 (omega (arith, is.each_port, within)) in
+      ap (bound_of bounds) (places_at stream.path stream.classes hop 0 is.each_port within)
+      ∙ bound_at_place bounds (get_or stream.path hop 0) (get_or stream.classes hop 0) class.most
+      ∙ ap (λ (o : Option ℕ). unwrap_or o 0)
+      (hop_is network stream bounds hop (get_or stream.path hop 0) (get_or stream.classes hop 0) rules is inside
+      least within refl refl)
 
   -- the sum along a stream's route is the sum of its bounds
   pub route_sum : AllPairs (λ p q. p ≢ q) stream.path
       → sum_along bounds (route_of stream) ≡ bound_along (least_certificate network) stream
   route_sum apart =
-      sum_same (λ place. get_or bounds place 0) (bound_of_hop (least_certificate network) (stream_sender stream))
+      sum_same (bound_of bounds) (bound_of_hop (least_certificate network) (stream_sender stream))
       (places_along stream.path stream.classes) stream.path (places-length stream.path stream.classes is.each_port)
       (λ hop within. place_is hop within
       ∙ hop_bound (least_certificate network) stream hop (get_or stream.path hop 0) (get_or stream.classes hop 0) is

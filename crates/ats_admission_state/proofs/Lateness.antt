@@ -10,6 +10,7 @@ use Rattle.std.proofs.lemmas.List.{get_or_default}
 use Rattle.std.proofs.lemmas.List.Elements.{All-nil}
 use Rattle.std.proofs.lemmas.List.Sums.{fold-append}
 use Rattle.std.proofs.lemmas.Option.{none-some, same_Some}
+use Rattle.ats_class_table.specs.Table.{Table}
 use Rattle.ats_num.specs.Failure.{unless}
 use Rattle.ats_num.specs.declared.time.TheConstants.{PS_PER_NS}
 use Rattle.ats_streams.specs.Stream.{DeclaredStream}
@@ -61,7 +62,7 @@ lower_stays best n (Some reason) less = by (nat_lt n best.0) refl
     by false not_lower = refl
 
 module _ (network : DeclaredNetwork) (n : ℕ) (last : n + 1 ≡ length network.streams) (rules : IsNetwork network)
-    (bounds : List ℕ) (least : AreLeast network bounds) where
+    (bounds : Table ℕ) (least : AreLeast network bounds) where
   abbrev x : DeclaredStream
   x = stream_at network n
 

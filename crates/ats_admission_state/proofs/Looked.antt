@@ -8,6 +8,7 @@ use Rattle.std.proofs.lemmas.Bool.{eq-eqb, eqb-true, or_cases, true≢false}
 use Rattle.std.proofs.lemmas.List.{get_or-map, length-map, take_all}
 use Rattle.std.proofs.lemmas.List.Folds.{list_any_at, list_any_more, list_any_none}
 use Rattle.std.proofs.lemmas.Option.{none-some}
+use Rattle.ats_class_table.specs.Table.{Table}
 use Rattle.ats_tally.proofs.Lists.{any_gives}
 use Rattle.ats_admission_users.specs.Users.{has_port, users_of}
 use Rattle.ats_admission_state.specs.Judging.{IsFirstLate, IsLateRoute, LooksAt, is_below, meets}
@@ -61,7 +62,7 @@ comes_met path hop own route within some from inside same =
     or_true true b e = refl
     or_true false b e = e
 
-module _ (bounds : List ℕ) (routes : List RouteState) where
+module _ (bounds : Table ℕ) (routes : List RouteState) where
   abbrev route : ℕ → RouteState
   route n = get_or routes n no_route
 

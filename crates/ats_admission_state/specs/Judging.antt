@@ -1,7 +1,8 @@
-use Rattle.std.specs.Prelude.{◌≡◌, ◌≢◌, ℕ, ◌+◌, ◌*◌, ◌<◌, ◌≤◌, Bool, true, false, nat_lt, if◌then◌else◌}
+use Rattle.std.specs.Prelude.{◌≡◌, ◌≢◌, ℕ, ◌<◌, ◌≤◌, Bool, true, false, nat_lt, if◌then◌else◌}
 use Rattle.std.specs.Prelude.{List, length, map, filter, Option, Some, None, slice_index_or}
 use Rattle.std.specs.List.{list_any}
 use Rattle.std.specs.Option.{ForSome, option_or}
+use Rattle.ats_class_table.specs.Table.{Table, value_at}
 use Rattle.ats_network.specs.Network.{DeclaredNetwork}
 use Rattle.ats_certificate.specs.PortSums.{is_used}
 use Rattle.ats_certificate.specs.Used.{place}
@@ -24,16 +25,15 @@ found_among given network port classes =
     first_some given (map (place port) (filter (λ class. is_used network port class) classes))
 
 -- the bounds of all ports but this one stay
-pub record KeepsOthers (port : ℕ) (old new : List ℕ) : Type 0 where
-  pub count : length new ≡ length old
-  pub others : (p class : ℕ) (d : ℕ) → p ≢ port → class ≤ 7
-      → slice_index_or new (8 * p + class) d ≡ slice_index_or old (8 * p + class) d
+pub record KeepsOthers (port : ℕ) (old new : Table ℕ) : Type 0 where
+  pub count : new.ports ≡ old.ports
+  pub others : (p class : ℕ) → p ≢ port → value_at new p class ≡ value_at old p class
 
 -- so they do, and the bounds of those classes of the port from 1 on that are below this one become the least
-pub record SetsBelow (network : DeclaredNetwork) (port below : ℕ) (old new : List ℕ) : Type 0 where
+pub record SetsBelow (network : DeclaredNetwork) (port below : ℕ) (old new : Table ℕ) : Type 0 where
   pub kept : KeepsOthers port old new
-  pub least : (class : ℕ) (d : ℕ) → 1 ≤ class → class < below
-      → slice_index_or new (8 * port + class) d ≡ least_bound network port class
+  pub least : (class : ℕ) → 1 ≤ class → class < below
+      → value_at new port class ≡ Some (least_bound network port class)
 
 -- what is found against a network at the ports of a path: an overload, or else a need of residence
 abbrev pub found_on : DeclaredNetwork → List ℕ → Option Reason
@@ -51,19 +51,19 @@ is_below n None = true
 is_below n (Some found) = nat_lt n found
 
 -- the route with this number is late by these bounds
-pub record IsLateRoute (bounds : List ℕ) (routes : List RouteState) (n : ℕ) : Type 0 where
+pub record IsLateRoute (bounds : Table ℕ) (routes : List RouteState) (n : ℕ) : Type 0 where
   pub within : n < length routes
   pub late : is_late bounds (slice_index_or routes n no_route) ≡ true
 
 -- the route that was found, if one was, is late, and of those whose paths have a port of this path none before it is
-pub record IsFirstLate (bounds : List ℕ) (routes : List RouteState) (path : List ℕ) (found : Option ℕ) : Type 0 where
+pub record IsFirstLate (bounds : Table ℕ) (routes : List RouteState) (path : List ℕ) (found : Option ℕ) : Type 0 where
   pub late : ForSome found (IsLateRoute bounds routes)
   pub none_before : (n : ℕ) → n < length routes → is_below n found ≡ true
       → meets path (slice_index_or routes n no_route) ≡ true
       → is_late bounds (slice_index_or routes n no_route) ≡ false
 
 -- a route was found before, and one is found with the route with this number: where that is late, none behind it
-pub record LooksAt (bounds : List ℕ) (routes : List RouteState) (n : ℕ) (before found : Option ℕ) : Type 0 where
+pub record LooksAt (bounds : Table ℕ) (routes : List RouteState) (n : ℕ) (before found : Option ℕ) : Type 0 where
   pub late : ForSome before (IsLateRoute bounds routes) → ForSome found (IsLateRoute bounds routes)
   pub below : (m : ℕ) → is_below m found ≡ true → is_below m before ≡ true
   pub own : is_below n found ≡ true → is_late bounds (slice_index_or routes n no_route) ≡ false

@@ -1,28 +1,30 @@
-use Rattle.std.specs.Prelude.{◌≡◌, ℕ, ◌+◌, ◌*◌, ◌<◌, ◌≤◌, false, if◌then◌else◌, List, length, slice_index_or}
+use Rattle.std.specs.Prelude.{◌≡◌, ℕ, ◌<◌, ◌≤◌, false, if◌then◌else◌, List, length, Some}
+use Rattle.ats_class_table.specs.Table.{Table, value_at}
 use Rattle.ats_streams.specs.Stream.{DeclaredStream}
 use Rattle.ats_network.specs.Network.{DeclaredNetwork, IsNetwork}
 use Rattle.ats_certificate.specs.PortSums.{is_used}
 use Rattle.ats_bound.specs.Least.{least_row}
 use Rattle.ats_admission_users.specs.Users.{UsersState, ListsPaths, has_port}
-use Rattle.ats_admission_shares.specs.PortShares.{AreSharesOf, stream_at, stream_paths, without_at}
-use Rattle.ats_admission_shares.specs.declared.share.Share.{Share}
+use Rattle.ats_tally.specs.Shares.{AreSharesOf}
+use Rattle.ats_tally.specs.declared.share.Share.{Share}
+use Rattle.ats_admission_shares.specs.PortShares.{stream_at, stream_paths, without_at}
 use Rattle.ats_admission_state.specs.Routes.{RouteState, routes_of}
 
--- which streams use each port, what the senders of each class make there, a bound for each port and class, at
--- 8 * port + class, and the routes of the streams
+-- which streams use each port, what the senders of each class make there, a bound for each port and class, and the
+-- routes of the streams
 pub record KeptState : Type 0 where
   pub streams : UsersState
-  pub shares : List Share
-  pub bounds : List ℕ
+  pub shares : Table Share
+  pub bounds : Table ℕ
   pub routes : List RouteState
 
 -- these as one state
-abbrev pub kept_state : UsersState → List Share → List ℕ → List RouteState → KeptState
+abbrev pub kept_state : UsersState → Table Share → Table ℕ → List RouteState → KeptState
 kept_state streams shares bounds routes =
     record { streams = streams; shares = shares; bounds = bounds; routes = routes }
 
 -- the users of a network's ports, by the paths of its streams, the shares of its senders, and its streams' routes
-pub record KeepsStreams (network : DeclaredNetwork) (streams : UsersState) (shares : List Share)
+pub record KeepsStreams (network : DeclaredNetwork) (streams : UsersState) (shares : Table Share)
     (routes : List RouteState) : Type 0 where
   pub users : ListsPaths (length network.topology.ports) (stream_paths network) streams
   pub shares_are : AreSharesOf network shares
@@ -30,7 +32,7 @@ pub record KeepsStreams (network : DeclaredNetwork) (streams : UsersState) (shar
 
 -- so they are those of the network that was this one with this stream more, at this number
 pub record KeepsBefore (network : DeclaredNetwork) (number : ℕ) (x : DeclaredStream) (streams : UsersState)
-    (shares : List Share) (routes : List RouteState) : Type 0 where
+    (shares : Table Share) (routes : List RouteState) : Type 0 where
   pub old : DeclaredNetwork
   pub rules : IsNetwork old
   pub within : number < length old.streams
@@ -43,16 +45,16 @@ abbrev pub least_bound : DeclaredNetwork → ℕ → ℕ → ℕ
 least_bound network port class = if is_used network port class then (least_row network (port, class)).bound else 0
 
 -- bounds are the least ones at each port and class
-pub record AreLeast (network : DeclaredNetwork) (bounds : List ℕ) : Type 0 where
-  pub count : length bounds ≡ 8 * length network.topology.ports
-  pub each : (port class : ℕ) (d : ℕ) → port < length network.topology.ports → 1 ≤ class → class ≤ 7
-      → slice_index_or bounds (8 * port + class) d ≡ least_bound network port class
+pub record AreLeast (network : DeclaredNetwork) (bounds : Table ℕ) : Type 0 where
+  pub count : bounds.ports ≡ length network.topology.ports
+  pub each : (port class : ℕ) → port < length network.topology.ports → 1 ≤ class → class ≤ 7
+      → value_at bounds port class ≡ Some (least_bound network port class)
 
 -- so they are at each port that is not on this path
-pub record AreLeastBeside (network : DeclaredNetwork) (path : List ℕ) (bounds : List ℕ) : Type 0 where
-  pub count : length bounds ≡ 8 * length network.topology.ports
-  pub each : (port class : ℕ) (d : ℕ) → port < length network.topology.ports → 1 ≤ class → class ≤ 7
-      → has_port port path ≡ false → slice_index_or bounds (8 * port + class) d ≡ least_bound network port class
+pub record AreLeastBeside (network : DeclaredNetwork) (path : List ℕ) (bounds : Table ℕ) : Type 0 where
+  pub count : bounds.ports ≡ length network.topology.ports
+  pub each : (port class : ℕ) → port < length network.topology.ports → 1 ≤ class → class ≤ 7
+      → has_port port path ≡ false → value_at bounds port class ≡ Some (least_bound network port class)
 
 -- what is kept is that of the network
 pub record IsKept (network : DeclaredNetwork) (kept : KeptState) : Type 0 where

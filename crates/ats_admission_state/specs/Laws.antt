@@ -1,15 +1,16 @@
-use Rattle.std.specs.Prelude.{ℕ, List}
+use Rattle.std.specs.Prelude.{ℕ}
+use Rattle.ats_class_table.specs.Table.{Table}
 use Rattle.ats_streams.specs.Stream.{DeclaredStream}
 use Rattle.ats_network.specs.Network.{DeclaredNetwork}
 use Rattle.ats_admission_law.specs.Less.{IsLessBy}
 use Rattle.ats_admission_state.specs.Kept.{AreLeastBeside}
 
 -- beside the path of a stream, the least bounds are the same with it and without it
-pub record StayBeside (old new : DeclaredNetwork) (x : DeclaredStream) (bounds : List ℕ) : Type 0 where
+pub record StayBeside (old new : DeclaredNetwork) (x : DeclaredStream) (bounds : Table ℕ) : Type 0 where
   pub left : AreLeastBeside old x.path bounds → AreLeastBeside new x.path bounds
   pub entered : AreLeastBeside new x.path bounds → AreLeastBeside old x.path bounds
 
 abbrev pub BoundsStayBeside : Type 0
 BoundsStayBeside =
-    (old new : DeclaredNetwork) (x : DeclaredStream) (bounds : List ℕ) → IsLessBy old new x
+    (old new : DeclaredNetwork) (x : DeclaredStream) (bounds : Table ℕ) → IsLessBy old new x
     → StayBeside old new x bounds

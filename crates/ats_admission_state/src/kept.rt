@@ -15,6 +15,7 @@ use crate::walks::{judge_stream, renew_path};
 use ats_admission_shares::PortShares;
 use ats_admission_users::PortUsers;
 use ats_certificate::Certificate;
+use ats_class_table::PortClassTable;
 use ats_network::Network;
 use ats_num::Failure;
 use ats_streams::Stream;
@@ -29,7 +30,7 @@ use std::marker::Model;
 pub struct Kept {
     streams: PortUsers,
     shares: PortShares,
-    bounds: Vec<u128>,
+    bounds: PortClassTable<u128>,
     routes: Vec<Route>,
 }
 
@@ -38,7 +39,7 @@ impl Model for Kept {
 
     ghost Value = { KeptState };
 
-    ghost view = { λ k. kept_state k.streams k.shares k.bounds.items k.routes.items };
+    ghost view = { λ k. kept_state k.streams k.shares k.bounds k.routes.items };
 }
 
 impl Kept {

@@ -8,11 +8,12 @@ ghost use Rattle.ats_admission_state.specs.Routes.{AreBounded, route_paths};
 
 use crate::routes::Route;
 use ats_admission_users::PortUsers;
+use ats_class_table::PortClassTable;
 
 /// The late route with the lowest number, looked for among those that have a port of a path, or among all, where a port
 /// of the path is had by a quarter of them.
 pub(crate) fn find_late(
-    bounds: &[u128],
+    bounds: &PortClassTable<u128>,
     routes: &[Route],
     users: &PortUsers,
     path: &[u32],
@@ -44,7 +45,7 @@ fn is_busy(users: &PortUsers, path: &[u32], many: usize) -> bool
 }
 
 // The late route with the lowest number.
-fn first_of_all(bounds: &[u128], routes: &[Route]) -> Option<u32>
+fn first_of_all(bounds: &PortClassTable<u128>, routes: &[Route]) -> Option<u32>
     requires few { length routes.now ≤ 4096 }
     requires bounded { All (AreBounded bounds.now) routes.now }
     ensures { (path : List ℕ) → IsFirstLate bounds.now routes.now path result }
@@ -58,7 +59,12 @@ fn first_of_all(bounds: &[u128], routes: &[Route]) -> Option<u32>
 }
 
 // Of the routes that have a port of a path, the late one with the lowest number.
-fn first_near(bounds: &[u128], routes: &[Route], users: &PortUsers, path: &[u32]) -> Option<u32>
+fn first_near(
+    bounds: &PortClassTable<u128>,
+    routes: &[Route],
+    users: &PortUsers,
+    path: &[u32],
+) -> Option<u32>
     requires ports { All (λ p. p < length users.now.lists) path.now }
     requires bounded { All (AreBounded bounds.now) routes.now }
     requires users { ListsPaths (length users.now.lists) (route_paths routes.now) users.now }
@@ -74,7 +80,7 @@ fn first_near(bounds: &[u128], routes: &[Route], users: &PortUsers, path: &[u32]
 // The late route with the lowest number of those that have one of the ports up to this hop, from the one that has a
 // port before it. A route that comes from the port before was looked at there.
 fn first_to(
-    bounds: &[u128],
+    bounds: &PortClassTable<u128>,
     routes: &[Route],
     users: &PortUsers,
     path: &[u32],
@@ -109,7 +115,12 @@ fn comes_along(route: &Route, own: usize, path: &[u32], hop: usize) -> bool
 }
 
 // The lower one of the late route that was found so far, and the route with this number, where that is late.
-fn look_at(bounds: &[u128], routes: &[Route], number: u32, before: Option<u32>) -> Option<u32>
+fn look_at(
+    bounds: &PortClassTable<u128>,
+    routes: &[Route],
+    number: u32,
+    before: Option<u32>,
+) -> Option<u32>
     requires number { number < length routes.now }
     requires bounded { All (AreBounded bounds.now) routes.now }
     ensures { LooksAt bounds.now routes.now number before result }

@@ -7,10 +7,10 @@ ghost use Rattle.ats_admission_shares.specs.PortShares.{stream_paths};
 ghost use Rattle.ats_admission_state.specs.Kept.{AreLeast};
 ghost use Rattle.ats_admission_state.specs.Routes.{routes_of};
 
-use crate::ports::place;
 use crate::routes::Route;
 use ats_admission_users::PortUsers;
 use ats_certificate::Certificate;
+use ats_class_table::PortClassTable;
 use ats_network::Network;
 use std::alloc::{AllocError, Global};
 
@@ -42,14 +42,14 @@ pub(crate) fn certified_bounds(
     alloc: Global,
     network: &Network,
     certificate: &Certificate,
-) -> Result<Vec<u128>, AllocError>
+) -> Result<PortClassTable<u128>, AllocError>
     requires { certificate.now ≡ least_certificate network.now }
-    ensures { IfOk result (λ bounds. AreLeast network.now bounds.items) }
+    ensures { IfOk result (λ bounds. AreLeast network.now bounds) }
 {
     let rows = certificate.rows();
-    let mut bounds = vec![in alloc; 0; 8 * network.topology().ports().len()]?;
+    let mut bounds = PortClassTable::new(alloc, network.topology().ports().len(), 0)?;
     for i in (0..rows.len()).rev() {
-        bounds[place(rows[i].port, rows[i].class)] = rows[i].bound;
+        bounds.set(rows[i].port, rows[i].class, rows[i].bound);
     }
     Ok(bounds)
 }

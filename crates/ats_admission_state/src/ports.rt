@@ -1,28 +1,35 @@
 //! The least bounds at a port, and what is found there against a network.
 
-ghost use Rattle.std.specs.Prelude.{◌≡◌, ◌+◌, ◌*◌, ◌<◌, ◌≤◌, length, slice_set, None, Some, IfOk, IfErr, OnOk, OnErr};
+ghost use Rattle.std.specs.Prelude.{◌≡◌, ◌<◌, ◌≤◌, length, None, Some, IfOk, IfErr, OnOk, OnErr};
+ghost use Rattle.ats_class_table.specs.Table.{Sets};
 ghost use Rattle.ats_network.specs.Network.{senders_of};
 ghost use Rattle.ats_certificate.specs.PortSums.{senders_at};
+ghost use Rattle.ats_tally.specs.Tallies.{AreClassTallies};
 ghost use Rattle.ats_tally.specs.Tally.{IsTally};
 ghost use Rattle.ats_bound.specs.Reason.{overload, reason_of};
 ghost use Rattle.ats_admission_law.specs.Lowest.{found_at};
 ghost use Rattle.ats_admission_law.specs.Near.{overstay_at};
-ghost use Rattle.ats_admission_shares.specs.ClassTallies.{AreClassTallies};
 ghost use Rattle.ats_admission_state.specs.Judging.{KeepsOthers, SetsBelow, given_at};
 ghost use Rattle.ats_admission_state.specs.Kept.{least_bound};
 
 use ats_bound::row_of;
+use ats_class_table::{CLASSES, PortClassTable};
 use ats_network::Network;
 use ats_tally::{Reason, Tally, first_overstay};
 
 /// Makes the bounds of a port anew, where the senders make so much of each class and no certificate is refused for the
 /// network. Those of all other ports stay.
-pub(crate) fn renew_port(bounds: &mut Vec<u128>, network: &Network, port: u32, tallies: &[Tally; 8])
+pub(crate) fn renew_port(
+    bounds: &mut PortClassTable<u128>,
+    network: &Network,
+    port: u32,
+    tallies: &[Tally; CLASSES],
+)
     requires free { reason_of network.now ≡ None }
     requires port { port < length network.now.topology.ports }
-    requires count { length bounds.old.items ≡ 8 * length network.now.topology.ports }
+    requires count { bounds.old.ports ≡ length network.now.topology.ports }
     requires tallies { AreClassTallies (senders_at port (senders_of network.now)) tallies.now }
-    ensures { SetsBelow network.now port 8 bounds.old.items bounds.new.items }
+    ensures { SetsBelow network.now port 8 bounds.old bounds.new }
 {
     let _ = judge_port(bounds, network, port, tallies);
 }
@@ -34,19 +41,19 @@ pub(crate) fn renew_port(bounds: &mut Vec<u128>, network: &Network, port: u32, t
 ///
 /// The overload of the lowest class that has one. Some bounds of the port then stay.
 pub(crate) fn judge_port(
-    bounds: &mut Vec<u128>,
+    bounds: &mut PortClassTable<u128>,
     network: &Network,
     port: u32,
-    tallies: &[Tally; 8],
+    tallies: &[Tally; CLASSES],
 ) -> Result<Option<Reason>, Reason>
     requires port { port < length network.now.topology.ports }
-    requires count { length bounds.old.items ≡ 8 * length network.now.topology.ports }
+    requires count { bounds.old.ports ≡ length network.now.topology.ports }
     requires tallies { AreClassTallies (senders_at port (senders_of network.now)) tallies.now }
     ensures stay { IfOk result (λ stay. stay ≡ found_at (overstay_at network.now) network.now port) }
     ensures fits { OnOk result (found_at (overload network.now) network.now port ≡ None) }
-    ensures set { OnOk result (SetsBelow network.now port 8 bounds.old.items bounds.new.items) }
+    ensures set { OnOk result (SetsBelow network.now port 8 bounds.old bounds.new) }
     ensures load { IfErr result (λ load. found_at (overload network.now) network.now port ≡ Some load) }
-    ensures kept { KeepsOthers port bounds.old.items bounds.new.items }
+    ensures kept { KeepsOthers port bounds.old bounds.new }
 {
     let mut stay = None;
     for class in 1..8 {
@@ -61,7 +68,7 @@ pub(crate) fn judge_port(
 // Makes the bound of a port and a class anew, of which the senders at the port make so much. The need of residence
 // there, where it is over the residence time behind the port, or the overload as the error.
 fn judge_class(
-    bounds: &mut Vec<u128>,
+    bounds: &mut PortClassTable<u128>,
     network: &Network,
     port: u32,
     class: u8,
@@ -71,30 +78,22 @@ fn judge_class(
     requires class_least { 1 ≤ class }
     requires class_most { class ≤ 7 }
     requires tally { IsTally class (senders_at port (senders_of network.now)) tally }
-    requires count { length bounds.old.items ≡ 8 * length network.now.topology.ports }
+    requires count { bounds.old.ports ≡ length network.now.topology.ports }
     ensures stay { IfOk result (λ stay. stay ≡ given_at (overstay_at network.now) network.now port class) }
     ensures fits { OnOk result (given_at (overload network.now) network.now port class ≡ None) }
-    ensures set { OnOk result (bounds.new.items
-        ≡ slice_set bounds.old.items (8 * port + class) (least_bound network.now port class)) }
+    ensures set { OnOk result (Sets port class (least_bound network.now port class) bounds.old bounds.new) }
     ensures load { IfErr result (λ load. given_at (overload network.now) network.now port class ≡ Some load) }
-    ensures same { OnErr result (bounds.new.items ≡ bounds.old.items) }
+    ensures same { OnErr result (bounds.new ≡ bounds.old) }
 {
     if tally.least.is_none() {
-        bounds[place(port, class)] = 0;
+        bounds.set(port, class, 0);
         return Ok(None);
     }
     match row_of(network, port, class, tally) {
         Ok(row) => {
-            bounds[place(port, class)] = row.bound;
+            bounds.set(port, class, row.bound);
             Ok(first_overstay(network, &[row]))
         }
         Err(load) => Err(Reason::Overloaded { port, class, load }),
     }
-}
-
-/// The place of a port and a class, from 0 to 7, in a list with eight places to a port.
-pub(crate) fn place(port: u32, class: u8) -> usize
-    ensures { result ≡ 8 * port + class }
-{
-    8 * port as usize + class as usize
 }

@@ -3,8 +3,10 @@
 ghost use Rattle.std.specs.Prelude.{◌≡◌, ◌-◌, ◌/◌, ◌<◌, ◌≤◌, ◌==◌, ◌&&◌, not, length, take, sum_by, All};
 ghost use Rattle.std.specs.Prelude.{slice_index_or};
 ghost use Rattle.ats_streams.specs.Stream.{IsClass};
-ghost use Rattle.ats_admission_state.specs.Routes.{AreBounded, IsBounded, is_late, places_along, route_of, sum_along};
+ghost use Rattle.ats_admission_state.specs.Routes.{AreBounded, IsBounded, bound_of, is_late, places_along, route_of};
+ghost use Rattle.ats_admission_state.specs.Routes.{sum_along};
 
+use ats_class_table::PortClassTable;
 use ats_num::Ps;
 use ats_streams::Stream;
 use std::marker::Model;
@@ -43,7 +45,7 @@ impl Route {
     }
 
     /// The sum of the bounds along the route.
-    pub(crate) fn sum(&self, bounds: &[u128]) -> u128
+    pub(crate) fn sum(&self, bounds: &PortClassTable<u128>) -> u128
         requires { AreBounded bounds.now self.now }
         ensures { result ≡ sum_along bounds.now self.now }
     {
@@ -51,7 +53,7 @@ impl Route {
     }
 
     /// Whether it is over the deadline.
-    pub(crate) fn is_late(&self, bounds: &[u128]) -> bool
+    pub(crate) fn is_late(&self, bounds: &PortClassTable<u128>) -> bool
         requires { AreBounded bounds.now self.now }
         ensures { result ≡ is_late bounds.now self.now }
     {
@@ -87,14 +89,14 @@ fn places_along(path: &[u32], classes: &[u8]) -> [u16; 16]
 }
 
 // The sum of the bounds at these places, of which there are at most 16.
-fn sum_at(bounds: &[u128], places: &[u16]) -> u128
+fn sum_at(bounds: &PortClassTable<u128>, places: &[u16]) -> u128
     requires few { length places.now ≤ 16 }
     requires bounded { All (IsBounded bounds.now) places.now }
-    ensures { result ≡ sum_by (λ place. slice_index_or bounds.now place 0) places.now }
+    ensures { result ≡ sum_by (bound_of bounds.now) places.now }
 {
     let mut sum = 0;
     for place in places {
-        sum += bounds[*place as usize];
+        sum += bounds.get(u32::from(*place) / 8, (*place % 8) as u8);
     }
     sum
 }

@@ -14,6 +14,7 @@ ghost use Rattle.ats_admission_state.specs.Routes.{routes_of};
 use crate::late::find_late;
 use crate::routes::Route;
 use ats_admission_users::PortUsers;
+use ats_class_table::PortClassTable;
 use ats_network::Network;
 use ats_streams::Stream;
 use ats_tally::Reason;
@@ -22,7 +23,7 @@ use ats_tally::Reason;
 /// the lowest number that uses a port of its path and whose sum is over its deadline. The users and the routes are
 /// those of the other streams.
 pub(crate) fn judge_sums(
-    bounds: &[u128],
+    bounds: &PortClassTable<u128>,
     network: &Network,
     users: &PortUsers,
     routes: &[Route],

@@ -1,13 +1,14 @@
 //! Walks along a path from port to port.
 
-ghost use Rattle.std.specs.Prelude.{◌≡◌, ◌+◌, ◌*◌, ◌<◌, ◌≤◌, length, All, None, IfNone, OnOk};
+ghost use Rattle.std.specs.Prelude.{◌≡◌, ◌+◌, ◌<◌, ◌≤◌, length, All, None, IfNone, OnOk};
 ghost use Rattle.ats_network.specs.Network.{senders_of};
 ghost use Rattle.ats_certificate.specs.PortSums.{senders_at};
 ghost use Rattle.ats_bound.specs.Reason.{overload, reason_of};
 ghost use Rattle.ats_admission_law.specs.Lowest.{found_at, lower_of};
 ghost use Rattle.ats_admission_law.specs.Near.{overstay_at};
-ghost use Rattle.ats_admission_shares.specs.ClassTallies.{AreClassTallies};
-ghost use Rattle.ats_admission_shares.specs.PortShares.{AreSharesOf, stream_at, without_at};
+ghost use Rattle.ats_tally.specs.Shares.{AreSharesOf};
+ghost use Rattle.ats_tally.specs.Tallies.{AreClassTallies};
+ghost use Rattle.ats_admission_shares.specs.PortShares.{stream_at, without_at};
 ghost use Rattle.ats_admission_state.specs.Judged.{judged};
 ghost use Rattle.ats_admission_state.specs.Judging.{KeepsOthers, SetsBelow, found_on};
 ghost use Rattle.ats_admission_state.specs.Kept.{AreLeast, AreLeastBeside, KeepsStreams};
@@ -17,6 +18,7 @@ use crate::routes::Route;
 use crate::sums::judge_sums;
 use ats_admission_shares::PortShares;
 use ats_admission_users::PortUsers;
+use ats_class_table::{CLASSES, PortClassTable};
 use ats_network::Network;
 use ats_tally::{Reason, Tally};
 
@@ -30,7 +32,7 @@ struct Found {
 
 /// Makes the bounds along a path anew, where no certificate is refused for the network.
 pub(crate) fn renew_path(
-    bounds: &mut Vec<u128>,
+    bounds: &mut PortClassTable<u128>,
     network: &Network,
     shares: &PortShares,
     path: &[u32],
@@ -38,8 +40,8 @@ pub(crate) fn renew_path(
     requires free { reason_of network.now ≡ None }
     requires ports { All (λ p. p < length network.now.topology.ports) path.now }
     requires shares { AreSharesOf network.now shares.now }
-    requires beside { AreLeastBeside network.now path.now bounds.old.items }
-    ensures { AreLeast network.now bounds.new.items }
+    requires beside { AreLeastBeside network.now path.now bounds.old }
+    ensures { AreLeast network.now bounds.new }
 {
     for port in path {
         renew_port(bounds, network, *port, &shares.tallies(network, *port));
@@ -50,7 +52,7 @@ pub(crate) fn renew_path(
 /// those of the network without it. The sum of the stream's least bounds, or the reason against the network exactly
 /// where there is one.
 pub(crate) fn judge_stream(
-    bounds: &mut Vec<u128>,
+    bounds: &mut PortClassTable<u128>,
     network: &Network,
     streams: &PortUsers,
     shares: &PortShares,
@@ -60,10 +62,10 @@ pub(crate) fn judge_stream(
     requires last { stream + 1 ≡ length network.now.streams }
     requires free { reason_of (without_at network.now stream) ≡ None }
     requires keeps { KeepsStreams (without_at network.now stream) streams.now shares.now routes.now }
-    requires beside { AreLeastBeside network.now (stream_at network.now stream).path bounds.old.items }
+    requires beside { AreLeastBeside network.now (stream_at network.now stream).path bounds.old }
     ensures answer { result ≡ judged network.now stream }
-    ensures ok { OnOk result (AreLeast network.now bounds.new.items) }
-    ensures beside { AreLeastBeside network.now (stream_at network.now stream).path bounds.new.items }
+    ensures ok { OnOk result (AreLeast network.now bounds.new) }
+    ensures beside { AreLeastBeside network.now (stream_at network.now stream).path bounds.new }
 {
     let path = network.streams()[stream as usize].path();
     if let Some(reason) = judge_path(bounds, network, shares, stream, path) {
@@ -75,7 +77,7 @@ pub(crate) fn judge_stream(
 // Makes the bounds along the path of the stream with this number anew, unless a class is overloaded there. What is
 // found first at the lowest port: an overload, or else a need of residence over the residence time behind the port.
 fn judge_path(
-    bounds: &mut Vec<u128>,
+    bounds: &mut PortClassTable<u128>,
     network: &Network,
     shares: &PortShares,
     stream: u32,
@@ -86,10 +88,10 @@ fn judge_path(
     requires few { length path.now ≤ 16 }
     requires ports { All (λ p. p < length network.now.topology.ports) path.now }
     requires shares { AreSharesOf (without_at network.now stream) shares.now }
-    requires beside { AreLeastBeside network.now path.now bounds.old.items }
+    requires beside { AreLeastBeside network.now path.now bounds.old }
     ensures found { result ≡ found_on network.now path.now }
-    ensures none { IfNone result (AreLeast network.now bounds.new.items) }
-    ensures beside { AreLeastBeside network.now path.now bounds.new.items }
+    ensures none { IfNone result (AreLeast network.now bounds.new) }
+    ensures beside { AreLeastBeside network.now path.now bounds.new }
 {
     let mut found = Found {
         load: None,
@@ -107,20 +109,20 @@ fn judge_path(
 
 // What is found with one port more, whose bounds are made anew, unless a class is overloaded so far.
 fn judge_next(
-    bounds: &mut Vec<u128>,
+    bounds: &mut PortClassTable<u128>,
     network: &Network,
     port: u32,
-    tallies: &[Tally; 8],
+    tallies: &[Tally; CLASSES],
     found: Found,
 ) -> Found
     requires port { port < length network.now.topology.ports }
-    requires count { length bounds.old.items ≡ 8 * length network.now.topology.ports }
+    requires count { bounds.old.ports ≡ length network.now.topology.ports }
     requires tallies { AreClassTallies (senders_at port (senders_of network.now)) tallies.now }
     ensures load { result.load ≡ lower_of found.load port (found_at (overload network.now) network.now port) }
     ensures stay { result.load ≡ None
         → result.stay ≡ lower_of found.stay port (found_at (overstay_at network.now) network.now port) }
-    ensures set { result.load ≡ None → SetsBelow network.now port 8 bounds.old.items bounds.new.items }
-    ensures kept { KeepsOthers port bounds.old.items bounds.new.items }
+    ensures set { result.load ≡ None → SetsBelow network.now port 8 bounds.old bounds.new }
+    ensures kept { KeepsOthers port bounds.old bounds.new }
 {
     match judge_port(bounds, network, port, tallies) {
         Ok(stay) => Found {

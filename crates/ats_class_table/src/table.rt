@@ -1,7 +1,7 @@
 //! A value for each port and class.
 
 ghost use Rattle.std.specs.Prelude.{◌≡◌, ◌+◌, ◌*◌, ◌<◌, ◌≤◌, Some, IfOk};
-ghost use Rattle.ats_class_table.specs.Table.{IsFilled, Sets, value_at};
+ghost use Rattle.ats_class_table.specs.Table.{AreValuesAt, IsFilled, Sets, value_at};
 
 use std::alloc::{AllocError, Global};
 use std::marker::Model;
@@ -42,13 +42,6 @@ impl<T: Copy> PortClassTable<T> {
         Ok(PortClassTable { ports, values })
     }
 
-    /// The number of ports.
-    pub fn ports(&self) -> usize
-        ensures { result ≡ self.now.ports }
-    {
-        self.ports
-    }
-
     /// The value at a port and a class.
     pub fn get(&self, port: u32, class: u8) -> T
         requires port { port < self.now.ports }
@@ -56,6 +49,15 @@ impl<T: Copy> PortClassTable<T> {
         ensures { value_at self.now port class ≡ Some result }
     {
         self.values[place(port, class)]
+    }
+
+    /// The eight values at a port, by class.
+    pub fn values_at(&self, port: u32) -> &[T]
+        requires { port < self.now.ports }
+        ensures { AreValuesAt self.now port result.now }
+    {
+        let first = CLASSES * port as usize;
+        &self.values[first..first + CLASSES]
     }
 
     /// Puts a value at a port and a class. All others stay.

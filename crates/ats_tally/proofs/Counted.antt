@@ -1,176 +1,83 @@
--- What senders make of ports and classes, counted one by one.
-use Rattle.std.proofs.Common.{◌≡◌, ◌≢◌, ℕ, ◌+◌, ◌<◌, ◌≤◌, Bool, true, false, cond, List, [], ◌∷◌, ◌++◌}
-use Rattle.std.proofs.Common.{length, get_or, take, map, filter, Option, Some, refl, sym, ap, subst, ◌∙◌, inl}
-use Rattle.std.proofs.Common.{inr, ⊎_elim, eqb, arith}
-use Rattle.std.specs.Prelude.{is_some, ◌||◌}
-use Rattle.std.specs.List.{AllPairs, list_any}
-use Rattle.std.proofs.lemmas.Bool.{cases_Bool, cases_eq, eq-eqb, ne_eqb, or_right}
-use Rattle.std.proofs.lemmas.List.{append-nil, get_or-take, get_or_default, length-take-le}
-use Rattle.std.proofs.lemmas.Option.{same_Some}
-use Rattle.std.proofs.lemmas.List.Folds.{list_any_more, list_any_none, list_any-append}
-use Rattle.ats_class_table.specs.Table.{IsFilled, Sets, Table, value_at}
+-- What the senders at ports make of classes, put port by port, and whether some sender is of a class.
+use Rattle.std.proofs.Common.{◌≡◌, ◌≢◌, ℕ, ◌+◌, ◌<◌, ◌≤◌, Bool, true, false, cond, List, [], ◌∷◌, length, get_or}
+use Rattle.std.proofs.Common.{map, filter, Option, Some, refl, sym, ap, subst, ◌∙◌, ◌⊎◌, inl, inr, ⊎_elim, arith}
+use Rattle.std.specs.Prelude.{is_some, slice_get, ◌||◌}
+use Rattle.std.specs.List.{list_any}
+use Rattle.std.proofs.lemmas.Bool.{cases_Bool, cases_eq}
+use Rattle.std.proofs.lemmas.List.Folds.{list_any_none, list_any-append}
+use Rattle.std.proofs.lemmas.Option.{slice_get-get_or}
+use Rattle.ats_class_table.specs.Table.{Sets, Table, value_at}
 use Rattle.ats_network.specs.Sender.{Sender, stream_sender, flow_sender}
-use Rattle.ats_network.specs.Class.{PortSender, seen_at}
+use Rattle.ats_network.specs.Class.{PortSender}
 use Rattle.ats_network.specs.Network.{DeclaredNetwork, IsNetwork, senders_of}
-use Rattle.ats_network.specs.Senders.{sender_at, no_sender}
 use Rattle.ats_certificate.specs.PortSums.{is_of, shortest, senders_at, is_used}
-use Rattle.ats_tally.specs.Tally.{no_tally, least_known, tally_with, IsTally}
+use Rattle.ats_tally.specs.Tally.{least_known, IsTally}
 use Rattle.ats_tally.specs.declared.tally.Tally.{Tally}
 use Rattle.ats_tally.proofs.Places.{IsPlace, is_place}
-use Rattle.ats_tally.proofs.SeenLemmas.{senders_at-append, senders_at-more, flows_class}
-use Rattle.ats_tally.proofs.Tallied.{tally_none, tally_more}
-use Rattle.ats_tally.specs.Tallies.{AddsSender, AreTallies, IsTallied}
+use Rattle.ats_tally.proofs.SeenLemmas.{senders_at-append, flows_class}
+use Rattle.ats_tally.specs.Tallies.{AreClassTallies, AreTallies, IsTallied, SetsTallies}
 
--- no class has the sender yet
-pub added_none : (s : PortSender) (port : ℕ) (table : Table Tally) → AddsSender s port 1 table table
-added_none s port table = record {
+-- no tally of a port is put at first
+pub set_none : (port : ℕ) (tallies : List Tally) (table : Table Tally) → SetsTallies port 0 tallies table table
+set_none port tallies table = record {
   count = refl;
-  added = λ class tally low high there. absurd (omega arith);
-  kept = λ p class out. refl;
+  here = λ class below. absurd (omega arith);
+  others = λ p class away. refl;
 }
 
--- one class more
-pub added_more : (s : PortSender) (port below : ℕ) (old new next : Table Tally) (tally more : Tally)
-    → AddsSender s port below old new → value_at new port below ≡ Some tally → more ≡ tally_with below s tally
-    → Sets port below more new next → AddsSender s port (below + 1) old next
-added_more s port below old new next tally more before there is sets = record {
+-- then that of the next class
+pub set_more : (port class : ℕ) (tallies : List Tally) (old now next : Table Tally) (tally : Tally)
+    → class < length tallies → tally ≡ get_or tallies class tally → Sets port class tally now next
+    → SetsTallies port class tallies old now → SetsTallies port (class + 1) tallies old next
+set_more port class tallies old now next tally within is sets before = record {
   count = sets.count ∙ before.count;
-  added = λ class t low high was. ⊎_elim (here class t was) (elsewhere class t low high was) (cases_eq class below);
-  kept = λ p class out. sets.others p class (⊎_elim (λ h. inl h) (λ h. inr (λ e. omega (arith, e, h))) out)
-      ∙ before.kept p class (⊎_elim (λ h. inl h) (λ h. inr (omega (arith, h))) out);
+  here = λ k below. by k below (cases_eq k class);
+  others = λ p k away. sets.others p k (inl away) ∙ before.others p k away;
 }
   where
-    here : (class : ℕ) (t : Tally) → value_at old port class ≡ Some t → class ≡ below
-        → value_at next port class ≡ Some (tally_with class s t)
-    here class t was same =
-        let at_below : value_at old port below ≡ Some t = ap (value_at old port) (sym same) ∙ was in
-        let tallies : tally ≡ t =
-        same_Some tally t (sym there ∙ before.kept port below (inr (omega arith)) ∙ at_below) in
-        ap (value_at next port) same ∙ sets.here ∙ ap Some is ∙ ap (λ (x : Tally). Some (tally_with below s x)) tallies
-        ∙ ap (λ (n : ℕ). Some (tally_with n s t)) (sym same)
+    by : (k : ℕ) → k < class + 1 → (k ≡ class) ⊎ (k ≡ class → ⊥) → value_at next port k ≡ slice_get tallies k
+    by k below (inl e) =
+        ap (value_at next port) e ∙ sets.here ∙ ap Some is ∙ sym (slice_get-get_or tallies class tally within)
+        ∙ ap (slice_get tallies) (sym e)
+    by k below (inr other) =
+        let differ : k ≢ class = other in
+        sets.others port k (inr other) ∙ before.here k (omega (arith, below, differ))
 
-    elsewhere : (class : ℕ) (t : Tally) → 1 ≤ class → class < below + 1 → value_at old port class ≡ Some t
-        → (class ≡ below → ⊥) → value_at next port class ≡ Some (tally_with class s t)
-    elsewhere class t low high was other =
-        sets.others port class (inr other)
-        ∙ before.added class t low (let differ : class ≢ below = other in omega (arith, differ)) was
+-- the tallies of the ports below one are there
+pub record AreBelow (ports below : ℕ) (senders : List Sender) (tallies : Table Tally) : Type 0 where
+  pub count : tallies.ports ≡ ports
+  pub each : (port class : ℕ) → port < below → 1 ≤ class → class ≤ 7
+      → IsTallied class (senders_at port senders) (value_at tallies port class)
 
--- the senders at a port, of those counted so far and, where the port is one of these, one more
-abbrev pub counted_at : List Sender → Sender → List ℕ → ℕ → List PortSender
-counted_at senders s path port =
-    senders_at port senders ++ cond (list_any (λ p. eqb p port) path) (seen_at port s ∷ []) []
+pub below_none : (ports : ℕ) (senders : List Sender) (tallies : Table Tally) → tallies.ports ≡ ports
+    → AreBelow ports 0 senders tallies
+below_none ports senders tallies count =
+    record { count = count; each = λ port class below least most. absurd (omega arith) }
 
--- these ports have the sender as one more
-pub record AreCounting (ports : ℕ) (senders : List Sender) (s : Sender) (path : List ℕ)
-    (table : Table Tally) : Type 0 where
-  pub count : table.ports ≡ ports
-  pub each : (port class : ℕ) → port < ports → 1 ≤ class → class ≤ 7
-      → IsTallied class (counted_at senders s path port) (value_at table port class)
-
-pub counting_none : (ports : ℕ) (senders : List Sender) (s : Sender) (table : Table Tally)
-    → AreTallies ports senders table → AreCounting ports senders s [] table
-counting_none ports senders s table h = record {
-  count = h.count;
-  each = λ port class within least most.
-      subst (λ (t : List PortSender). IsTallied class t (value_at table port class))
-      (sym (append-nil (senders_at port senders))) (h.each port class within least most);
-}
-
--- a port that is not among the first ones
-not_before : (path : List ℕ) (i : ℕ) → AllPairs (λ p q. p ≢ q) path → i < length path
-    → list_any (λ p. eqb p (get_or path i 0)) (take i path) ≡ false
-not_before path i apart h =
-    list_any_none (λ p. eqb p (get_or path i 0)) (take i path)
-    (λ k d below. (
-    let short = length-take-le i path (omega arith) in
-    let before : k < i = omega (arith, below, short) in
-    let differ : get_or path k 0 ≢ get_or path i 0 = apart k i 0 before h in
-    ne_eqb (get_or (take i path) k d) (get_or path i 0)
-    (λ e. differ (at_zero path k d (omega arith) ∙ sym (get_or-take i path k d before) ∙ e))))
-  where
-    at_zero : (path : List ℕ) (k d : ℕ) → k < length path → get_or path k 0 ≡ get_or path k d
-    at_zero path k d h = get_or_default path k 0 d h
-
--- what the sender is added to, at the next port
-pub before_port : (ports : ℕ) (senders : List Sender) (s : Sender) (path : List ℕ) (i : ℕ) (table : Table Tally)
-    → AllPairs (λ p q. p ≢ q) path → i < length path → get_or path i 0 < ports
-    → AreCounting ports senders s (take i path) table → (class : ℕ) → 1 ≤ class → class ≤ 7
-    → IsTallied class (senders_at (get_or path i 0) senders) (value_at table (get_or path i 0) class)
-before_port ports senders s path i table apart h within before class least most =
-    subst (λ (t : List PortSender). IsTallied class t (value_at table (get_or path i 0) class))
-    (ap (λ (b : Bool). senders_at (get_or path i 0) senders ++ cond b (seen_at (get_or path i 0) s ∷ []) [])
-    (not_before path i apart h)
-    ∙ append-nil (senders_at (get_or path i 0) senders))
-    (before.each (get_or path i 0) class within least most)
-
-pub counting_more : (ports : ℕ) (senders : List Sender) (s : Sender) (path : List ℕ) (i : ℕ) (old new : Table Tally)
-    → AllPairs (λ p q. p ≢ q) path → i < length path → get_or path i 0 < ports
-    → AreCounting ports senders s (take i path) old
-    → AddsSender (seen_at (get_or path i 0) s) (get_or path i 0) 8 old new
-    → AreCounting ports senders s (take (i + 1) path) new
-counting_more ports senders s path i old new apart h inside before adds = record {
-  count = adds.count ∙ before.count;
-  each = λ port class within least most. ⊎_elim (here port class least most)
-      (elsewhere port class within least most) (cases_eq port (get_or path i 0));
+pub below_more : (ports port : ℕ) (senders : List Sender) (old new : Table Tally) (tallies : List Tally)
+    → AreBelow ports port senders old → AreClassTallies (senders_at port senders) tallies
+    → SetsTallies port 8 tallies old new → AreBelow ports (port + 1) senders new
+below_more ports port senders old new tallies before are sets = record {
+  count = sets.count ∙ before.count;
+  each = λ p class below least most. by p class below least most (cases_eq p port);
 }
   where
-    at : ℕ
-    at = get_or path i 0
+    by : (p class : ℕ) → p < port + 1 → 1 ≤ class → class ≤ 7 → (p ≡ port) ⊎ (p ≡ port → ⊥)
+        → IsTallied class (senders_at p senders) (value_at new p class)
+    by p class below least most (inl e) =
+        subst (λ (n : ℕ). IsTallied class (senders_at n senders) (value_at new n class)) (sym e)
+        (subst (IsTallied class (senders_at port senders)) (sym (sets.here class (omega (arith, most))))
+        (are class least most))
+    by p class below least most (inr other) =
+        let differ : p ≢ port = other in
+        subst (IsTallied class (senders_at p senders)) (sym (sets.others p class other))
+        (before.each p class (omega (arith, below, differ)) least most)
 
-    more : (port : ℕ)
-        → list_any (λ p. eqb p port) (take (i + 1) path) ≡ (list_any (λ p. eqb p port) (take i path) || eqb at port)
-    more port = list_any_more (λ p. eqb p port) path i 0 h
-
-    or_false : (b : Bool) → (b || false) ≡ b
-    or_false true = refl
-    or_false false = refl
-
-    here : (port class : ℕ) → 1 ≤ class → class ≤ 7 → port ≡ at
-        → IsTallied class (counted_at senders s (take (i + 1) path) port) (value_at new port class)
-    here port class least most same =
-        let now : list_any (λ p. eqb p port) (take (i + 1) path) ≡ true =
-        more port ∙ or_right (list_any (λ p. eqb p port) (take i path)) (eqb at port) (eq-eqb at port (sym same)) in
-        let was : IsTallied class (senders_at at senders) (value_at old at class) =
-        before_port ports senders s path i old apart h inside before class least most in
-        let list : counted_at senders s (take (i + 1) path) port ≡ senders_at at senders ++ seen_at at s ∷ [] =
-        ap (λ (b : Bool). senders_at port senders ++ cond b (seen_at port s ∷ []) []) now
-        ∙ ap (λ (n : ℕ). senders_at n senders ++ seen_at n s ∷ []) same in
-        record {
-          tally = tally_with class (seen_at at s) was.tally;
-          there = ap (λ (n : ℕ). value_at new n class) same
-              ∙ adds.added class was.tally least (omega arith) was.there;
-          is = subst (λ (l : List PortSender). IsTally class l (tally_with class (seen_at at s) was.tally)) (sym list)
-              (tally_more class (senders_at at senders) was.tally (seen_at at s) was.is);
-        }
-
-    elsewhere : (port class : ℕ) → port < ports → 1 ≤ class → class ≤ 7 → (port ≡ at → ⊥)
-        → IsTallied class (counted_at senders s (take (i + 1) path) port) (value_at new port class)
-    elsewhere port class within least most other =
-        let same : list_any (λ p. eqb p port) (take (i + 1) path) ≡ list_any (λ p. eqb p port) (take i path) =
-        more port ∙ ap (λ (b : Bool). list_any (λ p. eqb p port) (take i path) || b)
-        (ne_eqb at port (λ e. other (sym e))) ∙ or_false (list_any (λ p. eqb p port) (take i path)) in
-        subst (λ (found : Option Tally). IsTallied class (counted_at senders s (take (i + 1) path) port) found)
-        (sym (adds.kept port class (inl other)))
-        (subst (λ (b : Bool). IsTallied class (senders_at port senders ++ cond b (seen_at port s ∷ []) [])
-        (value_at old port class)) (sym same) (before.each port class within least most))
-
--- a whole path is counted
-pub counted_all : (network : DeclaredNetwork) (ports i : ℕ) (table : Table Tally) → i < length (senders_of network)
-    → AreCounting ports (take i (senders_of network)) (sender_at network i) (sender_at network i).path table
-    → AreTallies ports (take (i + 1) (senders_of network)) table
-counted_all network ports i table h counted = record {
-  count = counted.count;
-  each = λ port class within least most.
-      subst (λ (t : List PortSender). IsTallied class t (value_at table port class))
-      (sym (senders_at-more port (senders_of network) i no_sender h))
-      (counted.each port class within least most);
-}
-
-pub tallies_none : (ports : ℕ) (table : Table Tally) → IsFilled ports no_tally table → AreTallies ports [] table
-tallies_none ports table filled = record {
-  count = filled.count;
-  each = λ port class within least most.
-      record { tally = no_tally; there = filled.each port class within most; is = tally_none class };
+pub below_all : (ports below : ℕ) (senders : List Sender) (tallies : Table Tally) → ports ≤ below
+    → AreBelow ports below senders tallies → AreTallies ports senders tallies
+below_all ports below senders tallies all are = record {
+  count = are.count;
+  each = λ port class within least most. are.each port class (omega (arith, within, all)) least most;
 }
 
 -- no stream is at a port that a network does not have

@@ -4,6 +4,12 @@ pub mod Places
 pub mod SeenLemmas
 pub mod Tallied
 pub mod Network
+pub mod Inserted
+pub mod Changed
+pub mod Entries
+pub mod Limits
+pub mod Eight
+pub mod ShareLemmas
 pub mod Counted
 pub mod Placed
 pub mod Paths

@@ -1,6 +1,6 @@
 -- The senders of a network as a port sees them.
 use Rattle.std.proofs.Common.{◌≡◌, ℕ, ◌+◌, ◌<◌, ◌≤◌, Bool, true, false, cond, List, [], ◌∷◌, ◌++◌, length, get_or, map}
-use Rattle.std.proofs.Common.{filter, take, refl, ap, ◌∙◌, arith}
+use Rattle.std.proofs.Common.{filter, take, refl, sym, ap, ◌∙◌, arith}
 use Rattle.std.specs.List.{All}
 use Rattle.std.proofs.lemmas.Bool.{ne_eqb}
 use Rattle.std.proofs.lemmas.List.{map-append, length-map}
@@ -43,6 +43,31 @@ pub senders_at-append : (port : ℕ) (xs ys : List Sender)
 senders_at-append port xs ys =
     ap (map (seen_at port)) (filter-append (uses port) xs ys)
     ∙ map-append (seen_at port) (filter (uses port) xs) (filter (uses port) ys)
+
+-- what a port sees of a sender, where it uses the port, and of those behind it
+at_first : (port : ℕ) (s : Sender) (ss : List Sender)
+    → senders_at port (s ∷ ss) ≡ cond (uses port s) (seen_at port s ∷ senders_at port ss) (senders_at port ss)
+at_first port s ss = by (uses port s)
+  where
+    by : (b : Bool) → map (seen_at port) (cond b (s ∷ filter (uses port) ss) (filter (uses port) ss))
+        ≡ cond b (seen_at port s ∷ senders_at port ss) (senders_at port ss)
+    by true = refl
+    by false = refl
+
+pub at_more : (port : ℕ) (xs : List Sender) (s : Sender) (ys : List Sender)
+    → senders_at port (xs ++ s ∷ ys) ≡ senders_at port xs
+    ++ cond (uses port s) (seen_at port s ∷ senders_at port ys) (senders_at port ys)
+at_more port xs s ys =
+    senders_at-append port xs (s ∷ ys)
+    ∙ ap (λ (ss : List PortSender). senders_at port xs ++ ss) (at_first port s ys)
+
+-- a port that a sender does not use sees the same senders without it
+pub at_same : (port : ℕ) (xs : List Sender) (s : Sender) (ys : List Sender) → uses port s ≡ false
+    → senders_at port (xs ++ ys) ≡ senders_at port (xs ++ s ∷ ys)
+at_same port xs s ys unused =
+    let seen : PortSender = seen_at port s in
+    senders_at-append port xs ys ∙ sym (at_more port xs s ys
+    ∙ ap (λ (b : Bool). senders_at port xs ++ cond b (seen ∷ senders_at port ys) (senders_at port ys)) unused)
 
 -- one sender more, where it uses the port
 pub senders_at-more : (port : ℕ) (senders : List Sender) (i : ℕ) (d : Sender) → i < length senders

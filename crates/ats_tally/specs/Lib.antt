@@ -1,5 +1,6 @@
 pub mod Tally
 pub mod SenderAtPort
+pub mod Shares
 pub mod Tallies
 pub mod ClassSums
 pub mod Bounds

@@ -4,20 +4,26 @@
 
 pub mod bounds;
 pub mod class_sums;
+pub mod class_tallies;
 pub mod delays;
 pub mod reason;
 pub mod searches;
 pub mod seen;
+pub mod share;
+pub mod shares;
 pub mod tallies;
 pub mod tally;
 pub mod waits;
 
 pub use bounds::Bounds;
 pub use class_sums::ClassSums;
+pub use class_tallies::{tallies_at, tallies_of};
 pub use delays::Delays;
 pub use reason::Reason;
 pub use searches::{first_late, first_overload, first_overstay};
 pub use seen::SeenSender;
+pub use share::Share;
+pub use shares::{enter_along, shares_of};
 pub use tallies::Tallies;
 pub use tally::Tally;
 pub use waits::least_wait;

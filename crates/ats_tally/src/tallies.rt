@@ -1,17 +1,17 @@
 //! What the senders make of each port and class.
 
-ghost use Rattle.std.specs.Prelude.{◌≡◌, ◌+◌, ◌<◌, ◌≤◌, length, IfOk};
+ghost use Rattle.std.specs.Prelude.{◌≡◌, ◌<◌, ◌≤◌, length, IfOk};
 ghost use Rattle.ats_network.specs.Network.{IsNetwork, senders_of};
 ghost use Rattle.ats_tally.specs.Tally.{IsTally};
 ghost use Rattle.ats_certificate.specs.PortSums.{is_used, port_sums, senders_at};
 ghost use Rattle.ats_tally.specs.ClassSums.{port_sums_of};
-ghost use Rattle.ats_tally.specs.SenderAtPort.{port_sender, KeepsLimits};
-ghost use Rattle.ats_tally.specs.Tallies.{AddsSender, AreCounted, AreFirst, HaveRoom};
+ghost use Rattle.ats_tally.specs.Tallies.{AreCounted, SetsTallies};
 
 use crate::class_sums::ClassSums;
-use crate::seen::SeenSender;
+use crate::class_tallies::tallies_at;
+use crate::shares::shares_of;
 use crate::tally::Tally;
-use ats_class_table::PortClassTable;
+use ats_class_table::{CLASSES, PortClassTable};
 use ats_network::Network;
 use std::alloc::{AllocError, Global};
 use std::marker::Model;
@@ -85,37 +85,26 @@ impl<'a> Tallies<'a> {
     }
 }
 
-// What the senders make of each class at each port.
+// What the senders make of each class at each port: each is counted in one share a port, and of the shares of a port
+// come the tallies of its classes.
 fn table_of(alloc: Global, network: &Network) -> Result<PortClassTable<Tally>, AllocError>
     ensures { IfOk result (AreCounted network.now) }
 {
-    let mut table = PortClassTable::new(alloc, network.topology().ports().len(), Tally::new())?;
-    for sender in 0..network.senders() {
-        count_sender(&mut table, network, sender);
+    let shares = shares_of(alloc, network)?;
+    let ports = network.topology().ports().len();
+    let mut table = PortClassTable::new(alloc, ports, Tally::new())?;
+    for port in 0..ports as u32 {
+        set_tallies(&mut table, port, &tallies_at(&shares, network, port));
     }
     Ok(table)
 }
 
-// Counts a sender at each port of its path.
-fn count_sender(table: &mut PortClassTable<Tally>, network: &Network, sender: u32)
-    requires sender { sender < length (senders_of network.now) }
-    requires before { AreFirst network.now sender table.old }
-    ensures { AreFirst network.now (sender + 1) table.new }
+// Puts the tallies of the classes of a port.
+fn set_tallies(table: &mut PortClassTable<Tally>, port: u32, tallies: &[Tally; CLASSES])
+    requires { port < table.old.ports }
+    ensures { SetsTallies port 8 tallies.now table.old table.new }
 {
-    for (hop, port) in network.sender_path(sender).iter().enumerate() {
-        count_at(table, *port, &SeenSender::at(network, sender, hop as u32));
-    }
-}
-
-// Counts a sender that a port sees, in each class.
-fn count_at(table: &mut PortClassTable<Tally>, port: u32, sender: &SeenSender)
-    requires limits { KeepsLimits sender.now }
-    requires port { port < table.old.ports }
-    requires room { HaveRoom port table.old }
-    ensures { AddsSender (port_sender sender.now) port 8 table.old table.new }
-{
-    for class in 1..8 {
-        let tally = table.get(port, class);
-        table.set(port, class, tally.with_sender(class, sender));
+    for (class, tally) in tallies.iter().enumerate() {
+        table.set(port, class as u8, *tally);
     }
 }

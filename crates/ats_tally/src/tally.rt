@@ -70,8 +70,8 @@ impl Tally {
     }
 }
 
-// The smaller of two numbers of bits, of which one may not be there.
-fn least_with(least: Option<u64>, bits: u64) -> u64
+/// The smaller of two numbers of bits, of which one may not be there.
+pub fn least_with(least: Option<u64>, bits: u64) -> u64
     ensures { result ≡ least_with least bits }
 {
     match least {

@@ -1,12 +1,13 @@
-use Rattle.std.proofs.Common.{ℕ, get_or, sym, subst, arith}
+use Rattle.std.proofs.Common.{ℕ, get_or, set, sym, subst, arith}
 use Rattle.std.specs.List.{All}
 use Rattle.ats_network.specs.Network.{DeclaredNetwork, senders_of}
 use Rattle.ats_certificate.specs.PortSums.{senders_at}
 use Rattle.ats_tally.specs.SenderAtPort.{port_sender}
+use Rattle.ats_tally.specs.Shares.{AreShares, IsLimited}
+use Rattle.ats_tally.specs.Tallies.{AreClassTallies}
+use Rattle.ats_tally.specs.declared.share.Share.{Share}
 use Rattle.ats_tally.specs.declared.tally.TheConstants.{MAX_SENDERS}
-use Rattle.ats_admission_shares.specs.ClassTallies.{AreClassTallies}
-use Rattle.ats_admission_shares.specs.Shares.{AreShares, IsLimited}
-use Rattle.ats_admission_shares.proofs.Eight.{classes_seen}
+use Rattle.ats_tally.proofs.Eight.{classes_seen}
 use Rattle.ats_admission_shares.proofs.Entered.{entering}
 use Rattle.ats_admission_shares.proofs.CountedAt.{counted_is}
 use Rattle.ats_admission_shares.proofs.at_port.tallies_entered.Goals as goal
@@ -18,18 +19,22 @@ eight_at-own-requires c =
     c.sender_path.ensures.value c.at-sender.ensures.seen in
     omega (arith, entry.inside, c.requires.shares.count)
 
-pub count_at-requires-clause-place : goal.count_at-requires-clause-place
-count_at-requires-clause-place c =
-    let port : ℕ = get_or c.sender_path.result.now c.args.hop 0 in
+pub bounds-own-class : goal.bounds-own-class
+bounds-own-class c =
     let entry = entering c.args.network.now c.args.stream c.args.hop c.sender_path.result.now
     (port_sender c.at-sender.result) c.sender_path.ensures.rules c.requires.stream c.requires.hop
     c.sender_path.ensures.value c.at-sender.ensures.seen in
-    (counted_is c.args.network.now c.args.stream port c.args.hop (port_sender c.at-sender.result) c.args.shares.now
-    c.eight_at-own.result c.sender_path.ensures.rules c.requires.stream entry c.requires.shares
-    c.eight_at-own.ensures).place
+    omega (arith, entry.most)
 
-pub count_at-requires-clause-room : goal.count_at-requires-clause-room
-count_at-requires-clause-room c =
+pub bounds-own-class-2 : goal.bounds-own-class-2
+bounds-own-class-2 c =
+    let entry = entering c.args.network.now c.args.stream c.args.hop c.sender_path.result.now
+    (port_sender c.at-sender.result) c.sender_path.ensures.rules c.requires.stream c.requires.hop
+    c.sender_path.ensures.value c.at-sender.ensures.seen in
+    omega (arith, entry.most)
+
+pub with_sender-requires-clause-room : goal.with_sender-requires-clause-room
+with_sender-requires-clause-room c =
     let port : ℕ = get_or c.sender_path.result.now c.args.hop 0 in
     let entry = entering c.args.network.now c.args.stream c.args.hop c.sender_path.result.now
     (port_sender c.at-sender.result) c.sender_path.ensures.rules c.requires.stream c.requires.hop
@@ -44,7 +49,8 @@ tallies_of-requires-clause-limits c =
     let entry = entering c.args.network.now c.args.stream c.args.hop c.sender_path.result.now
     (port_sender c.at-sender.result) c.sender_path.ensures.rules c.requires.stream c.requires.hop
     c.sender_path.ensures.value c.at-sender.ensures.seen in
-    subst (All (IsLimited MAX_SENDERS)) (sym c.count_at.ensures)
+    subst (λ (share : Share). All (IsLimited MAX_SENDERS) (set c.eight_at-own.result c.at-sender.result.class share))
+    (sym c.with_sender.ensures)
     (counted_is c.args.network.now c.args.stream port c.args.hop (port_sender c.at-sender.result) c.args.shares.now
     c.eight_at-own.result c.sender_path.ensures.rules c.requires.stream entry c.requires.shares
     c.eight_at-own.ensures).limits
@@ -53,13 +59,14 @@ pub returns : goal.returns
 returns c =
     let network : DeclaredNetwork = c.args.network.now in
     let port : ℕ = get_or c.sender_path.result.now c.args.hop 0 in
-    let entry = entering network c.args.stream c.args.hop c.sender_path.result.now
+    let entry = entering c.args.network.now c.args.stream c.args.hop c.sender_path.result.now
     (port_sender c.at-sender.result) c.sender_path.ensures.rules c.requires.stream c.requires.hop
     c.sender_path.ensures.value c.at-sender.ensures.seen in
-    let counted = (counted_is network c.args.stream port c.args.hop (port_sender c.at-sender.result)
-    c.args.shares.now c.eight_at-own.result c.sender_path.ensures.rules c.requires.stream entry c.requires.shares
-    c.eight_at-own.ensures).counted in
     subst (λ (p : ℕ). AreClassTallies (senders_at p (senders_of network)) c.tallies_of.result) entry.at
     (c.tallies_of.ensures (senders_at port (senders_of network))
-    (subst (AreShares (senders_at port (senders_of network))) (sym c.count_at.ensures) counted)
+    (subst (λ (share : Share). AreShares (senders_at port (senders_of network))
+    (set c.eight_at-own.result c.at-sender.result.class share)) (sym c.with_sender.ensures)
+    (counted_is c.args.network.now c.args.stream port c.args.hop (port_sender c.at-sender.result) c.args.shares.now
+    c.eight_at-own.result c.sender_path.ensures.rules c.requires.stream entry c.requires.shares
+    c.eight_at-own.ensures).counted)
     (classes_seen network port c.sender_path.ensures.rules))

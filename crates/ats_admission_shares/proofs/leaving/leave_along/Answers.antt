@@ -1,35 +1,48 @@
-use Rattle.std.proofs.Common.{◌≡◌, ◌≤◌, ℕ, List, length, get_or, ap, subst, arith}
+use Rattle.std.proofs.Common.{◌≤◌, ℕ, List, Option, Some, length, get_or, sym, ap, subst, arith}
 use Rattle.std.proofs.lemmas.List.{take_all}
 use Rattle.ats_network.specs.Network.{DeclaredNetwork, senders_of}
 use Rattle.ats_network.specs.Sender.{stream_sender}
 use Rattle.ats_certificate.specs.PortSums.{senders_at}
 use Rattle.ats_tally.specs.SenderAtPort.{port_sender}
-use Rattle.ats_admission_shares.specs.Changes.{ChangesAlong}
-use Rattle.ats_admission_shares.specs.Shares.{share_of}
-use Rattle.ats_admission_shares.specs.declared.share.Share.{Share}
+use Rattle.ats_tally.specs.Shares.{share_of}
+use Rattle.ats_tally.specs.declared.share.Share.{Share}
+use Rattle.ats_tally.proofs.Changed.{ChangesAlong}
+use Rattle.ats_tally.proofs.Entries.{entry_changed}
 use Rattle.ats_admission_shares.proofs.Entered.{shares_left}
-use Rattle.ats_admission_shares.proofs.Entries.{entry_changed, entry_inside}
 use Rattle.ats_admission_shares.proofs.Left.{left_keeps, leaving_class, leaving_entry, leaving_inside, leaving_share}
 use Rattle.ats_admission_shares.proofs.leaving.leave_along.Goals as goal
 
 -- the shares without the stream
-abbrev IsWithout : DeclaredNetwork → ℕ → ℕ → Share → Type 0
-IsWithout network port class share = share ≡ share_of class (senders_at port (senders_of network))
+abbrev without : DeclaredNetwork → ℕ → ℕ → Option Share
+without network port class = Some (share_of class (senders_at port (senders_of network)))
 
 pub seen_stream-seen-requires-clause-apart : goal.seen_stream-seen-requires-clause-apart
 seen_stream-seen-requires-clause-apart c =
     (left_keeps c.args.network.now c.args.stream.now c.args.shares.now c.requires.before).apart
 
-pub share_left-requires-clause-port : goal.share_left-requires-clause-port
-share_left-requires-clause-port c =
+pub get-share-requires-clause-port : goal.get-share-requires-clause-port
+get-share-requires-clause-port c =
+    let entry = leaving_entry c.args.network.now c.args.stream.now c.args.shares.now c.requires.before
+    c.path-port-items.result.now c.loop-hop.hop (port_sender c.seen_stream-seen.result) c.path-port-items.ensures.value
+    c.loop-hop-test.true c.seen_stream-seen.ensures.seen in
+    omega (arith, entry.inside, c.loop-hop.invariant.count, c.requires.before.counted.count)
+
+pub get-share-requires-clause-class : goal.get-share-requires-clause-class
+get-share-requires-clause-class c =
+    (leaving_entry c.args.network.now c.args.stream.now c.args.shares.now c.requires.before
+    c.path-port-items.result.now c.loop-hop.hop (port_sender c.seen_stream-seen.result) c.path-port-items.ensures.value
+    c.loop-hop-test.true c.seen_stream-seen.ensures.seen).most
+
+pub share_left-left-requires-clause-port : goal.share_left-left-requires-clause-port
+share_left-left-requires-clause-port c =
     let entry = leaving_entry c.args.network.now c.args.stream.now c.args.shares.now c.requires.before
     c.path-port-items.result.now c.loop-hop.hop (port_sender c.seen_stream-seen.result) c.path-port-items.ensures.value
     c.loop-hop-test.true c.seen_stream-seen.ensures.seen in
     leaving_inside c.args.network.now c.args.stream.now c.args.shares.now c.requires.before
     (get_or c.path-port-items.result.now c.loop-hop.hop 0) c.loop-hop.hop (port_sender c.seen_stream-seen.result) entry
 
-pub share_left-requires-clause-class : goal.share_left-requires-clause-class
-share_left-requires-clause-class c =
+pub share_left-left-requires-clause-class : goal.share_left-left-requires-clause-class
+share_left-left-requires-clause-class c =
     let entry = leaving_entry c.args.network.now c.args.stream.now c.args.shares.now c.requires.before
     c.path-port-items.result.now c.loop-hop.hop (port_sender c.seen_stream-seen.result) c.path-port-items.ensures.value
     c.loop-hop-test.true c.seen_stream-seen.ensures.seen in
@@ -37,26 +50,28 @@ share_left-requires-clause-class c =
     (get_or c.path-port-items.result.now c.loop-hop.hop 0) c.loop-hop.hop (port_sender c.seen_stream-seen.result)
     c.path-port-items.ensures.rules entry
 
-pub share_left-requires-clause-share : goal.share_left-requires-clause-share
-share_left-requires-clause-share c =
+pub share_left-left-requires-clause-share : goal.share_left-left-requires-clause-share
+share_left-left-requires-clause-share c =
     let entry = leaving_entry c.args.network.now c.args.stream.now c.args.shares.now c.requires.before
     c.path-port-items.result.now c.loop-hop.hop (port_sender c.seen_stream-seen.result) c.path-port-items.ensures.value
     c.loop-hop-test.true c.seen_stream-seen.ensures.seen in
     leaving_share c.args.network.now c.args.stream.now c.args.shares.now c.requires.before
-    (IsWithout c.args.network.now) c.loop-hop.shares
-    (get_or c.path-port-items.result.now c.loop-hop.hop 0) c.loop-hop.hop c.place-at.result
-    (port_sender c.seen_stream-seen.result) entry c.place-at.ensures c.loop-hop.invariant
+    (without c.args.network.now) c.loop-hop.shares (get_or c.path-port-items.result.now c.loop-hop.hop 0)
+    c.loop-hop.hop (port_sender c.seen_stream-seen.result) c.get-share.result entry c.loop-hop.invariant
+    c.get-share.ensures
 
-pub bounds-shares-at : goal.bounds-shares-at
-bounds-shares-at c =
+pub set-requires-clause-port : goal.set-requires-clause-port
+set-requires-clause-port c =
     let entry = leaving_entry c.args.network.now c.args.stream.now c.args.shares.now c.requires.before
     c.path-port-items.result.now c.loop-hop.hop (port_sender c.seen_stream-seen.result) c.path-port-items.ensures.value
     c.loop-hop-test.true c.seen_stream-seen.ensures.seen in
-    let within = entry_inside c.requires.before.old (stream_sender c.args.stream.now)
-    (get_or c.path-port-items.result.now c.loop-hop.hop 0) c.loop-hop.hop c.place-at.result
-    (port_sender c.seen_stream-seen.result) c.args.shares.now c.loop-hop.shares entry c.place-at.ensures
-    c.requires.before.counted.count in
-    omega (arith, within, c.loop-hop.invariant.count)
+    omega (arith, entry.inside, c.loop-hop.invariant.count, c.requires.before.counted.count)
+
+pub set-requires-clause-class : goal.set-requires-clause-class
+set-requires-clause-class c =
+    (leaving_entry c.args.network.now c.args.stream.now c.args.shares.now c.requires.before
+    c.path-port-items.result.now c.loop-hop.hop (port_sender c.seen_stream-seen.result) c.path-port-items.ensures.value
+    c.loop-hop-test.true c.seen_stream-seen.ensures.seen).most
 
 pub loop-hop-preserved : goal.loop-hop-preserved
 loop-hop-preserved c =
@@ -64,10 +79,9 @@ loop-hop-preserved c =
     c.path-port-items.result.now c.loop-hop.hop (port_sender c.seen_stream-seen.result) c.path-port-items.ensures.value
     c.loop-hop-test.true c.seen_stream-seen.ensures.seen in
     entry_changed c.requires.before.old (stream_sender c.args.stream.now)
-    (get_or c.path-port-items.result.now c.loop-hop.hop 0) c.loop-hop.hop c.place-at.result
-    (port_sender c.seen_stream-seen.result) c.args.shares.now c.loop-hop.shares (IsWithout c.args.network.now)
-    c.share_left.result entry c.place-at.ensures c.requires.before.counted.count c.loop-hop.invariant
-    c.share_left.ensures
+    (get_or c.path-port-items.result.now c.loop-hop.hop 0) c.loop-hop.hop (port_sender c.seen_stream-seen.result)
+    c.args.shares.now c.loop-hop.shares (without c.args.network.now) c.set.new.self c.share_left-left.result entry
+    c.loop-hop.invariant (ap Some (sym c.share_left-left.ensures)) c.set.ensures
 
 pub returns : goal.returns
 returns c =
@@ -75,5 +89,5 @@ returns c =
     omega (arith, c.loop-hop-test.false, ap length c.path-port-items.ensures.value) in
     shares_left c.requires.before.old c.args.network.now c.args.stream.now c.requires.before.is_less
     c.args.shares.now c.loop-hop.shares c.requires.before.counted
-    (subst (λ (path : List ℕ). ChangesAlong (IsWithout c.args.network.now) (stream_sender c.args.stream.now) path
+    (subst (λ (path : List ℕ). ChangesAlong (without c.args.network.now) (stream_sender c.args.stream.now) path
     c.args.shares.now c.loop-hop.shares) (take_all c.loop-hop.hop c.args.stream.now.path end) c.loop-hop.invariant)

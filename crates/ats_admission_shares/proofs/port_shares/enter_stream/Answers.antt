@@ -2,10 +2,10 @@ use Rattle.std.proofs.Common.{subst}
 use Rattle.ats_network.specs.Network.{IsNetwork}
 use Rattle.ats_network.specs.Sender.{Sender}
 use Rattle.ats_admission_law.proofs.Networks.{less_is_network}
-use Rattle.ats_admission_shares.specs.Changes.{ChangesAlong, IsEntered}
+use Rattle.ats_tally.specs.Shares.{Enters}
+use Rattle.ats_tally.proofs.Limits.{room_all}
 use Rattle.ats_admission_shares.specs.PortShares.{stream_at, without_at}
 use Rattle.ats_admission_shares.proofs.Entered.{less_by, shares_entered, stream_is}
-use Rattle.ats_admission_shares.proofs.Limits.{room_all}
 use Rattle.ats_admission_shares.proofs.port_shares.enter_stream.Goals as goal
 
 pub enter_along-requires-clause-room : goal.enter_along-requires-clause-room
@@ -21,5 +21,5 @@ returns c =
     let network = c.args.network.now in
     shares_entered network (without_at network c.args.stream) (stream_at network c.args.stream)
     (less_by network c.args.stream c.requires.stream) c.args.shares.now c.enter_along.new.shares c.requires.shares
-    (subst (λ (s : Sender). ChangesAlong (IsEntered s c.args.shares.now) s s.path c.args.shares.now
-    c.enter_along.new.shares) (stream_is network c.args.stream c.requires.stream) c.enter_along.ensures)
+    (subst (λ (s : Sender). Enters s c.args.shares.now c.enter_along.new.shares)
+    (stream_is network c.args.stream c.requires.stream) c.enter_along.ensures)

@@ -1,5 +1,6 @@
 use Rattle.std.proofs.Common.{◌≡◌, ◌<◌, ◌/◌, ◌+◌, ℕ, List, length, get_or, take, refl, sym, ap, subst, ◌∙◌, arith}
 use Rattle.std.proofs.lemmas.List.{get_or_default, length-map}
+use Rattle.ats_class_table.specs.Table.{Table}
 use Rattle.ats_admission_users.specs.Users.{IsHop, users_of}
 use Rattle.ats_admission_state.specs.Judging.{meets}
 use Rattle.ats_admission_state.specs.Routes.{RouteState, no_route, ports_along, route_paths}
@@ -37,7 +38,7 @@ look_at-found-requires-clause-number c =
 
 pub loop-rank-preserved : goal.loop-rank-preserved
 loop-rank-preserved c =
-    let bounds : List ℕ = c.args.bounds.now in
+    let bounds : Table ℕ = c.args.bounds.now in
     let routes : List RouteState = c.args.routes.now in
     let before : List ℕ = take c.args.hop c.args.path.now in
     let port : ℕ = get_or c.args.path.now c.args.hop 0 in

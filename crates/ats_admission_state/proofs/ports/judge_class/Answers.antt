@@ -1,5 +1,6 @@
-use Rattle.std.proofs.Common.{◌≡◌, ℕ, ◌+◌, ◌*◌, Bool, true, false, cond, None, List, set, sym, ap, ◌∙◌}
+use Rattle.std.proofs.Common.{◌≡◌, ℕ, Bool, true, false, cond, None, sym, ap, subst, ◌∙◌}
 use Rattle.std.specs.Prelude.{not}
+use Rattle.ats_class_table.specs.Table.{Sets}
 use Rattle.ats_certificate.specs.PortSums.{is_used}
 use Rattle.ats_certificate.specs.declared.row.Row.{Row}
 use Rattle.ats_tally.specs.Reason.{overstay}
@@ -30,14 +31,11 @@ returns-then-is_none-clause-fits c =
 pub returns-then-is_none-clause-set : goal.returns-then-is_none-clause-set
 returns-then-is_none-clause-set c =
     let network = c.args.network.now in
-    let at : ℕ = 8 * c.args.port + c.args.class in
-    let items : List ℕ = c.args.bounds.now.items in
     let unused : is_used network c.args.port c.args.class ≡ false =
     sym (used_is network c.args.port c.args.class c.args.tally c.requires.class_least c.requires.tally)
     ∙ c.is_none.ensures ∙ ap not c.if-is_none.true in
-    ap (λ (k : ℕ). set items k 0) c.place.ensures
-    ∙ sym (ap (λ (b : Bool).
-    set items at (cond b (least_row network (c.args.port, c.args.class)).bound 0)) unused)
+    subst (λ (n : ℕ). Sets c.args.port c.args.class n c.args.bounds.now c.set.new.self)
+    (sym (ap (λ (b : Bool). cond b (least_row network (c.args.port, c.args.class)).bound 0) unused)) c.set.ensures
 
 pub row_of-requires-clause-used : goal.row_of-requires-clause-used
 row_of-requires-clause-used c =
@@ -58,16 +56,13 @@ returns-in-Ok-clause-stay c =
 pub returns-in-Ok-clause-set : goal.returns-in-Ok-clause-set
 returns-in-Ok-clause-set c =
     let network = c.args.network.now in
-    let at : ℕ = 8 * c.args.port + c.args.class in
-    let items : List ℕ = c.args.bounds.now.items in
     let used : is_used network c.args.port c.args.class ≡ true =
     sym (used_is network c.args.port c.args.class c.args.tally c.requires.class_least c.requires.tally)
     ∙ c.is_none.ensures ∙ ap not c.if-is_none.false in
-    ap (λ (k : ℕ). set items k c.in-Ok.row.bound) c.place-in-Ok.ensures
-    ∙ ap (λ (r : Row). set items at r.bound)
-    (row_ok network (c.args.port, c.args.class) c.in-Ok.row (sym c.in-Ok.ensures.row))
-    ∙ sym (ap (λ (b : Bool).
-    set items at (cond b (least_row network (c.args.port, c.args.class)).bound 0)) used)
+    subst (λ (n : ℕ). Sets c.args.port c.args.class n c.args.bounds.now c.set-in-Ok.new.self)
+    (ap (λ (r : Row). r.bound) (row_ok network (c.args.port, c.args.class) c.in-Ok.row (sym c.in-Ok.ensures.row))
+    ∙ sym (ap (λ (b : Bool). cond b (least_row network (c.args.port, c.args.class)).bound 0) used))
+    c.set-in-Ok.ensures
 
 pub returns-in-Err-clause-load : goal.returns-in-Err-clause-load
 returns-in-Err-clause-load c =

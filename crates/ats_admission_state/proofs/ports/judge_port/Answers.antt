@@ -1,7 +1,6 @@
-use Rattle.std.proofs.Common.{ℕ, ◌+◌, ◌*◌, ◌<◌, ◌≤◌, List, length, sym, subst, arith}
+use Rattle.std.proofs.Common.{ℕ, ◌≤◌, arith}
 use Rattle.ats_bound.specs.Reason.{overload}
 use Rattle.ats_admission_law.specs.Near.{overstay_at}
-use Rattle.ats_admission_state.specs.Judging.{SetsBelow}
 use Rattle.ats_admission_state.proofs.Found.{find_class, keep_class, pass_class}
 use Rattle.ats_admission_state.proofs.Placed.{sets_more}
 use Rattle.ats_admission_state.proofs.ports.judge_port.Goals as goal
@@ -19,16 +18,11 @@ loop-class-preserved c =
     let class : ℕ = c.loop-class.class in
     let some : 1 ≤ class = c.loop-class.auto.class in
     let most : class ≤ 7 = omega (arith, c.loop-class-test.true) in
-    let before : SetsBelow network port class c.args.bounds.now.items c.loop-class.bounds.items =
-    c.loop-class.invariant.sets in
-    let within : 8 * port + class < length c.loop-class.bounds.items =
-    omega (arith, before.kept.count, c.requires.count, c.requires.port, most) in
     record {
       loads = pass_class (overload network) network port class some most c.loop-class.invariant.loads
           c.in-Ok.ensures.fits;
       stays = keep_class (overstay_at network) network port class c.loop-class.stay c.in-Ok.found
           c.or-stay.result some most c.loop-class.invariant.stays c.in-Ok.ensures.stay c.or-stay.ensures;
-      sets = subst (λ (bounds : List ℕ). SetsBelow network port (class + 1) c.args.bounds.now.items bounds)
-          (sym c.in-Ok.ensures.set)
-          (sets_more network port class c.args.bounds.now.items c.loop-class.bounds.items some most within before);
+      sets = sets_more network port class c.args.bounds.now c.loop-class.bounds c.judge_class.new.bounds
+          c.in-Ok.ensures.set c.loop-class.invariant.sets;
     }

@@ -15,5 +15,5 @@ invariant-loop-class l = record {
       ≡ found_at (overload l.network) l.network l.port;
   stays : option_or l.stay (found_among (overstay_at l.network) l.network l.port (classes_from l.class))
       ≡ found_at (overstay_at l.network) l.network l.port;
-  sets : SetsBelow l.network l.port l.class l.initial.bounds.items l.bounds.items;
+  sets : SetsBelow l.network l.port l.class l.initial.bounds l.bounds;
 }

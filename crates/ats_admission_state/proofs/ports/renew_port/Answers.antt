@@ -13,9 +13,9 @@ returns c =
     by c.judge_port.result c.judge_port.ensures.set c.judge_port.ensures.load
   where
     by : (r : Result (Option Reason) Reason)
-        → OnOk r (SetsBelow c.args.network.now c.args.port 8 c.args.bounds.now.items c.judge_port.new.bounds.items)
+        → OnOk r (SetsBelow c.args.network.now c.args.port 8 c.args.bounds.now c.judge_port.new.bounds)
         → IfErr r (λ load. found_at (overload c.args.network.now) c.args.network.now c.args.port ≡ Some load)
-        → SetsBelow c.args.network.now c.args.port 8 c.args.bounds.now.items c.judge_port.new.bounds.items
+        → SetsBelow c.args.network.now c.args.port 8 c.args.bounds.now c.judge_port.new.bounds
     by (Ok stay) sets none = sets
     by (Err load) sets some = absurd (none-some load
         (sym (no_overload c.args.network.now c.args.port c.requires.port c.requires.free) ∙ some))

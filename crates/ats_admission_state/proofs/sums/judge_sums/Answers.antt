@@ -1,6 +1,7 @@
 use Rattle.std.proofs.Common.{◌≡◌, ◌<◌, ℕ, List, length, sym, ap, subst, ◌∙◌, arith}
 use Rattle.std.specs.List.{All}
 use Rattle.std.proofs.lemmas.List.{length-map}
+use Rattle.ats_class_table.specs.Table.{Table}
 use Rattle.ats_streams.specs.Stream.{DeclaredStream}
 use Rattle.ats_network.specs.Network.{DeclaredNetwork}
 use Rattle.ats_admission_users.specs.Users.{ListsPaths}
@@ -55,7 +56,7 @@ pub bounds-routes-number : goal.bounds-routes-number
 bounds-routes-number c =
     let network : DeclaredNetwork = c.args.network.now in
     let n : ℕ = c.args.stream in
-    let bounds : List ℕ = c.args.bounds.now in
+    let bounds : Table ℕ = c.args.bounds.now in
     let rules = c.streams.ensures.rules in
     let within : n < length network.streams = omega (arith, c.requires.last) in
     let own = path_is network c.streams.result.now n c.index-streams-stream.result c.path.result.now within
@@ -72,7 +73,7 @@ pub sum-sum-requires : goal.sum-sum-requires
 sum-sum-requires c =
     let network : DeclaredNetwork = c.args.network.now in
     let n : ℕ = c.args.stream in
-    let bounds : List ℕ = c.args.bounds.now in
+    let bounds : Table ℕ = c.args.bounds.now in
     let rules = c.streams.ensures.rules in
     let within : n < length network.streams = omega (arith, c.requires.last) in
     let own = path_is network c.streams.result.now n c.index-streams-stream.result c.path.result.now within
@@ -90,7 +91,7 @@ pub bounds-streams-number : goal.bounds-streams-number
 bounds-streams-number c =
     let network : DeclaredNetwork = c.args.network.now in
     let n : ℕ = c.args.stream in
-    let bounds : List ℕ = c.args.bounds.now in
+    let bounds : Table ℕ = c.args.bounds.now in
     let rules = c.streams.ensures.rules in
     let within : n < length network.streams = omega (arith, c.requires.last) in
     let own = path_is network c.streams.result.now n c.index-streams-stream.result c.path.result.now within
@@ -105,7 +106,7 @@ pub returns-in-Some : goal.returns-in-Some
 returns-in-Some c =
     let network : DeclaredNetwork = c.args.network.now in
     let n : ℕ = c.args.stream in
-    let bounds : List ℕ = c.args.bounds.now in
+    let bounds : Table ℕ = c.args.bounds.now in
     let rules = c.streams.ensures.rules in
     let within : n < length network.streams = omega (arith, c.requires.last) in
     let own = path_is network c.streams.result.now n c.index-streams-stream.result c.path.result.now within
@@ -145,7 +146,7 @@ pub returns : goal.returns
 returns c =
     let network : DeclaredNetwork = c.args.network.now in
     let n : ℕ = c.args.stream in
-    let bounds : List ℕ = c.args.bounds.now in
+    let bounds : Table ℕ = c.args.bounds.now in
     let rules = c.streams.ensures.rules in
     let within : n < length network.streams = omega (arith, c.requires.last) in
     let own = path_is network c.streams.result.now n c.index-streams-stream.result c.path.result.now within

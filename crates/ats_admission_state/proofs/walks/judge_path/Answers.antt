@@ -1,6 +1,7 @@
 use Rattle.std.proofs.Common.{◌≡◌, ℕ, ◌+◌, ◌<◌, List, get_or, length, drop, Option, Some, None, subst, sym, ap, ◌∙◌}
 use Rattle.std.specs.Prelude.{fold, IfNone}
 use Rattle.std.proofs.lemmas.List.{drop_all, drop_more}
+use Rattle.ats_class_table.specs.Table.{Table}
 use Rattle.ats_tally.specs.declared.reason.Reason.{Reason}
 use Rattle.ats_bound.specs.Reason.{overload}
 use Rattle.ats_admission_law.specs.Lowest.{found_at, lower_of}
@@ -33,11 +34,11 @@ loop-hop-preserved c =
       stays = λ none.
           ap (λ (o : Option (ℕ × Reason)). fold stays o (drop (i + 1) path)) (c.judge_next-found.ensures.stay none)
           ∙ fold_more stays c.loop-hop.found.stay path i 0 within ∙ c.loop-hop.invariant.stays (earlier none);
-      beside = beside_kept network port c.loop-hop.bounds.items c.judge_next-found.new.bounds.items path
+      beside = beside_kept network port c.loop-hop.bounds c.judge_next-found.new.bounds path
           (on_own path i 0 within) c.judge_next-found.ensures.kept c.loop-hop.invariant.beside;
-      left = λ none. beside_next network port c.loop-hop.bounds.items c.judge_next-found.new.bounds.items
+      left = λ none. beside_next network port c.loop-hop.bounds c.judge_next-found.new.bounds
           (drop (i + 1) path) (c.judge_next-found.ensures.set none)
-          (subst (λ (left : List ℕ). AreLeastBeside network left c.loop-hop.bounds.items)
+          (subst (λ (left : List ℕ). AreLeastBeside network left c.loop-hop.bounds)
           (drop_more path i 0 within) (c.loop-hop.invariant.left (earlier none)));
     }
 
@@ -45,7 +46,7 @@ pub returns-in-None-clause-none : goal.returns-in-None-clause-none
 returns-in-None-clause-none c =
     let network = c.args.network.now in
     let path : List ℕ = c.args.path.now in
-    let bounds : List ℕ = c.loop-hop.bounds.items in
+    let bounds : Table ℕ = c.loop-hop.bounds in
     if_none c.map.result (AreLeast network bounds) (beside_none network bounds
     (subst (λ (left : List ℕ). AreLeastBeside network left bounds)
     (drop_all c.loop-hop.hop path c.loop-hop-test.false) (c.loop-hop.invariant.left c.in-None.is)))

@@ -15,6 +15,6 @@ invariant-loop-hop l = record {
   stays : l.found.load ≡ None
       → fold (λ best port. lower_of best port (found_at (overstay_at l.network) l.network port))
       l.found.stay (drop l.hop l.path) ≡ lowest_found (overstay_at l.network) l.network l.path;
-  beside : AreLeastBeside l.network l.path l.bounds.items;
-  left : l.found.load ≡ None → AreLeastBeside l.network (drop l.hop l.path) l.bounds.items;
+  beside : AreLeastBeside l.network l.path l.bounds;
+  left : l.found.load ≡ None → AreLeastBeside l.network (drop l.hop l.path) l.bounds;
 }

@@ -9,7 +9,7 @@ loop-port-preserved c =
     let path : List ℕ = c.args.path.now in
     let i : ℕ = c.loop-port.port-index in
     let within : i < length path = c.loop-port-test.true in
-    beside_next c.args.network.now (get_or path i 0) c.loop-port.bounds.items
-    c.renew_port.new.bounds.items (drop (i + 1) path) c.renew_port.ensures
-    (subst (λ (left : List ℕ). AreLeastBeside c.args.network.now left c.loop-port.bounds.items)
+    beside_next c.args.network.now (get_or path i 0) c.loop-port.bounds
+    c.renew_port.new.bounds (drop (i + 1) path) c.renew_port.ensures
+    (subst (λ (left : List ℕ). AreLeastBeside c.args.network.now left c.loop-port.bounds)
     (drop_more path i 0 within) c.loop-port.invariant)

@@ -1,5 +1,6 @@
-use Rattle.std.proofs.Common.{◌<◌, ℕ, List, length, Result, Ok, Err, arith, sym, subst}
+use Rattle.std.proofs.Common.{◌<◌, ℕ, length, Result, Ok, Err, arith, sym, subst}
 use Rattle.std.specs.Prelude.{OnErr}
+use Rattle.ats_class_table.specs.Table.{Table}
 use Rattle.ats_network.specs.Network.{DeclaredNetwork}
 use Rattle.ats_admission_shares.specs.PortShares.{stream_at, without_at}
 use Rattle.ats_admission_state.specs.Kept.{AreLeastBeside, IsKeptBeside, KeptState}
@@ -14,7 +15,7 @@ on_err (Ok x) P p = tt
 on_err (Err e) P p = p
 
 -- beside the path of a network's stream the least bounds are those without it
-stay : (network : DeclaredNetwork) (n : ℕ) (bounds : List ℕ) → n < length network.streams
+stay : (network : DeclaredNetwork) (n : ℕ) (bounds : Table ℕ) → n < length network.streams
     → StayBeside network (without_at network n) (stream_at network n) bounds
 stay network n bounds within =
     bounds_stay_beside network (without_at network n) (stream_at network n) bounds (less_by network n within)
@@ -23,7 +24,7 @@ pub judge_stream-requires-clause-beside : goal.judge_stream-requires-clause-besi
 judge_stream-requires-clause-beside c =
     let network : DeclaredNetwork = c.args.network.now in
     let n : ℕ = c.args.stream in
-    (stay network n c.self.inside.bounds.items (omega (arith, c.requires.last))).entered
+    (stay network n c.self.inside.bounds (omega (arith, c.requires.last))).entered
     (subst (λ (kept : KeptState). AreLeastBeside (without_at network n) (stream_at network n).path kept.bounds)
     (sym c.self.view_is) c.requires.beside.bounds)
 
@@ -35,7 +36,7 @@ returns-in_err-sum-clause-err c =
     subst (IsKeptBeside (without_at network n) (stream_at network n).path) (sym c.self.view_is) c.requires.beside in
     on_err c.from_residual.result _ (record {
       keeps = before.keeps;
-      bounds = (stay network n c.judge_stream.new.bounds.items (omega (arith, c.requires.last))).left
+      bounds = (stay network n c.judge_stream.new.bounds (omega (arith, c.requires.last))).left
           c.judge_stream.ensures.beside;
     })
 
@@ -45,6 +46,6 @@ returns-in_err-enter-clause-err c =
     let n : ℕ = c.args.stream in
     on_err c.from_residual-in_err-enter.result _ (record {
       keeps = c.in_err-enter.ensures.err;
-      bounds = (stay network n c.judge_stream.new.bounds.items (omega (arith, c.requires.last))).left
+      bounds = (stay network n c.judge_stream.new.bounds (omega (arith, c.requires.last))).left
           c.judge_stream.ensures.beside;
     })

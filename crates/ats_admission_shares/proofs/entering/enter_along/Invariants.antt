@@ -1,9 +1,0 @@
-use Rattle.std.proofs.Common.{take}
-use Rattle.ats_network.specs.Senders.{sender_at}
-use Rattle.ats_admission_shares.specs.Changes.{ChangesAlong, IsEntered}
-use Rattle.ats_admission_shares.proofs.entering.enter_along.Given as goal
-
--- the sender is counted at the ports so far
-abbrev pub invariant-loop-hop : goal.invariant-loop-hop
-invariant-loop-hop l = ChangesAlong (IsEntered (sender_at l.network l.sender) l.initial.shares)
-    (sender_at l.network l.sender) (take l.hop (sender_at l.network l.sender).path) l.initial.shares l.shares

@@ -1,8 +1,0 @@
-use Rattle.std.proofs.Common.{length, take}
-use Rattle.ats_network.specs.Network.{senders_of}
-use Rattle.ats_admission_shares.specs.PortShares.{AreSharesAt}
-use Rattle.ats_admission_shares.proofs.port_shares.enter_all.Given as goal
-
--- the senders so far are counted
-abbrev pub invariant-loop-sender : goal.invariant-loop-sender
-invariant-loop-sender l = AreSharesAt (length l.network.topology.ports) (take l.sender (senders_of l.network)) l.shares
