@@ -33,7 +33,7 @@ use Rattle.ats_admission_law.proofs.Lowest.{IsBest, best_along, of_one}
 use Rattle.ats_admission_law.proofs.Near.{near_finds_late}
 use Rattle.ats_admission_shares.specs.PortShares.{stream_at, stream_paths, without_at}
 use Rattle.ats_admission_users.specs.Users.{has_port}
-use Rattle.ats_admission_state.specs.Judging.{IsFirstLate, meets}
+use Rattle.ats_admission_state.specs.Judging.{FindsFirstLate, meets}
 use Rattle.ats_admission_state.specs.Judged.{sum_at}
 use Rattle.ats_admission_state.specs.Kept.{AreLeast}
 use Rattle.ats_admission_state.specs.Routes.{AreBounded, RouteState, is_late, no_route, route_of}
@@ -150,7 +150,7 @@ module _ (network : DeclaredNetwork) (n : ℕ) (last : n + 1 ≡ length network.
         ∙ ap (late (least_certificate less)) (other_at network n last m within) ∙ early
 
     -- so a first late one is the lowest late one near it
-    is_found_best : (m : ℕ) → IsFirstLate bounds routes x.path (Some m) → number_of best ≡ Some m
+    is_found_best : (m : ℕ) → FindsFirstLate bounds routes x.path (Some m) → number_of best ≡ Some m
     is_found_best m first = by best best_is
       where
         within : m < n
@@ -185,7 +185,7 @@ module _ (network : DeclaredNetwork) (n : ℕ) (last : n + 1 ≡ length network.
               ]
             ]
 
-    none_best : IsFirstLate bounds routes x.path None → number_of best ≡ None
+    none_best : FindsFirstLate bounds routes x.path None → number_of best ≡ None
     none_best first = by best best_is
       where
         by : (o : Option (ℕ × Reason)) → IsBest (late_at network) numbers o → number_of o ≡ None
@@ -197,16 +197,16 @@ module _ (network : DeclaredNetwork) (n : ℕ) (last : n + 1 ≡ length network.
             (first.none_before found.0 (omega (arith, lower, routes-length network n last rules)) refl
             (found_met found.0 lower is.inside))) ∙ is.is))
 
-    first_is : (o : Option ℕ) → IsFirstLate bounds routes x.path o → o ≡ number_of best
+    first_is : (o : Option ℕ) → FindsFirstLate bounds routes x.path o → o ≡ number_of best
     first_is None none = sym (none_best none)
     first_is (Some m) first = sym (is_found_best m first)
 
     -- what is found, as it is read
     read : (rs : List RouteState) (path : List ℕ) (o : Option ℕ) → rs ≡ routes → path ≡ x.path
-        → IsFirstLate bounds rs path o → o ≡ number_of best
+        → FindsFirstLate bounds rs path o → o ≡ number_of best
     read rs path o routes_are path_are is =
-        first_is o (subst (λ (p : List ℕ). IsFirstLate bounds routes p o) path_are
-        (subst (λ (t : List RouteState). IsFirstLate bounds t path o) routes_are is))
+        first_is o (subst (λ (p : List ℕ). FindsFirstLate bounds routes p o) path_are
+        (subst (λ (t : List RouteState). FindsFirstLate bounds t path o) routes_are is))
 
   near_is : late_near network x ≡ found_there (lower_of best n (late_at network n))
   near_is =
@@ -221,7 +221,7 @@ module _ (network : DeclaredNetwork) (n : ℕ) (last : n + 1 ≡ length network.
     pub near : late_near network x ≡ Some reason
 
   pub is_found : (m : ℕ) (rs : List RouteState) (path : List ℕ) (o : Option ℕ) → reason_of less ≡ None
-      → rs ≡ routes → path ≡ x.path → IsFirstLate bounds rs path o → o ≡ Some m → IsLate m
+      → rs ≡ routes → path ≡ x.path → FindsFirstLate bounds rs path o → o ≡ Some m → IsLate m
   is_found m rs path o free routes_are path_are is some =
       by best best_is refl (sym (read free rs path o routes_are path_are is) ∙ some)
     where
@@ -242,7 +242,7 @@ module _ (network : DeclaredNetwork) (n : ℕ) (last : n + 1 ≡ length network.
 
   -- none was
   pub none_found : (rs : List RouteState) (path : List ℕ) (o : Option ℕ) → reason_of less ≡ None → rs ≡ routes
-      → path ≡ x.path → IsFirstLate bounds rs path o → o ≡ None → late_near network x ≡ late_at network n
+      → path ≡ x.path → FindsFirstLate bounds rs path o → o ≡ None → late_near network x ≡ late_at network n
   none_found rs path o free routes_are path_are is none =
       by best refl (sym (read free rs path o routes_are path_are is) ∙ none)
     where

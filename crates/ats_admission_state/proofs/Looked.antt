@@ -11,7 +11,7 @@ use Rattle.std.proofs.lemmas.Option.{none-some}
 use Rattle.ats_class_table.specs.Table.{Table}
 use Rattle.ats_tally.proofs.Lists.{any_gives}
 use Rattle.ats_admission_users.specs.Users.{has_port, users_of}
-use Rattle.ats_admission_state.specs.Judging.{IsFirstLate, IsLateRoute, LooksAt, is_below, meets}
+use Rattle.ats_admission_state.specs.Judging.{FindsFirstLate, IsLateRoute, LooksAt, is_below, meets}
 use Rattle.ats_admission_state.specs.Routes.{RouteState, is_late, no_route, ports_along, route_paths}
 use Rattle.ats_admission_state.proofs.Hops.{path_of}
 use Rattle.ats_admission_state.proofs.Users.{is_listed}
@@ -67,7 +67,7 @@ module _ (bounds : Table ℕ) (routes : List RouteState) where
   route n = get_or routes n no_route
 
   -- at no port none is found
-  pub first_none : (path : List ℕ) → IsFirstLate bounds routes (take 0 path) None
+  pub first_none : (path : List ℕ) → FindsFirstLate bounds routes (take 0 path) None
   first_none path = record {
     late = λ n some. absurd (none-some n some);
     none_before = λ n within below met. absurd (true≢false (sym met ∙ meets_none (route n)));
@@ -80,7 +80,7 @@ module _ (bounds : Table ℕ) (routes : List RouteState) where
         → (meets path (route n) ≡ true) ⊎ (list_any (λ q. eqb q n) (take rank users) ≡ true)
         → is_late bounds (route n) ≡ false
 
-  pub looked_none : (path users : List ℕ) (found : Option ℕ) → IsFirstLate bounds routes path found
+  pub looked_none : (path users : List ℕ) (found : Option ℕ) → FindsFirstLate bounds routes path found
       → IsLooked path users 0 found
   looked_none path users found first = record {
     late = first.late;
@@ -152,7 +152,7 @@ module _ (bounds : Table ℕ) (routes : List RouteState) where
   pub looked_all : (path : List ℕ) (hop port rank : ℕ) (found : Option ℕ) → hop < length path
       → port ≡ get_or path hop 0 → length (users_of (route_paths routes) port) ≤ rank
       → IsLooked (take hop path) (users_of (route_paths routes) port) rank found
-      → IsFirstLate bounds routes (take (hop + 1) path) found
+      → FindsFirstLate bounds routes (take (hop + 1) path) found
   looked_all path hop port rank found within at all looked = record {
     late = looked.late;
     none_before = λ n inside below met. looked.none_before n inside below

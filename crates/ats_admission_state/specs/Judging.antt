@@ -56,7 +56,8 @@ pub record IsLateRoute (bounds : Table ℕ) (routes : List RouteState) (n : ℕ)
   pub late : is_late bounds (slice_index_or routes n no_route) ≡ true
 
 -- the route that was found, if one was, is late, and of those whose paths have a port of this path none before it is
-pub record IsFirstLate (bounds : Table ℕ) (routes : List RouteState) (path : List ℕ) (found : Option ℕ) : Type 0 where
+pub record FindsFirstLate (bounds : Table ℕ) (routes : List RouteState) (path : List ℕ) (found : Option ℕ)
+    : Type 0 where
   pub late : ForSome found (IsLateRoute bounds routes)
   pub none_before : (n : ℕ) → n < length routes → is_below n found ≡ true
       → meets path (slice_index_or routes n no_route) ≡ true

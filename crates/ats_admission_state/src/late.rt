@@ -3,7 +3,7 @@
 ghost use Rattle.std.specs.Prelude.{◌≡◌, ◌+◌, ◌<◌, ◌≤◌, nat_le, List, ℕ, [], length, slice_index_or, take, All, IsTrue};
 ghost use Rattle.std.specs.List.{list_any};
 ghost use Rattle.ats_admission_users.specs.Users.{ListsPaths};
-ghost use Rattle.ats_admission_state.specs.Judging.{IsFirstLate, LooksAt, is_below, meets};
+ghost use Rattle.ats_admission_state.specs.Judging.{FindsFirstLate, LooksAt, is_below, meets};
 ghost use Rattle.ats_admission_state.specs.Routes.{AreBounded, route_paths};
 
 use crate::routes::Route;
@@ -22,7 +22,7 @@ pub(crate) fn find_late(
     requires ports { All (λ p. p < length users.now.lists) path.now }
     requires bounded { All (AreBounded bounds.now) routes.now }
     requires users { ListsPaths (length users.now.lists) (route_paths routes.now) users.now }
-    ensures { IsFirstLate bounds.now routes.now path.now result }
+    ensures { FindsFirstLate bounds.now routes.now path.now result }
 {
     if is_busy(users, path, routes.len() / 4) {
         first_of_all(bounds, routes)
@@ -48,7 +48,7 @@ fn is_busy(users: &PortUsers, path: &[u32], many: usize) -> bool
 fn first_of_all(bounds: &PortClassTable<u128>, routes: &[Route]) -> Option<u32>
     requires few { length routes.now ≤ 4096 }
     requires bounded { All (AreBounded bounds.now) routes.now }
-    ensures { (path : List ℕ) → IsFirstLate bounds.now routes.now path result }
+    ensures { (path : List ℕ) → FindsFirstLate bounds.now routes.now path result }
 {
     for (number, route) in routes.iter().enumerate() {
         if route.is_late(bounds) {
@@ -68,7 +68,7 @@ fn first_near(
     requires ports { All (λ p. p < length users.now.lists) path.now }
     requires bounded { All (AreBounded bounds.now) routes.now }
     requires users { ListsPaths (length users.now.lists) (route_paths routes.now) users.now }
-    ensures { IsFirstLate bounds.now routes.now path.now result }
+    ensures { FindsFirstLate bounds.now routes.now path.now result }
 {
     let mut found = None;
     for hop in 0..path.len() {
@@ -91,8 +91,8 @@ fn first_to(
     requires ports { All (λ p. p < length users.now.lists) path.now }
     requires bounded { All (AreBounded bounds.now) routes.now }
     requires users { ListsPaths (length users.now.lists) (route_paths routes.now) users.now }
-    requires before { IsFirstLate bounds.now routes.now (take hop path.now) before }
-    ensures { IsFirstLate bounds.now routes.now (take (hop + 1) path.now) result }
+    requires before { FindsFirstLate bounds.now routes.now (take hop path.now) before }
+    ensures { FindsFirstLate bounds.now routes.now (take (hop + 1) path.now) result }
 {
     let port = path[hop];
     let mut found = before;

@@ -37,7 +37,7 @@ pub record ArePlaced (ports : ℕ) (rows : List Row) (below : ℕ) (table : Tabl
 
 -- what an explanation holds: the least certificate, with the place of each row, the names of all senders of longest
 -- lower frames, and the margins
-pub record IsExplained (network : DeclaredNetwork) (rows : List Row) (places : Table ℕ)
+pub record HoldsExplanation (network : DeclaredNetwork) (rows : List Row) (places : Table ℕ)
     (names : Table (Option (List ℕ))) (margins : List Margin) : Type 0 where
   pub rules : IsNetwork network
   pub least : rows ≡ least_certificate network

@@ -44,13 +44,13 @@ pub struct Explanation<'a> {
 
 impl<'a> Model for Explanation<'a> {
     ghost use Rattle.ats_network.specs.Network.{DeclaredNetwork};
-    ghost use Rattle.ats_explain.specs.Table.{IsExplained};
+    ghost use Rattle.ats_explain.specs.Table.{HoldsExplanation};
 
     ghost Value = { DeclaredNetwork };
 
     ghost view = { λ e. e.tallies };
 
-    ghost invariant = { λ e. IsExplained e.tallies e.certificate e.places e.names e.margin_list.items };
+    ghost invariant = { λ e. HoldsExplanation e.tallies e.certificate e.places e.names e.margin_list.items };
 }
 
 impl<'a> Explanation<'a> {

@@ -34,7 +34,7 @@ RequestsKeep =
     → All (MayAsk network.topology) requests → StaysCertified network (after_all network requests)
 
 -- a stream with this class at each port is refused, for some reason against the network with it
-pub record IsRefused (network : DeclaredNetwork) (stream : DeclaredStream) (class : ℕ) : Type 0 where
+pub record IsDeniedWith (network : DeclaredNetwork) (stream : DeclaredStream) (class : ℕ) : Type 0 where
   pub reason : Reason
   pub refused : admit network (with_class stream class) ≡ Err (Because reason)
 
@@ -42,7 +42,7 @@ pub record IsRefused (network : DeclaredNetwork) (stream : DeclaredStream) (clas
 pub record IsFirstAccepted (network : DeclaredNetwork) (stream : DeclaredStream) (class sum : ℕ) : Type 0 where
   pub is_class : IsClass class
   pub accepted : admit network (with_class stream class) ≡ Ok sum
-  pub lower : (c : ℕ) → 1 ≤ c → c < class → IsRefused network stream c
+  pub lower : (c : ℕ) → 1 ≤ c → c < class → IsDeniedWith network stream c
 
 abbrev pub LowestIsFirst : Type 0
 LowestIsFirst =

@@ -18,13 +18,13 @@ use Rattle.ats_examples.proofs.NetworkProofs.{line_is, fast_is}
 use Rattle.ats_examples.proofs.RuleTest.{is_before, before_by}
 use Rattle.ats_examples.proofs.Tests.{pairs_pass, pairs_by}
 use Rattle.ats_verdict_examples.specs.Networks.{line_until}
-use Rattle.ats_verdict_examples.specs.Refusals.{IsRefused, with_second, short_row, RefusalsAreMet}
+use Rattle.ats_verdict_examples.specs.Refusals.{AreRefusedBy, with_second, short_row, RefusalsAreMet}
 use Rattle.ats_verdict_examples.proofs.NetworkProofs.{line_late, pair_over}
 
 -- Refusals by computation, and what the laws say of them.
 
 refused_by : (network : DeclaredNetwork) (rows : List Row) (refusal : Refusal) → IsNetwork network
-    → pairs_pass is_before rows ≡ true → refusal_of network rows ≡ Some refusal → IsRefused network rows refusal
+    → pairs_pass is_before rows ≡ true → refusal_of network rows ≡ Some refusal → AreRefusedBy network rows refusal
 refused_by network rows refusal rules ordered given =
     let before : AllPairs IsBefore rows = pairs_by IsBefore is_before before_by rows ordered in
     record {

@@ -16,7 +16,7 @@ use Rattle.ats_verdict_examples.specs.Networks.{line_until}
 -- Rows that are refused, for each cause.
 
 -- rows in order, which are refused for this, the first cause against them, and so do not hold
-pub record IsRefused (network : DeclaredNetwork) (rows : List Row) (refusal : Refusal) : Type 0 where
+pub record AreRefusedBy (network : DeclaredNetwork) (rows : List Row) (refusal : Refusal) : Type 0 where
   pub rules : IsNetwork network
   pub ordered : AllPairs IsBefore rows
   pub given : refusal_of network rows ≡ Some refusal
@@ -35,12 +35,12 @@ short_row = row_with 2 6 0 100000000000 12336 0 672 11663999 12835999
 -- fast stream's rows say its load, a small frame's row its stay, and with a deadline 1 ns less the line's rows its sum
 pub record RefusalsAreMet : Type 0 where
   pub accepted : refusal_of line line_rows ≡ None
-  pub missing : IsRefused line (row_of_line 0 13836000 ∷ []) (RowMissing 2 6)
-  pub stray : IsRefused line (row_of_line 0 13836000 ∷ row_with 2 5 0 0 0 0 0 0 0 ∷ row_of_line 2 12836000 ∷ [])
+  pub missing : AreRefusedBy line (row_of_line 0 13836000 ∷ []) (RowMissing 2 6)
+  pub stray : AreRefusedBy line (row_of_line 0 13836000 ∷ row_with 2 5 0 0 0 0 0 0 0 ∷ row_of_line 2 12836000 ∷ [])
       (RowStray 2 5)
-  pub wrong : IsRefused line (with_second (row_of_line 2 12835999)) (FieldWrong 2 6 field.Bound 12836000)
-  pub overloaded : IsRefused fast (fast_rows 2000000000000) (Network (Overloaded 0 6 2000000000000))
-  pub short : IsRefused line (with_second short_row) (WaitTooSmall 2 6 11664000)
-  pub overstays : IsRefused (pair 12335) (pair_rows (row_with 0 6 0 150000000000 13008 0 672 12336000 14508000))
+  pub wrong : AreRefusedBy line (with_second (row_of_line 2 12835999)) (FieldWrong 2 6 field.Bound 12836000)
+  pub overloaded : AreRefusedBy fast (fast_rows 2000000000000) (Network (Overloaded 0 6 2000000000000))
+  pub short : AreRefusedBy line (with_second short_row) (WaitTooSmall 2 6 11664000)
+  pub overstays : AreRefusedBy (pair 12335) (pair_rows (row_with 0 6 0 150000000000 13008 0 672 12336000 14508000))
       (Network (Residence 0 6 12336000))
-  pub late : IsRefused (line_until 26671) line_rows (Network (Deadline (codes "a") 26672000))
+  pub late : AreRefusedBy (line_until 26671) line_rows (Network (Deadline (codes "a") 26672000))
