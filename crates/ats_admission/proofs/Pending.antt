@@ -31,7 +31,7 @@ all_beside network path kept is = record {
   keeps = is.keeps;
   bounds = record {
     count = is.bounds.count;
-    each = λ port class d within least most off. is.bounds.each port class d within least most;
+    each = λ port class within least most off. is.bounds.each port class within least most;
   };
 }
 
