@@ -1,0 +1,11 @@
+pub mod Before
+pub mod Crossings
+pub mod Cuts
+pub mod Found
+pub mod Hops
+pub mod LevelLemmas
+pub mod Occupied
+pub mod Peak
+pub mod ShareLemmas
+pub mod Sums
+pub mod Visits

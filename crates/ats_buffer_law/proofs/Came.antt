@@ -1,0 +1,94 @@
+use Rattle.std.proofs.Common.{◌≡◌, ℕ, List, [], ◌∷◌, All, sym, ap, subst}
+use Rattle.std.specs.Prelude.{Option, Some, None}
+use Rattle.std.proofs.lemmas.List.Elements.{All-nil, All-cons, All-append, All-weaker}
+use Rattle.ats_num.specs.declared.time.Ps.{Ps}
+use Rattle.ats_topology.specs.Port.{port_at}
+use Rattle.ats_topology.specs.Topology.{IsStationAt}
+use Rattle.ats_network.specs.Sender.{Sender}
+use Rattle.ats_network.specs.Bridges.{IsBridgeAt, MeetAtBridge}
+use Rattle.ats_network.specs.Network.{DeclaredNetwork}
+use Rattle.ats_network.specs.Senders.{sender_at, AllNeighbours}
+use Rattle.ats_group.specs.declared.verdict.Verdict.{Verdict}
+use Rattle.ats_group.specs.declared.verdict.Verdict.TheVariants.{Eligible}
+use Rattle.ats_group.specs.Judge.{ats_judge, bucket_rule}
+use Rattle.ats_trace.specs.Journey.{Travel, IsJourney, IsReleased, class_at}
+use Rattle.ats_trace.specs.Projections.{Hop, Crossing, transmission_by, transmission_of, crossing_at}
+use Rattle.ats_trace.specs.Projections.{crossings_along, crossings_from}
+use Rattle.ats_trace.specs.declared.journey.Release.{Release}
+use Rattle.ats_trace.specs.declared.journey.HopRecord.{HopRecord}
+use Rattle.ats_trace.specs.declared.journey.Ending.{Ending}
+use Rattle.ats_trace.specs.declared.journey.Ending.TheVariants.{Sink, Discard}
+use Rattle.ats_soundness_law.proofs.Along.{hop_of, all_hops, all_were_sent}
+use Rattle.ats_soundness_law.proofs.Known.{Case, IsKnown, known}
+use Rattle.ats_soundness_law.proofs.Lifts.{run_were_sent}
+use Rattle.ats_soundness_law.proofs.Paths.{sender_is, not_both, later_bridges}
+use Rattle.ats_buffer_law.proofs.Crossed.{run_crossings}
+
+-- a frame comes to a station's port when it becomes eligible there
+abbrev pub IsOwnFrame : DeclaredNetwork → Crossing → Type 0
+IsOwnFrame network c =
+    IsStationAt network.topology (port_at network.topology.ports c.port).from → c.sent.eligible ≡ c.came
+
+-- the first crossing of a journey
+first_own : (network : DeclaredNetwork) (n class : ℕ) (r : Release) (p : ℕ) (arrival : Ps) (verdict : Verdict)
+    (sent : Option (Ps × Ps)) (hops : List HopRecord) (ending : Ending) → arrival ≡ r.at → verdict ≡ Eligible r.at
+    → All (IsOwnFrame network)
+    (crossing_at r.octets arrival.0 p (transmission_by n r class verdict sent) hops ending)
+first_own network n class r p arrival verdict sent hops ending at is =
+    let Own : Verdict → Type 0 = λ (v : Verdict). All (IsOwnFrame network)
+    (crossing_at r.octets arrival.0 p (transmission_by n r class v sent) hops ending) in
+    let came : r.at.0 ≡ arrival.0 = ap (λ (t : Ps). t.0) (sym at) in
+    subst Own (sym is) (by came sent hops ending)
+  where
+    by : r.at.0 ≡ arrival.0 → (sent : Option (Ps × Ps)) (hops : List HopRecord) (ending : Ending)
+        → All (IsOwnFrame network)
+        (crossing_at r.octets arrival.0 p (transmission_by n r class (Eligible r.at) sent) hops ending)
+    by came None hops ending = All-nil (IsOwnFrame network)
+    by came (Some times) (next ∷ hops) ending =
+        All-cons (IsOwnFrame network) _ [] (λ station. came) (All-nil (IsOwnFrame network))
+    by came (Some times) [] (Sink t) =
+        All-cons (IsOwnFrame network) _ [] (λ station. came) (All-nil (IsOwnFrame network))
+    by came (Some times) [] Discard = All-nil (IsOwnFrame network)
+
+-- the later ones are at ports that leave bridges
+later_own : (network : DeclaredNetwork) (n : ℕ) (r : Release) (s : Sender) (p : ℕ) (path : List ℕ)
+    (hops : List HopRecord) (ending : Ending) → AllNeighbours (MeetAtBridge network.topology) (p ∷ path)
+    → All (IsOwnFrame network) (crossings_along n r s path hops ending)
+later_own network n r s p path hops ending meet =
+    let OfBridge : Hop → Type 0 =
+    λ (g : Hop). IsBridgeAt network.topology (port_at network.topology.ports g.port).from in
+    All-weaker (λ (c : Crossing). OfBridge (hop_of c)) (IsOwnFrame network)
+    (λ c bridge station. not_both network.topology (port_at network.topology.ports c.port).from station bridge
+    (c.sent.eligible ≡ c.came))
+    (crossings_along n r s path hops ending)
+    (all_were_sent OfBridge n r s path hops ending
+    (all_hops OfBridge n r s path hops (λ k d h e times. later_bridges network.topology p path meet k d h)))
+
+own_along : (network : DeclaredNetwork) (n : ℕ) (r : Release) (s : Sender) (path : List ℕ) (hops : List HopRecord)
+    (ending : Ending) → AllNeighbours (MeetAtBridge network.topology) path → IsReleased r hops
+    → All (IsOwnFrame network) (crossings_along n r s path hops ending)
+own_along network n r s [] hops ending meet released = All-nil (IsOwnFrame network)
+own_along network n r s (p ∷ path) [] ending meet released = All-nil (IsOwnFrame network)
+own_along network n r s (p ∷ path) (hop ∷ hops) ending meet released =
+    All-append (IsOwnFrame network)
+    (crossing_at r.octets hop.arrival.0 p (transmission_of n r (class_at s p) hop) hops ending)
+    (crossings_along n r s path hops ending)
+    (first_own network n (class_at s p) r p hop.arrival hop.verdict hop.sent hops ending released.0 released.1)
+    (later_own network n r s p path hops ending meet)
+
+pub all_own : (network : DeclaredNetwork) (run : List Travel) → Case ats_judge bucket_rule network run
+    → All (IsOwnFrame network) (crossings_from network 0 run)
+all_own network run c =
+    run_crossings (IsJourney network) (IsOwnFrame network) network 0 run
+    (λ n j is. own_along network n j.release (sender_at network j.release.sender)
+    (sender_at network j.release.sender).path j.hops j.ending
+    (sender_is network c.net j.release.sender is.sender).bridges is.released)
+    c.legal.journeys
+
+-- and of each crossing is known what is known of its transmission
+pub all_known : (network : DeclaredNetwork) (run : List Travel) → Case ats_judge bucket_rule network run
+    → All (λ (c : Crossing). IsKnown network (hop_of c)) (crossings_from network 0 run)
+all_known network run c =
+    run_were_sent (IsKnown network) network 0 run
+    (λ n j. all_were_sent (IsKnown network) n j.release (sender_at network j.release.sender)
+    (sender_at network j.release.sender).path j.hops j.ending) (known network run c)

@@ -1,0 +1,10 @@
+pub mod Came
+pub mod Crossed
+pub mod Fed
+pub mod Held
+pub mod Passed
+pub mod Places
+pub mod Sent
+pub mod Stays
+pub mod Windows
+pub mod WorkedProofs

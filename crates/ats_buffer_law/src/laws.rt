@@ -1,0 +1,21 @@
+//! What is proved of what ports hold, for each network, certificate and legal run.
+
+ghost use Rattle.ats_buffer_law.specs.Laws.{BuffersHold, EachTransmissionCrosses, PeaksFit};
+
+/// Where a certificate holds, in each legal run the occupancy of each port and class is at every
+/// time at most its buffer by the certificate's rows, if each station keeps its buckets at which a
+/// stream begins that has the class at the port. Nothing is asked of any other station.
+pub fn buffers_hold()
+    ensures { BuffersHold }
+{}
+
+/// So the peak of each row of the certificate is at most its buffer.
+pub fn peaks_fit()
+    ensures { PeaksFit }
+{}
+
+/// In a legal run the transmissions are those of the crossings, one by one: an occupancy, which
+/// counts crossings, leaves no transmission out.
+pub fn each_transmission_crosses()
+    ensures { EachTransmissionCrosses }
+{}
