@@ -1,0 +1,134 @@
+"""What a page shows: what the program answered about a network, and about a run of it."""
+
+import os
+import tempfile
+
+import journeys
+import texts
+from program import DONE, REFUSED, Stopped
+
+# Found delays are asked for where a network has at most so many streams: each is a call with runs of its own.
+MOST_WITNESSES = 64
+
+
+class Model:
+    """All that a page shows. `status` is the first of the program's exit statuses that is not Done, `refusals` are the
+    lines by which it refused, and `said` is what its launcher said of them."""
+
+    def __init__(self, program, words, room):
+        self.program, self.room = program, room
+        self.net, self.schedule = words.net, words.schedule
+        self.status, self.refusals, self.said = DONE, [], ""
+        self.shown = texts.shown_of(self.sure("show", self.net))
+        with open(self.net, "rb") as file:
+            self.declared = texts.declared_in(file.read())
+        self.bridges = self.declared.bridges if self.declared.known else texts.bridges_by_links(self.shown.ports)
+        self.ways = ways_of(self.shown)
+        explained = self.asked("explain", self.net)
+        self.explained = texts.explained_of(explained) if explained else None
+        bound = self.asked("bound", self.net)
+        self.rows = texts.rows_of(bound) if bound else {}
+        self.read_run(words)
+        self.buffers = self.read_buffers(bound, words) if self.rows else {}
+        self.found = self.found_delays() if self.rows else {}
+        runs = [self.run is not None and "run", bool(self.found) and "found"]
+        # Whether the page has routes and hops as data.
+        self.is_data = False
+        self.kinds_of_marks = [kind for kind in runs if kind]
+
+    def keep(self, answer):
+        """Notes a refusal."""
+        self.status = self.status or answer.status
+        if answer.lines and answer.lines[0] not in self.refusals:
+            self.refusals.append(answer.lines[0])
+            self.said += answer.said
+
+    def asked(self, *words):
+        """The lines that the program printed, or nothing where it refuses; any other status ends the page."""
+        answer = self.program.ask(*words)
+        if answer.status == REFUSED:
+            self.keep(answer)
+            return []
+        if answer.status != DONE:
+            raise Stopped(answer)
+        return answer.lines
+
+    def sure(self, *words):
+        """The lines of a call that is never refused."""
+        answer = self.program.ask(*words)
+        if answer.status != DONE:
+            raise Stopped(answer)
+        return answer.lines
+
+    def read_run(self, words):
+        """The run of a schedule, if there is one, and whether its talkers keep their buckets."""
+        self.run, self.conforms = None, ""
+        if self.schedule:
+            judged = self.program.ask("conform", self.net, self.schedule)
+            if judged.status not in (DONE, REFUSED):
+                raise Stopped(judged)
+            self.conforms = judged.lines[0]
+            lines = self.sure("replay", self.net, self.schedule, words.order)
+            self.run = journeys.told_of(lines)
+            tightest = self.explained.total.tightest if self.explained else ""
+            self.span = words.span or journeys.chosen_span(self.run, tightest)
+            self.crossings, self.journeys = journeys.span_of(lines, *self.span)
+
+    def read_buffers(self, bound, words):
+        """The buffers of each port and class, where the program tells them."""
+        with tempfile.NamedTemporaryFile("w", dir=self.room, delete=False, encoding="ascii") as file:
+            file.write("\n".join(bound) + "\n")
+        more = (self.schedule, words.order) if self.schedule else ()
+        answer = self.program.ask_quietly("buffers", self.net, file.name, *more)
+        os.unlink(file.name)
+        return texts.buffers_of(answer.lines) if answer.status == DONE else {}
+
+    def found_delays(self):
+        """The greatest delay that `witness` finds for each stream, where the program has that command and streams are
+        not too many."""
+        names = list(dict.fromkeys(route.name for route in self.shown.streams))
+        found = {}
+        for name in names if len(names) <= MOST_WITNESSES else []:
+            answer = self.program.ask_quietly("witness", self.net, name)
+            if answer.status != DONE:
+                return {}
+            found[name] = texts.found_delay_of(answer.lines)
+        return found
+
+    def marks(self, number):
+        """The delays of a stream that were seen, by their kinds; None where no frame of it arrived."""
+        label = self.shown.streams[number].label()
+        seen = {"run": self.run and self.run.worst.get(label), "found": self.found.get(label)}
+        seen["run"] = seen["run"].delay if seen["run"] else None
+        return {kind: seen[kind] for kind in self.kinds_of_marks}
+
+    def order(self):
+        """The numbers of the streams, those with the least left of their deadlines first."""
+        numbers = range(len(self.shown.streams))
+        return sorted(numbers, key=lambda number: self.explained.sums[number].left) if self.explained else [*numbers]
+
+    def flow_numbers(self):
+        """The numbers of the flows, which come behind the streams."""
+        return range(len(self.shown.streams), len(self.shown.streams) + len(self.shown.flows))
+
+    def classes(self):
+        """The class of each sender at each port of its way."""
+        found = {}
+        for route in self.shown.streams + self.shown.flows:
+            same = route.classes * len(route.ports) if len(route.classes) == 1 else route.classes
+            found |= {(route.name, port): cls for port, cls in zip(route.ports, same)}
+        return found
+
+
+def ways_of(shown):
+    """The ports of each stream's way from its talker on. A further listener's copy begins where a way that the stream
+    has already leaves the same bridge."""
+    ways, by_name = [], {}
+    for route in shown.streams:
+        start, before = shown.ports[route.ports[0]].start, ()
+        for way in by_name.get(route.name, []) if route.listener else []:
+            at = next((k for k, port in enumerate(way) if shown.ports[port].start == start), None)
+            before = way[:at] if at is not None else before
+        ways.append(before + route.ports)
+        by_name.setdefault(route.name, []).append(ways[-1])
+    return ways
