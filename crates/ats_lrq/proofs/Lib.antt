@@ -1,0 +1,5 @@
+pub mod Distances
+pub mod FoldLemmas
+pub mod Kept
+pub mod Narrowing
+pub mod StepLemmas
