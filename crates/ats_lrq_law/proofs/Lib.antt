@@ -1,0 +1,10 @@
+pub mod Alike
+pub mod Conforming
+pub mod Free
+pub mod GroupsOutput
+pub mod Narrowed
+pub mod Output
+pub mod Regulator
+pub mod Rule
+pub mod Spaced
+pub mod Verdicts

@@ -1,0 +1,133 @@
+use Rattle.std.proofs.Common.{◌≡◌, ◌<◌, List, [], ◌∷◌, map, length, get_or, All, refl, sym, ap, ◌∙◌, subst, arith}
+use Rattle.std.proofs.lemmas.List.{length-map}
+use Rattle.std.proofs.lemmas.List as lists
+use Rattle.std.proofs.lemmas.List.Elements.{All-map}
+use Rattle.ats_streams.specs.Stream.{DeclaredStream, IsStream}
+use Rattle.ats_topology.specs.Node.{AreApart}
+use Rattle.ats_topology.specs.Topology.{DeclaredTopology}
+use Rattle.ats_network.specs.Sender.{Sender}
+use Rattle.ats_network.specs.Path.{IsValidPath}
+use Rattle.ats_network.specs.Network.{AreIdentified, senders_of}
+use Rattle.ats_network.specs.Senders.{sender_at}
+use Rattle.ats_certificate.specs.declared.row.Row.{Row}
+use Rattle.ats_trace.specs.Journey.{Travel}
+use Rattle.ats_soundness_law.specs.Sound.{IsServed, IsContained}
+use Rattle.ats_soundness_law.proofs.EachRule.{rule_of_holding}
+use Rattle.ats_soundness_law.proofs.Soundness.{sound_by_rule}
+use Rattle.ats_lrq.specs.Judge.{lrq_judge, spacing_rule}
+use Rattle.ats_lrq.specs.Narrow.{narrowed, narrowed_stream}
+use Rattle.ats_lrq_law.specs.Narrowed.{NarrowedIsNetwork, RunsAreKept, TalkersAreKept, SoundBySpacing, NarrowedIsSound}
+use Rattle.ats_lrq_law.proofs.Alike.{bare, bare_stream, same_map, same_at, legal_alike, keeps_alike}
+use Rattle.ats_lrq_law.proofs.Alike.{talker_alike}
+use Rattle.ats_lrq_law.proofs.Regulator.{lrq_is_regulator}
+
+-- narrowed streams differ in their bursts alone
+narrowed-bare : (streams : List DeclaredStream)
+    → map bare_stream (map narrowed_stream streams) ≡ map bare_stream streams
+narrowed-bare [] = refl
+narrowed-bare (s ∷ ss) = ap (λ (xs : List DeclaredStream). bare_stream s ∷ xs) (narrowed-bare ss)
+
+narrowed_is_stream : (s : DeclaredStream) → IsStream s → IsStream (narrowed_stream s)
+narrowed_is_stream s i =
+    let most = i.rules.sizes.most in
+    record {
+      classes = i.classes;
+      each_port = i.each_port;
+      rules = record { rate = i.rules.rate; sizes = i.rules.sizes; covers = omega arith; burst = omega arith };
+      path = i.path;
+      deadline = i.deadline;
+      identity = i.identity;
+    }
+
+-- what holds of the paths holds of them in another list with the same paths
+paths_of : (topology : DeclaredTopology) (senders others : List Sender)
+    → map (λ (s : Sender). s.path) senders ≡ map (λ (s : Sender). s.path) others
+    → All (λ (s : Sender). IsValidPath topology s.path) senders
+    → All (λ (s : Sender). IsValidPath topology s.path) others
+paths_of topology senders others e all i d h =
+    let mapped : All (IsValidPath topology) (map (λ (s : Sender). s.path) others) =
+    subst (All (IsValidPath topology)) e (All-map (IsValidPath topology) (λ (s : Sender). s.path) senders all) in
+    subst (IsValidPath topology) (lists.get_or-map (λ (s : Sender). s.path) others i d d.path h)
+    (mapped i d.path (omega (arith, length-map others (λ (s : Sender). s.path))))
+
+identified : (streams : List DeclaredStream) → AreIdentified streams → AreIdentified (map narrowed_stream streams)
+identified streams apart i j d below within identity share =
+    let inside : j < length streams = omega (arith, length-map streams narrowed_stream) in
+    let one = lists.get_or-map narrowed_stream streams i d d (omega arith) in
+    let other = lists.get_or-map narrowed_stream streams j d d inside in
+    apart i j d below inside identity (record {
+      one = sym (ap (λ (s : DeclaredStream). s.identity) one) ∙ share.one;
+      other = sym (ap (λ (s : DeclaredStream). s.identity) other) ∙ share.other;
+    })
+
+pub narrowed_is_network : NarrowedIsNetwork
+narrowed_is_network network n =
+    let same = sym (narrowed-bare network.streams) in
+    record {
+      topology = n.topology;
+      streams = All-map IsStream narrowed_stream network.streams
+          (λ i d h. narrowed_is_stream (get_or network.streams i d) (n.streams i d h));
+      flows = n.flows;
+      paths = paths_of network.topology (senders_of network) (senders_of (narrowed network))
+          (same_map network.topology network.flows network.streams (map narrowed_stream network.streams) same
+          (λ (s : Sender). s.path) (λ (s : Sender). refl)) n.paths;
+      names = subst AreApart
+          (same_map network.topology network.flows network.streams (map narrowed_stream network.streams) same
+          (λ (s : Sender). s.name) (λ (s : Sender). refl)) n.names;
+      identities = identified network.streams n.identities;
+      few_streams = (let few = n.few_streams in omega (arith, length-map network.streams narrowed_stream));
+      few_flows = n.few_flows;
+    }
+
+pub runs_are_kept : RunsAreKept
+runs_are_kept network run = (
+  legal_alike network.topology network.flows (map narrowed_stream network.streams) network.streams
+      (narrowed-bare network.streams) run,
+  legal_alike network.topology network.flows network.streams (map narrowed_stream network.streams)
+      (sym (narrowed-bare network.streams)) run,
+)
+
+pub talkers_are_kept : TalkersAreKept
+talkers_are_kept network releases station = (
+  keeps_alike network.topology network.flows (map narrowed_stream network.streams) network.streams
+      (narrowed-bare network.streams) releases station,
+  keeps_alike network.topology network.flows network.streams (map narrowed_stream network.streams)
+      (sym (narrowed-bare network.streams)) releases station,
+)
+
+pub sound_by_spacing : SoundBySpacing
+sound_by_spacing network rows n keeps =
+    sound_by_rule spacing_rule lrq_judge network rows lrq_is_regulator.rule lrq_is_regulator.regulator n keeps
+
+-- what is promised of a frame does not read its sender's burst
+served_like : (rows : List Row) (s t : Sender) (journey : Travel) → bare s ≡ bare t → IsServed rows s journey
+    → IsServed rows t journey
+served_like rows s t journey e h =
+    let there : IsServed rows (bare s) journey = record { prompt = h.prompt; arrives = h.arrives } in
+    let here : IsServed rows (bare t) journey = subst (λ (x : Sender). IsServed rows x journey) e there in
+    record { prompt = here.prompt; arrives = here.arrives }
+
+contained_like : (rows : List Row) (s t : Sender) (journey : Travel) → bare s ≡ bare t → IsContained rows s journey
+    → IsContained rows t journey
+contained_like rows s t journey e h = subst (λ (x : Sender). IsContained rows x journey) e h
+
+pub narrowed_is_sound : NarrowedIsSound
+narrowed_is_sound network rows n holds =
+    let sound = sound_by_spacing (narrowed network) rows (narrowed_is_network network n)
+    (rule_of_holding (narrowed network) rows holds) in
+    let count = length-map network.streams narrowed_stream in
+    let alike = same_at network.topology network.flows (map narrowed_stream network.streams) network.streams
+    (narrowed-bare network.streams) in
+    record {
+      served = λ run legal journey there stream keeps.
+          served_like rows (sender_at (narrowed network) journey.release.sender)
+          (sender_at network journey.release.sender) journey (alike journey.release.sender)
+          (sound.served run ((runs_are_kept network run).1 legal) journey there (omega arith)
+          (rw (talker_alike network.topology network.flows (map narrowed_stream network.streams) network.streams
+          (narrowed-bare network.streams) journey.release.sender)
+          ((talkers_are_kept network _ _).1 keeps)));
+      contained = λ run legal journey there stream.
+          contained_like rows (sender_at (narrowed network) journey.release.sender)
+          (sender_at network journey.release.sender) journey (alike journey.release.sender)
+          (sound.contained run ((runs_are_kept network run).1 legal) journey there (omega arith));
+    }
