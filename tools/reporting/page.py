@@ -25,7 +25,6 @@ LONGEST = 5 * 10**6
 # How many of the parts of a sum are named as the reason for it.
 REASONS = 3
 
-
 # The buttons of the timeline.
 RUN_ACTS = (("out", "wider"), ("in", "closer"), ("back", "earlier"), ("on", "later"), ("all", "all"))
 RUN_BUTTONS = " ".join(f'<button type="button" data-run="{act}">{name}</button>' for act, name in RUN_ACTS)
@@ -84,12 +83,10 @@ def counts_told(model):
     total = model.explained.total
     late = f"Late streams: {total.late} of {total.streams}." if total.late else ""
     over = f"Stays in bridges that are longer than the maximum residence time: {total.over}." if total.over else ""
-    fine = (
-        ""
-        if late or over or not total.streams
-        else f"Streams within their deadlines: {total.streams} of {total.streams}."
-    )
-    return f'<p class="{"bad" if late or over else "good"}">{fine}{late} {over}</p>' if fine or late or over else ""
+    if late or over:
+        return f'<p class="bad">{late} {over}</p>'
+    told = f"Streams within their deadlines: {total.streams} of {total.streams}."
+    return f'<p class="good">{told}</p>' if total.streams else ""
 
 
 def refusal_told(line):
@@ -275,9 +272,7 @@ def run_part(model, most):
     last = max([first + 1, *(min(last, it.end or it.arrival + 1) for it in drawn)])
     body = timeline(model.shown, drawn, model.classes(), first, last) if drawn else "<p>No frame is there.</p>"
     told = f"Drawn is the time from {exact(first)} to {exact(last)} &micro;s of a run until {exact(model.run.end)}: "
-    told += (
-        f"{len(drawn)} of its {model.run.crossings} crossings of ports. FROM and TO in the call choose another time."
-    )
+    told += f"{len(drawn)} of its {model.run.crossings} crossings of ports. FROM and TO in the call choose others."
     more = [RUN_BUTTONS, body, run_legend(model), f'<p class="note">{told}</p>', journey_table(model, most)]
     return section("timeline", "Run", run_told(model), *more)
 

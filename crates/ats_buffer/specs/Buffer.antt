@@ -29,7 +29,7 @@ of_row amount rows port class = unwrap_or (option_map amount (row_of rows port c
 abbrev pub stay_of : Port → Row → ℕ
 stay_of port row = row.wait + port.ps_per_bit * row.least
 
--- by the row of a port and a class
+-- the stay by the row of a port and a class
 abbrev pub stay_at : DeclaredNetwork → List Row → ℕ → ℕ → ℕ
 stay_at network rows port class = of_row (stay_of (port_at network.topology.ports port)) rows port class
 
@@ -38,11 +38,11 @@ abbrev pub way_by : DeclaredNetwork → List Row → ℕ → ℕ → ℕ
 way_by network rows port class =
     residence_needed (port_at network.topology.ports port) (of_row (λ (row : Row). row.wait) rows port class)
 
--- those of a sender's frames, in the class that it has at the port
+-- by how much a sender's ways over a port differ, in the class that it has there
 abbrev pub way_over : DeclaredNetwork → List Row → Sender → ℕ → ℕ
 way_over network rows sender port = way_by network rows port (class_at sender port)
 
--- and those to a port, over the port before it on the sender's path; 0 where the path begins with the port
+-- by how much a sender's ways to a port differ, over the port before it on the path; 0 where the path begins with it
 abbrev pub way_to : DeclaredNetwork → List Row → Sender → ℕ → ℕ
 way_to network rows sender port =
     unwrap_or (option_map (way_over network rows sender) (port_before sender port)) 0

@@ -24,7 +24,7 @@ use std::alloc::{AllocError, Global};
 /// port's spread and the wait by the row of the stream's class there.
 ///
 /// It takes time linear in the sum of the paths' lengths and in the numbers of ports and rows.
-/// `AllocError` where there is no memory for the buffers, or for two numbers of each port and class.
+/// `AllocError` where there is no memory for the buffers, or for a row and a sum of each port and class.
 pub fn buffers(
     alloc: Global,
     network: &Network,

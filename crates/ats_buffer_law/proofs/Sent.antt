@@ -9,8 +9,9 @@ use Rattle.ats_network.specs.Senders.{sender_at}
 use Rattle.ats_group.specs.declared.verdict.Verdict.{Verdict}
 use Rattle.ats_group.specs.declared.verdict.Verdict.TheVariants.{Eligible, Late, Size}
 use Rattle.ats_trace.specs.Journey.{Travel, IsJourney, IsSentOrEnds, IsWay, class_at}
-use Rattle.ats_trace.specs.Projections.{Hop, Crossing, transmission_by, transmission_of, hop_at, crossing_at, hops_along}
-use Rattle.ats_trace.specs.Projections.{crossings_along, journey_hops, journey_crossings, hops_from, crossings_from}
+use Rattle.ats_trace.specs.Projections.{Hop, Crossing, transmission_by, transmission_of, hop_at, crossing_at}
+use Rattle.ats_trace.specs.Projections.{hops_along, crossings_along, journey_hops, journey_crossings, hops_from}
+use Rattle.ats_trace.specs.Projections.{crossings_from}
 use Rattle.ats_trace.specs.declared.journey.Release.{Release}
 use Rattle.ats_trace.specs.declared.journey.HopRecord.{HopRecord}
 use Rattle.ats_trace.specs.declared.journey.Ending.{Ending}
