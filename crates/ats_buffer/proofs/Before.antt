@@ -6,7 +6,7 @@ use Rattle.std.specs.List.{All, AllPairs}
 use Rattle.std.proofs.lemmas.Bool.{eq-eqb, ne_eqb}
 use Rattle.std.proofs.lemmas.List.Elements.{All-head, All-tail}
 use Rattle.ats_facts.proofs.Lists.{pairs_head, pairs_tail}
-use Rattle.ats_buffer.specs.Buffer.{before_along}
+use Rattle.ats_network.specs.Class.{before_along}
 
 -- no port stands before one that is not behind the first
 none_before : (port p : ℕ) (path : List ℕ) → All (λ (q : ℕ). port ≢ q) path → before_along port (p ∷ path) ≡ None

@@ -15,14 +15,14 @@ use Rattle.ats_topology.specs.Port.{port_at, no_port, spread_of}
 use Rattle.ats_topology.proofs.Rules.{ports_are_lawful}
 use Rattle.ats_streams.specs.Stream.{DeclaredStream, IsStream}
 use Rattle.ats_network.specs.Sender.{Sender, stream_sender}
-use Rattle.ats_network.specs.Class.{PortSender, class_at, seen_at}
+use Rattle.ats_network.specs.Class.{PortSender, class_at, seen_at, port_before}
 use Rattle.ats_network.specs.Network.{DeclaredNetwork, IsNetwork}
 use Rattle.ats_certificate.specs.PortSums.{uses, is_of, senders_at, is_used}
 use Rattle.ats_certificate.specs.Certificate.{is_row_of, row_of, bound_at, bound_of_hop, bound_along, RowHolds, Holds}
 use Rattle.ats_certificate.specs.Form.{IsRow, AreRows}
 use Rattle.ats_certificate.specs.declared.row.Row.{Row}
 use Rattle.ats_tally.proofs.Lists.{any_gives}
-use Rattle.ats_buffer.specs.Buffer.{of_row, stay_of, stay_at, way_by, way_over, port_before, window_at, has_class}
+use Rattle.ats_buffer.specs.Buffer.{of_row, stay_of, stay_at, way_by, way_over, window_at, has_class}
 use Rattle.ats_buffer.specs.Buffer.{share_at, shares_at}
 
 -- no row is found, or one is: that of the port and class, and what holds of all rows holds of it

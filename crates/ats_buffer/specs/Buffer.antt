@@ -1,24 +1,14 @@
-use Rattle.std.specs.Prelude.{ℕ, ◌+◌, ◌*◌, ◌/◌, Bool, ◌==◌, List, ◌∷◌, map, filter, sum_by, if◌then◌else◌}
-use Rattle.std.specs.Prelude.{Option, Some, None, unwrap_or}
+use Rattle.std.specs.Prelude.{ℕ, ◌+◌, ◌*◌, ◌/◌, Bool, ◌==◌, List, map, filter, sum_by, unwrap_or}
 use Rattle.std.specs.Option.{option_map}
 use Rattle.ats_num.specs.declared.time.TheConstants.{PS_PER_SECOND}
 use Rattle.ats_topology.specs.Port.{port_at}
 use Rattle.ats_topology.specs.declared.port.Port.{Port}
 use Rattle.ats_streams.specs.Stream.{DeclaredStream}
 use Rattle.ats_network.specs.Sender.{Sender, stream_sender}
-use Rattle.ats_network.specs.Class.{class_at}
+use Rattle.ats_network.specs.Class.{class_at, port_before}
 use Rattle.ats_network.specs.Network.{DeclaredNetwork}
 use Rattle.ats_certificate.specs.Certificate.{row_of, residence_needed}
 use Rattle.ats_certificate.specs.declared.row.Row.{Row}
-
--- the port just before another one on a path, where the path has one before it
-abbrev pub before_along : ℕ → List ℕ → Option ℕ
-before_along port (p ∷ q ∷ path) = if q == port then Some p else before_along port (q ∷ path)
-before_along port path = None
-
--- the port just before another one on a sender's path; the first port of the path has none before it
-abbrev pub port_before : Sender → ℕ → Option ℕ
-port_before sender port = before_along port sender.path
 
 -- a number of the row of a port and a class; 0 where there is no row
 abbrev pub of_row : (Row → ℕ) → List Row → ℕ → ℕ → ℕ

@@ -10,7 +10,7 @@ use Rattle.ats_network.specs.Path.{IsValidPath}
 use Rattle.ats_network.specs.Bridges.{IsBridgeAt, MeetAtBridge}
 use Rattle.ats_network.specs.Senders.{AllNeighbours}
 use Rattle.ats_soundness_law.proofs.Paths.{first_station, later_bridges, port_before, port_before-is}
-use Rattle.ats_buffer.specs.Buffer.{before_along}
+use Rattle.ats_network.specs.Class.{before_along}
 use Rattle.ats_buffer.proofs.Before.{before_later}
 
 -- a port's place on a path
