@@ -1,0 +1,4 @@
+pub mod Alike
+pub mod InOrder
+pub mod Only
+pub mod Told
