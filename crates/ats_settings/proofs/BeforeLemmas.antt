@@ -8,7 +8,7 @@ use Rattle.ats_facts.proofs.Lists.{pairs_head, pairs_tail}
 use Rattle.ats_network.specs.Network.{DeclaredNetwork, IsNetwork}
 use Rattle.ats_network.specs.Senders.{IsSender, sender_at}
 use Rattle.ats_network.proofs.SenderLemmas.{sender_keeps}
-use Rattle.ats_settings.specs.Before.{before_along, port_before}
+use Rattle.ats_network.specs.Class.{before_along, port_before}
 use Rattle.ats_settings.specs.Settings.{LeavesBridge, port_of_hop}
 
 -- where a path has no port twice

@@ -7,11 +7,10 @@ use Rattle.std.specs.declared.cmp.Ordering.{Ordering}
 use Rattle.ats_group.specs.GroupsState.{member_at}
 use Rattle.ats_group.specs.declared.member.Member.{Member}
 use Rattle.ats_topology.specs.Port.{port_at}
-use Rattle.ats_network.specs.Class.{class_at}
+use Rattle.ats_network.specs.Class.{class_at, port_before}
 use Rattle.ats_network.specs.Network.{DeclaredNetwork, senders_of}
 use Rattle.ats_network.specs.Senders.{sender_at}
 use Rattle.ats_schedulers.specs.Schedulers.{members_of, residences_of, scheduler_of}
-use Rattle.ats_settings.specs.Before.{port_before}
 use Rattle.ats_settings.specs.declared.setting.Setting.{Setting}
 use Rattle.ats_settings.specs.declared.setting.Shaping.{Shaping}
 

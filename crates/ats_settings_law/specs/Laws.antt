@@ -3,11 +3,10 @@ use Rattle.std.specs.Option.{ForSome}
 use Rattle.ats_streams.specs.Traffic.{is_declared_size}
 use Rattle.ats_group.specs.Group.{Offer}
 use Rattle.ats_group.specs.Judge.{ats_judge}
-use Rattle.ats_network.specs.Class.{class_at}
+use Rattle.ats_network.specs.Class.{class_at, port_before}
 use Rattle.ats_network.specs.Network.{DeclaredNetwork, IsNetwork, senders_of}
 use Rattle.ats_network.specs.Senders.{sender_at}
 use Rattle.ats_trace.specs.Eligibility.{declared_by, residence_of_groups}
-use Rattle.ats_settings.specs.Before.{port_before}
 use Rattle.ats_settings.specs.Settings.{AreSettings}
 use Rattle.ats_settings.specs.declared.setting.Setting.{Setting}
 use Rattle.ats_settings.specs.declared.setting.Shaping.{Shaping}
