@@ -45,12 +45,12 @@ path_found topology table n route path h =
     record { valid = valid; of_route = path_of_route topology route path at valid }
 
 -- what one entry adds: a sender that is its own, behind those that are there
-record AddsStream (network next : DeclaredNetwork) (e : file.DeclaredStream) : Type 0 where
-  stream : DeclaredStream
-  is_of : IsStreamOf network.topology e stream
-  added : next ≡ with_stream network stream
+pub record AddsStream (network next : DeclaredNetwork) (e : file.DeclaredStream) : Type 0 where
+  pub stream : DeclaredStream
+  pub is_of : IsStreamOf network.topology e stream
+  pub added : next ≡ with_stream network stream
 
-stream_stands : (network : DeclaredNetwork) (n : ℕ) (e : file.DeclaredStream) (next : DeclaredNetwork)
+pub stream_stands : (network : DeclaredNetwork) (n : ℕ) (e : file.DeclaredStream) (next : DeclaredNetwork)
     → stream_added network n e ≡ Ok next → AddsStream network next e
 stream_stands network n e next h =
     let routed = both (path_in network.topology Stream n e.route)
@@ -82,12 +82,12 @@ stream_stands network n e next h =
       added = sym pushed.same ∙ ap (with_stream network) (sym sound.same);
     }
 
-record AddsFlow (network next : DeclaredNetwork) (e : file.DeclaredFlow) : Type 0 where
-  flow : DeclaredFlow
-  is_of : IsFlowOf network.topology e flow
-  added : next ≡ with_flow network flow
+pub record AddsFlow (network next : DeclaredNetwork) (e : file.DeclaredFlow) : Type 0 where
+  pub flow : DeclaredFlow
+  pub is_of : IsFlowOf network.topology e flow
+  pub added : next ≡ with_flow network flow
 
-flow_stands : (network : DeclaredNetwork) (n : ℕ) (e : file.DeclaredFlow) (next : DeclaredNetwork)
+pub flow_stands : (network : DeclaredNetwork) (n : ℕ) (e : file.DeclaredFlow) (next : DeclaredNetwork)
     → flow_added network n e ≡ Ok next → AddsFlow network next e
 flow_stands network n e next h =
     let routed = both (path_in network.topology Flow n e.route)

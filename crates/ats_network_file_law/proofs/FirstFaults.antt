@@ -15,8 +15,9 @@ use Rattle.ats_topology.specs.declared.fault.TopologyFault.TheVariants.{StationL
 use Rattle.ats_topology.specs.declared.link.Link.{Link}
 use Rattle.ats_topology.specs.declared.node.Node.{Node}
 use Rattle.ats_topology.proofs.LawLemmas.{first_least}
-use Rattle.ats_network_file_law.specs.TopologyFaults.{AreFaultless, AreRated, IsFirstFault, IsFirstIn, IsFirstPlace}
-use Rattle.ats_network_file_law.specs.TopologyFaults.{NoneIn, NonePlace, TopologyFaultIsTheFirst}
+use Rattle.ats_network_file_law.specs.First.{IsFirstIn, IsFirstPlace, NoneIn, NonePlace}
+use Rattle.ats_network_file_law.specs.TopologyFaults.{AreFaultless, AreRated, IsFirstFault, TopologyFaultIsTheFirst}
+use Rattle.ats_network_file_law.proofs.FoundFaults.{fault_found, none_found}
 
 -- where the first entry that passes stands, counted from a number
 record Sought {E : Type 0} (test : E → Bool) (entries : List E) (from place : ℕ) : Type 0 where
@@ -153,4 +154,7 @@ fault_is_first nodes links =
     (in_entries P _ BadRate has_bad_rate links linked (λ n h. h))
     (λ rated. either P _ M (limit nodes links) _ (over nodes links rated)
     (λ within. in_entries P _ BadProcessing has_bad_processing nodes within (λ n h. h)))))))) in
-    record { first = all.some; none = all.none }
+    record {
+      first = λ fault. (all.some fault, fault_found nodes links fault);
+      none = (all.none, none_found nodes links);
+    }

@@ -1,3 +1,16 @@
 pub mod Paths
 pub mod Entries
+pub mod FoundFaults
 pub mod FirstFaults
+pub mod Ends
+pub mod SenderSteps
+pub mod SenderWalks
+pub mod SenderEntries
+pub mod FirstSenders
+pub mod Told
+pub mod FormFirsts
+pub mod FormKeys
+pub mod FormReaders
+pub mod FormRoutes
+pub mod FormStreams
+pub mod FormArrays

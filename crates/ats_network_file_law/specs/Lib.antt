@@ -1,2 +1,5 @@
 pub mod Entries
+pub mod First
 pub mod TopologyFaults
+pub mod SenderFaults
+pub mod FormFaults

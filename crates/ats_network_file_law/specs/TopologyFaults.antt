@@ -1,7 +1,6 @@
-use Rattle.std.specs.Prelude.{◌≡◌, ℕ, ◌+◌, ◌<◌, Bool, true, false, List, ◌∷◌, ◌++◌, length, All, Some, None}
+use Rattle.std.specs.Prelude.{◌≡◌, ◌↔◌, true, false, List, length, Some, None}
 use Rattle.ats_topology.specs.Faults.{has_bad_processing, has_bad_rate, has_unknown_end, is_badly_linked, is_link_again}
 use Rattle.ats_topology.specs.Faults.{is_name_again, is_over, topology_fault}
-use Rattle.ats_topology.specs.Laws.{IsLeastBelow}
 use Rattle.ats_topology.specs.Link.{is_self_link}
 use Rattle.ats_topology.specs.Node.{names_of}
 use Rattle.ats_topology.specs.declared.fault.TopologyFault.{TopologyFault}
@@ -9,30 +8,7 @@ use Rattle.ats_topology.specs.declared.fault.TopologyFault.TheVariants.{NodeTwic
 use Rattle.ats_topology.specs.declared.fault.TopologyFault.TheVariants.{StationLinks, BadRate, Limit, BadProcessing}
 use Rattle.ats_topology.specs.declared.link.Link.{Link}
 use Rattle.ats_topology.specs.declared.node.Node.{Node}
-
--- the entry with this number passes a test, and none before it does; entries are counted from 1
-pub record IsFirstIn {E : Type 0} (test : E → Bool) (entries : List E) (number : ℕ) : Type 0 where
-  pub before : List E
-  pub entry : E
-  pub after : List E
-  pub cut : before ++ entry ∷ after ≡ entries
-  pub passes : test entry ≡ true
-  pub earlier : All (λ e. test e ≡ false) before
-  pub counted : number ≡ length before + 1
-
--- the same of a test on places, which are counted from 0
-pub record IsFirstPlace (test : ℕ → Bool) (count number : ℕ) : Type 0 where
-  pub place : ℕ
-  pub least : IsLeastBelow test count place
-  pub counted : number ≡ place + 1
-
--- no entry passes the test
-abbrev pub NoneIn : {E : Type 0} → (E → Bool) → List E → Type 0
-NoneIn test entries = All (λ e. test e ≡ false) entries
-
--- the same of places
-abbrev pub NonePlace : (ℕ → Bool) → ℕ → Type 0
-NonePlace test count = (k : ℕ) → k < count → test k ≡ false
+use Rattle.ats_network_file_law.specs.First.{IsFirstIn, IsFirstPlace, NoneIn, NonePlace}
 
 -- what nodes and links without a fault keep, one kind of fault after another: no name stands at two nodes
 abbrev pub AreNamedOnce : List Node → Type 0
@@ -78,10 +54,10 @@ IsFirstFault nodes links (BadRate n) = AreLinked nodes links × IsFirstIn has_ba
 IsFirstFault nodes links Limit = AreRated nodes links × (is_over nodes links ≡ true)
 IsFirstFault nodes links (BadProcessing n) = AreWithin nodes links × IsFirstIn has_bad_processing nodes n
 
--- the fault that nodes and links give is their first, and where they give none, they have none
+-- nodes and links give a fault exactly where it is their first, and give none exactly where they have none
 pub record TellsFirst (nodes : List Node) (links : List Link) : Type 0 where
-  pub first : (fault : TopologyFault) → topology_fault nodes links ≡ Some fault → IsFirstFault nodes links fault
-  pub none : topology_fault nodes links ≡ None → AreFaultless nodes links
+  pub first : (fault : TopologyFault) → topology_fault nodes links ≡ Some fault ↔ IsFirstFault nodes links fault
+  pub none : topology_fault nodes links ≡ None ↔ AreFaultless nodes links
 
 abbrev pub TopologyFaultIsTheFirst : Type 0
 TopologyFaultIsTheFirst = (nodes : List Node) (links : List Link) → TellsFirst nodes links

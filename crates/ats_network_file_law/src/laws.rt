@@ -1,6 +1,8 @@
 //! What is proved of the definitions themselves.
 
 ghost use Rattle.ats_network_file_law.specs.Entries.{EachEntryStands};
+ghost use Rattle.ats_network_file_law.specs.FormFaults.{FormFaultIsTheFirst};
+ghost use Rattle.ats_network_file_law.specs.SenderFaults.{SenderFaultIsTheFirst};
 ghost use Rattle.ats_network_file_law.specs.TopologyFaults.{TopologyFaultIsTheFirst};
 
 /// A law: in the network that a text declares, each station, bridge and link of the text's tables stands at its
@@ -10,8 +12,21 @@ pub fn each_entry_stands()
     ensures { EachEntryStands }
 {}
 
-/// A law: the fault that nodes and links give is their first, in the order of kinds and then of
-/// entries; where they give none, they have none.
+/// A law: a text gives a fault of form exactly where it is its first: it is no TOML, or of the top table
+/// and then of each array, how many tables it has and each of them, one has this fault and none before it.
+pub fn form_fault_is_the_first()
+    ensures { FormFaultIsTheFirst }
+{}
+
+/// A law: nodes and links give a fault exactly where it is their first, in the order of kinds and then
+/// of entries; they give none exactly where they have none.
 pub fn topology_fault_is_the_first()
     ensures { TopologyFaultIsTheFirst }
+{}
+
+/// A law: a document whose nodes and links have no fault gives a fault exactly where it is the first of
+/// its streams and then of its flows: an entry's path, its rules, its name, its identity, and last the
+/// number of those before it.
+pub fn sender_fault_is_the_first()
+    ensures { SenderFaultIsTheFirst }
 {}

@@ -1,0 +1,257 @@
+-- The first fault of a stream's or a flow's table is the one that is given.
+use Rattle.std.proofs.Common.{◌≡◌, ◌∙◌, ℕ, Bool, true, false, cond, List, [], ◌∷◌, Option, Some, None, Result}
+use Rattle.std.proofs.Common.{Ok, refl, sym, ap, subst, arith}
+use Rattle.std.specs.Prelude.{not, ◌&&◌}
+use Rattle.std.specs.Option.{option_or}
+use Rattle.std.proofs.lemmas.Bool.{false≢true}
+use Rattle.toml.specs.Data.{Members}
+use Rattle.ats_num.specs.Failure.{◌>>=◌, ok_where}
+use Rattle.ats_network_table.specs.Kinds.{address_in, list_in, long_in, name_in, whole_in}
+use Rattle.ats_network_table.specs.Walk.{Entry, at, classes_at, deadline_at, formed, has, identity_at, is_missing}
+use Rattle.ats_network_table.specs.Walk.{long_at, name_at, whole_at, wrong_kind}
+use Rattle.ats_network_table.specs.declared.format.Format.{Format}
+use Rattle.ats_network_table.specs.declared.table.Table.TheVariants.{Flow, Stream}
+use Rattle.ats_network_table.specs.declared.key.Key.{Key}
+use Rattle.ats_network_table.specs.declared.key.Key.TheVariants as key
+use Rattle.ats_network_table.specs.declared.fault.DocumentFault.{DocumentFault}
+use Rattle.ats_network_toml.specs.Document as file
+use Rattle.ats_network_toml.specs.Entries.{flow_in, numbers_in, route_at, stream_in}
+use Rattle.ats_network_file_law.specs.FormFaults.{IsComplete, is_kind}
+use Rattle.ats_network_file_law.proofs.FormFirsts.{table_fault, wrongs}
+use Rattle.ats_network_file_law.proofs.FormKeys.{Any, absent, chained_keys, leaf, not_missing, stands, value_at, wrong}
+use Rattle.ats_network_file_law.proofs.FormReaders.{entry_of, next_key, skip_key, table_told}
+use Rattle.ats_network_file_law.proofs.FormRoutes.{route_told}
+use Rattle.ats_network_file_law.proofs.Told.{Told, chained, same_faults, weaker}
+
+-- one class, beside which no others may stand
+abbrev one_class : Entry → Result (List ℕ) DocumentFault
+one_class e =
+    at e key.Class long_in >>= λ class. ok_where (not (has e key.Classes)) (wrong_kind e key.Classes) (class ∷ [])
+
+abbrev class_keys : List Key
+class_keys = key.Class ∷ key.Classes ∷ []
+
+one_told : (e : Entry) → has e key.Class ≡ true
+    → Told (λ (x : List ℕ). Any x) (wrongs e class_keys) (one_class e)
+one_told e there =
+    next_key e key.Class (key.Classes ∷ []) long_in (λ (x : List ℕ). Any x)
+    (λ class. ok_where (not (has e key.Classes)) (wrong_kind e key.Classes) (class ∷ [])) there refl
+    (λ class is. by class (has e key.Classes) refl)
+  where
+    told : (b : Bool) → has e key.Classes ≡ b
+        → wrong e key.Classes ≡ cond b (Some (wrong_kind e key.Classes)) None
+    told b h =
+        ap (λ c. let o : Option DocumentFault = cond (c && not (not (has e key.Class)
+        && is_kind (list_in long_in) e key.Classes)) (Some (wrong_kind e key.Classes)) None in o) h
+        ∙ ap (λ c. let o : Option DocumentFault = cond (b && not (not c
+        && is_kind (list_in long_in) e key.Classes)) (Some (wrong_kind e key.Classes)) None in o) there
+        ∙ last b
+      where
+        last : (c : Bool)
+            → (let o : Option DocumentFault = cond (c && true) (Some (wrong_kind e key.Classes)) None in o)
+            ≡ cond c (Some (wrong_kind e key.Classes)) None
+        last true = refl
+        last false = refl
+
+    given : ℕ → Bool → Result (List ℕ) DocumentFault
+    given class b = ok_where (not b) (wrong_kind e key.Classes) (class ∷ [])
+
+    by : (class : ℕ) (b : Bool) → has e key.Classes ≡ b
+        → Told (λ (x : List ℕ). Any x) (wrongs e (key.Classes ∷ [])) (given class (has e key.Classes))
+    by class true h =
+        subst (λ (c : Bool). Told (λ (x : List ℕ). Any x) (wrongs e (key.Classes ∷ [])) (given class c)) (sym h)
+        (ap (λ (o : Option DocumentFault). option_or o None) (told true h))
+    by class false h =
+        subst (λ (c : Bool). Told (λ (x : List ℕ). Any x) (wrongs e (key.Classes ∷ [])) (given class c)) (sym h)
+        (ap (λ (o : Option DocumentFault). option_or o None) (told false h), tt)
+
+-- a list of classes in the place of one
+list_told : (e : Entry) → has e key.Class ≡ false → has e key.Classes ≡ true
+    → Told (λ (x : List ℕ). Any x) (wrongs e class_keys) (at e key.Classes (list_in long_in))
+list_told e none there =
+    skip_key e key.Class (key.Classes ∷ []) (λ (x : List ℕ). Any x) (at e key.Classes (list_in long_in)) none
+    (same_faults (λ (x : List ℕ). Any x) (wrong e key.Classes) (wrongs e (key.Classes ∷ []))
+    (at e key.Classes (list_in long_in)) (sym (alone (wrong e key.Classes)))
+    (weaker (λ (x : List ℕ). value_at (list_in long_in) e key.Classes ≡ Some x) (λ (x : List ℕ). Any x)
+    (wrong e key.Classes) (at e key.Classes (list_in long_in))
+    (leaf e key.Classes (list_in long_in) there
+    (ap (λ b. not b && is_kind (list_in long_in) e key.Classes) none)) (λ x is. tt)))
+  where
+    alone : (o : Option DocumentFault) → option_or o None ≡ o
+    alone None = refl
+    alone (Some f) = refl
+
+classes_told : (e : Entry) → is_missing e key.Class ≡ false
+    → Told (λ (x : List ℕ). Any x) (wrongs e class_keys) (classes_at e)
+classes_told e due = by (has e key.Class) refl (has e key.Classes) refl
+  where
+    read : Bool → Result (List ℕ) DocumentFault
+    read b = cond b (one_class e) (at e key.Classes (list_in long_in))
+
+    by : (a : Bool) → has e key.Class ≡ a → (b : Bool) → has e key.Classes ≡ b
+        → Told (λ (x : List ℕ). Any x) (wrongs e class_keys) (read (has e key.Class))
+    by true h b g =
+        subst (λ (c : Bool). Told (λ (x : List ℕ). Any x) (wrongs e class_keys) (read c)) (sym h) (one_told e h)
+    by false h true g =
+        subst (λ (c : Bool). Told (λ (x : List ℕ). Any x) (wrongs e class_keys) (read c)) (sym h) (list_told e h g)
+    by false h false g =
+        absurd (false≢true (sym due ∙ ap (λ c. not c && not (has e key.Class)) g ∙ ap not h))
+
+-- a deadline may be absent
+deadline_told : (e : Entry) → Told (λ (x : ℕ). Any x) (wrong e key.DeadlineNs) (deadline_at e)
+deadline_told e = by (has e key.DeadlineNs) refl
+  where
+    read : Bool → Result ℕ DocumentFault
+    read b = cond b (long_at e key.DeadlineNs) (Ok 1000000000)
+
+    by : (b : Bool) → has e key.DeadlineNs ≡ b
+        → Told (λ (x : ℕ). Any x) (wrong e key.DeadlineNs) (read (has e key.DeadlineNs))
+    by true h =
+        subst (λ (c : Bool). Told (λ (x : ℕ). Any x) (wrong e key.DeadlineNs) (read c)) (sym h)
+        (weaker (λ (x : ℕ). value_at long_in e key.DeadlineNs ≡ Some x) (λ (x : ℕ). Any x) (wrong e key.DeadlineNs)
+        (long_at e key.DeadlineNs) (leaf e key.DeadlineNs long_in h refl) (λ x is. tt))
+    by false h =
+        subst (λ (c : Bool). Told (λ (x : ℕ). Any x) (wrong e key.DeadlineNs) (read c)) (sym h)
+        (absent e key.DeadlineNs h, tt)
+
+abbrev number_keys : List Key
+number_keys = key.RateBps ∷ key.BurstBits ∷ key.MinOctets ∷ key.MaxOctets ∷ key.DeadlineNs ∷ []
+
+-- the numbers of a stream, as one
+numbers_by : {N : Type 0} (e : Entry) (read : Result N DocumentFault) (last : ℕ → ℕ → ℕ → ℕ → ℕ → N)
+    → read ≡ (long_at e key.RateBps >>= λ r. long_at e key.BurstBits >>= λ b. long_at e key.MinOctets
+    >>= λ l. long_at e key.MaxOctets >>= λ m. deadline_at e >>= λ d. Ok (last r b l m d))
+    → IsComplete e → has e key.RateBps ≡ true → has e key.BurstBits ≡ true → has e key.MinOctets ≡ true
+    → has e key.MaxOctets ≡ true → Told (λ (x : N). Any x) (wrongs e number_keys) read
+numbers_by {N} e read last is c rate burst least most =
+    let G : N → Type 0 = λ x. Any x in
+    subst (Told G (wrongs e number_keys)) (sym is)
+    (next_key e key.RateBps (key.BurstBits ∷ key.MinOctets ∷ key.MaxOctets ∷ key.DeadlineNs ∷ []) long_in G
+    (λ r. long_at e key.BurstBits >>= λ b. long_at e key.MinOctets >>= λ l. long_at e key.MaxOctets >>= λ m.
+    deadline_at e >>= λ d. Ok (last r b l m d)) rate refl
+    (λ r is. next_key e key.BurstBits (key.MinOctets ∷ key.MaxOctets ∷ key.DeadlineNs ∷ []) long_in G
+    (λ b. long_at e key.MinOctets >>= λ l. long_at e key.MaxOctets >>= λ m.
+    deadline_at e >>= λ d. Ok (last r b l m d)) burst refl
+    (λ b is. next_key e key.MinOctets (key.MaxOctets ∷ key.DeadlineNs ∷ []) long_in G
+    (λ l. long_at e key.MaxOctets >>= λ m. deadline_at e >>= λ d. Ok (last r b l m d)) least refl
+    (λ l is. next_key e key.MaxOctets (key.DeadlineNs ∷ []) long_in G
+    (λ m. deadline_at e >>= λ d. Ok (last r b l m d)) most refl
+    (λ m is. chained (λ (x : ℕ). Any x) G (wrong e key.DeadlineNs) None (deadline_at e)
+    (λ d. Ok (last r b l m d)) (deadline_told e) (λ d is. (refl, tt)))))))
+
+abbrev identity_keys : List Key
+identity_keys = key.Address ∷ key.Vlan ∷ []
+
+-- both of address and VLAN, or neither
+abbrev both_read : Entry → Result (Option (ℕ × ℕ)) DocumentFault
+both_read e =
+    at e key.Address address_in >>= λ address. whole_at e key.Vlan 1 4094 >>= λ vlan. Ok (Some (address, vlan))
+
+identity_told : (e : Entry) → is_missing e key.Address ≡ false → is_missing e key.Vlan ≡ false
+    → Told (λ (x : Option (ℕ × ℕ)). Any x) (wrongs e identity_keys) (identity_at e)
+identity_told e address vlan = by (has e key.Address) refl (has e key.Vlan) refl
+  where
+    read : Bool → Result (Option (ℕ × ℕ)) DocumentFault
+    read b = cond b (both_read e) (Ok None)
+
+    by : (a : Bool) → has e key.Address ≡ a → (b : Bool) → has e key.Vlan ≡ b
+        → Told (λ (x : Option (ℕ × ℕ)). Any x) (wrongs e identity_keys) (read (has e key.Address))
+    by true h true g =
+        subst (λ (c : Bool). Told (λ (x : Option (ℕ × ℕ)). Any x) (wrongs e identity_keys) (read c)) (sym h)
+        (next_key e key.Address (key.Vlan ∷ []) address_in (λ (x : Option (ℕ × ℕ)). Any x)
+        (λ address. whole_at e key.Vlan 1 4094 >>= λ vlan. Ok (Some (address, vlan))) h refl
+        (λ a is. next_key e key.Vlan [] (whole_in 1 4094) (λ (x : Option (ℕ × ℕ)). Any x)
+        (λ vlan. Ok (Some (a, vlan))) g refl (λ v is. (refl, tt))))
+    by true h false g = absurd (false≢true (sym vlan ∙ ap (λ c. c && not (has e key.Vlan)) h ∙ ap not g))
+    by false h true g = absurd (false≢true (sym address ∙ ap (λ c. c && not (has e key.Address)) g ∙ ap not h))
+    by false h false g =
+        subst (λ (c : Bool). Told (λ (x : Option (ℕ × ℕ)). Any x) (wrongs e identity_keys) (read c)) (sym h) (
+          ap (λ (o : Option DocumentFault). option_or o (option_or (wrong e key.Vlan) None)) (absent e key.Address h)
+              ∙ ap (λ (o : Option DocumentFault). option_or o None) (absent e key.Vlan g),
+          tt,
+        )
+
+abbrev route_keys : List Key
+route_keys = key.Path ∷ key.From ∷ key.To ∷ []
+
+-- a stream, whose numbers are read as one
+stream_by : {N : Type 0} (f : Format) (n : ℕ) (ms : Members) (numbers : Result N DocumentFault)
+    (last : List ℕ → file.DeclaredRoute → List ℕ → N → Option (ℕ × ℕ) → file.DeclaredStream)
+    → (IsComplete (entry_of f Stream n ms)
+    → Told (λ (x : N). Any x) (wrongs (entry_of f Stream n ms) number_keys) numbers)
+    → Told (λ (x : file.DeclaredStream). Any x) (table_fault (entry_of f Stream n ms))
+    (formed (entry_of f Stream n ms) >>= λ u. name_at (entry_of f Stream n ms) key.Name >>= λ name.
+    route_at (entry_of f Stream n ms) >>= λ route. classes_at (entry_of f Stream n ms) >>= λ classes.
+    numbers >>= λ m. identity_at (entry_of f Stream n ms) >>= λ identity. Ok (last name route classes m identity))
+stream_by {N} f n ms numbers last told =
+    let e : Entry = entry_of f Stream n ms in
+    let G : file.DeclaredStream → Type 0 = λ x. Any x in
+    table_told e (λ u. name_at e key.Name >>= λ name. route_at e >>= λ route. classes_at e >>= λ classes.
+    numbers >>= λ m. identity_at e >>= λ identity. Ok (last name route classes m identity))
+    (λ u c. next_key e key.Name (key.Path ∷ key.From ∷ key.To ∷ key.Class ∷ key.Classes ∷ key.RateBps
+    ∷ key.BurstBits ∷ key.MinOctets ∷ key.MaxOctets ∷ key.DeadlineNs ∷ key.Address ∷ key.Vlan ∷ []) name_in G
+    (λ name. route_at e >>= λ route. classes_at e >>= λ classes.
+    numbers >>= λ m. identity_at e >>= λ identity. Ok (last name route classes m identity))
+    (stands (has e key.Name) (not_missing e 0 c (omega arith))) refl
+    (λ name is. chained_keys e (λ (x : file.DeclaredRoute). Any x) G route_keys (key.Class ∷ key.Classes ∷ key.RateBps
+    ∷ key.BurstBits ∷ key.MinOctets ∷ key.MaxOctets ∷ key.DeadlineNs ∷ key.Address ∷ key.Vlan ∷ []) (route_at e)
+    (λ route. classes_at e >>= λ classes. numbers >>= λ m. identity_at e
+    >>= λ identity. Ok (last name route classes m identity))
+    (route_told e (not_missing e 1 c (omega arith)) (not_missing e 2 c (omega arith))
+    (not_missing e 3 c (omega arith)))
+    (λ route known. chained_keys e (λ (x : List ℕ). Any x) G class_keys (key.RateBps
+    ∷ key.BurstBits ∷ key.MinOctets ∷ key.MaxOctets ∷ key.DeadlineNs ∷ key.Address ∷ key.Vlan ∷ []) (classes_at e)
+    (λ classes. numbers >>= λ m. identity_at e >>= λ identity. Ok (last name route classes m identity))
+    (classes_told e (not_missing e 4 c (omega arith)))
+    (λ classes known. chained_keys e (λ (x : N). Any x) G number_keys (key.Address ∷ key.Vlan ∷ []) numbers
+    (λ m. identity_at e >>= λ identity. Ok (last name route classes m identity)) (told c)
+    (λ m known. chained_keys e (λ (x : Option (ℕ × ℕ)). Any x) G identity_keys [] (identity_at e)
+    (λ identity. Ok (last name route classes m identity))
+    (identity_told e (not_missing e 11 c (omega arith)) (not_missing e 12 c (omega arith)))
+    (λ identity known. (refl, tt)))))))
+
+pub stream_told : (f : Format) (n : ℕ) (ms : Members)
+    → Told (λ (x : file.DeclaredStream). Any x) (table_fault (entry_of f Stream n ms))
+    (stream_in (entry_of f Stream n ms))
+stream_told f n ms =
+    let e : Entry = entry_of f Stream n ms in
+    stream_by f n ms (numbers_in e) (λ name route classes m identity. record {
+      name = name;
+      route = route;
+      classes = classes;
+      rate_bps = m.rate_bps;
+      burst_bits = m.burst_bits;
+      min_octets = m.min_octets;
+      max_octets = m.max_octets;
+      deadline_ns = m.deadline_ns;
+      identity = identity;
+    })
+    (λ c. numbers_by e (numbers_in e) (λ r b l m d. record {
+      rate_bps = r;
+      burst_bits = b;
+      min_octets = l;
+      max_octets = m;
+      deadline_ns = d;
+    }) refl c (stands (has e key.RateBps) (not_missing e 6 c (omega arith)))
+    (stands (has e key.BurstBits) (not_missing e 7 c (omega arith)))
+    (stands (has e key.MinOctets) (not_missing e 8 c (omega arith)))
+    (stands (has e key.MaxOctets) (not_missing e 9 c (omega arith))))
+
+pub flow_told : (f : Format) (n : ℕ) (ms : Members)
+    → Told (λ (x : file.DeclaredFlow). Any x) (table_fault (entry_of f Flow n ms)) (flow_in (entry_of f Flow n ms))
+flow_told f n ms =
+    let e : Entry = entry_of f Flow n ms in
+    let G : file.DeclaredFlow → Type 0 = λ x. Any x in
+    let last : List ℕ → file.DeclaredRoute → ℕ → Result file.DeclaredFlow DocumentFault =
+    λ name route most. Ok (record { name = name; route = route; max_octets = most }) in
+    table_told e (λ u. name_at e key.Name >>= λ name. route_at e >>= λ route. long_at e key.MaxOctets
+    >>= λ most. last name route most)
+    (λ u c. next_key e key.Name (key.Path ∷ key.From ∷ key.To ∷ key.MaxOctets ∷ []) name_in G
+    (λ name. route_at e >>= λ route. long_at e key.MaxOctets >>= λ most. last name route most)
+    (stands (has e key.Name) (not_missing e 0 c (omega arith))) refl
+    (λ name is. chained_keys e (λ (x : file.DeclaredRoute). Any x) G route_keys (key.MaxOctets ∷ []) (route_at e)
+    (λ route. long_at e key.MaxOctets >>= λ most. last name route most)
+    (route_told e (not_missing e 1 c (omega arith)) (not_missing e 2 c (omega arith))
+    (not_missing e 3 c (omega arith)))
+    (λ route known. next_key e key.MaxOctets [] long_in G (λ most. last name route most)
+    (stands (has e key.MaxOctets) (not_missing e 4 c (omega arith))) refl (λ most is. (refl, tt)))))

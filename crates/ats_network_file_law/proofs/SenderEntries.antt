@@ -1,0 +1,197 @@
+-- The entries of streams and flows, each behind those that were added.
+use Rattle.std.proofs.Common.{◌≡◌, ◌∙◌, ℕ, ◌+◌, Bool, true, false, cond, List, [], ◌∷◌, ◌++◌, length, map}
+use Rattle.std.proofs.Common.{Option, Some, None, refl, sym, ap, subst, arith, append_assoc, length-append}
+use Rattle.std.specs.Prelude.{◌||◌, is_some, filter, nat_le}
+use Rattle.std.specs.List.{list_any, position_from}
+use Rattle.std.proofs.lemmas.List.{append-nil, map-append}
+use Rattle.std.proofs.lemmas.List.Elements.{filter-append}
+use Rattle.ats_num.specs.Places.{place_of}
+use Rattle.ats_topology.specs.Topology.{DeclaredTopology}
+use Rattle.ats_streams.specs.Stream.{DeclaredStream}
+use Rattle.ats_streams.specs.Flow.{DeclaredFlow}
+use Rattle.ats_network.specs.Network.{DeclaredNetwork, names_of, senders_of}
+use Rattle.ats_network.specs.Pushes.{flow_push_fault, has_identity, is_identity, is_identity_taken, stream_push_fault}
+use Rattle.ats_network.specs.Pushes.{with_flow, with_stream}
+use Rattle.ats_network.specs.Tables.{flow_names, stream_identities, stream_names}
+use Rattle.ats_network.specs.declared.fault.PushFault.{PushFault}
+use Rattle.ats_network.specs.declared.fault.PushFault.TheVariants.{NameTaken, IdentityTaken, Limit}
+use Rattle.ats_network.specs.declared.network.TheConstants.{MAX_FLOWS, MAX_STREAMS}
+use Rattle.ats_network.proofs.NameLemmas.{names_of-senders}
+use Rattle.ats_network_toml.specs.Document as file
+use Rattle.ats_network_file.specs.Senders.{flow_added, flow_over, stream_added, stream_over}
+use Rattle.ats_network_file.specs.declared.senders.SenderTable.{SenderTable}
+use Rattle.ats_network_file.specs.declared.senders.SenderTable.TheVariants.{Flow, Stream}
+use Rattle.ats_network_file_law.specs.SenderFaults.{HasFault, IsAt, SenderEntry, count_in, flow, identity_in}
+use Rattle.ats_network_file_law.specs.SenderFaults.{is_identity_given}
+use Rattle.ats_network_file_law.specs.SenderFaults.{name_in, stands_in, stream}
+use Rattle.ats_network_file_law.proofs.Entries.{AddsFlow, AddsStream, flow_stands, stream_stands}
+use Rattle.ats_network_file_law.proofs.SenderSteps.{due, fault_had, had_given}
+use Rattle.ats_network_file_law.proofs.SenderWalks.{TellsOne}
+
+-- a network has the streams of these entries, and the next one has this number
+pub record StreamsStand (topology : DeclaredTopology) (done : List SenderEntry) (s : DeclaredNetwork) (n : ℕ) : Type 0
+  where
+    pub over : s.topology ≡ topology
+    pub names : stream_names s.streams ≡ map name_in done
+    pub identities : stream_identities s.streams ≡ map identity_in done
+    pub many : length s.streams ≡ count_in Stream done
+    pub flows : s.flows ≡ []
+    pub no_flows : count_in Flow done ≡ 0
+    pub next : n ≡ count_in Stream done + 1
+
+-- a network has the senders of these entries, and the next flow has this number
+pub record FlowsStand (topology : DeclaredTopology) (done : List SenderEntry) (s : DeclaredNetwork) (n : ℕ) : Type 0
+  where
+    pub over : s.topology ≡ topology
+    pub names : names_of (senders_of s) ≡ map name_in done
+    pub many : length s.flows ≡ count_in Flow done
+    pub next : n ≡ count_in Flow done + 1
+
+-- the first three tests of a sender that are the same give the same
+same_push : (a b c d e f : Bool) → a ≡ d → b ≡ e → c ≡ f
+    → cond a (Some NameTaken) (cond b (Some IdentityTaken) (cond c (Some Limit) None))
+    ≡ (let o : Option PushFault = cond d (Some NameTaken) (cond e (Some IdentityTaken) (cond f (Some Limit) None)) in o)
+same_push a b c d e f p q r = rw (p, q, r) refl
+
+-- a stream with an identity is found where one of the identities is this one
+any_identity : (identity : ℕ × ℕ) (streams : List DeclaredStream) (from : ℕ)
+    → is_some (position_from (has_identity identity) from streams)
+    ≡ list_any (is_identity identity) (stream_identities streams)
+any_identity identity [] from = refl
+any_identity identity (s ∷ streams) from =
+    by (is_identity identity s.identity) (any_identity identity streams (from + 1))
+  where
+    by : (b : Bool) → is_some (position_from (has_identity identity) (from + 1) streams)
+        ≡ list_any (is_identity identity) (stream_identities streams)
+        → is_some (cond b (Some from) (position_from (has_identity identity) (from + 1) streams))
+        ≡ (b || list_any (is_identity identity) (stream_identities streams))
+    by true rest = refl
+    by false rest = rest
+
+identity_taken : (streams : List DeclaredStream) (done : List SenderEntry) (identity : Option (ℕ × ℕ))
+    → stream_identities streams ≡ map identity_in done
+    → is_identity_taken streams identity ≡ is_identity_given done identity
+identity_taken streams done None same = refl
+identity_taken streams done (Some identity) same =
+    any_identity identity streams 0 ∙ ap (list_any (is_identity identity)) same
+
+-- one entry more
+more : {B : Type 0} (f : SenderEntry → B) (done : List SenderEntry) (e : SenderEntry)
+    → map f (done ++ e ∷ []) ≡ map f done ++ f e ∷ []
+more f done e = map-append f done (e ∷ [])
+
+count_more : (t : SenderTable) (done : List SenderEntry) (e : SenderEntry)
+    → count_in t (done ++ e ∷ []) ≡ count_in t done + length (filter (stands_in t) (e ∷ []))
+count_more t done e =
+    ap (λ (es : List SenderEntry). length es) (filter-append (stands_in t) done (e ∷ []))
+    ∙ length-append (filter (stands_in t) done) (filter (stands_in t) (e ∷ []))
+
+-- the names of the senders where there are streams alone
+pub names_there : (topology : DeclaredTopology) (done : List SenderEntry) (s : DeclaredNetwork) (n : ℕ)
+    → StreamsStand topology done s n → names_of (senders_of s) ≡ map name_in done
+names_there topology done s n h =
+    names_of-senders s ∙ ap (λ fs. stream_names s.streams ++ flow_names fs) h.flows
+    ∙ append-nil (stream_names s.streams) ∙ h.names
+
+stream_next : (topology : DeclaredTopology) (done : List SenderEntry) (s : DeclaredNetwork) (n : ℕ)
+    (e : file.DeclaredStream) (next : DeclaredNetwork) → StreamsStand topology done s n
+    → AddsStream s next e → StreamsStand topology (done ++ stream e ∷ []) next (n + 1)
+stream_next topology done s n e next h a =
+    let counts : count_in Stream (done ++ stream e ∷ []) ≡ count_in Stream done + 1 =
+    count_more Stream done (stream e) in
+    let flows : count_in Flow (done ++ stream e ∷ []) ≡ count_in Flow done + 0 = count_more Flow done (stream e) in
+    let long : length (s.streams ++ a.stream ∷ []) ≡ length s.streams + 1 =
+    length-append s.streams (a.stream ∷ []) in
+    let many = h.many in
+    let none = h.no_flows in
+    let number = h.next in
+    record {
+      over = ap (λ (m : DeclaredNetwork). m.topology) a.added ∙ h.over;
+      names = ap (λ (m : DeclaredNetwork). stream_names m.streams) a.added
+          ∙ map-append (λ (t : DeclaredStream). t.name) s.streams (a.stream ∷ [])
+          ∙ ap (λ ns. ns ++ a.stream.name ∷ []) h.names ∙ ap (λ x. map name_in done ++ x ∷ []) a.is_of.name
+          ∙ sym (more name_in done (stream e));
+      identities = ap (λ (m : DeclaredNetwork). stream_identities m.streams) a.added
+          ∙ map-append (λ (t : DeclaredStream). t.identity) s.streams (a.stream ∷ [])
+          ∙ ap (λ is. is ++ a.stream.identity ∷ []) h.identities
+          ∙ ap (λ x. map identity_in done ++ x ∷ []) a.is_of.identity
+          ∙ sym (more identity_in done (stream e));
+      many = ap (λ (m : DeclaredNetwork). length m.streams) a.added ∙ long ∙ omega (arith, many, counts);
+      flows = ap (λ (m : DeclaredNetwork). m.flows) a.added ∙ h.flows;
+      no_flows = omega (arith, none, flows);
+      next = omega (arith, number, counts);
+    }
+
+-- what a network takes of a stream, it takes of the entry
+stream_pushes : (topology : DeclaredTopology) (done : List SenderEntry) (s : DeclaredNetwork) (n : ℕ)
+    (e : file.DeclaredStream) (path : List ℕ) → StreamsStand topology done s n
+    → stream_push_fault s (stream_over path e) ≡ due done (stream e)
+stream_pushes topology done s n e path h =
+    same_push (is_some (place_of e.name (names_of (senders_of s)))) (is_identity_taken s.streams e.identity)
+    (nat_le MAX_STREAMS (length s.streams)) (is_some (place_of e.name (map name_in done)))
+    (is_identity_given done e.identity) (nat_le MAX_STREAMS (count_in Stream done))
+    (ap (λ ns. is_some (place_of e.name ns)) (names_there topology done s n h))
+    (identity_taken s.streams done e.identity h.identities) (ap (nat_le MAX_STREAMS) h.many)
+
+pub stream_tells : (topology : DeclaredTopology) (done : List SenderEntry) (s : DeclaredNetwork) (n : ℕ)
+    (e : file.DeclaredStream) → StreamsStand topology done s n
+    → TellsOne topology done (stream e) (stream_added s n e)
+    (λ next. StreamsStand topology (done ++ stream e ∷ []) next (n + 1))
+stream_tells topology done s n e h = record {
+  first = λ f is. subst (λ (t : DeclaredTopology). HasFault t done (stream e) f) h.over
+      (fault_had s.topology done (stream e) n (λ path. stream_over path e) (stream_push_fault s) (with_stream s) f at
+      (λ path. stream_pushes topology done s n e path h) is);
+  given = λ f had. had_given s.topology done (stream e) n (λ path. stream_over path e) (stream_push_fault s)
+      (with_stream s) f at (λ path. stream_pushes topology done s n e path h)
+      (subst (λ (t : DeclaredTopology). HasFault t done (stream e) f) (sym h.over) had);
+  next = λ next is. stream_next topology done s n e next h (stream_stands s n e next is);
+}
+  where
+    at : IsAt done (stream e) Stream n
+    at = record { stands = refl; counted = h.next }
+
+flow_next : (topology : DeclaredTopology) (done : List SenderEntry) (s : DeclaredNetwork) (n : ℕ)
+    (e : file.DeclaredFlow) (next : DeclaredNetwork) → FlowsStand topology done s n
+    → AddsFlow s next e → FlowsStand topology (done ++ flow e ∷ []) next (n + 1)
+flow_next topology done s n e next h a =
+    let counts : count_in Flow (done ++ flow e ∷ []) ≡ count_in Flow done + 1 = count_more Flow done (flow e) in
+    let long : length (s.flows ++ a.flow ∷ []) ≡ length s.flows + 1 = length-append s.flows (a.flow ∷ []) in
+    let many = h.many in
+    let number = h.next in
+    record {
+      over = ap (λ (m : DeclaredNetwork). m.topology) a.added ∙ h.over;
+      names = ap (λ (m : DeclaredNetwork). names_of (senders_of m)) a.added ∙ names_of-senders (with_flow s a.flow)
+          ∙ ap (λ ns. stream_names s.streams ++ ns)
+          (map-append (λ (t : DeclaredFlow). t.name) s.flows (a.flow ∷ []))
+          ∙ sym (append_assoc (stream_names s.streams) (flow_names s.flows) (a.flow.name ∷ []))
+          ∙ ap (λ ns. ns ++ a.flow.name ∷ []) (sym (names_of-senders s) ∙ h.names)
+          ∙ ap (λ x. map name_in done ++ x ∷ []) a.is_of.name ∙ sym (more name_in done (flow e));
+      many = ap (λ (m : DeclaredNetwork). length m.flows) a.added ∙ long ∙ omega (arith, many, counts);
+      next = omega (arith, number, counts);
+    }
+
+flow_pushes : (topology : DeclaredTopology) (done : List SenderEntry) (s : DeclaredNetwork) (n : ℕ)
+    (e : file.DeclaredFlow) (path : List ℕ) → FlowsStand topology done s n
+    → flow_push_fault s (flow_over path e) ≡ due done (flow e)
+flow_pushes topology done s n e path h =
+    same_push (is_some (place_of e.name (names_of (senders_of s)))) false
+    (nat_le MAX_FLOWS (length s.flows)) (is_some (place_of e.name (map name_in done)))
+    false (nat_le MAX_FLOWS (count_in Flow done))
+    (ap (λ ns. is_some (place_of e.name ns)) h.names) refl (ap (nat_le MAX_FLOWS) h.many)
+
+pub flow_tells : (topology : DeclaredTopology) (done : List SenderEntry) (s : DeclaredNetwork) (n : ℕ)
+    (e : file.DeclaredFlow) → FlowsStand topology done s n
+    → TellsOne topology done (flow e) (flow_added s n e)
+    (λ next. FlowsStand topology (done ++ flow e ∷ []) next (n + 1))
+flow_tells topology done s n e h = record {
+  first = λ f is. subst (λ (t : DeclaredTopology). HasFault t done (flow e) f) h.over
+      (fault_had s.topology done (flow e) n (λ path. flow_over path e) (flow_push_fault s) (with_flow s) f at
+      (λ path. flow_pushes topology done s n e path h) is);
+  given = λ f had. had_given s.topology done (flow e) n (λ path. flow_over path e) (flow_push_fault s) (with_flow s) f
+      at (λ path. flow_pushes topology done s n e path h)
+      (subst (λ (t : DeclaredTopology). HasFault t done (flow e) f) (sym h.over) had);
+  next = λ next is. flow_next topology done s n e next h (flow_stands s n e next is);
+}
+  where
+    at : IsAt done (flow e) Flow n
+    at = record { stands = refl; counted = h.next }
