@@ -1,0 +1,10 @@
+use Rattle.std.proofs.Common.{refl}
+use Rattle.std.specs.Fmt.{digits}
+use Rattle.ats_shape.specs.Text.{frame_text, totals_text}
+use Rattle.ats_text_examples.specs.Shaped.{ShapesAreTold}
+
+-- A shape file by computation.
+
+pub shapes_are_told : ShapesAreTold
+unfolding digits frame_text totals_text
+shapes_are_told = record { read = refl; written = refl }

@@ -1,0 +1,59 @@
+use Rattle.std.specs.Prelude.{◌≡◌, ℕ, List, [], ◌∷◌, ◌++◌, Some, None, Ok, Err}
+use Rattle.ats_pcap.specs.Capture.{records_of}
+use Rattle.ats_pcap.specs.declared.fault.CaptureFault.TheVariants.{CutShort}
+use Rattle.ats_pcap.specs.declared.record.Record.{Record}
+
+-- The bytes of two captures, and their records.
+
+-- a header of 24 bytes: magic number, version 2.4, three fields without a meaning, and link type 1. With the low byte
+-- of each number first, and fractions of seconds in microseconds
+abbrev pub low_header : List ℕ
+low_header =
+    0xD4 ∷ 0xC3 ∷ 0xB2 ∷ 0xA1 ∷ 2 ∷ 0 ∷ 4 ∷ 0 ∷ 91 ∷ 92 ∷ 93 ∷ 94
+    ∷ 95 ∷ 96 ∷ 97 ∷ 98 ∷ 99 ∷ 100 ∷ 101 ∷ 102 ∷ 1 ∷ 0 ∷ 0 ∷ 0 ∷ []
+
+-- with the high byte first, and fractions in nanoseconds
+abbrev pub high_header : List ℕ
+high_header =
+    0xA1 ∷ 0xB2 ∷ 0x3C ∷ 0x4D ∷ 0 ∷ 2 ∷ 0 ∷ 4 ∷ 91 ∷ 92 ∷ 93 ∷ 94
+    ∷ 95 ∷ 96 ∷ 97 ∷ 98 ∷ 99 ∷ 100 ∷ 101 ∷ 102 ∷ 0 ∷ 0 ∷ 0 ∷ 1 ∷ []
+
+-- a record: seconds, the fraction, how many bytes were captured, how many the frame has, and those that were captured.
+-- The frame has two addresses, that of its destination first, and a tag with the VLAN identifier in its low 12 bits. Of
+-- the second frame the tag was not captured, and it has fewer octets than the least frame
+abbrev pub low_records : List ℕ
+low_records =
+    0x04 ∷ 0x03 ∷ 0x02 ∷ 0x01 ∷ 0x07 ∷ 0x06 ∷ 0x05 ∷ 0x00 ∷ 18 ∷ 0 ∷ 0 ∷ 0 ∷ 0x02 ∷ 0x01 ∷ 0 ∷ 0
+    ∷ 0x0A ∷ 0x0B ∷ 0x0C ∷ 0x0D ∷ 0x0E ∷ 0x0F ∷ 0x1A ∷ 0x1B ∷ 0x1C ∷ 0x1D ∷ 0x1E ∷ 0x1F
+    ∷ 0x81 ∷ 0x00 ∷ 0xB2 ∷ 0xC3 ∷ 0x08 ∷ 0x00
+    ∷ 0x05 ∷ 0x03 ∷ 0x02 ∷ 0x01 ∷ 0x0A ∷ 0x09 ∷ 0x08 ∷ 0x00 ∷ 14 ∷ 0 ∷ 0 ∷ 0 ∷ 20 ∷ 0 ∷ 0 ∷ 0
+    ∷ 0x0A ∷ 0x0B ∷ 0x0C ∷ 0x0D ∷ 0x0E ∷ 0x0F ∷ 0x1A ∷ 0x1B ∷ 0x1C ∷ 0x1D ∷ 0x1E ∷ 0x1F
+    ∷ 0x81 ∷ 0x00 ∷ []
+
+abbrev pub high_records : List ℕ
+high_records =
+    0x21 ∷ 0x22 ∷ 0x23 ∷ 0x24 ∷ 0x05 ∷ 0x06 ∷ 0x07 ∷ 0x08 ∷ 0 ∷ 0 ∷ 0 ∷ 17 ∷ 0 ∷ 0 ∷ 0x02 ∷ 0x03
+    ∷ 0x2A ∷ 0x2B ∷ 0x2C ∷ 0x2D ∷ 0x2E ∷ 0x2F ∷ 0x3A ∷ 0x3B ∷ 0x3C ∷ 0x3D ∷ 0x3E ∷ 0x3F
+    ∷ 0x81 ∷ 0x00 ∷ 0x12 ∷ 0x34 ∷ 0x08
+    ∷ 0x21 ∷ 0x22 ∷ 0x23 ∷ 0x25 ∷ 0x00 ∷ 0x00 ∷ 0x00 ∷ 0x09 ∷ 0 ∷ 0 ∷ 0 ∷ 16 ∷ 0 ∷ 0 ∷ 0x03 ∷ 0x04
+    ∷ 0x4A ∷ 0x4B ∷ 0x4C ∷ 0x4D ∷ 0x4E ∷ 0x4F ∷ 0x5A ∷ 0x5B ∷ 0x5C ∷ 0x5D ∷ 0x5E ∷ 0x5F
+    ∷ 0x81 ∷ 0x00 ∷ 0xFF ∷ 0xFE ∷ []
+
+-- 16,909,060 and 16,909,061 s; 329,223 and 526,602 us; 258 octets, and the least of 60, each with four of a check
+-- sequence
+abbrev pub low_read : List Record
+low_read =
+    record { nanos = 16909060329223000; octets = 262; identity = Some (0x0A0B0C0D0E0F, 0x2C3) }
+    ∷ record { nanos = 16909061526602000; octets = 64; identity = None } ∷ []
+
+-- 555,885,348 and 555,885,349 s; 84,281,096 and 9 ns; 515 and 772 octets
+abbrev pub high_read : List Record
+high_read =
+    record { nanos = 555885348084281096; octets = 519; identity = Some (0x2A2B2C2D2E2F, 0x234) }
+    ∷ record { nanos = 555885349000000009; octets = 776; identity = Some (0x4A4B4C4D4E4F, 0xFFE) } ∷ []
+
+-- so they are read, and one that ends inside the next record has a fault there
+pub record CapturesAreRead : Type 0 where
+  pub low : records_of (low_header ++ low_records) ≡ Ok low_read
+  pub high : records_of (high_header ++ high_records) ≡ Ok high_read
+  pub cut : records_of (low_header ++ low_records ++ 0x06 ∷ []) ≡ Err (CutShort 3)

@@ -1,0 +1,13 @@
+pub mod Tables
+pub mod Worked
+pub mod Ports
+pub mod Shown
+pub mod Verdicts
+pub mod Runs
+pub mod Tabled
+pub mod Shaped
+pub mod Asked
+pub mod Captured
+pub mod Called
+pub mod Taken
+pub mod Measures
