@@ -7,6 +7,7 @@ failed."""
 
 import contextlib
 import os
+import shutil
 import subprocess
 import sys
 
@@ -52,6 +53,17 @@ def run(*words, room=None):
     """The status and the lines of a call of the program, in a folder where one is given."""
     status, text = answer(*words, room=room)
     return status, text.decode().splitlines()
+
+
+def launcher_in(room):
+    """The launcher as `install` puts it in place, below a folder, over the program: its path."""
+    helpers = os.path.join(room, "libexec", "ats")
+    os.makedirs(os.path.join(room, "bin"))
+    shutil.copytree(os.path.join(ROOT, "tools", "reporting"), os.path.join(helpers, "reporting"))
+    for name in ("hints.py", "table.py"):
+        shutil.copy(os.path.join(ROOT, "launcher", name), helpers)
+    os.symlink(PROGRAM, os.path.join(helpers, "ats_cli"))
+    return shutil.copy(os.path.join(ROOT, "ats"), os.path.join(room, "bin", "ats"))
 
 
 def numbers(*defaults):
