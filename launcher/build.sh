@@ -277,7 +277,7 @@ build_alone() {
     tree=$notes/tree working= needed=
     trap put_back EXIT
     trap 'stop_working; say "the build was stopped; the next call goes on with it"; exit 8' HUP INT TERM
-    say 'proving and building the program, crate by crate; from nothing this takes about 25 minutes on four processors'
+    say 'proving and building the program, crate by crate; from nothing this takes 25 to 40 minutes on four processors'
     began=$(date +%s)
     commit=$(commit_of "$top")
     if ! set_apart; then
