@@ -14,3 +14,4 @@ pub mod FormReaders
 pub mod FormRoutes
 pub mod FormStreams
 pub mod FormArrays
+pub mod PassedOn

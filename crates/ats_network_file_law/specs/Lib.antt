@@ -3,3 +3,4 @@ pub mod First
 pub mod TopologyFaults
 pub mod SenderFaults
 pub mod FormFaults
+pub mod Passed

@@ -2,6 +2,7 @@
 
 ghost use Rattle.ats_network_file_law.specs.Entries.{EachEntryStands};
 ghost use Rattle.ats_network_file_law.specs.FormFaults.{FormFaultIsTheFirst};
+ghost use Rattle.ats_network_file_law.specs.Passed.{PassOn, TablesAreMeant};
 ghost use Rattle.ats_network_file_law.specs.SenderFaults.{SenderFaultIsTheFirst};
 ghost use Rattle.ats_network_file_law.specs.TopologyFaults.{TopologyFaultIsTheFirst};
 
@@ -29,4 +30,16 @@ pub fn topology_fault_is_the_first()
 /// number of those before it.
 pub fn sender_fault_is_the_first()
     ensures { SenderFaultIsTheFirst }
+{}
+
+/// A law: what a text declares is what its tables do; a fault of form, where it has no tables, is its
+/// fault, and so is that of the tables' nodes and links.
+pub fn faults_are_passed_on()
+    ensures { PassOn }
+{}
+
+/// A law: a table of a station, bridge or link stands for a node or link with its name and numbers; and
+/// on closed lists, the classes of a stream's table go along its path, and a single one is that of each port.
+pub fn tables_are_meant()
+    ensures { TablesAreMeant }
 {}
