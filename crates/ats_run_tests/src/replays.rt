@@ -1,4 +1,4 @@
-//! Runs of a line, written by hand and printed, and its schedulers.
+//! Runs of a line, written by hand, printed and captured, and its schedulers.
 
 ghost use Rattle.std.specs.Prelude.{◌≡◌, ◌<◌, length, All};
 ghost use Rattle.ats_network.specs.Network.{senders_of};
@@ -9,6 +9,7 @@ use ats_fixtures::lines::line;
 use ats_group::Verdict;
 use ats_network::Network;
 use ats_num::Ps;
+use ats_port_capture::file;
 use ats_replay::{departures, report};
 use ats_schedulers::Schedulers;
 use ats_trace::{Ending, HopRecord, Journey, Release, Run, Span};
@@ -38,6 +39,14 @@ const DISCARDED: &[u8] = b"frame 0 a 1523 0\n\
 const DISCARDED_REPORT: &[u8] = b"stream a frames 2 sunk 0 late 1 size 1 worst 0 bound -\n\
     flow f frames 0 sunk 0 late 0 size 0 worst 0 bound -\n\
     total frames 2 sunk 0 late 1 size 1\n";
+
+const HEADER: &[u8] =
+    b"\x4d\x3c\xb2\xa1\x02\x00\x04\x00\x00\x00\x00\x00\x00\x00\x00\x00\x00\x00\x04\x00\x01\x00\x00\x00";
+
+const CAPTURED: &[u8] =
+    b"\x4d\x3c\xb2\xa1\x02\x00\x04\x00\x00\x00\x00\x00\x00\x00\x00\x00\x00\x00\x04\x00\x01\x00\x00\x00\
+    \x00\x00\x00\x00\x0c\x36\x00\x00\x12\x00\x00\x00\xee\x05\x00\x00\
+    \x02\x00\x00\x00\x00\x01\x02\x00\x00\x00\x00\x00\x81\x00\xc0\x01\x88\xb5";
 
 // A frame of stream a that is released at 0.
 fn journey(octets: u32, ending: Ending) -> Journey
@@ -129,6 +138,20 @@ fn prints_a_frame_that_arrives(rt: HostRuntime) {
     let sums = [26_672_000u128];
     let text = report(rt.alloc(), &network, &run, Some(sums.as_slice())).expect(&rt, "room");
     assert!(rt; text.as_slice() == SENT_REPORT);
+}
+
+#[test]
+fn captures_what_a_port_sent(rt: HostRuntime) {
+    let Some(network) = line(rt.alloc()) else {
+        panic!(rt; "no network");
+    };
+    assert!(rt; network.senders() == 2);
+    assert!(rt; network.sender_path(0).len() == 2);
+    let run = sent(&rt, &network);
+    let capture = file(rt.alloc(), &network, &run, 2).expect(&rt, "room");
+    assert!(rt; capture.as_slice() == CAPTURED);
+    let capture = file(rt.alloc(), &network, &run, 1).expect(&rt, "room");
+    assert!(rt; capture.as_slice() == HEADER);
 }
 
 #[test]

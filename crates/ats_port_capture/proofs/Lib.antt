@@ -1,0 +1,5 @@
+pub mod Along
+pub mod Frames
+pub mod Ordered
+pub mod Records
+pub mod Runs

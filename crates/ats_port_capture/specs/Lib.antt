@@ -1,0 +1,4 @@
+pub mod Capture
+pub mod Frame
+pub mod Numbers
+pub mod Sightings

@@ -1,0 +1,7 @@
+pub mod Answered
+pub mod Members
+pub mod One
+pub mod Order
+pub mod Read
+pub mod Whole
+pub mod WorkedProofs

@@ -1,0 +1,22 @@
+//! What is proved of the captures of ports.
+
+ghost use Rattle.ats_port_capture_law.specs.Laws.{CaptureIsOne, CaptureReadsBack};
+ghost use Rattle.ats_port_capture_law.specs.Worked.{PortCapturesAreWorked};
+
+/// A law: what a port sent in a run is read back of its capture, each transmission as one record, in the order in which
+/// they started: with the nanosecond of the start, the octets of its frame, and what identifies its stream.
+pub fn capture_reads_back()
+    ensures { CaptureReadsBack }
+{}
+
+/// A law: a port has one capture in a legal run, and no other.
+pub fn capture_is_one()
+    ensures { CaptureIsOne }
+{}
+
+/// The captures of worked runs, byte by byte: with each kind of sender, a class that changes on the way, starts just
+/// before a second and in it, frames that are sent in another order than they are numbered, and frames that are
+/// discarded before the port.
+pub fn port_captures_are_worked()
+    ensures { PortCapturesAreWorked }
+{}
