@@ -1,0 +1,54 @@
+use Rattle.std.specs.Prelude.{ℕ, ◌≤◌, List, length, slice_index_or}
+use Rattle.std.specs.List.{AllZip, IsFirstMaxByKey}
+use Rattle.ats_network.specs.Network.{DeclaredNetwork}
+use Rattle.ats_network.specs.Senders.{sender_at}
+use Rattle.ats_network.specs.Edits.{no_stream}
+use Rattle.ats_certificate.specs.Certificate.{bound_along}
+use Rattle.ats_bound.specs.Least.{least_certificate}
+use Rattle.ats_trace.specs.Journey.{Travel}
+use Rattle.ats_trace.specs.Run.{IsRunBy, releases_of}
+use Rattle.ats_trace.specs.declared.journey.Release.{Release}
+use Rattle.ats_witness.specs.Burst.{IsBurstFor, port_of_hop}
+use Rattle.ats_witness.specs.Delay.{IsGreatestDelay}
+use Rattle.ats_witness.specs.Last.{last_key}
+
+-- a frame waits behind a port for all of the port's spread
+abbrev pub greatest_wait : ℕ → ℕ → ℕ
+greatest_wait frame spread = spread
+
+-- a run of the burst at a port for a stream: it has exactly these releases, each port sends the stream's frames last of
+-- those that tie, and behind each port each frame arrives as late as it may
+pub record IsBurstRun (network : DeclaredNetwork) (stream port : ℕ) (run : List Travel) : Type 0 where
+  pub by : IsRunBy (last_key stream) greatest_wait network run
+  pub burst : IsBurstFor network stream port (releases_of run)
+
+-- the delay that is found of a stream at a port: its greatest delay in such a run
+pub record IsFoundAt (network : DeclaredNetwork) (stream port delay : ℕ) : Type 0 where
+  pub run : List Travel
+  pub of_burst : IsBurstRun network stream port run
+  pub greatest : IsGreatestDelay run stream delay
+
+-- a delay is at most the sum of the least bounds along a stream's path
+abbrev pub IsWithinBound : DeclaredNetwork → ℕ → ℕ → Type 0
+IsWithinBound network stream delay =
+    delay ≤ bound_along (least_certificate network) (slice_index_or network.streams stream no_stream)
+
+-- the first of the greatest of some numbers stands at this place
+abbrev pub IsFirstGreatest : List ℕ → ℕ → Type 0
+IsFirstGreatest numbers place = IsFirstMaxByKey (λ n. n) numbers (length numbers) place
+
+-- what is found of a stream: a delay for each port of its path, a hop, and releases
+pub record FoundDelays : Type 0 where
+  pub delays : List ℕ
+  pub hop : ℕ
+  pub releases : List Release
+
+abbrev pub found_delays : List ℕ → ℕ → List Release → FoundDelays
+found_delays delays hop releases = record { delays = delays; hop = hop; releases = releases }
+
+-- the delay found at each port of its path, in order; the first hop with a greatest delay; and the releases of the
+-- burst at the port of this hop
+pub record AreFound (network : DeclaredNetwork) (stream : ℕ) (found : FoundDelays) : Type 0 where
+  pub each : AllZip (IsFoundAt network stream) (sender_at network stream).path found.delays
+  pub first : IsFirstGreatest found.delays found.hop
+  pub burst : IsBurstFor network stream (port_of_hop network stream found.hop) found.releases

@@ -1,0 +1,43 @@
+-- How the burst is made, sender by sender, and put in order: what the clauses of private functions speak of. What the
+-- burst is, `Burst` alone says.
+use Rattle.std.specs.Prelude.{◌≡◌, ℕ, ◌+◌, ◌*◌, ◌^◌, ◌≤◌, true, max, List, filter, fold, map, IsPermutation}
+use Rattle.std.specs.Prelude.{if◌then◌else◌}
+use Rattle.std.specs.List.{flat_map, range_with_len}
+use Rattle.std.specs.List.Sorted.{IsNonDecreasingBy}
+use Rattle.ats_network.specs.Sender.{Sender}
+use Rattle.ats_network.specs.Class.{seen_at}
+use Rattle.ats_network.specs.Network.{DeclaredNetwork}
+use Rattle.ats_certificate.specs.PortSums.{uses}
+use Rattle.ats_tally.specs.SenderAtPort.{KeepsLimits, port_sender}
+use Rattle.ats_trace.specs.declared.journey.Release.{Release}
+use Rattle.ats_witness.specs.Burst.{burst_of, travel_to}
+use Rattle.ats_witness.specs.declared.participant.Participant.{Participant}
+
+-- a sender whose path has the port, as it takes part in the burst there: what the port sees of it, and its travel
+pub record IsParticipant (network : DeclaredNetwork) (port : ℕ) (s : Sender) (p : Participant) : Type 0 where
+  pub used : uses port s ≡ true
+  pub seen : port_sender p.seen ≡ seen_at port s
+  pub travel : p.travel ≡ travel_to network port s
+  pub most : p.travel ≤ 57856000000
+  pub limits : KeepsLimits p.seen
+
+-- the greatest travel so far with one sender more, where its path has the port
+abbrev pub with_travel : DeclaredNetwork → ℕ → ℕ → Sender → ℕ
+with_travel network port greatest s = if uses port s then max greatest (travel_to network port s) else greatest
+
+-- the greatest travel of these senders to a port
+abbrev pub greatest_among : DeclaredNetwork → ℕ → List Sender → ℕ
+greatest_among network port senders = fold max 0 (map (travel_to network port) (filter (uses port) senders))
+
+-- the frames of the first so many senders in the burst, sender by sender
+abbrev pub by_sender : DeclaredNetwork → ℕ → ℕ → ℕ → List Release
+by_sender network port class senders = flat_map (burst_of network port class) (range_with_len 0 senders)
+
+-- where a release stands among others: they go by time and then by sender
+abbrev pub order_of : Release → ℕ
+order_of r = r.at.0 * 2 ^ 32 + r.sender
+
+-- the same releases in that order
+pub record AreReordered (releases ordered : List Release) : Type 0 where
+  pub same : IsPermutation releases ordered
+  pub in_order : IsNonDecreasingBy order_of ordered

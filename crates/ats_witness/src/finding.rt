@@ -1,0 +1,104 @@
+//! The search for the delays of a stream.
+
+ghost use Rattle.std.specs.Prelude.{◌<◌, length, All, IfOk};
+ghost use Rattle.std.specs.List.{AllZip};
+ghost use Rattle.ats_network.specs.Network.{IsNetwork};
+ghost use Rattle.ats_network.specs.Senders.{sender_at};
+ghost use Rattle.ats_certificate.specs.Certificate.{Holds};
+ghost use Rattle.ats_bound.specs.Least.{least_certificate};
+ghost use Rattle.ats_trace.specs.Releases.{AreReleases};
+ghost use Rattle.ats_trace.specs.Run.{HasReleases, IsRunBy};
+ghost use Rattle.ats_witness.specs.Burst.{port_of_hop};
+ghost use Rattle.ats_witness.specs.Found.{AreFound, IsFirstGreatest, IsFoundAt, IsWithinBound, greatest_wait};
+ghost use Rattle.ats_witness.specs.Last.{last_key};
+
+use crate::burst::releases;
+use crate::delay::worst;
+use crate::found::Found;
+use crate::last::Last;
+use ats_engine::Engine;
+use ats_events::Up;
+use ats_network::Network;
+use ats_num::Greatest;
+use ats_trace::{Release, Run};
+use std::alloc::{AllocError, Global};
+
+/// What is found of a stream of a network for which a certificate holds: the burst at each port of its path is run, so
+/// that the stream's frames go last of those that tie and each frame arrives behind each port as late as it may, and
+/// the greatest delay of the stream in each run is kept. None is above the sum of the stream's least bounds. It takes
+/// the time of one run for each port, and the memory of one. `AllocError` where there is no memory for it.
+pub fn witness(alloc: Global, network: &Network, stream: u32) -> Result<Found, AllocError>
+    requires stream { stream < length network.now.streams }
+    requires holds { Holds network.now (least_certificate network.now) }
+    ensures found { IfOk result (AreFound network.now stream) }
+    ensures releases { IfOk result (λ found. AreReleases network.now found.releases) }
+    ensures within { IfOk result (λ found. All (IsWithinBound network.now stream) found.delays) }
+{
+    let delays = delays_of(alloc, network, stream)?;
+    let hop = first_greatest(&delays) as u32;
+    let burst = releases(alloc, network, stream, hop)?;
+    Ok(Found::new(delays, hop, burst))
+}
+
+// The delay found at each port of a stream's path.
+fn delays_of(alloc: Global, network: &Network, stream: u32) -> Result<Vec<u64>, AllocError>
+    requires stream { stream < length network.now.streams }
+    requires holds { Holds network.now (least_certificate network.now) }
+    ensures each { IfOk result (λ delays.
+        AllZip (IsFoundAt network.now stream) (sender_at network.now stream).path delays.items) }
+    ensures within { IfOk result (λ delays. All (IsWithinBound network.now stream) delays.items) }
+    ensures rules { IsNetwork network.now }
+{
+    let hops = network.sender_path(stream).len();
+    let mut delays = Vec::with_capacity(alloc, hops)?;
+    for hop in 0..hops {
+        delays.push(delay_at(alloc, network, stream, hop as u32)?)?;
+    }
+    Ok(delays)
+}
+
+// The delay found at the port of a hop of a stream's path.
+fn delay_at(alloc: Global, network: &Network, stream: u32, hop: u32) -> Result<u64, AllocError>
+    requires stream { stream < length network.now.streams }
+    requires hop { hop < length (sender_at network.now stream).path }
+    requires rules { IsNetwork network.now }
+    requires holds { Holds network.now (least_certificate network.now) }
+    ensures found { IfOk result (IsFoundAt network.now stream (port_of_hop network.now stream hop)) }
+    ensures within { IfOk result (IsWithinBound network.now stream) }
+{
+    let schedule = releases(alloc, network, stream, hop)?;
+    let run = run_of(alloc, network, &schedule, stream)?;
+    match worst(&run, stream) {
+        Some(delay) => Ok(delay),
+        None => unreachable!(),
+    }
+}
+
+// The run of these releases in which the stream goes last and each frame arrives as late as it may.
+fn run_of(
+    alloc: Global,
+    network: &Network,
+    schedule: &[Release],
+    stream: u32,
+) -> Result<Run, AllocError>
+    requires { AreReleases network.now schedule.now }
+    ensures by { IfOk result (IsRunBy (last_key stream) greatest_wait network.now) }
+    ensures releases { IfOk result (HasReleases schedule.now) }
+{
+    let engine = Engine::open(alloc, network, schedule, Last(stream), Up, Greatest)?;
+    Ok(engine.run())
+}
+
+// The place of the first of the greatest of these numbers.
+fn first_greatest(numbers: &[u64]) -> usize
+    requires { 0 < length numbers.now }
+    ensures { IsFirstGreatest numbers.now result }
+{
+    let mut first = 0;
+    for place in 1..numbers.len() {
+        if numbers[place] > numbers[first] {
+            first = place;
+        }
+    }
+    first
+}

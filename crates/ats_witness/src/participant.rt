@@ -1,0 +1,110 @@
+//! A sender that takes part in the burst at a port.
+
+ghost use Rattle.std.specs.Prelude.{◌≡◌, ◌+◌, ◌-◌, ◌*◌, ◌/◌, ◌<◌, ◌≤◌, ◌==◌, false, length, min};
+ghost use Rattle.std.specs.Prelude.{nat_le, position, sum_by, MatchOption, IfSome, if◌then◌else◌};
+ghost use Rattle.ats_num.specs.Wire.{IsFrameSize, bits_of};
+ghost use Rattle.ats_topology.specs.Port.{port_at};
+ghost use Rattle.ats_topology.specs.Walks.{ArePorts};
+ghost use Rattle.ats_network.specs.Network.{senders_of};
+ghost use Rattle.ats_network.specs.Senders.{sender_at};
+ghost use Rattle.ats_certificate.specs.PortSums.{uses};
+ghost use Rattle.ats_tally.specs.SenderAtPort.{KeepsLimits};
+ghost use Rattle.ats_witness.specs.Burst.{time_over};
+ghost use Rattle.ats_witness.specs.Made.{IsParticipant};
+
+use ats_network::Network;
+use ats_num::wire_bits;
+use ats_tally::SeenSender;
+
+/// The most frames of a sender in a burst.
+pub const MAX_BURST_FRAMES: u64 = 40;
+
+/// A sender whose path has a port.
+#[derive(Clone, Copy)]
+pub(crate) struct Participant {
+    /// What the port sees of it.
+    pub(crate) seen: SeenSender,
+    /// Its travel to the port, in picoseconds.
+    pub(crate) travel: u64,
+}
+
+impl Participant {
+    /// How many frames it has in the burst for a class.
+    pub(crate) fn frames(&self, class: u8) -> u64
+        requires { KeepsLimits self.now.seen }
+        ensures { result ≡ (if nat_le class self.now.seen.class
+            then min 40 (self.now.seen.burst_bits / bits_of self.now.seen.max_octets) else 1) }
+    {
+        if class <= self.seen.class {
+            (self.seen.burst_bits / wire_bits(self.seen.max_octets)).min(MAX_BURST_FRAMES)
+        } else {
+            1
+        }
+    }
+
+    /// When they are released, where no travel to the port is longer than this one.
+    pub(crate) fn time(&self, class: u8, greatest: u64) -> u64
+        requires travel { self.now.travel ≤ greatest }
+        requires most { greatest ≤ 57856000000 }
+        ensures { result ≡ (if nat_le class self.now.seen.class
+            then 1 + greatest - self.now.travel else 1 + greatest - self.now.travel - 1) }
+    {
+        let together = 1 + greatest - self.travel;
+        if class <= self.seen.class {
+            together
+        } else {
+            together - 1
+        }
+    }
+}
+
+/// A sender as it takes part in the burst at a port; `None` exactly where its path does not have the port.
+pub(crate) fn taking_part(network: &Network, sender: u32, port: u32) -> Option<Participant>
+    requires { sender < length (senders_of network.now) }
+    ensures { MatchOption result (uses port (sender_at network.now sender) ≡ false)
+        (IsParticipant network.now port (sender_at network.now sender)) }
+{
+    let path = network.sender_path(sender);
+    let hop = hop_of(path, port)?;
+    let seen = SeenSender::at(network, sender, hop as u32);
+    Some(Participant {
+        seen,
+        travel: time_along(network, seen.max_octets, &path[..hop]),
+    })
+}
+
+// The place of a port on a path.
+fn hop_of(path: &[u32], port: u32) -> Option<usize>
+    ensures place { result ≡ position (λ p. p == port) path.now }
+    ensures within { IfSome result (λ hop. hop < length path.now) }
+{
+    path.iter().position(|p| *p == port)
+}
+
+// How long a frame of so many octets takes over these ports where nothing delays it.
+fn time_along(network: &Network, octets: u32, ports: &[u32]) -> u64
+    requires octets { IsFrameSize octets }
+    requires ports { ArePorts network.now.topology.ports ports.now }
+    requires few { length ports.now ≤ 16 }
+    ensures value { result ≡ sum_by (time_over network.now octets) ports.now }
+    ensures most { result ≤ 57856000000 }
+{
+    let bits = wire_bits(octets);
+    let mut time = 0;
+    for port in ports {
+        time += time_over(network, bits, *port);
+    }
+    time
+}
+
+// How long a frame of so many bits takes over a port where nothing delays it.
+fn time_over(network: &Network, bits: u64, port: u32) -> u64
+    requires bits { bits ≤ 16160 }
+    requires port { port < length network.now.topology.ports }
+    ensures value { result ≡ (port_at network.now.topology.ports port).ps_per_bit * bits
+        + (port_at network.now.topology.ports port).latency.0 }
+    ensures most { result ≤ 3616000000 }
+{
+    let link = &network.topology().ports()[port as usize];
+    u64::from(link.ps_per_bit) * bits + link.latency.0
+}

@@ -1,0 +1,5 @@
+mod LateArrivals
+mod OneBurst
+mod PortBefore
+mod FoundLaws
+mod WorkedBursts

@@ -1,0 +1,47 @@
+//! Laws of the burst at a port, and of found delays.
+
+ghost use Rattle.ats_witness_law.specs.Laws.{BurstIsOne, BurstKeepsBuckets, DelaysAreExact, FoundDelaysHappen};
+ghost use Rattle.ats_witness_law.specs.Laws.{FoundIsWithin, LastGoesLast, NoSoundBoundIsLess};
+ghost use Rattle.ats_witness_law.specs.Laws.{TravelGoesOverThePortBefore};
+
+/// Of frames that tie, those of any other sender go before those of the last one.
+pub fn last_goes_last()
+    ensures { LastGoesLast }
+{}
+
+/// A sender's travel to the first port of its path is nothing; to each other port it is the travel to the port before
+/// and the time over that one.
+pub fn travel_goes_over_the_port_before()
+    ensures { TravelGoesOverThePortBefore }
+{}
+
+/// No two lists of releases are the burst at a port for a class.
+pub fn burst_is_one()
+    ensures { BurstIsOne }
+{}
+
+/// By the burst every station keeps its buckets.
+pub fn burst_keeps_buckets()
+    ensures { BurstKeepsBuckets }
+{}
+
+/// In a legal run no frame arrives before its release, so what it took is its arrival less its release.
+pub fn delays_are_exact()
+    ensures { DelaysAreExact }
+{}
+
+/// What is found can happen: in a legal run in which every station keeps its buckets, a frame of the stream takes just
+/// so long.
+pub fn found_delays_happen()
+    ensures { FoundDelaysHappen }
+{}
+
+/// So no bounds are sound that give the stream less together: where its least bounds give just as much, they are tight.
+pub fn no_sound_bound_is_less()
+    ensures { NoSoundBoundIsLess }
+{}
+
+/// Nothing that is found of a stream is above the sum of its bounds by a certificate that holds.
+pub fn found_is_within()
+    ensures { FoundIsWithin }
+{}

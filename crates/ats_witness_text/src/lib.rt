@@ -1,0 +1,6 @@
+//! What is printed of the delays that are found of a stream.
+#![tactic(auto)]
+
+pub mod printing;
+
+pub use printing::witnessed;
