@@ -1,4 +1,5 @@
 pub mod Alike
 pub mod InOrder
+pub mod Named
 pub mod Only
 pub mod Told

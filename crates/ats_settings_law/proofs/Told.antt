@@ -1,10 +1,10 @@
 -- What each setting of a network tells.
 use Rattle.std.proofs.Common.{◌≡◌, ℕ, ◌+◌, ◌-◌, ◌*◌, ◌/◌, ◌<◌, ◌≤◌, Bool, true, false, cond, List, length}
 use Rattle.std.proofs.Common.{get_or, Some, None, refl, sym, ap, ◌∙◌, subst, arith}
-use Rattle.std.specs.Prelude.{nat_lt, unwrap_or}
+use Rattle.std.specs.Prelude.{◌↔◌, nat_lt, unwrap_or, IsSome}
 use Rattle.std.specs.Option.{ForSome}
 use Rattle.std.specs.List.{All, Contains}
-use Rattle.std.proofs.lemmas.Bool.{ltb-true}
+use Rattle.std.proofs.lemmas.Bool.{ltb-true, ltb-false}
 use Rattle.std.proofs.lemmas.Option.{none-some, same_Some}
 use Rattle.std.proofs.lemmas.List.Elements.{All-contains, All-weaker}
 use Rattle.std.proofs.lemmas.List.FromFn.{get_or-map-range_with_len}
@@ -75,15 +75,28 @@ scheduler_is network sender hop is at = by (nat_lt sender (length network.stream
         (shaping_is network sender hop is at (ltb-true sender (length network.streams) below))
     by false past = λ told e. absurd (none-some told e)
 
+-- a sender has one exactly where it is a stream
+scheduler_if_stream : (network : DeclaredNetwork) (sender hop : ℕ)
+    → IsSome (scheduler_at network sender hop) ↔ (sender < length network.streams)
+scheduler_if_stream network sender hop = by (nat_lt sender (length network.streams)) refl
+  where
+    by : (t : Bool) → nat_lt sender (length network.streams) ≡ t
+        → IsSome (cond t (Some (shaping_of network (member_at (members_of network) (scheduler_of network sender hop))))
+        None) ↔ (sender < length network.streams)
+    by true below = (λ h. ltb-true sender (length network.streams) below, λ h. refl)
+    by false past = (λ h. cc, λ h. absurd (omega (arith, h, ltb-false sender (length network.streams) past)))
+
 -- what the setting at a hop tells is so
 true_at : (network : DeclaredNetwork) (sender hop : ℕ) → IsNetwork network → LeavesBridge network sender hop
     → IsTrueOf network (setting_from network sender hop (port_of_hop network sender (hop - 1)))
 true_at network sender hop is at = record {
   exists = at.exists;
   path = before_hop network sender hop is at;
+  bridge = refl;
   class = refl;
   class_there = refl;
   most = refl;
+  shaped = scheduler_if_stream network sender hop;
   scheduler = scheduler_is network sender hop is at;
 }
 

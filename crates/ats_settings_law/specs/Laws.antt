@@ -1,8 +1,9 @@
-use Rattle.std.specs.Prelude.{◌≡◌, ℕ, ◌<◌, ◌≤◌, List, length, All, Contains, Some}
+use Rattle.std.specs.Prelude.{◌≡◌, ◌↔◌, ℕ, ◌<◌, ◌≤◌, List, length, All, Contains, Some, IsSome}
 use Rattle.std.specs.Option.{ForSome}
 use Rattle.ats_streams.specs.Traffic.{is_declared_size}
 use Rattle.ats_group.specs.Group.{Offer}
 use Rattle.ats_group.specs.Judge.{ats_judge}
+use Rattle.ats_topology.specs.Port.{port_at}
 use Rattle.ats_network.specs.Class.{class_at, port_before}
 use Rattle.ats_network.specs.Network.{DeclaredNetwork, IsNetwork, senders_of}
 use Rattle.ats_network.specs.Senders.{sender_at}
@@ -18,14 +19,16 @@ pub record IsSchedulerOf (network : DeclaredNetwork) (sender port : ℕ) (told :
   pub burst : told.burst_bits ≡ (declared_by network sender).burst_bits
   pub residence : told.residence_ns ≡ residence_of_groups network port
 
--- what a setting tells is so in the network: its sender goes on by the one port from the other, is in those classes
--- there, and has that greatest size and that scheduler
+-- what a setting tells is so in the network: its sender goes on by the one port from the other, which leads to that
+-- bridge, is in those classes there, and has that greatest size and that scheduler; a stream has one, and a flow none
 pub record IsTrueOf (network : DeclaredNetwork) (s : Setting) : Type 0 where
   pub exists : s.sender < length (senders_of network)
   pub path : port_before (sender_at network s.sender) s.sent_to ≡ Some s.received_from
+  pub bridge : s.bridge ≡ (port_at network.topology.ports s.received_from).to
   pub class : s.class ≡ class_at (sender_at network s.sender) s.received_from
   pub class_there : s.class_there ≡ class_at (sender_at network s.sender) s.sent_to
   pub most : s.max_octets ≡ (declared_by network s.sender).max_octets
+  pub shaped : IsSome s.scheduler ↔ (s.sender < length network.streams)
   pub scheduler : ForSome s.scheduler (IsSchedulerOf network s.sender s.received_from)
 
 -- each of a network's settings tells what is so
@@ -47,6 +50,17 @@ pub record IsNamed (settings : List Setting) (sender port : ℕ) : Type 0 where
   pub among : Contains settings setting
   pub of_sender : setting.sender ≡ sender
   pub behind : setting.received_from ≡ port
+
+-- one of them is of this sender, received from this port and sent to that one
+pub record IsNamedBetween (settings : List Setting) (sender before port : ℕ) : Type 0 where
+  pub named : IsNamed settings sender before
+  pub sent_to : named.setting.sent_to ≡ port
+
+-- wherever a sender's frames go on by a port from the one before on their path, one of the network's settings says so
+abbrev pub EachHopIsNamed : Type 0
+EachHopIsNamed = (network : DeclaredNetwork) (settings : List Setting) → IsNetwork network
+    → AreSettings network settings → (sender : ℕ) → sender < length (senders_of network) → (before port : ℕ)
+    → port_before (sender_at network sender) port ≡ Some before → IsNamedBetween settings sender before port
 
 -- a frame has no fewer octets than the network declares of its sender
 abbrev pub IsNotShort : DeclaredNetwork → Offer → Type 0

@@ -1,14 +1,22 @@
 //! What is proved of the definitions themselves.
 
-ghost use Rattle.ats_settings_law.specs.Laws.{EachSettingIsTrue, GroupsJudgeAlike, SettingsAreOne, SizesPassAlike};
+ghost use Rattle.ats_settings_law.specs.Laws.{EachHopIsNamed, EachSettingIsTrue, GroupsJudgeAlike, SettingsAreOne};
+ghost use Rattle.ats_settings_law.specs.Laws.{SizesPassAlike};
 
 /// A law: each network has just one list of settings.
 pub fn settings_are_one()
     ensures { SettingsAreOne }
 {}
 
+/// A law: wherever frames of a stream or flow go on by a port from the one before on their path, one of
+/// the settings says so: no hop at which they leave a bridge is left out.
+pub fn each_hop_is_named()
+    ensures { EachHopIsNamed }
+{}
+
 /// A law: each setting of a network tells what is so in it: by which port its stream or flow goes on
-/// from which, its classes there, its greatest size, and what is declared of its scheduler.
+/// from which, to which bridge that one leads, its classes there, its greatest size, and what is declared
+/// of its scheduler, which a stream has and a flow has not.
 pub fn each_setting_is_true()
     ensures { EachSettingIsTrue }
 {}
