@@ -62,6 +62,8 @@ buffers_are_met = record {
   on_its_way = refl;
   arrived = held_by_law line line_rows one_frame 2 6 13836000 12336 the_line examples_legal.one_frame (lit≤ tt)
       (line_keeps 2) refl;
+  held_back = refl;
+  still_held = refl;
   fork_certified = babbler_contained.certified;
   fork_buffers = refl;
   together = held_by_law fork fork_rows first_goes_first 2 6 13836000 24672 babbler_contained.certified

@@ -7,7 +7,7 @@ use Rattle.ats_buffer.specs.Occupancy.{occupancy}
 use Rattle.ats_buffer.specs.Buffer.{buffer_at, buffers_of}
 use Rattle.ats_examples.specs.Networks.{line, line_and_flow, fork}
 use Rattle.ats_examples.specs.Rows.{line_rows, fork_rows}
-use Rattle.ats_examples.specs.Runs.{one_frame, behind_a_flow, first_goes_first}
+use Rattle.ats_examples.specs.Runs.{one_frame, behind_a_flow, first_goes_first, regulated}
 use Rattle.ats_examples.specs.Babbler.{babbler}
 use Rattle.ats_examples.specs.SoundRuns.{IsCertified}
 use Rattle.ats_buffer_law.specs.Laws.{TalkersKeepBuckets}
@@ -22,8 +22,8 @@ pub record IsHeld (network : DeclaredNetwork) (rows : List Row) (run : List Trav
   pub fits : bits ≤ buffer_at network rows port class
 
 -- one frame of 12336 bits on the line: it is there from its release, at the first port, and from its arrival, at the
--- second, and no longer when its transmission ends. On the fork two frames come together. A flow's frame is in no class
--- but its own
+-- second, and no longer when its transmission ends. A frame that its scheduler holds back is there from its arrival,
+-- and not only once it is eligible. On the fork two frames come together. A flow's frame is in no class but its own
 pub record BuffersAreMet : Type 0 where
   pub line_certified : IsCertified line line_rows
   pub line_buffers : buffers_of line line_rows ≡ 13569 ∷ 14736 ∷ []
@@ -32,6 +32,8 @@ pub record BuffersAreMet : Type 0 where
   pub ended : occupancy line one_frame 0 6 12336000 ≡ 0
   pub on_its_way : occupancy line one_frame 2 6 13835999 ≡ 0
   pub arrived : IsHeld line line_rows one_frame 2 6 13836000 12336
+  pub held_back : occupancy line regulated 2 6 26172000 ≡ 12336
+  pub still_held : occupancy line regulated 2 6 137195999 ≡ 12336
   pub fork_certified : IsCertified fork fork_rows
   pub fork_buffers : buffers_of fork fork_rows ≡ 13569 ∷ 31938 ∷ 13569 ∷ []
   pub together : IsHeld fork fork_rows first_goes_first 2 6 13836000 24672
