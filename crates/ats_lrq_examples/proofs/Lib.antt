@@ -1,0 +1,2 @@
+pub mod LegalByLrq
+pub mod MetProofs

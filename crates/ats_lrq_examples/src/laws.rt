@@ -1,0 +1,26 @@
+//! What the laws of length-rate-quotient regulators say of a worked network, and what they rest on.
+
+ghost use Rattle.ats_lrq_examples.specs.Met.{FlowsAreFree, LawIsMet, RegulatorCounts, SpacingCounts};
+
+/// What the law of a certificate with narrowed bursts asks can be met: here are two frames over one bridge, which are
+/// just so far apart as the rate wants, and of which each arrives exactly when the sum of its bounds is over.
+pub fn law_is_met()
+    ensures { LawIsMet }
+{}
+
+/// Spacing counts: where the second frame is released 1 ps sooner, the talker keeps its bucket and not its spacing, and
+/// the frame is 1 ps late. So the bounds are not sound for all talkers that keep their buckets.
+pub fn spacing_counts()
+    ensures { SpacingCounts }
+{}
+
+/// The regulator counts: as the network is declared the certificate does not hold, and behind the schedulers of
+/// Asynchronous Traffic Shaping, which let both frames of a burst through, its bounds are not sound.
+pub fn regulator_counts()
+    ensures { RegulatorCounts }
+{}
+
+/// Spacing is asked of streams alone: a station keeps it whose flow sends two frames at once.
+pub fn flows_are_free()
+    ensures { FlowsAreFree }
+{}
