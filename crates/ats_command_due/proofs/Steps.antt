@@ -116,6 +116,45 @@ reads_first {reads = reads} command net others {old = old} {new = new} value res
   in_turn = read_of command net others (reads old) (reads new) first.in_turn words;
 }
 
+-- a command that stops at its second file read both, and none behind it
+pub reads_two : {S X Y : Type 0} (told : S → List ℕ → Option (List ℕ)) (faults : S → List ℕ → ℕ)
+    (reads : S → List Read) (command : Command) (net file : List ℕ) (others : List (List ℕ)) (old middle new : S)
+    (value : X) (result : Result Y Stop)
+    → ReadsFile told faults reads net old middle (Ok value) → ReadsFile told faults reads file middle new result
+    → Reaches (told old) command file → file_words command ≡ net ∷ file ∷ others
+    → ReadsFiles told faults reads command old new result
+reads_two told faults reads command net file others old middle new value result first second reaches words = record {
+  failed = λ h. (file, reaches, Rose-since _ _ _ (first.continues.counts file) (second.failed h));
+  calm = λ h. second.calm h ∙ first.calm (λ e. cc);
+  continues = Continues-trans first.continues second.continues;
+  in_turn = subst (λ (names : List (List ℕ)). ReadsInTurn names (reads old) (reads new)) (sym words)
+      (read_behind (net ∷ []) (file ∷ others) (reads old) (reads middle) (reads new) first.in_turn
+      (read_behind (file ∷ []) others (reads middle) (reads new) (reads new) second.in_turn
+      (none_read others (reads new))));
+}
+
+-- a command that comes to a third file, once the two before it declared values, reads the three
+pub reads_three : {S X Y Z : Type 0} (told : S → List ℕ → Option (List ℕ)) (faults : S → List ℕ → ℕ)
+    (reads : S → List Read) (command : Command) (net file last : List ℕ) (old one two new : S) (value : X) (other : Y)
+    (result : Result Z Stop)
+    → ReadsFile told faults reads net old one (Ok value) → ReadsFile told faults reads file one two (Ok other)
+    → ReadsFile told faults reads last two new result
+    → Reaches (told old) command last → file_words command ≡ net ∷ file ∷ last ∷ []
+    → ReadsFiles told faults reads command old new result
+reads_three told faults reads command net file last old one two new value other result first second third reaches
+    words = record {
+      failed = λ h. (
+        last,
+        reaches,
+        Rose-since _ _ _ ((Continues-trans first.continues second.continues).counts last) (third.failed h),
+      );
+      calm = λ h. third.calm h ∙ second.calm (λ e. cc) ∙ first.calm (λ e. cc);
+      continues = Continues-trans first.continues (Continues-trans second.continues third.continues);
+      in_turn = subst (λ (names : List (List ℕ)). ReadsInTurn names (reads old) (reads new)) (sym words)
+          (read_behind (net ∷ []) (file ∷ last ∷ []) (reads old) (reads one) (reads new) first.in_turn
+          (read_behind (file ∷ []) (last ∷ []) (reads one) (reads two) (reads new) second.in_turn third.in_turn));
+    }
+
 -- a command that comes to a second file, once the first declared a value, reads both
 pub reads_both : {S X Y : Type 0} (told : S → List ℕ → Option (List ℕ)) (faults : S → List ℕ → ℕ)
     (reads : S → List Read) (command : Command) (net file : List ℕ) (old middle new : S) (value : X)

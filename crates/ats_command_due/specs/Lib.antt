@@ -3,6 +3,8 @@ pub mod Replayed
 pub mod Captured
 pub mod Conformed
 pub mod Generated
+pub mod Set
+pub mod Held
 pub mod Due
 pub mod Calls
 pub mod Soundness

@@ -6,9 +6,10 @@ use Rattle.ats_streams.specs.declared.traffic.Declared.{Declared}
 use Rattle.ats_group.specs.Judge.{Judge, ats_judge, bucket_rule}
 use Rattle.ats_soundness_law.specs.Sound.{IsSoundBy}
 use Rattle.ats_checker.specs.InTime.{FramesAreInTimeBy}
+use Rattle.ats_lrq.specs.Judge.{lrq_judge, spacing_rule}
 use Rattle.ats_verdict_text.specs.Text.{accepted_text}
 use Rattle.ats_io.specs.Outside.{appended}
-use Rattle.ats_command_input.specs.Command.{Command, Check}
+use Rattle.ats_command_input.specs.Command.{Command, Check, LrqCheck}
 use Rattle.ats_command_due.specs.Due.{IsTold, told_bytes}
 use Rattle.ats_command_input.specs.Input.{network_in, rows_in}
 
@@ -29,19 +30,29 @@ abbrev pub IsSoundFile : DeclaredNetwork → List ℕ → List ℕ → List ℕ 
 IsSoundFile network certificate bytes text =
     (rows : List Row) × (rows_in network.topology certificate bytes ≡ Ok rows) × IsSoundText network rows text
 
--- two files of these bytes declare this network and these rows, of which the text is such a one
-pub record AreSound (net certificate net_bytes certificate_bytes text : List ℕ) (network : DeclaredNetwork)
-    (rows : List Row) : Type 0 where
-  pub network_declared : network_in net net_bytes ≡ Ok network
-  pub rows_declared : rows_in network.topology certificate certificate_bytes ≡ Ok rows
-  pub is_sound : IsSoundText network rows text
+-- two files of these bytes declare this network and these rows, of which the text is such a one by a judge and a rule
+pub record AreSoundBy (judge : Judge) (rule : Declared → List Frame → Type 0)
+    (net certificate net_bytes certificate_bytes text : List ℕ) (network : DeclaredNetwork) (rows : List Row) : Type 0
+  where
+    pub network_declared : network_in net net_bytes ≡ Ok network
+    pub rows_declared : rows_in network.topology certificate certificate_bytes ≡ Ok rows
+    pub is_sound : IsSoundTextBy judge rule network rows text
+
+-- the files of these words declare a network and rows, of which the text is such a one by a judge and a rule
+abbrev pub PromisesBy : Judge → (Declared → List Frame → Type 0) → (List ℕ → Option (List ℕ)) → List ℕ → List ℕ
+    → List ℕ → Type 0
+PromisesBy judge rule told net certificate text = (network : DeclaredNetwork) × (rows : List Row)
+    × AreSoundBy judge rule net certificate (told_bytes told net) (told_bytes told certificate) text network rows
 
 -- what a command promises of the text that it is done with, where the files tell their bytes. `check`: they declare a
--- network and rows, of which the text is such a one. The others promise nothing beyond that their answer is due
+-- network and rows, of which the text is such a one by the groups of Asynchronous Traffic Shaping and for talkers that
+-- keep their buckets. `lrq check`: by length-rate-quotient regulators and for talkers that keep their spacing, in each
+-- legal run of the network as it is declared. The others promise nothing beyond that their answer is due
 abbrev pub Promises : (List ℕ → Option (List ℕ)) → Command → List ℕ → Type 0
 Promises told (Check net certificate) text =
-    IsTold told (Check net certificate) → (network : DeclaredNetwork) × (rows : List Row)
-    × AreSound net certificate (told_bytes told net) (told_bytes told certificate) text network rows
+    IsTold told (Check net certificate) → PromisesBy ats_judge bucket_rule told net certificate text
+Promises told (LrqCheck net certificate) text =
+    IsTold told (LrqCheck net certificate) → PromisesBy lrq_judge spacing_rule told net certificate text
 Promises told command text = Unit {0}
 
 -- a text was printed, whole, of which holds what the command promises

@@ -10,12 +10,18 @@ pub data Command : Type 0 where
   Show : List ℕ → Command
   Bound : List ℕ → Command
   Explain : List ℕ → Command
+  Settings : List ℕ → Command
   Check : List ℕ → List ℕ → Command
+  Buffers : List ℕ → List ℕ → Command
   Conform : List ℕ → List ℕ → Command
   Admit : List ℕ → List ℕ → Command
   Replay : List ℕ → List ℕ → Order → Command
   Capture : List ℕ → List ℕ → List ℕ → Order → Command
   Generate : List ℕ → ℕ → ℕ → Command
+  Peaks : List ℕ → List ℕ → List ℕ → Order → Command
+  LrqShape : List ℕ → Command
+  LrqBound : List ℕ → Command
+  LrqCheck : List ℕ → List ℕ → Command
   Unknown : Command
 
 -- the replay of a schedule in an order, where there is one
@@ -34,25 +40,64 @@ abbrev pub capture_in : List ℕ → List ℕ → List ℕ → Option Order → 
 capture_in net station file None = Unknown
 capture_in net station file (Some order) = Capture net station file order
 
--- the command that words name: a verb with its words, by their number
-abbrev pub command_of : List (List ℕ) → Command
-command_of (verb ∷ file ∷ []) =
+-- the buffers beside the peaks of a schedule in an order, where there is one
+abbrev pub peaks_in : List ℕ → List ℕ → List ℕ → Option Order → Command
+peaks_in net certificate schedule None = Unknown
+peaks_in net certificate schedule (Some order) = Peaks net certificate schedule order
+
+-- the commands of the other regulator, behind the word `lrq`: one with one word
+unfoldable pub lrq_with_one : List ℕ → List ℕ → Command
+lrq_with_one verb file =
+    if bytes_eq verb (codes "shape") then LrqShape file
+    else if bytes_eq verb (codes "bound") then LrqBound file
+    else Unknown
+
+-- and one with two
+unfoldable pub lrq_with_two : List ℕ → List ℕ → List ℕ → Command
+lrq_with_two verb net certificate =
+    if bytes_eq verb (codes "check") then LrqCheck net certificate else Unknown
+
+-- the command of a verb with one word
+unfoldable pub with_one : List ℕ → List ℕ → Command
+with_one verb file =
     if bytes_eq verb (codes "shape") then Shape file
     else if bytes_eq verb (codes "show") then Show file
     else if bytes_eq verb (codes "bound") then Bound file
     else if bytes_eq verb (codes "explain") then Explain file
+    else if bytes_eq verb (codes "settings") then Settings file
     else Unknown
-command_of (verb ∷ net ∷ file ∷ []) =
+
+-- with two
+unfoldable pub with_two : List ℕ → List ℕ → List ℕ → Command
+with_two verb net file =
     if bytes_eq verb (codes "check") then Check net file
+    else if bytes_eq verb (codes "buffers") then Buffers net file
     else if bytes_eq verb (codes "conform") then Conform net file
     else if bytes_eq verb (codes "admit") then Admit net file
+    else if bytes_eq verb (codes "lrq") then lrq_with_one net file
     else Unknown
-command_of (verb ∷ net ∷ second ∷ third ∷ []) =
+
+-- with three
+unfoldable pub with_three : List ℕ → List ℕ → List ℕ → List ℕ → Command
+with_three verb net second third =
     if bytes_eq verb (codes "replay") then replay_in net second (order_named third)
     else if bytes_eq verb (codes "generate") then generate_in net (seed_named second) (count_named third)
+    else if bytes_eq verb (codes "lrq") then lrq_with_two net second third
     else Unknown
-command_of (verb ∷ net ∷ station ∷ file ∷ order ∷ []) =
-    if bytes_eq verb (codes "capture") then capture_in net station file (order_named order) else Unknown
+
+-- with four
+unfoldable pub with_four : List ℕ → List ℕ → List ℕ → List ℕ → List ℕ → Command
+with_four verb net second third order =
+    if bytes_eq verb (codes "capture") then capture_in net second third (order_named order)
+    else if bytes_eq verb (codes "buffers") then peaks_in net second third (order_named order)
+    else Unknown
+
+-- the command that words name: a verb with its words, by their number
+abbrev pub command_of : List (List ℕ) → Command
+command_of (verb ∷ file ∷ []) = with_one verb file
+command_of (verb ∷ net ∷ file ∷ []) = with_two verb net file
+command_of (verb ∷ net ∷ second ∷ third ∷ []) = with_three verb net second third
+command_of (verb ∷ net ∷ second ∷ third ∷ order ∷ []) = with_four verb net second third order
 command_of words = Unknown
 
 -- the words of a command that name files, from left to right
@@ -61,10 +106,16 @@ file_words (Shape file) = file ∷ []
 file_words (Show net) = net ∷ []
 file_words (Bound net) = net ∷ []
 file_words (Explain net) = net ∷ []
+file_words (Settings net) = net ∷ []
 file_words (Check net certificate) = net ∷ certificate ∷ []
+file_words (Buffers net certificate) = net ∷ certificate ∷ []
 file_words (Conform net schedule) = net ∷ schedule ∷ []
 file_words (Admit net requests) = net ∷ requests ∷ []
 file_words (Replay net schedule order) = net ∷ schedule ∷ []
 file_words (Capture net station file order) = net ∷ file ∷ []
 file_words (Generate net seed count) = net ∷ []
+file_words (Peaks net certificate schedule order) = net ∷ certificate ∷ schedule ∷ []
+file_words (LrqShape file) = file ∷ []
+file_words (LrqBound net) = net ∷ []
+file_words (LrqCheck net certificate) = net ∷ certificate ∷ []
 file_words Unknown = []

@@ -5,6 +5,9 @@ use Rattle.ats_command_input.specs.declared.command.Command.{Command}
 use Rattle.ats_command_input.specs.declared.command.Command.TheVariants.{Shape, Show, Bound, Explain, Check, Replay}
 use Rattle.ats_command_input.specs.declared.command.Command.TheVariants.{Capture}
 use Rattle.ats_command_input.specs.declared.command.Command.TheVariants.{Conform, Admit, Generate}
+use Rattle.ats_command_input.specs.declared.command.Command.TheVariants.{Settings}
+use Rattle.ats_command_input.specs.declared.command.Command.TheVariants.{Buffers, Peaks}
+use Rattle.ats_command_input.specs.declared.command.Command.TheVariants.{LrqShape, LrqBound, LrqCheck}
 
 -- the bytes of words
 abbrev pub texts_of : List (String Global) → List (List ℕ)
@@ -20,12 +23,18 @@ view (Shape file) = table.Shape file.now
 view (Show net) = table.Show net.now
 view (Bound net) = table.Bound net.now
 view (Explain net) = table.Explain net.now
+view (Settings net) = table.Settings net.now
 view (Check net certificate) = table.Check net.now certificate.now
+view (Buffers net certificate) = table.Buffers net.now certificate.now
 view (Conform net schedule) = table.Conform net.now schedule.now
 view (Admit net requests) = table.Admit net.now requests.now
 view (Replay net schedule order) = table.Replay net.now schedule.now order
 view (Capture net station file order) = table.Capture net.now station.now file.now order
 view (Generate net seed count) = table.Generate net.now seed count.frames
+view (Peaks net certificate schedule order) = table.Peaks net.now certificate.now schedule.now order
+view (LrqShape file) = table.LrqShape file.now
+view (LrqBound net) = table.LrqBound net.now
+view (LrqCheck net certificate) = table.LrqCheck net.now certificate.now
 
 -- the same, where there may be none
 abbrev pub view_of : Option Command → table.Command
