@@ -68,8 +68,9 @@ fn text_of(
     departures(alloc, network, &run)
 }
 
-/// A run of a network with exactly these releases, by the tie and the pace of the order.
-pub(crate) fn run_in(
+/// A run of a network with exactly these releases, by the tie and the pace of the order. `AllocError`
+/// where there is no memory for it.
+pub fn run_in(
     alloc: Global,
     network: &Network,
     releases: &[Release],

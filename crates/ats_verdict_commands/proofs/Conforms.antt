@@ -35,6 +35,11 @@ pub comes_on : {A B : Type 0} (Is : B → Answer → Type 0) (result : Result (V
     → ComesTo Is result (due >>= next)
 comes_on Is result due value next is comes = subst (λ d. ComesTo Is result (d >>= next)) (sym is) comes
 
+-- and what comes of it is what comes of the declared value
+pub comes_from : {A : Type 0} (Is : A → Answer → Type 0) (result : Result (Vec ℕ) Stop) (due : Result A Answer)
+    (value : A) → due ≡ Ok value → ComesTo Is result (Ok value) → ComesTo Is result due
+comes_from Is result due value is comes = subst (ComesTo Is result) (sym is) comes
+
 -- an answer to what is declared is one to what is made of it
 answer_made : {A B : Type 0} (Is : A → Answer → Type 0) (Made : B → Answer → Type 0) (make : A → B)
     (due : Result A Answer) (answer : Answer) → ((value : A) → Is value answer → Made (make value) answer)

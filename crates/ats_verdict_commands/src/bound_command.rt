@@ -29,8 +29,8 @@ pub fn bound<F: Files>(alloc: Global, net: &str, files: &mut F) -> Result<Vec<u8
     certificate_of(alloc, &network)
 }
 
-// What is printed of a network's certificate, or why none holds.
-fn certificate_of(alloc: Global, network: &Network) -> Result<Vec<u8>, Stop>
+/// What is printed of a network's certificate, or why none holds.
+pub fn certificate_of(alloc: Global, network: &Network) -> Result<Vec<u8>, Stop>
     ensures due { Gives (λ text. text.items) result (bound_judged network.now) }
     ensures was_read { ¬ IsErrOf result Stop.ReadFailed }
 {

@@ -1,7 +1,8 @@
 //! `check NET CERT`: judges a certificate of a network, and gives the sums.
 
-ghost use Rattle.std.specs.Prelude.{◌≡◌, IfOk, IsErrOf};
+ghost use Rattle.std.specs.Prelude.{◌≡◌, IfOk, IsErrOf, OnOk};
 ghost use Rattle.ats_io.specs.Outside.{IfTold};
+ghost use Rattle.ats_certificate.specs.Certificate.{Holds};
 ghost use Rattle.ats_checker.specs.Ports.{RefusalInside, RowsInside};
 ghost use Rattle.ats_verdict_text.specs.Text.{refusal_text, refused_text};
 ghost use Rattle.ats_command_input.specs.Command as table;
@@ -55,8 +56,8 @@ fn verdict_of<F: Files>(
     judgement_of(alloc, network, &rows)
 }
 
-// What is printed of a certificate that holds, or why it does not.
-fn judgement_of(
+/// What is printed of a certificate that holds, or why it does not.
+pub fn judgement_of(
     alloc: Global,
     network: &Network,
     certificate: &Certificate,
@@ -64,6 +65,7 @@ fn judgement_of(
     requires { RowsInside network.now.topology certificate.now }
     ensures due { Gives (λ text. text.items) result (check_judged network.now certificate.now) }
     ensures sound { IfOk result (λ text. IsSoundText network.now certificate.now text.items) }
+    ensures holds { OnOk result (Holds network.now certificate.now) }
     ensures was_read { ¬ IsErrOf result Stop.ReadFailed }
 {
     let topology = network.topology();
@@ -74,8 +76,8 @@ fn judgement_of(
     }
 }
 
-// The line that says why a certificate does not hold.
-fn refused(alloc: Global, topology: &Topology, refusal: &Refusal) -> Result<Vec<u8>, AllocError>
+/// The line that says why a certificate does not hold. `AllocError` where there is no memory for it.
+pub fn refused(alloc: Global, topology: &Topology, refusal: &Refusal) -> Result<Vec<u8>, AllocError>
     requires { RefusalInside topology.now refusal.now }
     ensures { IfOk result (λ text. text.items ≡ refused_text (refusal_text topology.now refusal.now)) }
 {
