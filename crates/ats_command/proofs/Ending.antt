@@ -6,7 +6,9 @@ use Rattle.std.proofs.lemmas.Option.{same_Some, none-some}
 use Rattle.ats_io.specs.Outside.{Rose, TakesPrefix}
 use Rattle.ats_command_input.specs.Command.{Command, Shape, Show, Bound, Explain, Check, Replay, Unknown, Capture}
 use Rattle.ats_command_input.specs.Command.{Conform}
-use Rattle.ats_command_input.specs.Command.{Admit, Generate}
+use Rattle.ats_command_input.specs.Command.{Admit, Generate, Settings}
+use Rattle.ats_command_input.specs.Command.{Buffers, Peaks}
+use Rattle.ats_command_input.specs.Command.{LrqShape, LrqBound, LrqCheck}
 use Rattle.ats_command_input.specs.Answer.{Answer, HasText, words_answer}
 use Rattle.ats_command_due.specs.Due.{IsAnswer, IsDueAnswer, IsTold, told_bytes}
 use Rattle.ats_command_due.specs.Calls.{Answers, Printed, PrintedPrefix, ReadRose, IsCalm, StatusIsDue}
@@ -82,7 +84,15 @@ calm_unread told (Bound net) before after calm = λ rose. let At : List ℕ → 
     λ name. Rose (before name) (after name) in calm 0 [] (lit< tt) (subst At rose.1 rose.2)
 calm_unread told (Explain net) before after calm = λ rose. let At : List ℕ → Type 0 =
     λ name. Rose (before name) (after name) in calm 0 [] (lit< tt) (subst At rose.1 rose.2)
+calm_unread told (Settings net) before after calm = λ rose. let At : List ℕ → Type 0 =
+    λ name. Rose (before name) (after name) in calm 0 [] (lit< tt) (subst At rose.1 rose.2)
 calm_unread told (Check net certificate) before after calm = λ rose. let At : List ℕ → Type 0 =
+    λ name. Rose (before name) (after name) in
+    elim rose.1 [
+      | inl first ↦ calm 0 [] (lit< tt) (subst At first rose.2)
+      | inr second ↦ calm 1 [] (lit< tt) (subst At second.0 rose.2)
+    ]
+calm_unread told (Buffers net certificate) before after calm = λ rose. let At : List ℕ → Type 0 =
     λ name. Rose (before name) (after name) in
     elim rose.1 [
       | inl first ↦ calm 0 [] (lit< tt) (subst At first rose.2)
@@ -114,6 +124,25 @@ calm_unread told (Capture net station file order) before after calm = λ rose. l
     ]
 calm_unread told (Generate net seed count) before after calm = λ rose. let At : List ℕ → Type 0 =
     λ name. Rose (before name) (after name) in calm 0 [] (lit< tt) (subst At rose.1 rose.2)
+calm_unread told (Peaks net certificate schedule order) before after calm = λ rose. let At : List ℕ → Type 0 =
+    λ name. Rose (before name) (after name) in
+    elim rose.1 [
+      | inl first ↦ calm 0 [] (lit< tt) (subst At first rose.2)
+      | inr behind ↦ elim behind [
+        | inl second ↦ calm 1 [] (lit< tt) (subst At second.0 rose.2)
+        | inr third ↦ calm 2 [] (lit< tt) (subst At third.0 rose.2)
+      ]
+    ]
+calm_unread told (LrqShape file) before after calm = λ rose. let At : List ℕ → Type 0 =
+    λ name. Rose (before name) (after name) in calm 0 [] (lit< tt) (subst At rose.1 rose.2)
+calm_unread told (LrqBound net) before after calm = λ rose. let At : List ℕ → Type 0 =
+    λ name. Rose (before name) (after name) in calm 0 [] (lit< tt) (subst At rose.1 rose.2)
+calm_unread told (LrqCheck net certificate) before after calm = λ rose. let At : List ℕ → Type 0 =
+    λ name. Rose (before name) (after name) in
+    elim rose.1 [
+      | inl first ↦ calm 0 [] (lit< tt) (subst At first rose.2)
+      | inr second ↦ calm 1 [] (lit< tt) (subst At second.0 rose.2)
+    ]
 calm_unread told Unknown before after calm = λ rose. rose.1
 
 -- a front of the line for words outside the table was printed

@@ -11,10 +11,12 @@ ghost use Rattle.ats_command_due.specs.Soundness.{PrintsAsPromised, Promises};
 ghost use Rattle.ats_command_due.specs.Calls.{Answers, Printed, PrintedPrefix, ReadRose, ReadsFiles, IsCalm};
 ghost use Rattle.ats_command_due.specs.Calls.{StatusIsDue};
 
+use ats_buffer_commands::{buffers, peaks};
 use ats_command_input::{Command, Status, Stop, finish, named_by, print};
 use ats_io::{Files, Sink};
+use ats_lrq_commands::{lrq_bound, lrq_check, lrq_shape};
 use ats_run_commands::{capture, generate, replay};
-use ats_verdict_commands::{admit, bound, check, conform, explain, shape, show};
+use ats_verdict_commands::{admit, bound, check, conform, explain, settings, shape, show};
 use std::alloc::Global;
 
 /// Carries out the command that the words name, over these files, and prints its text to the sink.
@@ -30,7 +32,8 @@ pub fn ats<F: Files, O: Sink>(alloc: Global, words: &[String], files: &mut F, ou
 
     // Done to `check NET CERT` has printed the bounds and sums of the rows that the files declare for a network. They
     // are sound in each legal run of it, and there each frame of a stream whose talker keeps its buckets arrives within
-    // its stream's sum and its deadline.
+    // its stream's sum and its deadline. Done to `lrq check NET CERT` has done so for runs in which bridges have
+    // length-rate-quotient regulators, and for talkers that keep their spacing.
     ensures sound { result ≡ Status.Done
         → PrintsAsPromised (F.told files.old) (named words.now) (O.held out.old) (O.held out.new) }
 
@@ -82,7 +85,9 @@ fn outcome_of<F: Files>(alloc: Global, command: Command, files: &mut F) -> Resul
         Command::Show(net) => show(alloc, net, files),
         Command::Bound(net) => bound(alloc, net, files),
         Command::Explain(net) => explain(alloc, net, files),
+        Command::Settings(net) => settings(alloc, net, files),
         Command::Check(net, certificate) => check(alloc, net, certificate, files),
+        Command::Buffers(net, certificate) => buffers(alloc, net, certificate, files),
         Command::Conform(net, schedule) => conform(alloc, net, schedule, files),
         Command::Admit(net, requests) => admit(alloc, net, requests, files),
         Command::Replay(net, schedule, order) => replay(alloc, net, schedule, order, files),
@@ -90,5 +95,11 @@ fn outcome_of<F: Files>(alloc: Global, command: Command, files: &mut F) -> Resul
             capture(alloc, net, station, file, order, files)
         }
         Command::Generate(net, seed, count) => generate(alloc, net, seed, count, files),
+        Command::Peaks(net, certificate, schedule, order) => {
+            peaks(alloc, net, certificate, schedule, order, files)
+        }
+        Command::LrqShape(file) => lrq_shape(alloc, file, files),
+        Command::LrqBound(net) => lrq_bound(alloc, net, files),
+        Command::LrqCheck(net, certificate) => lrq_check(alloc, net, certificate, files),
     }
 }
