@@ -56,9 +56,20 @@ const COMMANDS: &[(&[&str], u32, &[u8])] = &[
         port s1>s2 load 100000000000\ntotal streams 1 late 0 over 0 tightest a slack 999987164000\n",
     ),
     (
+        &["settings", "n"],
+        2,
+        b"bridge,received_from,class,stream,rate_bps,burst_bits,max_octets,residence_ns,sent_to,class_there\n",
+    ),
+    (
         &["check", "n", "c"],
         4,
         b"hop a s1>s2 12836000\nsum a 12836000\naccepted 1\n",
+    ),
+    (&["buffers", "n", "c"], 4, b"buffer s1>s2 6 13569\nrows 1\n"),
+    (
+        &["buffers", "n", "c", "r", "early"],
+        6,
+        b"buffer s1>s2 6 13569 peak 12336\nrows 1\n",
     ),
     (&["conform", "n", "r"], 4, b"conforms 1\n"),
     (
@@ -84,6 +95,19 @@ const COMMANDS: &[(&[&str], u32, &[u8])] = &[
         &["admit", "n", "q"],
         4,
         b"admitted c 7 13508000\nwithdrawn a\nstreams 1\n",
+    ),
+    // The first frame of a member waits for none, so it is eligible at its arrival by either regulator.
+    (
+        &["lrq", "shape", "s"],
+        2,
+        b"frame 0 x 1522 0 eligible 0\ntotal frames 1 eligible 1 late 0 size 0\n",
+    ),
+    // The burst of a is one longest frame, of 12336 bits, so narrowed bursts are those declared.
+    (&["lrq", "bound", "n"], 2, CERTIFICATE),
+    (
+        &["lrq", "check", "n", "c"],
+        4,
+        b"hop a s1>s2 12836000\nsum a 12836000\naccepted 1\n",
     ),
 ];
 
@@ -134,7 +158,7 @@ fn call(
 #[test]
 fn each_read_fails(rt: HostRuntime) {
     for (words, reads, text) in COMMANDS {
-        for read in 1..7u32 {
+        for read in 1..8u32 {
             let (status, out) = call(&rt, words, read, 0, 4096);
             if read <= *reads {
                 assert!(rt; status == Status::ReadFailed);

@@ -2,6 +2,7 @@ pub mod RowOrder
 pub mod Meanings
 pub mod Scheduled
 pub mod OneJudgement
+pub mod OneText
 pub mod OneAnswer
 pub mod ReplayMeanings
 pub mod ConformBounds
@@ -16,3 +17,7 @@ pub mod CaptureBounds
 pub mod ExplainMeanings
 pub mod WorstBound
 pub mod GenerateMeanings
+pub mod BufferMeanings
+pub mod SettingsMeanings
+pub mod LrqMeanings
+pub mod LrqShapeMeanings

@@ -23,7 +23,7 @@ use Rattle.ats_checker.specs.Refusal.{refusal_of}
 use Rattle.ats_checker.specs.declared.refusal.Refusal.{Refusal}
 use Rattle.ats_checker.proofs.FirstRefusal.{each_refusal_is_the_first}
 use Rattle.ats_checker.proofs.Refused.{refused_unless_holding}
-use Rattle.ats_verdict_text.specs.Text.{accepted_text, reason_text, refusal_text}
+use Rattle.ats_verdict_text.specs.Text.{accepted_text, reason_text, refusal_text, refused_text}
 use Rattle.ats_soundness_law.proofs.Soundness.{certificate_is_sound}
 use Rattle.ats_checker.proofs.InTime.{holding_is_in_time}
 use Rattle.ats_num.specs.Failure.{◌>>=◌}
@@ -31,7 +31,7 @@ use Rattle.ats_command_input.specs.Answer.{Answer, input_answer, settled}
 use Rattle.ats_command_due.specs.Due.{bound_answer, check_answer}
 use Rattle.ats_command_input.specs.Input.{bytes_in, declared_in, network_in, rows_in}
 use Rattle.ats_command_due.specs.Judged.{judged, bound_judged, check_judged}
-use Rattle.ats_command_law.specs.Meaning.{BoundSays, BoundMeans, CheckSays, CheckMeans}
+use Rattle.ats_command_law.specs.Meaning.{BoundSays, BoundMeans, CheckSays, CheckMeans, IsRefused}
 use Rattle.ats_command_input.specs.declared.status.Status.TheVariants.{Input}
 use Rattle.ats_command_law.proofs.RowOrder.{rows_ascend}
 
@@ -60,7 +60,7 @@ pub network_gives : (net bytes : List ℕ) → MatchResult (network_in net bytes
 unfolding network_in
 network_gives net bytes = file_gives 16777216 net bytes network.fault_text network_of IsNetwork declared_is_network
 
-rows_give : (topology : DeclaredTopology) (file bytes : List ℕ)
+pub rows_give : (topology : DeclaredTopology) (file bytes : List ℕ)
     → MatchResult (rows_in topology file bytes) (AllPairs IsBefore) IsInput
 unfolding rows_in
 rows_give topology file bytes =
@@ -111,8 +111,28 @@ pub bound_means : BoundMeans
 unfolding bound_answer
 bound_means net bytes = bound_says net bytes (network_in net bytes) refl (network_gives net bytes)
 
+-- a certificate with a refusal, where both files declare what they should
+pub is_refused : (net certificate net_bytes certificate_bytes : List ℕ) (network : DeclaredNetwork) (rows : List Row)
+    (refusal : Refusal)
+    → network_in net net_bytes ≡ Ok network → rows_in network.topology certificate certificate_bytes ≡ Ok rows
+    → IsNetwork network → AllPairs IsBefore rows → refusal_of network rows ≡ Some refusal
+    → IsRefused net certificate net_bytes certificate_bytes (refused_text (refusal_text network.topology refusal))
+    network rows refusal
+is_refused net certificate net_bytes certificate_bytes network rows refusal network_is rows_are rules ordered is =
+    record {
+      network_declared = network_is;
+      rows_declared = rows_are;
+      rules = rules;
+      first = (each_refusal_is_the_first network rows refusal rules ordered).0 is;
+      fails = λ holds. other refusal (sym is ∙ (refused_unless_holding network rows rules ordered).1 holds);
+      written = refl;
+    }
+  where
+    other : (refusal : Refusal) → Some refusal ≡ None → ⊥
+    other refusal h = cc
+
 -- `check`, where both files declare what they should
-judged_check : (net certificate net_bytes certificate_bytes : List ℕ) (network : DeclaredNetwork) (rows : List Row)
+pub judged_check : (net certificate net_bytes certificate_bytes : List ℕ) (network : DeclaredNetwork) (rows : List Row)
     (refusal : Option Refusal)
     → network_in net net_bytes ≡ Ok network → rows_in network.topology certificate certificate_bytes ≡ Ok rows
     → IsNetwork network → AllPairs IsBefore rows → refusal_of network rows ≡ refusal
@@ -132,23 +152,13 @@ judged_check net certificate net_bytes certificate_bytes network rows None netwo
         written = refl;
       },
     )
-judged_check net certificate net_bytes certificate_bytes network rows (Some refusal)
-    network_is rows_are rules ordered is = (
+judged_check net certificate net_bytes certificate_bytes network rows (Some refusal) network_is rows_are rules ordered
+    is = (
       network,
       rows,
       refusal,
-      record {
-        network_declared = network_is;
-        rows_declared = rows_are;
-        rules = rules;
-        first = (each_refusal_is_the_first network rows refusal rules ordered).0 is;
-        fails = λ holds. other refusal (sym is ∙ (refused_unless_holding network rows rules ordered).1 holds);
-        written = refl;
-      },
+      is_refused net certificate net_bytes certificate_bytes network rows refusal network_is rows_are rules ordered is,
     )
-  where
-    other : (refusal : Refusal) → Some refusal ≡ None → ⊥
-    other refusal h = cc
 
 -- where the first declares a network
 rows_say : (net certificate net_bytes certificate_bytes : List ℕ) (network : DeclaredNetwork)

@@ -1,16 +1,22 @@
 use Rattle.std.proofs.Common.{◌≡◌, ℕ, List, Option, Result, Ok, Err, refl, sym, ap, ◌∙◌}
 use Rattle.std.specs.Prelude.{IsErr}
 use Rattle.ats_command_input.specs.Command.{Command, Shape, Show, Bound, Explain, Check, Replay, Unknown, command_of}
-use Rattle.ats_command_input.specs.Command.{Capture, Conform, Admit, Generate}
+use Rattle.ats_command_input.specs.Command.{Capture, Conform, Admit, Generate, Settings}
+use Rattle.ats_command_input.specs.Command.{Buffers, Peaks}
+use Rattle.ats_command_input.specs.Command.{LrqShape, LrqBound, LrqCheck}
 use Rattle.ats_command_input.specs.Answer.{Answer, words_answer}
+use Rattle.ats_command_input.specs.Input.{network_in}
 use Rattle.ats_command_due.specs.Due.{IsDueAnswer, IsTold, told_bytes}
 use Rattle.ats_command_due.specs.Due.{admit_answer, bound_answer, check_answer, explain_answer, shape_answer}
-use Rattle.ats_command_due.specs.Due.{show_answer}
+use Rattle.ats_command_due.specs.Due.{buffers_answer, show_answer}
+use Rattle.ats_command_due.specs.Due.{lrq_bound_answer, lrq_check_answer, lrq_shape_answer}
+use Rattle.ats_command_due.specs.Held.{IsHeldText, held_in}
 use Rattle.ats_command_law.specs.Laws.{HasOneAnswer, OneAnswerIsDue, OneStatusIsDue}
 use Rattle.ats_command_due.specs.Captured.{IsCaptured, captured_in}
 use Rattle.ats_command_due.specs.Generated.{IsGenerated, generated_in}
 use Rattle.ats_command_due.specs.Replayed.{IsOneOf, IsReplayed, scheduled_in}
 use Rattle.ats_command_law.proofs.OneJudgement.{one_judgement, same_judgement}
+use Rattle.ats_command_law.proofs.OneText.{one_text, same_text}
 use Rattle.ats_command_law.proofs.Scheduled.{scheduled_may}
 
 -- where none of the texts is due, just one answer is
@@ -37,8 +43,16 @@ only_due told (Bound net) is_told one =
     (bound_answer net (told_bytes told net), record { is_told = is_told; answers = refl }, λ other due. due.answers)
 only_due told (Explain net) is_told one =
     (explain_answer net (told_bytes told net), record { is_told = is_told; answers = refl }, λ other due. due.answers)
+only_due told (Settings net) is_told one =
+    let alone = one_text (network_in net (told_bytes told net)) in
+    (alone.0, record { is_told = is_told; answers = alone.1 }, λ other due. alone.2 other due.answers)
 only_due told (Check net certificate) is_told one = (
   check_answer net certificate (told_bytes told net) (told_bytes told certificate),
+  record { is_told = is_told; answers = refl },
+  λ other due. due.answers,
+)
+only_due told (Buffers net certificate) is_told one = (
+  buffers_answer net certificate (told_bytes told net) (told_bytes told certificate),
   record { is_told = is_told; answers = refl },
   λ other due. due.answers,
 )
@@ -62,6 +76,24 @@ only_due told (Capture net station file order) is_told one =
 only_due told (Generate net seed count) is_told one =
     let alone = one_without_texts (IsGenerated seed count) (generated_in net seed count (told_bytes told net)) one in
     (alone.0, record { is_told = is_told; answers = alone.1 }, λ other due. alone.2 other due.answers)
+only_due told (Peaks net certificate schedule order) is_told one =
+    let alone = one_without_texts (IsHeldText order)
+    (held_in net certificate schedule (told_bytes told net) (told_bytes told certificate) (told_bytes told schedule))
+    one in
+    (alone.0, record { is_told = is_told; answers = alone.1 }, λ other due. alone.2 other due.answers)
+only_due told (LrqShape file) is_told one = (
+  lrq_shape_answer file (told_bytes told file),
+  record { is_told = is_told; answers = refl },
+  λ other due.
+      due.answers,
+)
+only_due told (LrqBound net) is_told one =
+    (lrq_bound_answer net (told_bytes told net), record { is_told = is_told; answers = refl }, λ other due. due.answers)
+only_due told (LrqCheck net certificate) is_told one = (
+  lrq_check_answer net certificate (told_bytes told net) (told_bytes told certificate),
+  record { is_told = is_told; answers = refl },
+  λ other due. due.answers,
+)
 only_due told Unknown is_told one =
     (words_answer, record { is_told = is_told; answers = refl }, λ other due. due.answers)
 
@@ -83,8 +115,13 @@ same_due told (Bound net) one other h k =
     same_status one other (bound_answer net (told_bytes told net)) h.answers k.answers
 same_due told (Explain net) one other h k =
     same_status one other (explain_answer net (told_bytes told net)) h.answers k.answers
+same_due told (Settings net) one other h k =
+    ap (λ (a : Answer). a.status) (same_text (network_in net (told_bytes told net)) one other h.answers k.answers)
 same_due told (Check net certificate) one other h k =
     same_status one other (check_answer net certificate (told_bytes told net) (told_bytes told certificate)) h.answers
+    k.answers
+same_due told (Buffers net certificate) one other h k =
+    same_status one other (buffers_answer net certificate (told_bytes told net) (told_bytes told certificate)) h.answers
     k.answers
 same_due told (Conform net schedule) one other h k =
     ap (λ (a : Answer). a.status)
@@ -102,6 +139,17 @@ same_due told (Capture net station file order) one other h k =
 same_due told (Generate net seed count) one other h k =
     one_status (IsGenerated seed count) (generated_in net seed count (told_bytes told net)) one other h.answers
     k.answers
+same_due told (Peaks net certificate schedule order) one other h k =
+    one_status (IsHeldText order)
+    (held_in net certificate schedule (told_bytes told net) (told_bytes told certificate) (told_bytes told schedule))
+    one other h.answers k.answers
+same_due told (LrqShape file) one other h k =
+    same_status one other (lrq_shape_answer file (told_bytes told file)) h.answers k.answers
+same_due told (LrqBound net) one other h k =
+    same_status one other (lrq_bound_answer net (told_bytes told net)) h.answers k.answers
+same_due told (LrqCheck net certificate) one other h k =
+    same_status one other (lrq_check_answer net certificate (told_bytes told net) (told_bytes told certificate))
+    h.answers k.answers
 same_due told Unknown one other h k = same_status one other words_answer h.answers k.answers
 
 pub one_status_due : OneStatusIsDue

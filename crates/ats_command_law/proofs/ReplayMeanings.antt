@@ -22,7 +22,7 @@ use Rattle.ats_command_due.specs.Replayed.{IsOneOf, IsReplayed, IsRunIn, schedul
 use Rattle.ats_command_law.proofs.Meanings.{IsInput, file_gives, network_gives, none_declared, check_means}
 
 -- where a schedule's file declares no releases, it has a fault
-releases_give : (network : DeclaredNetwork) (file bytes : List ℕ)
+pub releases_give : (network : DeclaredNetwork) (file bytes : List ℕ)
     → MatchResult (releases_in network file bytes) (λ (releases : List Release). Unit {0}) IsInput
 unfolding releases_in
 releases_give network file bytes =

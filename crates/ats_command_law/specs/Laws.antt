@@ -9,11 +9,12 @@ use Rattle.ats_network.specs.Senders.{sender_at}
 use Rattle.ats_certificate.specs.declared.row.Row.{Row}
 use Rattle.ats_soundness_law.specs.Sound.{bounds_of}
 use Rattle.ats_verdict_text.specs.Text.{accepted_text, stream_lines}
-use Rattle.ats_command_input.specs.Command.{Command, Replay, Capture, Generate, command_of}
+use Rattle.ats_command_input.specs.Command.{Command, Replay, Capture, Generate, Peaks, command_of}
 use Rattle.ats_command_input.specs.Answer.{Answer}
 use Rattle.ats_command_due.specs.Due.{IsDueAnswer, IsTold, told_bytes}
 use Rattle.ats_command_due.specs.Captured.{captured_in}
 use Rattle.ats_command_due.specs.Generated.{generated_in}
+use Rattle.ats_command_due.specs.Held.{held_in}
 use Rattle.ats_command_due.specs.Replayed.{scheduled_in}
 
 -- this answer is due, and no other
@@ -21,14 +22,18 @@ pub record IsOnlyDue (told : List ℕ → Option (List ℕ)) (words : List (List
   pub due : IsDueAnswer told (command_of words) answer
   pub only : (other : Answer) → IsDueAnswer told (command_of words) other → other ≡ answer
 
--- the bytes that are told leave one answer alone: to each command but `replay`, `capture` and `generate`, which may
--- print any run in their order, and to these where a file has a fault, no station has the name, or no releases are made
+-- the bytes that are told leave one answer alone: to each command but `replay`, `capture`, `generate` and `buffers`
+-- with a schedule, which may print what came of any run in their order, and to these where a file has a fault, no
+-- station has the name, no releases are made, or the certificate does not hold
 abbrev pub HasOneAnswer : (List ℕ → Option (List ℕ)) → Command → Type 0
 HasOneAnswer told (Replay net schedule order) =
     IsErr (scheduled_in net schedule (told_bytes told net) (told_bytes told schedule))
 HasOneAnswer told (Capture net station file order) =
     IsErr (captured_in net station file (told_bytes told net) (told_bytes told file))
 HasOneAnswer told (Generate net seed count) = IsErr (generated_in net seed count (told_bytes told net))
+HasOneAnswer told (Peaks net certificate schedule order) =
+    IsErr (held_in net certificate schedule (told_bytes told net) (told_bytes told certificate)
+    (told_bytes told schedule))
 HasOneAnswer told command = Unit {0}
 
 -- for all words, and all bytes told under the names of their files, just one answer is due, where they leave one alone

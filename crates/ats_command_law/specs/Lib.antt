@@ -9,3 +9,6 @@ pub mod CaptureMeaning
 pub mod CaptureBounds
 pub mod ExplainMeaning
 pub mod GenerateMeaning
+pub mod BufferMeaning
+pub mod SettingsMeaning
+pub mod LrqMeaning

@@ -1,6 +1,7 @@
 //! What is proved of the answers that are due, for all words and bytes.
 
 ghost use Rattle.ats_command_law.specs.AdmitMeaning.{AdmitMeans};
+ghost use Rattle.ats_command_law.specs.BufferMeaning.{BuffersMean, PeaksMean};
 ghost use Rattle.ats_command_law.specs.CaptureBounds.{CaptureKeepsBounds};
 ghost use Rattle.ats_command_law.specs.CaptureMeaning.{CaptureMeans};
 ghost use Rattle.ats_command_law.specs.ConformBounds.{ConformKeepsBounds};
@@ -9,14 +10,17 @@ ghost use Rattle.ats_command_law.specs.ExplainMeaning.{ExplainMeans};
 ghost use Rattle.ats_command_law.specs.GenerateMeaning.{GenerateMeans, PrintedWorstIsWithin};
 ghost use Rattle.ats_command_law.specs.Laws.{AcceptedTextIsSound, OneAnswerIsDue, OneStatusIsDue};
 ghost use Rattle.ats_command_law.specs.Laws.{PrintedBoundsAreSound};
+ghost use Rattle.ats_command_law.specs.LrqMeaning.{LrqBoundMeans, LrqCheckMeans, LrqShapeMeans};
 ghost use Rattle.ats_command_law.specs.Meaning.{BoundMeans, CheckMeans};
 ghost use Rattle.ats_command_law.specs.ReplayMeaning.{ReplayKeepsBounds, ReplayMeans};
+ghost use Rattle.ats_command_law.specs.SettingsMeaning.{SettingsMean};
 
 use ats_explain::laws::{clear_where_one_holds, each_stream_adds_up};
 
 /// For all words, and all bytes told under the names of their files, just one answer is due, except to `replay` and
-/// `capture` where no file has a fault and, for `capture`, a station has the name, and to `generate` where releases are
-/// made: these may print any run in their order.
+/// `capture` where no file has a fault and, for `capture`, a station has the name, to `generate` where releases are
+/// made, and to `buffers` with a schedule where no file has a fault and the certificate holds: these may print what
+/// came of any run in their order.
 pub fn one_answer_is_due()
     ensures { OneAnswerIsDue }
 {}
@@ -53,6 +57,35 @@ pub fn what_explain_answers()
 /// other status comes.
 pub fn what_check_answers()
     ensures { CheckMeans }
+{}
+
+/// What each answer to `settings` means, by its status. `Done`: the file declares a network, and the text writes its
+/// settings, the only ones that it has. Each is true of the network. They are all that a bridge has to be told: each
+/// network of the same topology that has them judges alike every list of frames that comes to a group of a bridge, and
+/// the size of each frame, of senders that they name there and no shorter than is declared. `Input`: it declares none.
+/// No other status comes.
+pub fn what_settings_answers()
+    ensures { SettingsMean }
+{}
+
+/// What each answer to `buffers NET CERT` means, by its status. `Done`: the files declare a network and rows that hold
+/// for it, and the text gives the buffer of each row. In each legal run, at every time, the occupancy of each port and
+/// class of streams is at most its buffer, and so that of a row's port and class at most the number that is printed,
+/// where each station keeps its buckets at which a stream with that class there begins. Any other status and its text
+/// say what they say where `check` answers so.
+pub fn what_buffers_answers()
+    ensures { BuffersMean }
+{}
+
+/// What each answer to `buffers NET CERT SCHEDULE ORDER` means, by its status. `Done`: the files declare a network,
+/// rows that hold for it, of whose buffers the same is true, and releases; and the text gives the buffer of each row
+/// and beside it the peak of its port and class, over all times, in a legal run of this network, by the tie and the
+/// pace of the order, with exactly these releases. A peak is at most its buffer, where each station keeps its buckets
+/// at which a stream with that class there begins. `Refused`: they declare a network, rows that do not hold for it, and
+/// releases, and the text gives the first refusal of these rows. `Input`: one of them does not declare what it should.
+/// No other status comes.
+pub fn what_peaks_answer()
+    ensures { PeaksMean }
 {}
 
 /// What each answer to `conform` means, by its status. `Done`: the files declare a network and releases, by which every
@@ -143,4 +176,32 @@ pub fn capture_keeps_bounds()
 /// worst delay is at most what it prints as its bound, where it prints one.
 pub fn printed_worst_is_within()
     ensures { PrintedWorstIsWithin }
+{}
+
+/// What each answer to `lrq shape` means, by its status. `Done`: the file declares a shape, and the text gives the
+/// verdicts of one length-rate-quotient regulator, whose members are its streams. What is eligible of each stream
+/// conforms to that stream's rate and the wire bits of its longest frame, whatever the others send. `Input`: it
+/// declares none. No other status comes.
+pub fn what_lrq_shape_answers()
+    ensures { LrqShapeMeans }
+{}
+
+/// What each answer to `lrq bound` means, by its status. `Done`: the file declares a network, and the text writes the
+/// least certificate of the network with narrowed bursts, which holds for that. It is sound for length-rate-quotient
+/// regulators and spaced talkers, and by it each frame of a spaced talker arrives within its stream's sum and deadline,
+/// in each legal run of the network as it is declared. `Refused`: it declares a network for which no certificate holds
+/// with narrowed bursts, and the text gives the first reason against that. `Input`: it declares none. No other status
+/// comes.
+pub fn what_lrq_bound_answers()
+    ensures { LrqBoundMeans }
+{}
+
+/// What each answer to `lrq check` means, by its status. `Done`: the files declare a network and rows that hold with
+/// narrowed bursts. These are sound for length-rate-quotient regulators and spaced talkers, and by them each frame of a
+/// spaced talker arrives within its stream's sum and deadline, in each legal run of the network as it is declared; the
+/// text gives their bounds and sums. `Refused`: they declare a network and rows that do not hold with narrowed bursts,
+/// and the text gives the first refusal of these rows. `Input`: one of them does not declare what it should. No other
+/// status comes.
+pub fn what_lrq_check_answers()
+    ensures { LrqCheckMeans }
 {}
