@@ -14,5 +14,8 @@ pub mod RequestsRead
 pub mod RecordsRead
 pub mod CallsNamed
 pub mod Rates
+pub mod CutShorts
 pub mod Taking
 pub mod Measured
+pub mod SetWritten
+pub mod OuterTold

@@ -25,7 +25,8 @@ use Rattle.ats_replay.specs.Summary.{delay_of, delay_to, frames_of, summaries_of
 use Rattle.ats_replay.specs.declared.summary.Summary.{Summary}
 use Rattle.ats_command_due.specs.Generated.{sums_unless}
 use Rattle.ats_text_examples.specs.Measures.{ArrivedAfter, BoundIsLeastSum, IsWorst, MeasuresAreMeant}
-use Rattle.ats_text_examples.specs.Measures.{SummaryHasWorst, TightestIsTightest, least_sum}
+use Rattle.ats_text_examples.specs.Measures.{SummaryHasWorst, SumsAreWorked, TightestIsTightest, TightestIsWorked}
+use Rattle.ats_text_examples.specs.Measures.{least_sum}
 
 -- What the tightest stream, the worst delay and a printed bound are.
 
@@ -188,6 +189,24 @@ bound_is_least_sum network rows place stream rules holds named =
     ∙ slice_get-map (least_sum network) network.streams place
     ∙ ap (option_map (least_sum network)) named
 
+tightest_is_worked : TightestIsWorked
+tightest_is_worked = record {
+  one_late = refl;
+  none_late = refl;
+  other_order = refl;
+  first_twin = refl;
+  second_twin = refl;
+  no_stream = refl;
+}
+
+sums_are_worked : SumsAreWorked
+sums_are_worked = record { free = refl; one_late = refl; narrow = refl }
+
 pub measures_are_meant : MeasuresAreMeant
-measures_are_meant =
-    record { tightest = tightest_is_tightest; worst = summary_has_worst; bound = bound_is_least_sum }
+measures_are_meant = record {
+  tightest = tightest_is_tightest;
+  worked = tightest_is_worked;
+  worst = summary_has_worst;
+  bound = bound_is_least_sum;
+  sums = sums_are_worked;
+}

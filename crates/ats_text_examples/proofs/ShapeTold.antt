@@ -7,4 +7,11 @@ use Rattle.ats_text_examples.specs.Shaped.{ShapesAreTold}
 
 pub shapes_are_told : ShapesAreTold
 unfolding digits frame_text totals_text
-shapes_are_told = record { read = refl; written = refl }
+shapes_are_told = record {
+  read = refl;
+  written = refl;
+  by_quotient = refl;
+  in_turn = refl;
+  returned = refl;
+  tabbed = refl;
+}

@@ -1,10 +1,14 @@
-use Rattle.std.specs.Prelude.{◌≡◌, ◌<◌, [], ◌∷◌, codes, Some, None}
+use Rattle.std.specs.Prelude.{◌≡◌, ◌<◌, ℕ, List, [], ◌∷◌, ◌++◌, codes, Some, None, Ok, Err}
+use Rattle.ats_command_input.specs.Answer.{Answer, HasText}
 use Rattle.ats_command_input.specs.Command.{Shape, Show, Bound, Explain, Check, Conform, Admit, Replay, Capture}
-use Rattle.ats_command_input.specs.Command.{Generate, Unknown, command_of, file_words}
+use Rattle.ats_command_input.specs.Command.{Generate, Settings, Buffers, Peaks, LrqShape, LrqBound, LrqCheck, Unknown}
+use Rattle.ats_command_input.specs.Command.{command_of, file_words}
 use Rattle.ats_command_input.specs.Order.{order_named, key_of, wait_of}
+use Rattle.ats_command_input.specs.Station.{station_in}
 use Rattle.ats_command_input.specs.Status.{code_of}
 use Rattle.ats_command_input.specs.declared.order.Order.TheVariants.{Early, Late, Mixed}
 use Rattle.ats_command_input.specs.declared.status.Status.TheVariants as status
+use Rattle.ats_text_examples.specs.Worked.{way}
 
 -- The words of calls, and their exit codes.
 
@@ -14,6 +18,7 @@ pub record VerbsAreCommands : Type 0 where
   pub show : command_of (codes "show" ∷ codes "n" ∷ []) ≡ Show (codes "n")
   pub bound : command_of (codes "bound" ∷ codes "n" ∷ []) ≡ Bound (codes "n")
   pub explain : command_of (codes "explain" ∷ codes "n" ∷ []) ≡ Explain (codes "n")
+  pub settings : command_of (codes "settings" ∷ codes "n" ∷ []) ≡ Settings (codes "n")
   pub check : command_of (codes "check" ∷ codes "n" ∷ codes "x" ∷ []) ≡ Check (codes "n") (codes "x")
   pub conform : command_of (codes "conform" ∷ codes "n" ∷ codes "x" ∷ []) ≡ Conform (codes "n") (codes "x")
   pub admit : command_of (codes "admit" ∷ codes "n" ∷ codes "x" ∷ []) ≡ Admit (codes "n") (codes "x")
@@ -22,15 +27,40 @@ pub record VerbsAreCommands : Type 0 where
   pub capture : command_of (codes "capture" ∷ codes "n" ∷ codes "s" ∷ codes "x" ∷ codes "mixed:3" ∷ [])
       ≡ Capture (codes "n") (codes "s") (codes "x") (Mixed 3)
   pub generate : command_of (codes "generate" ∷ codes "n" ∷ codes "4" ∷ codes "5" ∷ []) ≡ Generate (codes "n") 4 5
+  pub buffers : command_of (codes "buffers" ∷ codes "n" ∷ codes "x" ∷ []) ≡ Buffers (codes "n") (codes "x")
+  pub peaks : command_of (codes "buffers" ∷ codes "n" ∷ codes "x" ∷ codes "y" ∷ codes "early" ∷ [])
+      ≡ Peaks (codes "n") (codes "x") (codes "y") Early
+  pub lrq_shape : command_of (codes "lrq" ∷ codes "shape" ∷ codes "x" ∷ []) ≡ LrqShape (codes "x")
+  pub lrq_bound : command_of (codes "lrq" ∷ codes "bound" ∷ codes "n" ∷ []) ≡ LrqBound (codes "n")
+  pub lrq_check : command_of (codes "lrq" ∷ codes "check" ∷ codes "n" ∷ codes "x" ∷ [])
+      ≡ LrqCheck (codes "n") (codes "x")
+  pub no_lrq : command_of (codes "lrq" ∷ codes "show" ∷ codes "n" ∷ []) ≡ Unknown
   pub no_verb : command_of (codes "Check" ∷ codes "n" ∷ codes "x" ∷ []) ≡ Unknown
   pub no_file : command_of (codes "check" ∷ codes "n" ∷ []) ≡ Unknown
   pub no_order : command_of (codes "replay" ∷ codes "n" ∷ codes "x" ∷ codes "mixed" ∷ []) ≡ Unknown
   pub none_made : command_of (codes "generate" ∷ codes "n" ∷ codes "4" ∷ codes "0" ∷ []) ≡ Unknown
+  pub three_files : file_words (Peaks (codes "n") (codes "x") (codes "y") Early)
+      ≡ codes "n" ∷ codes "x" ∷ codes "y" ∷ []
   pub files : file_words (Capture (codes "n") (codes "s") (codes "x") Early) ≡ codes "n" ∷ codes "x" ∷ []
 
+-- to a word that names no station of the worked network
+abbrev pub no_station : List ℕ → Answer
+no_station word = record { status = status.Refused; text = codes "refused station " ++ word ++ codes "\n" }
+
+-- the stations of the worked network by their words, each with its number. A bridge is none, nor is another word, nor
+-- one that is no name
+pub record StationsAreNamed : Type 0 where
+  pub first : station_in way.topology (codes "s1") ≡ Ok 0
+  pub second : station_in way.topology (codes "s2") ≡ Ok 1
+  pub bridge : station_in way.topology (codes "b1") ≡ Err (no_station (codes "b1"))
+  pub other : station_in way.topology (codes "s3") ≡ Err (no_station (codes "s3"))
+  pub front : station_in way.topology (codes "s") ≡ Err (no_station (codes "s"))
+  pub no_name : station_in way.topology (codes "s 1") ≡ Err (no_station (codes "s 1"))
+
 -- the words of orders. By `early` the frame of the lesser number goes first, by `late` that of the sender of the
--- greater number, and by `mixed:1` the numbers of each two senders are exchanged. By `early` no frame takes more time
--- than it must, by `late` each takes the whole spread, and by `mixed:1` frame 6 takes 7 ps of it
+-- greater number, and by `mixed:1` the numbers of each two senders are exchanged, by `mixed:5` also 3 and 6. By `early`
+-- no frame takes more time than it must, by `late` each takes the whole spread, and frame 6 takes 7 ps of it by
+-- `mixed:1` and 3 ps by `mixed:5`; of a spread of 5 ps it takes 4 ps by `mixed:12`
 pub record OrdersAreNamed : Type 0 where
   pub early : order_named (codes "early") ≡ Some Early
   pub late : order_named (codes "late") ≡ Some Late
@@ -41,9 +71,25 @@ pub record OrdersAreNamed : Type 0 where
   pub greater_sender : key_of Late 3 5 < key_of Late 2 4
   pub then_frame : key_of Late 3 4 < key_of Late 3 5
   pub exchanged : key_of (Mixed 1) 3 5 < key_of (Mixed 1) 2 4
+  pub kept_by_one : key_of (Mixed 1) 3 9 < key_of (Mixed 1) 6 8
+  pub exchanged_by_five : key_of (Mixed 5) 6 9 < key_of (Mixed 5) 3 8
+  pub then_frame_by_five : key_of (Mixed 5) 6 8 < key_of (Mixed 5) 6 9
   pub no_wait : wait_of Early 6 100 ≡ 0
   pub whole_wait : wait_of Late 6 100 ≡ 100
   pub some_wait : wait_of (Mixed 1) 6 100 ≡ 7
+  pub less_by_five : wait_of (Mixed 5) 6 100 ≡ 3
+  pub rest_by_twelve : wait_of (Mixed 12) 6 5 ≡ 4
+
+-- a call that is done prints a text, and so does one that ends by its words, a file or a refusal; where reading,
+-- writing or memory failed, there need be none
+pub record TextsArePrinted : Type 0 where
+  pub done : HasText status.Done
+  pub words : HasText status.Words
+  pub input : HasText status.Input
+  pub refused : HasText status.Refused
+  pub read_failed : ¬ HasText status.ReadFailed
+  pub write_failed : ¬ HasText status.WriteFailed
+  pub no_memory : ¬ HasText status.NoMemory
 
 -- seven statuses, seven exit codes
 pub record CodesAreSeven : Type 0 where
@@ -57,5 +103,7 @@ pub record CodesAreSeven : Type 0 where
 
 pub record CallsAreNamed : Type 0 where
   pub verbs : VerbsAreCommands
+  pub stations : StationsAreNamed
   pub orders : OrdersAreNamed
   pub exit_codes : CodesAreSeven
+  pub printed : TextsArePrinted

@@ -1,9 +1,14 @@
-use Rattle.std.specs.Prelude.{◌≡◌, ℕ, List, [], ◌∷◌, ◌++◌, Some, None, Ok, Err}
+use Rattle.std.specs.Prelude.{◌≡◌, ℕ, true, false, List, [], ◌∷◌, ◌++◌, codes, Option, Some, None, Ok, Err}
+use Rattle.ats_streams.specs.Stream.{DeclaredStream, declared_stream}
+use Rattle.ats_network.specs.Network.{DeclaredNetwork, declared_network}
+use Rattle.ats_network.specs.Pushes.{is_identity}
 use Rattle.ats_pcap.specs.Capture.{records_of}
-use Rattle.ats_pcap.specs.declared.fault.CaptureFault.TheVariants.{CutShort}
+use Rattle.ats_pcap.specs.declared.fault.CaptureFault.TheVariants.{CutShort, BadLink, BadMagic, BadVersion, PcapNg}
 use Rattle.ats_pcap.specs.declared.record.Record.{Record}
+use Rattle.ats_capture.specs.Traffic.{stream_of}
+use Rattle.ats_text_examples.specs.Worked.{way}
 
--- The bytes of two captures, and their records.
+-- The bytes of two captures, their records, and the streams that these belong to.
 
 -- a header of 24 bytes: magic number, version 2.4, three fields without a meaning, and link type 1. With the low byte
 -- of each number first, and fractions of seconds in microseconds
@@ -52,8 +57,74 @@ high_read =
     record { nanos = 555885348084281096; octets = 519; identity = Some (0x2A2B2C2D2E2F, 0x234) }
     ∷ record { nanos = 555885349000000009; octets = 776; identity = Some (0x4A4B4C4D4E4F, 0xFFE) } ∷ []
 
+-- a record of a frame of 60 octets, of which 16 bytes were captured: two addresses, and these four
+abbrev pub record_with : ℕ → ℕ → ℕ → ℕ → List ℕ
+record_with b c d e =
+    0x04 ∷ 0x03 ∷ 0x02 ∷ 0x01 ∷ 0x07 ∷ 0x06 ∷ 0x05 ∷ 0x00 ∷ 16 ∷ 0 ∷ 0 ∷ 0 ∷ 60 ∷ 0 ∷ 0 ∷ 0
+    ∷ 0x0A ∷ 0x0B ∷ 0x0C ∷ 0x0D ∷ 0x0E ∷ 0x0F ∷ 0x1A ∷ 0x1B ∷ 0x1C ∷ 0x1D ∷ 0x1E ∷ 0x1F ∷ b ∷ c ∷ d ∷ e ∷ []
+
+abbrev pub read_with : Option (ℕ × ℕ) → List Record
+read_with identity = record { nanos = 16909060329223000; octets = 64; identity = identity } ∷ []
+
+-- a frame has an identity where it has a tag 81 00: a packet of IP has none, nor has one with a service tag
+pub record TagsAreTold : Type 0 where
+  pub tagged : records_of (low_header ++ record_with 0x81 0x00 0x02 0xC3)
+      ≡ Ok (read_with (Some (0x0A0B0C0D0E0F, 0x2C3)))
+  pub packet : records_of (low_header ++ record_with 0x08 0x00 0x45 0x00) ≡ Ok (read_with None)
+  pub service : records_of (low_header ++ record_with 0x88 0xA8 0x02 0xC3) ≡ Ok (read_with None)
+
+-- a header with this version and this link type
+abbrev pub header_of : ℕ → ℕ → ℕ → List ℕ
+header_of major minor link =
+    0xD4 ∷ 0xC3 ∷ 0xB2 ∷ 0xA1 ∷ major ∷ 0 ∷ minor ∷ 0 ∷ 91 ∷ 92 ∷ 93 ∷ 94
+    ∷ 95 ∷ 96 ∷ 97 ∷ 98 ∷ 99 ∷ 100 ∷ 101 ∷ 102 ∷ link ∷ 0 ∷ 0 ∷ 0 ∷ []
+
+-- other headers have faults
+pub record HeadersAreJudged : Type 0 where
+  pub none : records_of (header_of 2 4 1) ≡ Ok []
+  pub link : records_of (header_of 2 4 113) ≡ Err BadLink
+  pub major : records_of (header_of 3 4 1) ≡ Err BadVersion
+  pub minor : records_of (header_of 2 3 1) ≡ Err BadVersion
+  pub later_format : records_of (0x0A ∷ 0x0D ∷ 0x0D ∷ 0x0A ∷ []) ≡ Err PcapNg
+  pub no_magic : records_of (0xD4 ∷ 0xC3 ∷ 0xB2 ∷ 0xA2 ∷ []) ≡ Err BadMagic
+
+-- an address and a VLAN identifier are those that are declared where both are
+pub record IdentitiesAreBoth : Type 0 where
+  pub both : is_identity (0xA1, 7) (Some (0xA1, 7)) ≡ true
+  pub address_alone : is_identity (0xA1, 7) (Some (0xA1, 8)) ≡ false
+  pub vlan_alone : is_identity (0xA1, 7) (Some (0xA2, 7)) ≡ false
+  pub neither : is_identity (0xA1, 7) (Some (0xA2, 8)) ≡ false
+  pub turned : is_identity (0xA1, 7) (Some (7, 0xA1)) ≡ false
+  pub none_declared : is_identity (0xA1, 7) None ≡ false
+
+-- a stream of the worked network with this name, path, address and VLAN identifier
+abbrev pub tagged : List ℕ → List ℕ → ℕ → ℕ → DeclaredStream
+tagged name path address vlan =
+    declared_stream name path (6 ∷ 6 ∷ 6 ∷ []) 20000000 9001 64 1000 900000 (Some (address, vlan))
+
+-- three streams from the first station, of which two have one address and two have one VLAN identifier, and one from
+-- the second
+abbrev pub tagged_way : DeclaredNetwork
+tagged_way = declared_network way.topology
+    (tagged (codes "a") (0 ∷ 2 ∷ 4 ∷ []) 0xA1 7 ∷ tagged (codes "b") (0 ∷ 2 ∷ 4 ∷ []) 0xA1 8
+    ∷ tagged (codes "c") (0 ∷ 2 ∷ 4 ∷ []) 0xA2 7 ∷ tagged (codes "d") (5 ∷ 3 ∷ 1 ∷ []) 0xA2 8 ∷ []) []
+
+-- a record at a station belongs to the stream that begins there and has both
+pub record StreamsAreIdentified : Type 0 where
+  pub first : stream_of tagged_way 0 (Some (0xA1, 7)) ≡ Some 0
+  pub second : stream_of tagged_way 0 (Some (0xA1, 8)) ≡ Some 1
+  pub third : stream_of tagged_way 0 (Some (0xA2, 7)) ≡ Some 2
+  pub elsewhere : stream_of tagged_way 0 (Some (0xA2, 8)) ≡ None
+  pub there : stream_of tagged_way 1 (Some (0xA2, 8)) ≡ Some 3
+  pub no_stream : stream_of tagged_way 0 (Some (0xA2, 9)) ≡ None
+  pub no_tag : stream_of tagged_way 0 None ≡ None
+
 -- so they are read, and one that ends inside the next record has a fault there
 pub record CapturesAreRead : Type 0 where
   pub low : records_of (low_header ++ low_records) ≡ Ok low_read
   pub high : records_of (high_header ++ high_records) ≡ Ok high_read
   pub cut : records_of (low_header ++ low_records ++ 0x06 ∷ []) ≡ Err (CutShort 3)
+  pub tags : TagsAreTold
+  pub headers : HeadersAreJudged
+  pub identities : IdentitiesAreBoth
+  pub streams : StreamsAreIdentified

@@ -5,9 +5,11 @@ pub mod Shown
 pub mod Verdicts
 pub mod Runs
 pub mod Tabled
+pub mod Set
 pub mod Shaped
 pub mod Asked
 pub mod Captured
 pub mod Called
 pub mod Taken
 pub mod Measures
+pub mod Outer

@@ -1,8 +1,10 @@
-use Rattle.std.specs.Prelude.{◌≡◌, ℕ, ◌+◌, ◌-◌, ◌*◌, ◌≤◌, ◌<◌, ◌⊎◌, List, All, Contains, Some, slice_get}
+use Rattle.std.specs.Prelude.{◌≡◌, ℕ, ◌+◌, ◌-◌, ◌*◌, ◌≤◌, ◌<◌, ◌⊎◌, List, [], ◌∷◌, All, Contains, codes, Some, None}
+use Rattle.std.specs.Prelude.{slice_get}
 use Rattle.ats_num.specs.declared.time.Ps.{Ps}
 use Rattle.ats_num.specs.declared.time.TheConstants.{PS_PER_NS}
-use Rattle.ats_streams.specs.Stream.{DeclaredStream}
-use Rattle.ats_network.specs.Network.{DeclaredNetwork, IsNetwork}
+use Rattle.ats_streams.specs.Stream.{DeclaredStream, declared_stream, with_burst}
+use Rattle.ats_network.specs.Network.{DeclaredNetwork, IsNetwork, declared_network}
+use Rattle.ats_lrq.specs.Narrow.{narrowed}
 use Rattle.ats_certificate.specs.Certificate.{Holds, bound_along}
 use Rattle.ats_certificate.specs.declared.row.Row.{Row}
 use Rattle.ats_bound.specs.Least.{least_certificate}
@@ -13,6 +15,7 @@ use Rattle.ats_replay.specs.Report.{bound_of}
 use Rattle.ats_replay.specs.Summary.{summaries_of}
 use Rattle.ats_replay.specs.declared.summary.Summary.{Summary}
 use Rattle.ats_command_due.specs.Generated.{least_sums}
+use Rattle.ats_text_examples.specs.Worked.{u, v, way, wide, way_with}
 
 -- What the tightest stream, the worst delay and a printed bound are.
 
@@ -33,6 +36,24 @@ pub record IsTightest (network : DeclaredNetwork) (stream : DeclaredStream) : Ty
 abbrev pub TightestIsTightest : Type 0
 TightestIsTightest = (network : DeclaredNetwork) (stream : DeclaredStream)
     → tightest_stream network ≡ Some stream → IsTightest network stream
+
+-- a stream like `v` but for its name
+abbrev pub twin : DeclaredStream
+twin = declared_stream (codes "w") (0 ∷ 2 ∷ 4 ∷ []) (5 ∷ 5 ∷ 5 ∷ []) 30000000 10003 100 1200 300000 None
+
+-- the streams of the worked network, in this order
+abbrev pub with_streams : List DeclaredStream → DeclaredNetwork
+with_streams streams = declared_network way.topology streams way.flows
+
+-- of the worked network: where one stream is late, where none is, also in the other order; the first of two that are
+-- alike; and where there is no stream
+pub record TightestIsWorked : Type 0 where
+  pub one_late : tightest_stream way ≡ Some (v 200000)
+  pub none_late : tightest_stream wide ≡ Some (v 300000)
+  pub other_order : tightest_stream (with_streams (v 300000 ∷ u ∷ [])) ≡ Some (v 300000)
+  pub first_twin : tightest_stream (with_streams (v 300000 ∷ twin ∷ [])) ≡ Some (v 300000)
+  pub second_twin : tightest_stream (with_streams (twin ∷ v 300000 ∷ [])) ≡ Some twin
+  pub no_stream : tightest_stream (with_streams []) ≡ None
 
 -- a frame of a sender arrived so long after its release
 pub record ArrivedAfter (run : List Travel) (sender took : ℕ) (journey : Travel) : Type 0 where
@@ -57,7 +78,16 @@ BoundIsLeastSum = (network : DeclaredNetwork) (rows : List Row) (place : ℕ) (s
     → IsNetwork network → Holds network rows → slice_get network.streams place ≡ Some stream
     → bound_of network (least_sums network) place ≡ Some (least_sum network stream)
 
+-- the sums of both streams, which are told of neither where one is late; and both bursts narrowed to a longest frame
+pub record SumsAreWorked : Type 0 where
+  pub free : least_sums wide ≡ Some (467673029 ∷ 261014682 ∷ [])
+  pub one_late : least_sums (way_with 40000 200000) ≡ None
+  pub narrow : narrowed wide
+      ≡ declared_network wide.topology (with_burst u 8160 ∷ with_burst (v 300000) 9760 ∷ []) wide.flows
+
 pub record MeasuresAreMeant : Type 0 where
   pub tightest : TightestIsTightest
+  pub worked : TightestIsWorked
   pub worst : SummaryHasWorst
   pub bound : BoundIsLeastSum
+  pub sums : SumsAreWorked

@@ -1,4 +1,4 @@
-use Rattle.std.specs.Prelude.{◌≡◌, ℕ, ◌<◌, ◌≤◌, List, ◌++◌, length, codes, Result, Ok, Err}
+use Rattle.std.specs.Prelude.{◌≡◌, ◌≢◌, ℕ, ◌<◌, ◌≤◌, List, ◌++◌, length, take, codes, Result, Ok, Err}
 use Rattle.ats_topology.specs.Topology.{DeclaredTopology}
 use Rattle.ats_network.specs.Network.{DeclaredNetwork}
 use Rattle.ats_shape.specs.FaultText as shape
@@ -17,6 +17,7 @@ use Rattle.ats_capture.specs.FaultText as traffic
 use Rattle.ats_capture.specs.Traffic.{Traffic, traffic_of}
 use Rattle.ats_capture.specs.declared.fault.JoinFault.{JoinFault}
 use Rattle.ats_pcap.specs.declared.fault.CaptureFault.{CaptureFault}
+use Rattle.ats_pcap.specs.declared.fault.CaptureFault.TheVariants.{CutShort}
 use Rattle.ats_pcap.specs.declared.record.Record.{Record}
 use Rattle.ats_command_input.specs.Answer.{Answer}
 use Rattle.ats_command_input.specs.Input.{shape_in, network_in, rows_in, releases_in, requests_in, records_in}
@@ -45,13 +46,21 @@ abbrev pub IsTaken : {A F : Type 0} → ℕ → (List ℕ → Result A F) → (F
     → (List ℕ → List ℕ → Result A Answer) → Type 0
 IsTaken most declared words taken = (file bytes : List ℕ) → IsTakenOf most declared words taken file bytes
 
--- the same of a capture, where more bytes than so many are judged by the first of them before it is told that they are
--- too many
+-- the same of a capture. Of more bytes than so many the first of them are judged by themselves: their fault is told,
+-- but not that they end inside a record, and where they have none it is told that the bytes are too many
 pub record CaptureIsTaken (file bytes : List ℕ) : Type 0 where
   pub value : (records : List Record) → length bytes ≤ 268435456 → records_of bytes ≡ Ok records
       → records_in file bytes ≡ Ok records
   pub fault : (e : CaptureFault) → length bytes ≤ 268435456 → records_of bytes ≡ Err e
       → records_in file bytes ≡ Err (told_fault file (capture.fault_text e))
+  pub long_fault : (e : CaptureFault) → ((n : ℕ) → e ≢ CutShort n) → 268435456 < length bytes
+      → records_of (take 268435456 bytes) ≡ Err e
+      → records_in file bytes ≡ Err (told_fault file (capture.fault_text e))
+  pub long_and_cut : (n : ℕ) → 268435456 < length bytes → records_of (take 268435456 bytes) ≡ Err (CutShort n)
+      → records_in file bytes ≡ Err (told_fault file (codes "too-long"))
+  pub long_and_whole : (records : List Record) → 268435456 < length bytes
+      → records_of (take 268435456 bytes) ≡ Ok records
+      → records_in file bytes ≡ Err (told_fault file (codes "too-long"))
 
 -- the traffic of a capture's file is that of its records at the station
 pub record TrafficIsTaken (network : DeclaredNetwork) (station : ℕ) (file bytes : List ℕ) (records : List Record)

@@ -4,8 +4,10 @@ ghost use Rattle.ats_text_examples.specs.Asked.{RequestsAreRead};
 ghost use Rattle.ats_text_examples.specs.Called.{CallsAreNamed};
 ghost use Rattle.ats_text_examples.specs.Captured.{CapturesAreRead};
 ghost use Rattle.ats_text_examples.specs.Measures.{MeasuresAreMeant};
+ghost use Rattle.ats_text_examples.specs.Outer.{OutsideIsTold};
 ghost use Rattle.ats_text_examples.specs.Ports.{PortsAreWorked, RatesAreInverse};
 ghost use Rattle.ats_text_examples.specs.Runs.{RunsAreWritten};
+ghost use Rattle.ats_text_examples.specs.Set.{SettingsAreWritten};
 ghost use Rattle.ats_text_examples.specs.Shaped.{ShapesAreTold};
 ghost use Rattle.ats_text_examples.specs.Shown.{NetworksAreWritten};
 ghost use Rattle.ats_text_examples.specs.Tabled.{TablesAreTold};
@@ -20,7 +22,7 @@ pub fn tables_are_read()
 {}
 
 /// What is taken from each file of a call is what its bytes declare, or their fault in its words. More bytes than a
-/// file may have are too many.
+/// file may have are too many; of a capture the first of them are judged before.
 pub fn files_are_taken()
     ensures { FilesAreTaken }
 {}
@@ -39,6 +41,11 @@ pub fn ports_are_worked()
 /// What `show` and `explain` print of the worked network, where a stream is late, and `check` of rows that hold.
 pub fn networks_are_written()
     ensures { NetworksAreWritten }
+{}
+
+/// What `settings` prints of settings, and `buffers` of buffers, with and without the peaks of a run.
+pub fn settings_are_written()
+    ensures { SettingsAreWritten }
 {}
 
 /// What is printed of each refusal, reason, column and breach, one of each.
@@ -63,7 +70,7 @@ pub fn tables_are_told()
     ensures { TablesAreTold }
 {}
 
-/// What the text of a shape file declares, and what is printed of it.
+/// What the text of a shape file declares, whose lines may end in CR LF, and what is printed of it.
 pub fn shapes_are_told()
     ensures { ShapesAreTold }
 {}
@@ -73,18 +80,27 @@ pub fn requests_are_read()
     ensures { RequestsAreRead }
 {}
 
-/// The records of two captures, with each order of bytes and each fraction of seconds.
+/// The records of two captures, with each order of bytes and each fraction of seconds; and the stream that a record
+/// belongs to, by address and VLAN identifier together.
 pub fn captures_are_read()
     ensures { CapturesAreRead }
 {}
 
-/// The command of each verb, the order of each word, which frame goes first by it, and the seven exit codes.
+/// The command of each verb, the station of each name, the order of each word, which frame goes first by it, the
+/// seven exit codes, and by which of these a text is printed.
 pub fn calls_are_named()
     ensures { CallsAreNamed }
 {}
 
-/// The tightest stream is one of the least slack; a sender's worst delay is the longest of its frames that arrived, 0
-/// where none did; and where a certificate holds, a printed bound is the sum of a stream's least bounds.
+/// The tightest stream is one of the least slack, and the first of these in the worked network; a sender's worst delay
+/// is the longest of its frames that arrived, 0 where none did; and where a certificate holds, a printed bound is the
+/// sum of a stream's least bounds. No sum is told where one stream is late; each burst is narrowed to a longest frame.
 pub fn measures_are_meant()
     ensures { MeasuresAreMeant }
+{}
+
+/// A count of faults that rose and one that stood, a file that is read once and one that is read twice, and what a sink
+/// holds with a piece more.
+pub fn outside_is_told()
+    ensures { OutsideIsTold }
 {}

@@ -17,11 +17,12 @@ use Rattle.ats_conform.specs.declared.broken.Broken.TheVariants.{Size, Bucket}
 use Rattle.ats_conform.proofs.OneBroken.{broken-one}
 use Rattle.ats_conform.proofs.Prefix.{one-breaks}
 use Rattle.ats_bucket.specs.Conforming.{Frame}
-use Rattle.ats_examples.specs.Networks.{line}
+use Rattle.ats_examples.specs.Networks.{line, fork}
 use Rattle.ats_examples.proofs.BucketTest.{conforms_by, stream_conforms, is_sized}
 use Rattle.ats_examples.proofs.LegalTest.{ascending_by}
 use Rattle.ats_examples.proofs.Tests.{le_of, lt_of, all_by, pairs_pass, each_below, below_by}
-use Rattle.ats_verdict_examples.specs.Conformance.{behind_the_burst, from_either, too_long, ConformanceIsMet}
+use Rattle.ats_verdict_examples.specs.Conformance.{behind_the_burst, from_either, too_long, both_too_long}
+use Rattle.ats_verdict_examples.specs.Conformance.{ConformanceIsMet}
 
 -- Tests of releases, which compute, and what the laws say of them.
 
@@ -155,6 +156,22 @@ breaks_size = record {
   size = false≢true;
 }
 
+-- the station of the second stream is node 2
+not_first_sized : ¬ AllKeepBuckets fork (take 1 both_too_long)
+not_first_sized keeps =
+    let fits : false ≡ true = (keeps 2).sizes 0 no_release (lit< tt) (lit< tt) refl in
+    absurd (false≢true fits)
+
+breaks_first_size : Breaks fork both_too_long (Size 0)
+breaks_first_size = record {
+  first = record {
+    within = lit< tt;
+    before = all_keep_by fork (take 0 both_too_long) refl refl;
+    broken = not_first_sized;
+  };
+  size = false≢true;
+}
+
 -- the frame from which on the bucket is exceeded
 abbrev since_of : Broken → ℕ
 since_of (Size frame) = frame
@@ -177,4 +194,9 @@ conformance_is_met = record {
       absurd (omega arith));
   long = breaks_size;
   long_breaks = one-breaks line too_long (Size 1) breaks_size;
+  both_run = may_be_run fork both_too_long refl refl refl;
+  first_frame = breaks_first_size;
+  not_first_stream = λ h.
+      (let e : ◌≡◌ {A = ℕ} 0 1 = ap since_of (broken-one fork both_too_long (Size 0) (Size 1) breaks_first_size h) in
+      absurd (omega arith));
 }

@@ -4,7 +4,7 @@ use Rattle.ats_trace.specs.declared.journey.Release.{Release}
 use Rattle.ats_conform.specs.Broken.{Breaks}
 use Rattle.ats_conform.specs.Releases.{AllKeepBuckets}
 use Rattle.ats_conform.specs.declared.broken.Broken.TheVariants.{Size, Bucket}
-use Rattle.ats_examples.specs.Networks.{line}
+use Rattle.ats_examples.specs.Networks.{line, fork}
 use Rattle.ats_verdict_examples.specs.Networks.{release}
 
 -- Releases of the line's stream that keep its bucket, and some that break it.
@@ -23,9 +23,13 @@ from_either = release 0 0 64 ∷ release 6720000 0 1522 ∷ release 13439999 0 6
 abbrev pub too_long : List Release
 too_long = release 0 0 64 ∷ release 100000000 0 1523 ∷ []
 
+-- both streams of the fork send a frame that is too long, the one of the greater number first
+abbrev pub both_too_long : List Release
+both_too_long = release 0 1 1523 ∷ release 0 0 1523 ∷ []
+
 -- each may be run. By the first every station keeps its buckets. By the next the last frame, 1 ps earlier, exceeds the
--- bucket from frame 1 on, and by those after it from frame 0; by the last ones frame 1 has no declared size. Nothing
--- else is named
+-- bucket from frame 1 on, and by those after it from frame 0; by the next ones frame 1 has no declared size. Nothing
+-- else is named. Of two streams that break theirs, the one whose frame is first is named
 pub record ConformanceIsMet : Type 0 where
   pub kept_run : AreReleases line (behind_the_burst 106720000)
   pub kept : AllKeepBuckets line (behind_the_burst 106720000)
@@ -37,3 +41,6 @@ pub record ConformanceIsMet : Type 0 where
   pub not_since_second : ¬ Breaks line from_either (Bucket 1 2)
   pub long : Breaks line too_long (Size 1)
   pub long_breaks : ¬ AllKeepBuckets line too_long
+  pub both_run : AreReleases fork both_too_long
+  pub first_frame : Breaks fork both_too_long (Size 0)
+  pub not_first_stream : ¬ Breaks fork both_too_long (Size 1)

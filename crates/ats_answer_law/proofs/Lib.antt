@@ -1,0 +1,7 @@
+pub mod Dues
+pub mod Showing
+pub mod Failing
+pub mod FaultLines
+pub mod Ordered
+pub mod Promised
+pub mod Waiting

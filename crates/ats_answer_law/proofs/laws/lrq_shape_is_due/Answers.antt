@@ -1,0 +1,5 @@
+use Rattle.ats_answer_law.proofs.Dues.{lrq_shape_is_due}
+use Rattle.ats_answer_law.proofs.laws.lrq_shape_is_due.Goals as goal
+
+pub returns : goal.returns
+returns c = lrq_shape_is_due c.what_lrq_shape_answers.ensures

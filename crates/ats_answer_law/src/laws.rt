@@ -1,0 +1,170 @@
+//! What each answer that is due to a command says of the bytes that are told under the names of its files.
+
+ghost use Rattle.ats_answer_law.specs.Accepted.{PromisesAreSound};
+ghost use Rattle.ats_answer_law.specs.Due.{AdmitIsDue, BoundIsDue, CaptureIsDue, CheckIsDue, ConformIsDue};
+ghost use Rattle.ats_answer_law.specs.Due.{ExplainIsDue, GenerateIsDue, ReplayIsDue, ShapeIsDue, ShowIsDue};
+ghost use Rattle.ats_answer_law.specs.Due.{BuffersAreDue, LrqBoundIsDue, LrqCheckIsDue, LrqShapeIsDue, PeaksAreDue};
+ghost use Rattle.ats_answer_law.specs.Due.{SettingsAreDue, WordsAreDue};
+ghost use Rattle.ats_answer_law.specs.Faults.{FaultsAreTold};
+ghost use Rattle.ats_answer_law.specs.Reached.{LaterFilesWait};
+ghost use Rattle.ats_answer_law.specs.Runs.{PeaksAreHeld, RunsKeepTheirOrder};
+
+use ats_command_law::laws::{
+    what_admit_answers, what_bound_answers, what_buffers_answers, what_capture_answers,
+    what_check_answers, what_conform_answers, what_explain_answers, what_generate_answers,
+    what_lrq_bound_answers, what_lrq_check_answers, what_lrq_shape_answers, what_peaks_answer,
+    what_replay_answers, what_settings_answers,
+};
+
+/// Each answer that is due to `shape`, by its status. `Done`: the bytes that are told declare a shape, and the text
+/// gives the verdict on each of its frames. `Input`: they declare none. No other status is due.
+pub fn shape_is_due()
+    ensures { ShapeIsDue }
+{}
+
+/// Each answer that is due to `show`, by its status. `Done`: the bytes that are told declare a network, and the text
+/// gives its ports, streams and flows. `Input`: they declare none. No other status is due.
+pub fn show_is_due()
+    ensures { ShowIsDue }
+{}
+
+/// Each answer that is due to `bound` says of the bytes that are told what `what_bound_answers` has.
+pub fn bound_is_due()
+    ensures { BoundIsDue }
+{
+    what_bound_answers();
+}
+
+/// Each answer that is due to `explain` says of the bytes that are told what `what_explain_answers` has.
+pub fn explain_is_due()
+    ensures { ExplainIsDue }
+{
+    what_explain_answers();
+}
+
+/// Each answer that is due to `check` says of the bytes that are told under both names what `what_check_answers` has.
+pub fn check_is_due()
+    ensures { CheckIsDue }
+{
+    what_check_answers();
+}
+
+/// Each answer that is due to `conform` says of the bytes that are told under both names what `what_conform_answers`
+/// has.
+pub fn conform_is_due()
+    ensures { ConformIsDue }
+{
+    what_conform_answers();
+}
+
+/// Each answer that is due to `admit` says of the bytes that are told under both names what `what_admit_answers` has.
+pub fn admit_is_due()
+    ensures { AdmitIsDue }
+{
+    what_admit_answers();
+}
+
+/// Each answer that is due to `replay` says of the bytes that are told under both names what `what_replay_answers`
+/// has.
+pub fn replay_is_due()
+    ensures { ReplayIsDue }
+{
+    what_replay_answers();
+}
+
+/// Each answer that is due to `capture` says of the bytes that are told under both names what `what_capture_answers`
+/// has.
+pub fn capture_is_due()
+    ensures { CaptureIsDue }
+{
+    what_capture_answers();
+}
+
+/// Each answer that is due to `generate` says of the bytes that are told what `what_generate_answers` has.
+pub fn generate_is_due()
+    ensures { GenerateIsDue }
+{
+    what_generate_answers();
+}
+
+/// Each answer that is due to `settings` says of the bytes that are told what `what_settings_answers` has.
+pub fn settings_are_due()
+    ensures { SettingsAreDue }
+{
+    what_settings_answers();
+}
+
+/// Each answer that is due to `buffers` with a certificate says of the bytes that are told under both names what
+/// `what_buffers_answers` has.
+pub fn buffers_are_due()
+    ensures { BuffersAreDue }
+{
+    what_buffers_answers();
+}
+
+/// Each answer that is due to `buffers` with a schedule says of the bytes that are told under the three names what
+/// `what_peaks_answer` has.
+pub fn peaks_are_due()
+    ensures { PeaksAreDue }
+{
+    what_peaks_answer();
+}
+
+/// Each answer that is due to `lrq shape` says of the bytes that are told what `what_lrq_shape_answers` has.
+pub fn lrq_shape_is_due()
+    ensures { LrqShapeIsDue }
+{
+    what_lrq_shape_answers();
+}
+
+/// Each answer that is due to `lrq bound` says of the bytes that are told what `what_lrq_bound_answers` has.
+pub fn lrq_bound_is_due()
+    ensures { LrqBoundIsDue }
+{
+    what_lrq_bound_answers();
+}
+
+/// Each answer that is due to `lrq check` says of the bytes that are told under both names what
+/// `what_lrq_check_answers` has.
+pub fn lrq_check_is_due()
+    ensures { LrqCheckIsDue }
+{
+    what_lrq_check_answers();
+}
+
+/// To words that are no command one answer is due: `Words`, with the line `words`.
+pub fn words_are_due()
+    ensures { WordsAreDue }
+{}
+
+/// Where `Input` is due, the text is `input FILE FAULT`: FILE is the first of the command's files that does not declare
+/// what it should, where those before it do, and FAULT is `too-long` of more bytes than it may have, else the words of
+/// its first fault.
+pub fn faults_are_told()
+    ensures { FaultsAreTold }
+{}
+
+/// The run whose text is due to `replay`, `capture` or `buffers` is one by the tie and the pace of the order that is
+/// asked for, and to `generate` one by those of `early`.
+pub fn runs_keep_their_order()
+    ensures { RunsKeepTheirOrder }
+{}
+
+/// What `buffers` prints as a row's peak was held of the row's class at its port at some time of the run, and more at
+/// none; it stands behind the row's buffer.
+pub fn peaks_are_held()
+    ensures { PeaksAreHeld }
+{}
+
+/// What `check` and `lrq check` promise of the text that they are done with: its bounds are sound, frames are in time
+/// by them, and the text gives them; the first by the groups of Asynchronous Traffic Shaping and for talkers that keep
+/// their buckets, the second by length-rate-quotient regulators and for spaced talkers.
+pub fn promises_are_sound()
+    ensures { PromisesAreSound }
+{}
+
+/// A command comes to its second file, or its third, only where the bytes that are told under the names before it have
+/// no fault.
+pub fn later_files_wait()
+    ensures { LaterFilesWait }
+{}

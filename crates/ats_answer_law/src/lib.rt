@@ -1,0 +1,4 @@
+//! What each answer that is due to a command says of the bytes that are told, and what is printed where a file fails.
+#![tactic(auto)]
+
+pub mod laws;

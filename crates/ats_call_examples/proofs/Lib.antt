@@ -1,0 +1,9 @@
+pub mod Telling
+pub mod Line
+pub mod JudgedByOne
+pub mod JudgedByTwo
+pub mod Scheduled
+pub mod Conformed
+pub mod Replayed
+pub mod Captures
+pub mod Made

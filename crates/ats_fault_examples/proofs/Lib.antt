@@ -1,0 +1,5 @@
+pub mod KeysNamed
+pub mod NetworksWritten
+pub mod FilesWritten
+pub mod InputsWritten
+pub mod LimitsAllowed

@@ -1,0 +1,11 @@
+pub mod Parsing
+pub mod Steps
+pub mod Senders
+pub mod NetworkRead
+pub mod FormCounted
+pub mod KeysTogether
+pub mod FaultsCounted
+pub mod RecordsRead
+pub mod LinesRead
+pub mod CaptureRead
+pub mod CrowdWritten

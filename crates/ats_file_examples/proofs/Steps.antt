@@ -1,0 +1,107 @@
+use Rattle.std.proofs.Common.{◌≡◌, ℕ, zero, suc, ◌+◌, ◌<◌, ◌⊎◌, inl, inr, Bool, true, List, [], ◌∷◌}
+use Rattle.std.proofs.Common.{Option, Some, Result, Ok, Err, refl, ap, ◌∙◌, arith}
+use Rattle.std.specs.Prelude.{nat_lt}
+use Rattle.std.specs.List.{list_all}
+use Rattle.std.specs.Str.{IsAscii}
+use Rattle.std.proofs.lemmas.Bool.{and_parts}
+use Rattle.std.proofs.lemmas.Str.{IsUtf8-from_ascii}
+use Rattle.toml.specs.Data.{Members}
+use Rattle.toml.specs.Parse.{parse_document}
+use Rattle.ats_num.specs.Failure.{◌>>=◌, ok_where, or_fault, unless}
+use Rattle.ats_topology.specs.Topology.{DeclaredTopology}
+use Rattle.ats_network.specs.Network.{DeclaredNetwork}
+use Rattle.ats_network.specs.Path.{IsValidPath}
+use Rattle.ats_network.specs.Pushes.{flow_push_fault, stream_push_fault, with_flow, with_stream}
+use Rattle.ats_network.proofs.PathTests.{valid_or_not}
+use Rattle.ats_network_table.specs.declared.fault.DocumentFault.{DocumentFault}
+use Rattle.ats_network_table.specs.declared.fault.DocumentFault.TheVariants.{NotToml}
+use Rattle.ats_network_toml.specs.Document as file
+use Rattle.ats_network_toml.specs.Reading.{document_in, document_of}
+use Rattle.ats_network_toml.proofs.Trees.{utf8_tree}
+use Rattle.ats_network_file.specs.Reading.{network_in, network_of, tables_of}
+use Rattle.ats_network_file.specs.Routes.{holds, is_valid, ports_of}
+use Rattle.ats_network_file.specs.Senders.{all_added, flow_added, flow_made, flow_over, path_in, refusal_of}
+use Rattle.ats_network_file.specs.Senders.{stream_added, stream_made, stream_over}
+use Rattle.ats_network_file.specs.declared.fault.NetFault.{NetFault}
+use Rattle.ats_network_file.specs.declared.fault.NetFault.TheVariants.{BadPath}
+use Rattle.ats_network_file.specs.declared.senders.SenderTable.{SenderTable}
+use Rattle.ats_network_file.specs.declared.senders.SenderTable.TheVariants.{Flow, Stream}
+
+-- How a text of TOML and the tables in it are read, step by step, where that does not compute.
+
+-- a text of ASCII is UTF-8
+abbrev pub is_ascii : List ℕ → Bool
+is_ascii text = list_all (λ b. nat_lt b 128) text
+
+ascii_by : (text : List ℕ) → is_ascii text ≡ true → IsAscii text
+ascii_by [] h i = omega arith
+ascii_by (b ∷ text) h zero = let parts = and_parts (nat_lt b 128) (is_ascii text) h in below b parts.0
+  where
+    below : (n : ℕ) → nat_lt n 128 ≡ true → n < 128
+    below n k = grind arith
+ascii_by (b ∷ text) h (suc i) = let parts = and_parts (nat_lt b 128) (is_ascii text) h in ascii_by text parts.1 i
+
+-- what the tables of a text declare, where `toml` reads some
+abbrev pub declared_by : Option Members → Result file.DeclaredDocument DocumentFault
+declared_by tree = or_fault NotToml tree >>= document_in
+
+pub document_is : (text : List ℕ) (due : Result file.DeclaredDocument DocumentFault) → is_ascii text ≡ true
+    → declared_by (parse_document text) ≡ due → document_of text ≡ due
+document_is text due ascii is =
+    ap declared_by (utf8_tree text (IsUtf8-from_ascii text (ascii_by text ascii))) ∙ is
+
+-- and the network that they make
+pub network_is : (text : List ℕ) (document : file.DeclaredDocument) (due : Result DeclaredNetwork NetFault)
+    → document_of text ≡ Ok document → network_in document ≡ due → network_of text ≡ due
+network_is text document due is made =
+    ap (λ (d : Result file.DeclaredDocument DocumentFault). tables_of d >>= network_in) is ∙ made
+
+-- a route with ports that make a valid path
+valid_is : (topology : DeclaredTopology) (path : List ℕ) → IsValidPath topology path → is_valid topology path ≡ true
+valid_is topology path valid = either (valid_or_not topology path)
+  where
+    either : (decided : IsValidPath topology path ⊎ ¬ IsValidPath topology path) → holds decided ≡ true
+    either (inl is) = refl
+    either (inr never) = absurd (never valid)
+
+pub path_is : (topology : DeclaredTopology) (table : SenderTable) (n : ℕ) (route : file.DeclaredRoute) (path : List ℕ)
+    → ports_of topology route ≡ Some path → IsValidPath topology path → path_in topology table n route ≡ Ok path
+path_is topology table n route path ports valid =
+    ap (λ (o : Option (List ℕ)). or_fault (BadPath table n) o
+    >>= λ found. ok_where (is_valid topology found) (BadPath table n) found) ports
+    ∙ ap (λ (passes : Bool). ok_where {F = NetFault} passes (BadPath table n) path) (valid_is topology path valid)
+
+-- one sender more
+pub one_more : {E : Type 0} (added : DeclaredNetwork → ℕ → E → Result DeclaredNetwork NetFault)
+    (network next : DeclaredNetwork) (n : ℕ) (entry : E) (entries : List E) → added network n entry ≡ Ok next
+    → all_added added network n (entry ∷ entries) ≡ all_added added next (n + 1) entries
+one_more added network next n entry entries is =
+    ap (λ (due : Result DeclaredNetwork NetFault). due >>= λ more. all_added added more (n + 1) entries) is
+
+-- a stream and a flow over a path
+pub stream_is : (network : DeclaredNetwork) (n : ℕ) (entry : file.DeclaredStream) (path : List ℕ)
+    (due : Result DeclaredNetwork NetFault) → path_in network.topology Stream n entry.route ≡ Ok path
+    → (stream_made n entry (stream_over path entry)
+    >>= λ stream. unless (refusal_of Stream n) (stream_push_fault network stream) (with_stream network stream)) ≡ due
+    → stream_added network n entry ≡ due
+stream_is network n entry path due found made =
+    ap (λ (r : Result (List ℕ) NetFault). r >>= λ found. stream_made n entry (stream_over found entry)
+    >>= λ stream. unless (refusal_of Stream n) (stream_push_fault network stream) (with_stream network stream)) found
+    ∙ made
+
+pub flow_is : (network : DeclaredNetwork) (n : ℕ) (entry : file.DeclaredFlow) (path : List ℕ)
+    (due : Result DeclaredNetwork NetFault) → path_in network.topology Flow n entry.route ≡ Ok path
+    → (flow_made n (flow_over path entry)
+    >>= λ flow. unless (refusal_of Flow n) (flow_push_fault network flow) (with_flow network flow)) ≡ due
+    → flow_added network n entry ≡ due
+flow_is network n entry path due found made =
+    ap (λ (r : Result (List ℕ) NetFault). r >>= λ found. flow_made n (flow_over found entry)
+    >>= λ flow. unless (refusal_of Flow n) (flow_push_fault network flow) (with_flow network flow)) found
+    ∙ made
+
+-- no further sender, where one has a fault
+pub none_more : {E : Type 0} (added : DeclaredNetwork → ℕ → E → Result DeclaredNetwork NetFault)
+    (network : DeclaredNetwork) (n : ℕ) (entry : E) (entries : List E) (fault : NetFault)
+    → added network n entry ≡ Err fault → all_added added network n (entry ∷ entries) ≡ Err fault
+none_more added network n entry entries fault is =
+    ap (λ (due : Result DeclaredNetwork NetFault). due >>= λ more. all_added added more (n + 1) entries) is

@@ -1,0 +1,62 @@
+//! Worked files with many entries: what they declare, in which entry a fault is, and what is printed of them.
+
+ghost use Rattle.ats_file_examples.specs.Captured.{CaptureIsCounted};
+ghost use Rattle.ats_file_examples.specs.Lines.{RequestsAreCounted, ShapeIsCounted};
+ghost use Rattle.ats_file_examples.specs.Network.{FaultsAreCounted, FormIsCounted, NetworkIsRead};
+ghost use Rattle.ats_file_examples.specs.Records.{ReleasesAreRead, RowsAreRead};
+ghost use Rattle.ats_file_examples.specs.Shown.{CrowdIsWritten};
+ghost use Rattle.ats_file_examples.specs.Together.{KeysGoTogether};
+
+/// The text of a network file with three to six tables of each array, the tables that it has, and the network that it
+/// declares.
+pub fn network_is_read()
+    ensures { NetworkIsRead }
+{}
+
+/// A further table of each array that lacks a key, has one too many or one of the wrong kind is told by its number.
+pub fn form_is_counted()
+    ensures { FormIsCounted }
+{}
+
+/// So is a further node, link, stream or flow that does not fit to those before.
+pub fn faults_are_counted()
+    ensures { FaultsAreCounted }
+{}
+
+/// Keys of which one asks for another, or stands in its place: an address and a VLAN, a class or classes, a path or
+/// both its ends.
+pub fn keys_go_together()
+    ensures { KeysGoTogether }
+{}
+
+/// The text of a certificate of 14 rows, which are the least of the network, and in which record a fault behind them
+/// is.
+pub fn rows_are_read()
+    ensures { RowsAreRead }
+{}
+
+/// The text of a schedule of six releases, and in which record a fault behind them is.
+pub fn releases_are_read()
+    ensures { ReleasesAreRead }
+{}
+
+/// The text of a file of six requests, and in which line a fault behind them is.
+pub fn requests_are_counted()
+    ensures { RequestsAreCounted }
+{}
+
+/// The text of a shape file of four streams and six frames, what is printed of it, and in which line a fault behind
+/// them is.
+pub fn shape_is_counted()
+    ensures { ShapeIsCounted }
+{}
+
+/// The bytes of a capture of four records, and in which record a fault behind them is.
+pub fn capture_is_counted()
+    ensures { CaptureIsCounted }
+{}
+
+/// What `show`, `check` and `explain` print of a network of four streams and three flows, where no stream is late.
+pub fn crowd_is_written()
+    ensures { CrowdIsWritten }
+{}
