@@ -2,12 +2,15 @@
 
 from second.admission import answered, requests_of
 from second.bounds import bounded, certificate_of, checked, explained
+from second.buffers import buffered
 from second.captures import captured, traffic_of
 from second.common import MOST_FRAMES, Fault, Refusal, Unread, number
 from second.generator import generated
+from second.lrq import Regulator, narrowed
 from second.networks import network_of, shown
 from second.runs import EARLY, LATEST, departed, mixed
 from second.schedules import conformed, releases_of
+from second.settings import told
 from second.shapes import shape_of, shaped
 
 
@@ -62,10 +65,25 @@ class Call:
         """The lines that `explain` prints."""
         return explained(self.read(name, network_of))
 
+    def settings(self, name):
+        """The lines that `settings` prints."""
+        return told(self.read(name, network_of))
+
+    def certified(self, name, certificate):
+        """The network and the rows that two files declare."""
+        network = self.read(name, network_of)
+        return network, self.read(certificate, lambda data: certificate_of(network, data))
+
     def check(self, name, certificate):
         """The lines that `check` prints."""
-        network = self.read(name, network_of)
-        return checked(network, self.read(certificate, lambda data: certificate_of(network, data)))
+        return checked(*self.certified(name, certificate))
+
+    def buffers(self, name, certificate, schedule=None, order=None):
+        """The lines that `buffers` prints."""
+        network, rows = self.certified(name, certificate)
+        if schedule is None:
+            return buffered(network, rows)
+        return buffered(network, rows, self.read(schedule, lambda data: releases_of(network, data)), order)
 
     def conform(self, name, schedule):
         """The lines that `conform` prints."""
@@ -93,28 +111,50 @@ class Call:
         """The lines that `generate` prints."""
         return generated(self.read(name, network_of), seed, count)
 
+    def lrq_shape(self, name):
+        """The lines that `lrq shape` prints."""
+        return shaped(self.read(name, shape_of), Regulator)
 
+    def lrq_bound(self, name):
+        """The lines that `lrq bound` prints."""
+        return bounded(narrowed(self.read(name, network_of)))
+
+    def lrq_check(self, name, certificate):
+        """The lines that `lrq check` prints."""
+        network, rows = self.certified(name, certificate)
+        return checked(narrowed(network), rows)
+
+
+# What answers each command, with the readings of the words behind it, by its own words: one, or behind `lrq` two. Where
+# a command has two forms, they differ in the number of these words.
 WORDS = {
-    "shape": (str,),
-    "show": (str,),
-    "bound": (str,),
-    "explain": (str,),
-    "check": (str, str),
-    "conform": (str, str),
-    "admit": (str, str),
-    "replay": (str, str, order_of),
-    "capture": (str, str, str, order_of),
-    "generate": (str, SEED, COUNT),
+    ("shape",): (Call.shape, [(str,)]),
+    ("show",): (Call.show, [(str,)]),
+    ("bound",): (Call.bound, [(str,)]),
+    ("explain",): (Call.explain, [(str,)]),
+    ("settings",): (Call.settings, [(str,)]),
+    ("check",): (Call.check, [(str, str)]),
+    ("buffers",): (Call.buffers, [(str, str), (str, str, str, order_of)]),
+    ("conform",): (Call.conform, [(str, str)]),
+    ("admit",): (Call.admit, [(str, str)]),
+    ("replay",): (Call.replay, [(str, str, order_of)]),
+    ("capture",): (Call.capture, [(str, str, str, order_of)]),
+    ("generate",): (Call.generate, [(str, SEED, COUNT)]),
+    ("lrq", "shape"): (Call.lrq_shape, [(str,)]),
+    ("lrq", "bound"): (Call.lrq_bound, [(str,)]),
+    ("lrq", "check"): (Call.lrq_check, [(str, str)]),
 }
 
 
-def meanings_of(words):
-    """What the words behind the first of a command mean, or None where the words are no command."""
-    readings = WORDS.get(words[0]) if words else None
-    if readings is None or len(readings) != len(words) - 1:
+def meant(words):
+    """What answers these words, and what those behind the command mean, or None where they are no command."""
+    own = 2 if words[:1] == ["lrq"] else 1
+    answer, forms = WORDS.get(tuple(words[:own]), (None, []))
+    readings = next((form for form in forms if len(form) == len(words) - own), None)
+    if readings is None:
         return None
-    meanings = [read(word) for read, word in zip(readings, words[1:])]
-    return None if None in meanings else meanings
+    meanings = [read(word) for read, word in zip(readings, words[own:])]
+    return None if None in meanings else (answer, meanings)
 
 
 def due(words, files):
@@ -123,11 +163,12 @@ def due(words, files):
         texts = [word.decode("utf-8") for word in words]
     except UnicodeDecodeError:
         return 1, ""
-    meanings = meanings_of(texts)
-    if meanings is None:
+    asked = meant(texts)
+    if asked is None:
         return 1, "words\n"
+    answer, meanings = asked
     try:
-        return 0, "".join(f"{line}\n" for line in getattr(Call(files), texts[0])(*meanings))
+        return 0, "".join(f"{line}\n" for line in answer(Call(files), *meanings))
     except Fault as fault:
         return 2, f"input {fault}\n"
     except Refusal as refusal:

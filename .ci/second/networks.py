@@ -85,9 +85,10 @@ class Sender:
 
 @dataclass
 class Topology:
-    """Stations, and the ports between nodes."""
+    """Stations, bridges in their order, and the ports between nodes."""
 
     stations: set
+    bridges: list
     ports: list
     distances: dict = field(default_factory=dict)
 
@@ -341,7 +342,7 @@ def topology_of(tree):
         latencies = [1000 * (link["propagation_ns"] + it) for it in (greatest, least)]
         stay = None if residence is None else 1000 * residence
         ports.append(Port(len(ports), leaves, leads_to, 10**6 // link["mbps"], *latencies, stay))
-    return Topology({node["name"] for node in stations}, ports)
+    return Topology({node["name"] for node in stations}, [node["name"] for node in bridges], ports)
 
 
 def path_of(topology, entry):

@@ -31,6 +31,16 @@ def mixed(mask):
     )
 
 
+class Crossing(NamedTuple):
+    """A frame of so many bits that was sent at a port, where it has a class: when it came there, and when its
+    transmission ended. The place is the port and the class."""
+
+    place: tuple
+    came: int
+    end: int
+    bits: int
+
+
 class Sending:
     """A port while frames come and go: until when it sends, what it holds by class, and when its last frame arrives."""
 
@@ -50,13 +60,13 @@ class Sending:
 
 
 class Run:
-    """A run: the lines of each frame, how it ended, and when."""
+    """A run: the lines of each frame, how it ended, and when; and what crossed each port."""
 
     def __init__(self, network, releases, order):
         self.network, self.releases, self.order = network, releases, order
         self.senders = network.senders
         self.ports = [Sending(port) for port in network.ports]
-        self.groups, self.ends = {}, [None] * len(releases)
+        self.groups, self.crossings, self.ends = {}, [], [None] * len(releases)
         self.lines = [[self.release_text(frame, it)] for frame, it in enumerate(releases)]
         self.agenda = [(release.at, COMES, frame, 0) for frame, release in enumerate(releases)]
         heapify(self.agenda)
@@ -97,7 +107,7 @@ class Run:
         text = f"hop {port.port.name} {now} {verdict}"
         if verdict == ELIGIBLE:
             key = self.order.key(release.sender, frame)
-            heappush(port.held[sender.classes[hop]], (eligible, key, frame, hop, f"{text} {eligible}"))
+            heappush(port.held[sender.classes[hop]], (eligible, key, frame, hop, now, f"{text} {eligible}"))
             heappush(self.agenda, (eligible, LOOKS, port.port.number, 0))
         else:
             self.lines[frame].append(text if verdict == SIZE else f"{text} {eligible}")
@@ -109,8 +119,11 @@ class Run:
         taken = port.take(now) if port.until <= now else None
         if taken is None:
             return
-        *_, frame, hop, text = taken
-        port.send(now, wire_bits(self.releases[frame].octets), frame, self.order)
+        *_, frame, hop, came, text = taken
+        release = self.releases[frame]
+        bits, place = wire_bits(release.octets), self.senders[release.sender].hops[hop]
+        port.send(now, bits, frame, self.order)
+        self.crossings.append(Crossing(place, came, port.until, bits))
         self.lines[frame].append(f"{text} start {now} end {port.until}")
         heappush(self.agenda, (port.arrival, COMES, frame, hop + 1))
         heappush(self.agenda, (port.until, LOOKS, number, 0))

@@ -94,9 +94,9 @@ def shape_of(data):
     return shape
 
 
-def shaped(shape):
-    """What `shape` prints."""
-    group, verdicts = Group(shape.residence), []
+def shaped(shape, kind=Group):
+    """What `shape` prints, or `lrq shape` where the group is of that kind."""
+    group, verdicts = kind(shape.residence), []
     for count, (arrival, stream, octets) in enumerate(shape.frames):
         verdict, eligible = group.judge(stream, arrival, octets)
         verdicts.append(verdict)
