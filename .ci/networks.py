@@ -205,6 +205,34 @@ def check_due(ports, senders):
     return [*lines, f"accepted {len(streams)}"]
 
 
+def narrowed(senders):
+    """The senders, each stream of them with the wire bits of its longest frame as its burst."""
+    return [it._replace(burst=bits_of(it.most)) if it.is_stream() else it for it in senders]
+
+
+def buffers_of(ports, senders, rows):
+    """The buffer of each row, in bits: what each stream of the class sends within the time by which frames that are
+    together at the port differ."""
+    found = dict.fromkeys(rows, 0)
+    for sender in filter(Sender.is_stream, senders):
+        way = 0
+        for number, cls in sender.places():
+            port, row = ports[number], rows[number, cls]
+            stay = row.wait + port.ps_per_bit * row.least
+            found[number, cls] += sender.burst + sender.rate * (stay + way) // SECOND
+            way = row.wait + port.latency - port.earliest
+    return found
+
+
+def buffers_due(ports, senders, peaks=None):
+    """The lines that are due to `buffers` of the least certificate, where it holds; with these peaks, if any."""
+    buffers = buffers_of(ports, senders, rows_of(ports, senders))
+    lines = [f"buffer {ports[number].name()} {cls} {bits}" for (number, cls), bits in buffers.items()]
+    if peaks is not None:
+        lines = [f"{line} peak {peaks.get(place, 0)}" for line, place in zip(lines, buffers)]
+    return [*lines, f"rows {len(buffers)}"]
+
+
 def declared_in(path):
     """The ports and the senders of a network file of format 1 in which routes are given by their ends."""
     with open(path, "rb") as file:

@@ -1,9 +1,9 @@
 """Releases, and the text of a run: what the scripts need that replay schedules. The rules are those of
 docs/DEFINITIONS.md, written here once more; nothing here asks the program."""
 
-from itertools import accumulate
+from itertools import accumulate, zip_longest
 
-from networks import SECOND, bits_of
+from networks import SECOND, bits_of, buffers_due
 
 
 def schedule_text(rows):
@@ -102,3 +102,42 @@ def text_of(journeys):
 def releases_of(journeys):
     """The releases of journeys: time, name and octets of each."""
     return [(journey.release, journey.name, journey.octets) for journey in journeys]
+
+
+def peaks_of(network, journeys):
+    """The most bits of each class that a run's frames had at each port, by port and class: a frame is there from when
+    it comes until its transmission ends."""
+    moments, places = {}, {it.name: it.places() for it in network.senders}
+    for journey in journeys:
+        for place, hop in zip(places[journey.name], journey.hops):
+            if hop.end is not None:
+                bits = bits_of(journey.octets)
+                moments.setdefault(place, []).extend([(hop.arrival, bits), (hop.end, -bits)])
+    # At one time what ends comes first.
+    return {place: max(accumulate(bits for _, bits in sorted(found))) for place, found in moments.items()}
+
+
+class PeakJudge:
+    """What is found against the lines of `buffers` beside a run. `good` are the stations that keep their buckets."""
+
+    def __init__(self, network, good, journeys, lines, count):
+        self.network, self.good, self.found = network, good, []
+        peaks = peaks_of(network, journeys)
+        due = buffers_due(network.ports, network.senders, peaks)
+        if lines != due:
+            line, other = next(pair for pair in zip_longest(lines, due) if pair[0] != pair[1])
+            self.found.append(f"{line!r} is printed, and {other!r} is due")
+            return
+        for words in map(str.split, lines[:-1]):
+            self.row(words[1], int(words[2]), int(words[3]), int(words[5]), count)
+
+    def row(self, port, cls, buffer, peak, count):
+        """The row of a port and a class."""
+        number = next(k for k, it in enumerate(self.network.ports) if it.name() == port)
+        talkers = {self.network.ends_of(it)[0] for it in self.network.senders if (number, cls) in it.places()}
+        if not talkers <= self.good:
+            count.above += peak > buffer
+            return
+        if peak > buffer:
+            self.found.append(f"the peak of {port} in class {cls} is {peak}, above its buffer {buffer}")
+        count.peaks, count.fullest = count.peaks + 1, max(count.fullest, peak / buffer)

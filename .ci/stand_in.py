@@ -54,6 +54,11 @@ def never_late(words, status, text):
     return status, re.sub(r"^((?:hop \S+|sum) \S+ \d+)$", r"\g<1>0", text, flags=re.M)
 
 
+def never_full(words, status, text):
+    """A `buffers` in whose runs no port holds anything."""
+    return status, re.sub(r" peak \d+$", " peak 0", text, flags=re.M) if is_about(words, "buffers") else text
+
+
 def always_conforming(words, status, text):
     """A `conform` to which all releases conform."""
     return (0, "conforms 12\n") if is_about(words, "conform") else (status, text)
@@ -152,7 +157,7 @@ def short_waits(program, words):
 
 def slow_links(program, words):
     """Links of 5, 40 and 50 Gb/s count as such of 2.5 Gb/s, but for `show`."""
-    if is_about(words, "bound", "explain", "check", "conform", "replay", "capture", "generate", "admit"):
+    if is_about(words, "bound", "explain", "check", "buffers", "conform", "replay", "capture", "generate", "admit"):
         rate = r"^mbps = (5000|40000|50000)$"
         words = (words[0], other_file(words[1], lambda text: re.sub(rate, "mbps = 2500", text, flags=re.M)), *words[2:])
     return call(program, words)
@@ -168,6 +173,16 @@ def seeds_as_1(program, words):
     if is_about(words, "generate") and words[2] not in ("0", str(2**64 - 1)):
         words = (*words[:2], "1", *words[3:])
     return call(program, words)
+
+
+def lrq_as_declared(program, words):
+    """An `lrq` that judges networks as they are declared, as the plain commands do."""
+    return call(program, words[1:] if is_about(words, "lrq") and words[1] in ("bound", "check") else words)
+
+
+def lrq_by_buckets(program, words):
+    """An `lrq` that shapes by token buckets, as the plain command does."""
+    return call(program, words[1:] if is_about(words, "lrq") and words[1] == "shape" else words)
 
 
 def worst_halved(program, words):
@@ -187,20 +202,24 @@ def one_less_of(verb):
 
 # What answers for the wrong programs that ask the right one otherwise, or look into its files.
 ASKS = {
-    it.__name__.replace("_", "-"): it for it in (short_waits, slow_links, orders_early, seeds_as_1, worst_halved)
+    it.__name__.replace("_", "-"): it
+    for it in (short_waits, slow_links, orders_early, seeds_as_1, lrq_as_declared, lrq_by_buckets, worst_halved)
 }  # fmt: skip
 
 # What each other wrong program makes of the words, the status and the text of the right one.
 WRONGS = {
     "none": lambda words, status, text: (status, text),
     "output-lost": lambda words, status, text: (status, text),
-    **{f"one-less-{verb}": one_less_of(verb) for verb in ("show", "explain", "shape", "conform")},
+    **{
+        f"one-less-{verb}": one_less_of(verb)
+        for verb in ("show", "explain", "shape", "conform", "settings", "buffers", "lrq")
+    },
     **{
         it.__name__.replace("_", "-"): it
         for it in (
-            without_frames, without_releases, always_refused, always_accepted, never_late, always_conforming,
-            latest_excess, worst_of_nothing, worst_one_less, one_less, always_admitted, sums_one_less,
-            status_of_success, nothing_printed, read_as_done, routes_back, arrivals_late,
+            without_frames, without_releases, always_refused, always_accepted, never_late, never_full,
+            always_conforming, latest_excess, worst_of_nothing, worst_one_less, one_less, always_admitted,
+            sums_one_less, status_of_success, nothing_printed, read_as_done, routes_back, arrivals_late,
         )
     },
 }  # fmt: skip
