@@ -90,10 +90,10 @@ def link_lines(ports, places):
     return "\n".join(['<g class="links">', *lines, "</g>", '<g class="rates">', *rates, "</g>"])
 
 
-def along(number, names, ports):
-    """The group that shows a route."""
+def along(number, names, ports, is_shown):
+    """The group of a route."""
     uses = "".join(f'<use href="#p{ports[name].number}"/>' for name in names)
-    return f'<g class="r" id="r{number}">{uses}</g>'
+    return f'<g class="r{" on" if is_shown else ""}" id="r{number}">{uses}</g>'
 
 
 def fault_marks(shown, names):
@@ -111,8 +111,9 @@ def edges_of(places):
     return left - room[0], right + room[1] + 16
 
 
-def drawing(shown, bridges, routes, faults):
-    """The drawing, with a group for each numbered route of names of ports, and marks of the ports at fault."""
+def drawing(shown, bridges, routes, faults, chosen):
+    """The drawing, with a group for each numbered route of names of ports, of which the chosen one is shown at first,
+    and marks of the ports at fault."""
     places = places_of(shown.ports, bridges)
     ways = [f'<path id="p{it.number}" d="{way_of(places, it.start, it.end)}"/>' for it in shown.ports.values()]
     nodes = [node("bar" if it in bridges else "node", it, spot) for it, spot in places.bars.items()]
@@ -120,12 +121,15 @@ def drawing(shown, bridges, routes, faults):
     left, right = edges_of(places)
     size = f'width="{place(right - left)}" height="{place(places.height)}"'
     box = f'viewBox="{place(left)} 0 {place(right - left)} {place(places.height)}"'
-    head = '<marker id="head" viewBox="0 0 10 10" refX="8" refY="5" markerWidth="4" markerHeight="4" orient="auto">'
+    heads = "".join(
+        f'<marker id="{name}" viewBox="0 0 10 10" refX="8" refY="5" markerWidth="{size}" markerHeight="{size}" '
+        f'orient="auto"><path d="M0 0L10 5L0 10Z"/></marker>' for name, size in (("head", 4), ("fault", 2.6))
+    )  # fmt: skip
     told = f"{len(bridges)} bridges, {len(places.bars) + len(places.stations) - len(bridges)} stations"
     return "\n".join([
         f'<svg class="net" id="net" {size} {box} role="img" aria-label="The network: {text(told)}">',
-        f'<defs>{head}<path d="M0 0L10 5L0 10Z"/></marker>', *ways, "</defs>",
+        f"<defs>{heads}", *ways, "</defs>",
         link_lines(shown.ports, places), fault_marks(shown, faults),
-        *(along(number, names, shown.ports) for number, names in routes.items()),
+        *(along(number, names, shown.ports, number == chosen) for number, names in routes.items()),
         *nodes, "</svg>",
     ])  # fmt: skip

@@ -38,6 +38,12 @@ def percent(load):
     return f"{hundredths // 100}.{hundredths % 100:02d} %"
 
 
+def used(part, whole):
+    """A part of a whole as percent, rounded up."""
+    hundredths = -(-(10**4) * part // whole)
+    return f"{hundredths // 100}.{hundredths % 100:02d} %"
+
+
 def rate(bits):
     """Bits per second in the largest unit of which there is one."""
     size, unit = next(it for it in UNITS if bits >= it[0] or it[0] == 1)

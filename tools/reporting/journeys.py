@@ -41,8 +41,8 @@ class Told(NamedTuple):
 
 
 class Journey(NamedTuple):
-    """A frame's release, and what became of it: when it came to each of its listeners, or None where it was
-    discarded on the way there."""
+    """A frame's release, and what became of it: for each of its listeners the label of `explain`, and when it came
+    there, or None where it was discarded on the way."""
 
     frame: int
     name: str
@@ -87,7 +87,9 @@ def span_of(lines, first, last):
         words = line.split()
         if words[0] == "frame":
             frame = Journey(int(words[1]), words[2], int(words[3]), int(words[4]), [])
-            touched = False
+            label, touched = words[2], False
+        elif words[0] == "listener":
+            label = f"{frame.name} {words[1]}"
         elif words[0] == "hop":
             found = crossing_of(words, frame)
             if found.arrival <= last and (found.end or found.arrival) >= first:
@@ -95,7 +97,7 @@ def span_of(lines, first, last):
                 journeys += [] if touched else [frame]
                 touched = True
         elif words[0] in ("sink", "discard"):
-            frame.ends.append(int(words[1]) if words[0] == "sink" else None)
+            frame.ends.append((label, int(words[1]) if words[0] == "sink" else None))
     return crossings, journeys
 
 

@@ -24,6 +24,7 @@ class Model:
             self.declared = texts.declared_in(file.read())
         self.bridges = self.declared.bridges if self.declared.known else texts.bridges_by_links(self.shown.ports)
         self.ways = ways_of(self.shown)
+        self.users = users_of(self.shown)
         explained = self.asked("explain", self.net)
         self.explained = texts.explained_of(explained) if explained else None
         bound = self.asked("bound", self.net)
@@ -71,6 +72,7 @@ class Model:
             lines = self.sure("replay", self.net, self.schedule, words.order)
             self.run = journeys.told_of(lines)
             tightest = self.explained.total.tightest if self.explained else ""
+            self.order_word = words.order
             self.span = words.span or journeys.chosen_span(self.run, tightest)
             self.crossings, self.journeys = journeys.span_of(lines, *self.span)
 
@@ -102,6 +104,44 @@ class Model:
         seen["run"] = seen["run"].delay if seen["run"] else None
         return {kind: seen[kind] for kind in self.kinds_of_marks}
 
+    def bursting(self, port, cls):
+        """The names of the streams whose bursts count at a port and class: those of the class and the higher ones."""
+        return [name for name, other in self.users.get(port, []) if other >= cls]
+
+    def late(self):
+        """The numbers of the late streams, the latest first."""
+        return [number for number in self.order() if self.explained.sums[number].left < 0] if self.explained else []
+
+    def overstays(self):
+        """The hops, one for each port and class, behind which a frame may have to stay for longer than is allowed."""
+        sums = self.explained.sums if self.explained else []
+        hops = {(hop.port, hop.cls): hop for it in sums for hop in it.hops}
+        return [hop for hop in hops.values() if hop.stay is not None and hop.stay > hop.residence]
+
+    def tightest(self):
+        """The number of the stream that `explain` names as the tightest, or None."""
+        total = self.explained.total if self.explained else None
+        labels = [it.label for it in self.explained.sums] if total and total.tightest else []
+        return labels.index(total.tightest) if labels else None
+
+    def ports_at_fault(self):
+        """The ports that refusals name, and those behind which a frame may have to stay for too long."""
+        ports = [words[2] for words in map(str.split, self.refusals) if words[1] in ("overloaded", "residence")]
+        return list(dict.fromkeys(ports + [hop.port for hop in self.overstays()]))
+
+    def chosen(self):
+        """The number of the stream whose route is shown at first, or None: the latest; or else the first at a port at
+        fault; or else the tightest."""
+        faults = set(self.ports_at_fault())
+        there = [number for number in self.order() if faults & {*self.ways[number]}]
+        late = self.late()
+        return late[0] if late else there[0] if there else self.tightest()
+
+    def is_without_deadline(self, number):
+        """Whether the network's file gives a stream no deadline, so that one of a second holds."""
+        table = self.declared.tables.get(self.shown.streams[number].name)
+        return table is not None and "deadline_ns" not in table
+
     def order(self):
         """The numbers of the streams, those with the least left of their deadlines first."""
         numbers = range(len(self.shown.streams))
@@ -118,6 +158,16 @@ class Model:
             same = route.classes * len(route.ports) if len(route.classes) == 1 else route.classes
             found |= {(route.name, port): cls for port, cls in zip(route.ports, same)}
         return found
+
+
+def users_of(shown):
+    """The streams that use each port, each once, with their classes there."""
+    users = {}
+    for route in shown.streams:
+        same = route.classes * len(route.ports) if len(route.classes) == 1 else route.classes
+        for port, cls in zip(route.ports, same):
+            users.setdefault(port, {})[route.name] = cls
+    return {port: list(names.items()) for port, names in users.items()}
 
 
 def ways_of(shown):

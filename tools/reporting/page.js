@@ -6,7 +6,7 @@ const all = (rule, at = document) => [...at.querySelectorAll(rule)];
 // Tables: a column is sorted by its numbers, where it has some, or else by its words.
 const valueOf = (row, column) => {
   const cell = row.cells[column];
-  const number = cell.dataset.ps ?? cell.dataset.v ?? cell.textContent;
+  const number = cell.dataset.ps ?? cell.dataset.v ?? cell.textContent.replace(/ %$/, "");
   return number.trim() === "" || isNaN(number) ? cell.textContent : Number(number);
 };
 const compare = (a, b) => (typeof a === "number" && typeof b === "number" ? a - b : String(a).localeCompare(String(b)));
@@ -65,15 +65,18 @@ const partsOf = (parts, longest) => {
   cell.append(bar);
   return cell;
 };
+const whose = (bursts, users) => (!bursts ? "" : users === 1 ? " own" : ` of ${users} streams`);
 const hopRow = (port, number, hop, longest) => {
-  const [lower, sender, bursts, higher, frame, latency, bound, stay, residence] = hop;
+  const [lower, sender, bursts, users, higher, frame, latency, bound, stay, residence] = hop;
   const row = document.createElement("tr");
-  const times = [bursts, higher, frame, latency, bound].map((ps) => cellOf(up(ps), "n"));
+  const times = [higher, frame, latency].map((ps) => cellOf(up(ps), "n"));
   const first = cellOf(up(lower) + (sender === "-" ? "" : ` ${sender}`), "n");
+  const second = cellOf(up(bursts) + whose(bursts, users), "n");
   const over = stay > residence ? "n late" : "n";
-  const last = stay === undefined ? cellOf("-") : cellOf(`${up(stay)} of ${down(residence)}`, over);
+  const last = stay === undefined ? cellOf("-", "n") : cellOf(`${up(stay)} of ${down(residence)}`, over);
   const parts = partsOf([lower, bursts, higher, frame, latency], longest);
-  row.append(cellOf(data.ports[port]), cellOf(number), parts, first, ...times, last);
+  const whole = cellOf(up(bound), "n");
+  row.append(cellOf(data.ports[port]), cellOf(number), whole, parts, first, second, ...times, last);
   return row;
 };
 const showHops = (number) => {
@@ -84,7 +87,7 @@ const showHops = (number) => {
   if (!classes || one(`#h${number}`)) return;
   const numbers = data.ways[number].map((_, k) => classes[k] ?? classes[0]);
   const hops = data.ways[number].map((port, k) => data.rows[`${port}:${numbers[k]}`]);
-  const longest = Math.max(...hops.map((hop) => hop[6]));
+  const longest = Math.max(...hops.map((hop) => hop[7]));
   const table = one("#hops table").cloneNode(false);
   const body = document.createElement("tbody");
   body.append(...hops.map((hop, k) => hopRow(data.ways[number][k], numbers[k], hop, longest)));
@@ -100,8 +103,16 @@ const showHops = (number) => {
 // Routes: the one that is chosen stays, the one that is pointed at is shown meanwhile.
 const choice = one("#route");
 const told = one("#told");
-const fault = (one(".wide.net")?.dataset.fault ?? "").split(" ").filter(Boolean);
-const waysOf = () => (choice?.value ? [choice.value] : fault);
+const waysOf = () => (choice?.value ? [choice.value] : []);
+const columnOf = (row, name) => {
+  const heads = [...row.closest("table").tHead.rows[0].cells];
+  return row.cells[heads.findIndex((head) => head.textContent === name)].textContent;
+};
+const tell = (number) => {
+  const row = one(`tr[data-r="${number}"]`);
+  const name = row && one("a", row).textContent;
+  told.textContent = row ? `${name}: ${columnOf(row, "from, to")}, class ${columnOf(row, "class")}` : "";
+};
 const showRoutes = (numbers) => {
   all(".r.on, tr.on").forEach((it) => it.classList.remove("on"));
   numbers.forEach((number) => {
@@ -113,9 +124,7 @@ const choose = (number) => {
   choice.value = number;
   showRoutes(waysOf());
   showHops(number);
-  const row = one(`tr[data-r="${number}"]`);
-  const words = row ? [...row.cells].map((cell) => cell.textContent) : [];
-  told.textContent = row ? `${words[1]}: ${words.at(-3)}, class ${words.at(-4)}` : "";
+  tell(number);
 };
 if (choice) {
   choice.addEventListener("change", () => choose(choice.value));
@@ -129,13 +138,14 @@ if (choice) {
       else if (details) details.open = true;
     }),
   );
-  all("#streams tbody tr, #declared tbody tr").forEach((row) => {
+  all("#streams tbody tr, #declared tbody tr, #flows tbody tr").forEach((row) => {
     row.addEventListener("mouseenter", () => showRoutes([row.dataset.r]));
     row.addEventListener("mouseleave", () => showRoutes(waysOf()));
     one("a", row).addEventListener("focus", () => showRoutes([row.dataset.r]));
     one("a", row).addEventListener("blur", () => showRoutes(waysOf()));
   });
   showRoutes(waysOf());
+  tell(choice.value);
 }
 const openTarget = () => {
   const number = /^#[hr](\d+)$/.exec(location.hash)?.[1];
@@ -146,7 +156,8 @@ const openTarget = () => {
 addEventListener("hashchange", openTarget);
 openTarget();
 
-// The drawing: its size, and moving it by its own paper.
+// The drawing: its size, at first such that names are legible, and moving it by its own paper.
+const LEGIBLE = 0.85;
 const net = one("#net");
 if (net) {
   const [, , width, height] = net.getAttribute("viewBox").split(" ").map(Number);
@@ -164,8 +175,14 @@ if (net) {
     }),
   );
   if (width > frame.clientWidth) {
-    size = Math.max(0.6, frame.clientWidth / width);
+    size = Math.max(LEGIBLE, frame.clientWidth / width);
     draw();
+    const way = one(".r.on", net);
+    if (way) {
+      const [there, here] = [way.getBoundingClientRect(), frame.getBoundingClientRect()];
+      frame.scrollLeft = there.left - here.left - Math.max(8, (frame.clientWidth - there.width) / 2);
+      frame.scrollTop = there.top - here.top - Math.max(8, (frame.clientHeight - there.height) / 2);
+    }
   }
   frame.tabIndex = 0;
   frame.setAttribute("aria-label", "The drawing of the network");
@@ -203,19 +220,34 @@ if (run) {
       labels.push(put(at.toFixed(places), ((at - begin) / (span / 1000)) * 100));
     times.replaceChildren(...labels);
   };
+  // A box has its sender's name, or where that has no room the number of its frame.
+  const nameIn = (box, width) => {
+    const room = (width / span) * run.clientWidth - 6;
+    return [box.dataset.n, box.dataset.f].find((name) => room > 6.8 * name.length) ?? "";
+  };
   const writeNames = () => {
     const lane = Number(run.dataset.lane);
-    const shows = (box, width) => (width / span) * run.clientWidth > 6.5 * box.dataset.n.length + 6;
-    const seen = boxes.filter(([box, x, width]) => x < from + span && x + width > from && shows(box, width));
+    const seen = boxes.filter(([, x, width]) => x < from + span && x + width > from);
     const labels = seen.map(([box, x, width, y]) => {
       const left = Math.max(x, from);
       const right = Math.min(x + width, from + span);
+      const name = nameIn(box, right - left);
       const top = Math.floor(y / lane) * lane;
-      return put(box.dataset.n, ((left - from) / span) * 100, ((right - left) / span) * 100, top);
+      const label = put(name, ((left - from) / span) * 100, ((right - left) / span) * 100, top);
+      label.className = `t${/c(\d)/.exec(box.getAttribute("class"))[1]}`;
+      return name && label;
     });
     crosses.forEach(([cross, at]) => (cross.style.left = `${((at - from) / span) * 100}%`));
-    over.replaceChildren(...labels, ...crosses.map(([cross]) => cross));
+    over.replaceChildren(...labels.filter(Boolean), ...crosses.map(([cross]) => cross));
   };
+  const frameTold = one("#frame");
+  const tellFrame = (aim) => {
+    all(".chosen", run).forEach((it) => it.classList.remove("chosen"));
+    const box = aim.closest("rect[data-n], .cross");
+    box?.classList.add("chosen");
+    frameTold.textContent = box ? box.title || one("title", box).textContent : frameTold.dataset.hint;
+  };
+  run.addEventListener("click", (event) => tellFrame(event.target));
   const see = (start, length) => {
     span = Math.min(whole, Math.max(whole / 1e5, length));
     from = Math.min(whole - span, Math.max(0, start));

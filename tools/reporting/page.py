@@ -5,8 +5,18 @@ import os
 
 import journeys
 from drawing import drawing
-from figures import down, exact, percent, text, up
-from tables import PARTS, certificate_table, declared_table, framed, hop_table, part_words, port_table, stream_table
+from figures import exact, text, up
+from reasons import counts_told, tightest_told, verdict
+from tables import (
+    certificate_table,
+    declared_table,
+    flow_table,
+    framed,
+    hop_table,
+    part_words,
+    port_table,
+    stream_table,
+)
 from timeline import timeline
 
 HERE = os.path.dirname(os.path.abspath(__file__))
@@ -17,13 +27,11 @@ HERE = os.path.dirname(os.path.abspath(__file__))
 BUDGETS = (
     (3000, 800, 300, 6000, False),
     (600, 200, 100, 6000, True),
+    (100, 0, 20, 6000, True),
     (100, 0, 20, 3000, True),
     (100, 0, 20, 1000, True),
 )
 LONGEST = 5 * 10**6
-
-# How many of the parts of a sum are named as the reason for it.
-REASONS = 3
 
 # The buttons of the timeline.
 RUN_ACTS = (("out", "wider"), ("in", "closer"), ("back", "earlier"), ("on", "later"), ("all", "all"))
@@ -42,93 +50,12 @@ def section(number, title, *body):
     return f'<section id="{number}"><h2>{title}</h2>\n' + "\n".join(it for it in body if it) + "\n</section>"
 
 
-def part_told(hop, name):
-    """One part of a bound, in words."""
-    words = {
-        "lower": f"waiting for one frame of {hop.sender} that has begun",
-        "bursts": "waiting for bursts of its class and higher ones",
-        "higher": "what the rates of higher classes add meanwhile",
-        "frame": "sending the frame itself",
-        "latency": "propagation and processing",
-    }
-    return words[name]
-
-
-def reasons_of(it):
-    """The longest parts of a sum, in words."""
-    parts = [(getattr(hop, name), hop, name) for hop in it.hops for name, _ in PARTS]
-    longest = sorted(parts, key=lambda part: -part[0])[:REASONS]
-    told = (f"<li><b>{up(ps)} &micro;s</b> at <code>{text(hop.port)}</code>, {part_told(hop, name)}</li>"
-            for ps, hop, name in longest if ps)  # fmt: skip
-    return f"<ul>{''.join(told)}</ul>"
-
-
-def tightest_told(model):
-    """Which stream is closest to its deadline, or latest, and why."""
-    total = model.explained.total
-    if not total.tightest:
-        return "<p>The network declares no streams, so nothing is promised.</p>"
-    it = next(it for it in model.explained.sums if it.label == total.tightest)
-    number = model.explained.sums.index(it)
-    name = f'<a href="#h{number}"><b>{it.label}</b></a>'
-    if it.left < 0:
-        told = f"The latest stream is {name}: its sum is {up(it.sum)} &micro;s, {up(-it.left)} over its deadline of "
-    else:
-        told = f"Closest to its deadline is {name}: its sum is {up(it.sum)} &micro;s, which leaves {down(it.left)} of "
-    return f'<p class="lead">{told}{down(it.deadline)} &micro;s. The longest parts of the sum:</p>{reasons_of(it)}'
-
-
-def counts_told(model):
-    """How many streams are in time."""
-    total = model.explained.total
-    late = f"Late streams: {total.late} of {total.streams}." if total.late else ""
-    over = f"Stays in bridges that are longer than the maximum residence time: {total.over}." if total.over else ""
-    if late or over:
-        return f'<p class="bad">{late} {over}</p>'
-    told = f"Streams within their deadlines: {total.streams} of {total.streams}."
-    return f'<p class="good">{told}</p>' if total.streams else ""
-
-
-def refusal_told(line):
-    """What a refusal of `bound` means."""
-    words = line.split()
-    if line.startswith("refused overloaded "):
-        told = f"the rates of class {words[3]} and above take {percent(int(words[4]))} of the link at <code>"
-        return f"{told}{text(words[2])}</code>, which is more than there is. No bound holds for this network."
-    if line.startswith("refused residence "):
-        told = f"behind <code>{text(words[2])}</code> a frame of class {words[3]} may have to stay for "
-        return f"{told}{up(int(words[4]))} &micro;s, longer than the bridge's maximum residence time."
-    if line.startswith("refused deadline "):
-        told = f"the least bounds of <b>{' '.join(words[2:-1])}</b> are together {up(int(words[-1]))} &micro;s"
-        return f"{told}, over its deadline."
-    return ""
-
-
-def verdict(model):
-    """What the program decided, in its own line and in words."""
-    if not model.refusals:
-        return ""
-    told = "".join(f"<p><code>{text(line)}</code>: {refusal_told(line)}</p>" for line in model.refusals)
-    said = f"<pre>{text(model.said)}</pre>" if model.said else ""
-    return f'<div class="refused"><h2>There is no certificate</h2>{told}{said}</div>'
-
-
-def ports_at_fault(model):
-    """The ports that refusals name, and the way of a stream that they name."""
-    ports, streams = [], []
-    for words in (line.split() for line in model.refusals):
-        if words[1] in ("overloaded", "residence"):
-            ports.append(words[2])
-        elif words[1] == "deadline":
-            streams.append(" ".join(words[2:-1]))
-    return ports, [k for k, route in enumerate(model.shown.streams) if route.label() in streams]
-
-
 def data_of(model, ways):
     """The ports of routes by their numbers, the classes there, and the parts of the bound of each port and class."""
     ports, rows, sums = model.shown.ports, {}, model.explained.sums if model.explained else []
     for hop in (hop for it in sums for hop in it.hops):
-        parts = [hop.lower, hop.sender, hop.bursts, hop.higher, hop.frame, hop.latency, hop.bound]
+        users = len(model.bursting(hop.port, hop.cls))
+        parts = [hop.lower, hop.sender, hop.bursts, users, hop.higher, hop.frame, hop.latency, hop.bound]
         rows[f"{ports[hop.port].number}:{hop.cls}"] = parts + ([] if hop.stay is None else [hop.stay, hop.residence])
     told = {
         "ways": {number: [ports[name].number for name in names] for number, names in ways.items()},
@@ -140,10 +67,12 @@ def data_of(model, ways):
     return f'<script type="application/json" id="data">{written}</script>'
 
 
-def route_choice(model, numbers):
+def route_choice(model, numbers, chosen):
     """The list from which a route is chosen, and the buttons of the drawing; they do nothing without scripts."""
     routes = model.shown.streams + model.shown.flows
-    options = "".join(f'<option value="{k}">{routes[k].label()}</option>' for k in sorted(numbers))
+    options = "".join(
+        f'<option value="{k}"{" selected" if k == chosen else ""}>{routes[k].label()}</option>' for k in sorted(numbers)
+    )
     return (
         '<p class="tools js"><label>route of <select id="route"><option value="">none</option>'
         f'{options}</select></label> <button type="button" data-zoom="0.8">smaller</button> '
@@ -152,29 +81,47 @@ def route_choice(model, numbers):
     )
 
 
+def chosen_told(model, chosen):
+    """Why the route of a stream is the one that is shown at first."""
+    name = model.shown.streams[chosen].label()
+    if model.late():
+        why = "the latest stream"
+    elif model.ports_at_fault():
+        why = "which goes by a port at fault"
+    else:
+        why = "the stream closest to its deadline"
+    return f"Until another is chosen, arrows show the route of {name}, {why}. "
+
+
+def drawing_told(model, chosen):
+    """What the drawing shows, in words."""
+    nodes = {name for port in model.shown.ports.values() for name in (port.start, port.end)}
+    links = len(model.shown.ports) // 2
+    told = f"Bridges: {len(nodes & model.bridges)}, stations: {len(nodes - model.bridges)}, links: {links}"
+    told += ". Bridges are shaded; the thicker a link, the faster. "
+    told += "" if chosen is None else chosen_told(model, chosen)
+    told += "Dashed arrows mark the ports at fault. " if model.ports_at_fault() else ""
+    return f'<p class="note">{told}</p>'
+
+
 def network_part(model, numbers):
     """The drawing of the network, with the routes of streams and flows of these numbers, in it or as data."""
-    ports, streams = ports_at_fault(model)
+    faults, chosen = model.ports_at_fault(), model.chosen()
     ways = model.ways + [route.ports for route in model.shown.flows]
-    routes = {number: ways[number] for number in sorted({*([] if model.is_data else numbers), *streams})}
+    first = [] if chosen is None else [chosen]
+    routes = {number: ways[number] for number in sorted({*([] if model.is_data else numbers), *first})}
     data = data_of(model, {number: ways[number] for number in numbers}) if model.is_data else ""
-    fault = " ".join(map(str, streams))
-    marks = "A dashed line marks the port that is refused. " if ports else ""
-    marks += "The route of the stream that is refused is shown. " if streams else ""
-    body = drawing(model.shown, model.bridges, routes, ports) if model.shown.ports else "<p>It has no links.</p>"
-    legend = f'<p class="note">{marks}Bars are bridges; the thicker a link, the faster.</p>'
-    return section(
-        "network",
-        "Network",
-        route_choice(model, numbers),
-        f'<div class="wide net" data-fault="{fault}">{body}</div>',
-        legend + data,
-    )
+    body = "<p>It has no links.</p>"
+    if model.shown.ports:
+        body = drawing(model.shown, model.bridges, routes, faults, chosen)
+    legend = drawing_told(model, chosen)
+    frame = f'<div class="wide net">{body}</div>'
+    return section("network", "Network", route_choice(model, numbers, chosen), frame, legend + data)
 
 
 def marks_legend(model):
     """What stands on the bar of a stream."""
-    told = ['<i class="key sumkey"></i>sum of the bounds', '<i class="key due"></i>deadline']
+    told = ['<i class="key sumkey"></i>worst-case delay', '<i class="key due"></i>deadline']
     if "run" in model.kinds_of_marks:
         told.append('<i class="key run"></i>longest delay in the run')
     if "found" in model.kinds_of_marks:
@@ -188,25 +135,52 @@ def left_out(model, order):
     return f'<p class="note">The other {rest} streams are left out.</p>' if rest else ""
 
 
+# What is said of times in a page.
+ROUNDED = (
+    "Times are microseconds. Each number is rounded by itself, to the side on which a reader is safe: bounds, delays, "
+    "loads and shares up, deadlines and what is left of them down. So parts together may be some thousandths more than "
+    "what they are parts of."
+)
+
+
 def streams_part(model, order):
     """The table of all streams."""
-    note = "Times are microseconds. Sums, bounds and delays are rounded up, deadlines and what is left of them down."
+    promised = "is the sum of the bounds of all hops on its way"
+    if model.rows:
+        promised += ": no frame takes longer, of a stream whose talker keeps the declared rates, bursts and sizes"
     known = "" if model.declared.known else " Rates and bursts stand in the file, which Python could not read here."
-    note = f'<p class="note">{note}{known}</p>{left_out(model, order)}'
+    note = f"The worst-case delay of a stream {promised}. Used is its share of the deadline.{known}"
+    if any(map(model.is_without_deadline, order)):
+        note += " Where the file gives no deadline, one second holds."
+    note = f'<p class="note">{note}</p><p class="note">{ROUNDED}</p>{left_out(model, order)}'
     return section("bounds", "Streams", marks_legend(model), stream_table(model, order), note)
 
 
+def flows_part(model, numbers):
+    """The table of the traffic without bounds."""
+    if not numbers:
+        return ""
+    note = "Nothing is promised of these frames. A stream may have to wait for one of them at each port: that is the "
+    note += "part <i>lower</i> of its bounds."
+    rest = len(model.shown.flows) - len(numbers)
+    more = f'<p class="note">The other {rest} flows are left out.</p>' if rest else ""
+    table = flow_table(model, numbers)
+    return section("unbounded", "Best effort, without bounds", table, f'<p class="note">{note}</p>{more}')
+
+
 def hops_part(model, order, most):
-    """The hops of the streams, those with the least left first, as far as they fit."""
+    """The hops of the streams as far as they fit: of the one whose route is shown, which are open, and then of those
+    with the least left first."""
+    opened = model.chosen() if model.chosen() in order else order[0]
     shown, hops = [], 0
-    for number in order:
+    for number in [opened, *(number for number in order if number != opened)]:
         hops += len(model.explained.sums[number].hops)
         if hops <= most or not shown:
-            shown.append(hop_table(model, number, not shown))
+            shown.append(hop_table(model, number, number == opened))
     rest = len(model.explained.sums) - len(shown)
     more = f'<p class="note js">Those of the other {rest} streams are shown once one is chosen above.</p>'
     more += '<div id="chosen"></div>'
-    return section("hops", "Of what each sum is made", part_words(), *shown, rest and more)
+    return section("hops", "Of what each worst-case delay is made", part_words(), *shown, rest and more)
 
 
 def rows_part(model, most):
@@ -219,39 +193,63 @@ def rows_part(model, most):
 
 def ports_part(model, most):
     """The table of the ports."""
-    note = "A load is the share of the link that the rates of the streams take, rounded up."
-    if not model.rows:
-        note += " The shares of single classes stand in a certificate, and there is none."
+    note = "A load is the share of the link that the rates of streams take, rounded up; best effort is not counted."
     buffers = model.buffers and " A buffer is the most bits that frames of the class take there at any time."
     return section(
         "load", "Ports", port_table(model), f'<p class="note">{note}{buffers or ""}</p>', rows_part(model, most)
     )
 
 
-def journey_row(it):
-    """The row of a frame."""
-    ends = ", ".join("discarded" if end is None else exact(end) for end in it.ends)
-    took = ", ".join("-" if end is None else exact(end - it.release) for end in it.ends)
+# Up to how many frames stand open below a timeline.
+OPEN_FRAMES = 12
+
+
+def journey_row(it, bounds):
+    """The row of a frame, with the worst-case delays that are known of its stream."""
+    ends = ", ".join("discarded" if end is None else exact(end) for _, end in it.ends)
+    took = ", ".join("-" if end is None else exact(end - it.release) for _, end in it.ends)
+    most = ", ".join(up(bounds[label].sum) if label in bounds else "-" for label, _ in it.ends)
     cells = f"<td>{it.name}</td><td class=n>{it.octets}</td><td class=n>{exact(it.release)}</td>"
-    return f"<tr><td class=n>{it.frame}</td>{cells}<td class=n>{ends}</td><td class=n>{took}</td></tr>"
+    last = f"<td class=n>{ends}</td><td class=n>{took}</td>" + (f"<td class=n>{most}</td>" if bounds else "")
+    return f"<tr><td class=n>{it.frame}</td>{cells}{last}</tr>"
 
 
 def journey_table(model, most):
-    """The frames of the span."""
-    names = ("frame", "sender", "octets", "released, &micro;s", "arrived, &micro;s", "took, &micro;s")
-    table = framed([(name, False) for name in names], map(journey_row, model.journeys[:most]), "frames")
+    """The frames of the span, each beside the worst-case delay of its stream."""
+    bounds = {it.label: it for it in model.explained.sums} if model.explained else {}
+    columns = [("frame", True), ("sender", False), ("octets", True), ("released", True), ("arrived", True)]
+    columns += [("took", True)] + ([("worst-case delay", True)] if bounds else [])
+    shown = model.journeys[:most]
+    table = framed(columns, (journey_row(it, bounds) for it in shown), "frames")
     rest = f"<p>{len(model.journeys) - most} more are left out.</p>" if len(model.journeys) > most else ""
-    return f"<details><summary>The frames of this span</summary>{table}{rest}</details>"
+    is_open = " open" if len(shown) <= OPEN_FRAMES else ""
+    note = '<p class="note">Microseconds. Times of a run are exact; worst-case delays are rounded up.</p>'
+    return f"<details{is_open}><summary>The frames that are drawn</summary>{table}{note}{rest}</details>"
+
+
+def judged_told(line):
+    """What a line of `conform` means."""
+    words = line.split()
+    if line.startswith("conforms "):
+        return "All talkers keep their buckets in it: they release no more than their rates, bursts and sizes allow."
+    if line.startswith("refused bucket "):
+        told = f"A talker breaks its buckets: from frame {words[2]} to frame {words[3]} a stream sends more than its "
+        return told + "rate and burst allow."
+    return f"A talker breaks its buckets: frame {words[2]} has a size that is not declared."
 
 
 def run_told(model):
     """What the run comes to, in words."""
     words = model.run.totals.split()
-    told = f"Frames: {words[2]}. Arrived: {words[4]}. Discarded as late: {words[6]}, for their size: {words[8]}."
-    kept = "all talkers keep their buckets in it" + (", so no delay is above its sum." if model.rows else ".")
+    told = f"Frames: {words[2]}. Arrived: {words[4]}. Discarded as late: {words[6]}, for their size: {words[8]}. "
+    told += "Which of two equal frames goes first, and how long a bridge takes, was decided by the order "
+    told += f"<code>{text(model.order_word)}</code>."
+    kept = judged_told(model.conforms)
     if not model.conforms.startswith("conforms "):
-        kept = "a talker breaks its buckets in it, and its frames may take longer than their sums."
-    return f"<p>{told} <code>{text(model.conforms)}</code>: {kept}</p>"
+        kept += " Its frames may take longer than their worst-case delays."
+    elif model.rows:
+        kept += " So no delay is above the worst-case delay of its stream."
+    return f"<p>{told}</p><p>{kept} <small>(<code>{text(model.conforms)}</code>)</small></p>"
 
 
 def run_legend(model):
@@ -271,9 +269,12 @@ def run_part(model, most):
     first, last = model.span
     last = max([first + 1, *(min(last, it.end or it.arrival + 1) for it in drawn)])
     body = timeline(model.shown, drawn, model.classes(), first, last) if drawn else "<p>No frame is there.</p>"
-    told = f"Drawn is the time from {exact(first)} to {exact(last)} &micro;s of a run until {exact(model.run.end)}: "
-    told += f"{len(drawn)} of its {model.run.crossings} crossings of ports. FROM and TO in the call choose others."
-    more = [RUN_BUTTONS, body, run_legend(model), f'<p class="note">{told}</p>', journey_table(model, most)]
+    told = f"Drawn is the time from {exact(first)} to {exact(last)} &micro;s; the run ends at {exact(model.run.end)}. "
+    told += f"Of its {model.run.crossings} transmissions and discards {len(drawn)} are drawn."
+    told += "" if len(drawn) == model.run.crossings else " The words FROM and TO of the call choose another time."
+    hint = "Choose a box or a cross to read what became of its frame. A number in a box is that of its frame."
+    chosen = f'<p id="frame" class="note js" data-hint="{hint}" aria-live="polite">{hint}</p>' if drawn else ""
+    more = [RUN_BUTTONS, body, chosen, run_legend(model), f'<p class="note">{told}</p>', journey_table(model, most)]
     return section("timeline", "Run", run_told(model), *more)
 
 
@@ -282,8 +283,8 @@ def foot(model, version):
     made = f"<code>{text(version)}</code>" if version else "the program"
     return (
         f"<footer><p>Numbers are those that {made} printed or the file has, in other units; a delay in a run is the "
-        "difference of two printed times. What a bound promises, and of which networks, is said in the pages of the "
-        "program. This page is made by a script, of which nothing is proved.</p></footer>"
+        "difference of two of them, and a share the quotient of two. What a bound promises, and of which networks, is "
+        "said in the pages of the program. This page is made by a script, of which nothing is proved.</p></footer>"
     )
 
 
@@ -295,12 +296,13 @@ def parts(model, budget):
     order = model.order()[:senders]
     numbers = [*order, *model.flow_numbers()][:senders]
     network = network_part(model, numbers)
+    flows = flows_part(model, [*model.flow_numbers()][:senders])
     if model.explained is None:
-        table = section("unbounded", "Streams", declared_table(model, order), left_out(model, order))
-        return [verdict(model), network, table, run_part(model, frames)]
-    streams = []
+        table = section("unknown", "Streams", declared_table(model, order), left_out(model, order))
+        return [verdict(model), network, table, flows, run_part(model, frames)]
+    streams = [flows]
     if order:
-        streams = [streams_part(model, order), hops_part(model, order, hops), ports_part(model, rows)]
+        streams = [streams_part(model, order), hops_part(model, order, hops), flows, ports_part(model, rows)]
     told = f'<div class="told">{counts_told(model) + tightest_told(model)}</div>'
     return [verdict(model), told, network, *streams, run_part(model, frames)]
 

@@ -1,13 +1,13 @@
-"""The tables of a page: streams, the hops of each, ports, and the rows of the certificate."""
+"""The tables of a page: streams, the hops of each, traffic without bounds, ports, and the rows of the certificate."""
 
-from figures import down, link_rate, percent, rate, share, text, up
+from figures import down, link_rate, percent, rate, share, text, up, used
 
 # The parts of a bound, as `explain` has them: the name in the page, and what it is.
 PARTS = (
-    ("lower", "waiting for one frame of a lower class that has begun"),
-    ("bursts", "waiting for bursts of the same and higher classes"),
+    ("lower", "waiting for one frame of a lower class or of best effort that has begun"),
+    ("bursts", "waiting for bursts of the same and higher classes, its own too, but for the shortest frame"),
     ("higher", "what the rates of higher classes add meanwhile"),
-    ("frame", "sending the frame"),
+    ("frame", "sending the shortest frame of the class"),
     ("latency", "propagation, and processing in the bridge behind"),
 )
 
@@ -42,7 +42,7 @@ def mark(kind, ps, deadline):
 
 
 def sum_bar(it, marks):
-    """The bar of a stream: its sum against its deadline, with marks of delays that were seen."""
+    """The bar of a stream: its worst-case delay against its deadline, with marks of delays that were seen."""
     late = " late" if it.left < 0 else ""
     fill = f'<b class="fill{late}" style="width:{share(it.sum * DEADLINE, it.deadline * 100)}"></b>'
     seen = "".join(mark(kind, ps, it.deadline) for kind, ps in marks.items() if ps is not None)
@@ -55,14 +55,26 @@ def left_cell(it):
     return cell(it.left, shown, '"n late"' if it.left < 0 else "n")
 
 
+def used_cell(it):
+    """The cell of the share of its deadline that a stream's worst-case delay takes."""
+    kind = '"n late"' if it.left < 0 else "n"
+    return f"<td class={kind}>{used(it.sum, it.deadline)}</td>"
+
+
+def deadline_cell(model, number):
+    """The cell of a stream's deadline, which says where the file has none."""
+    it = model.explained.sums[number]
+    note = " <small>none given</small>" if model.is_without_deadline(number) else ""
+    return cell(it.deadline, down(it.deadline) + note, "n")
+
+
 def classes(route):
     """The classes of a route, as the program prints them."""
     return ",".join(map(str, route.classes))
 
 
-def ends(model, number):
-    """The first and the last node of a stream's way."""
-    way = model.ways[number]
+def ends(model, way):
+    """The first and the last node of a way."""
     return f"{model.shown.ports[way[0]].start} to {model.shown.ports[way[-1]].end}"
 
 
@@ -70,7 +82,7 @@ def declared_cells(model, route):
     """The cells of a stream's rate and burst, which stand in the network's file."""
     table = model.declared.tables.get(route.name)
     if table is None:
-        return "<td>-</td><td>-</td>"
+        return "<td class=n>-</td><td class=n>-</td>"
     bits, burst = table["rate_bps"], table["burst_bits"]
     return f'<td class=n data-v="{bits}">{rate(bits)}</td><td class=n>{burst}</td>'
 
@@ -84,23 +96,26 @@ def stream_row(model, number):
     """The row of a stream in the table of all."""
     route, it = model.shown.streams[number], model.explained.sums[number]
     marks = model.marks(number)
-    seen = "".join(cell(ps, up(ps), "n") if ps is not None else "<td>-</td>" for ps in marks.values())
+    seen = "".join(cell(ps, up(ps), "n") if ps is not None else "<td class=n>-</td>" for ps in marks.values())
     name = f"{route_link(model, number)}{it.label}</a>"
     return (
         f'<tr data-r="{number}"><td class=n>{number + 1}</td><th scope="row">{name}</th><td>{sum_bar(it, marks)}</td>'
-        f"{cell(it.sum, up(it.sum), 'n')}{cell(it.deadline, down(it.deadline), 'n')}{left_cell(it)}{seen}"
-        f"<td>{classes(route)}</td><td>{ends(model, number)}</td>{declared_cells(model, route)}</tr>"
+        f"{used_cell(it)}{left_cell(it)}{cell(it.sum, up(it.sum), 'n')}{deadline_cell(model, number)}{seen}"
+        f"<td>{classes(route)}</td><td>{ends(model, model.ways[number])}</td>{declared_cells(model, route)}</tr>"
     )
 
 
 # What a table of streams has behind the name and what is known of bounds.
 DECLARED = [("class", False), ("from, to", False), ("rate", True), ("burst, bits", True)]
 
+# The name of a delay that no frame of a stream exceeds.
+WORST = "worst-case delay"
+
 
 def stream_table(model, order):
     """The table of the streams of these numbers."""
-    columns = [("", True), ("stream", False), ("sum against deadline", False), ("sum", True), ("deadline", True)]
-    columns += [("left", True)] + [(MARKS[kind], True) for kind in model.kinds_of_marks] + DECLARED
+    columns = [("", True), ("stream", False), ("against the deadline", False), ("used", True), ("left", True)]
+    columns += [(WORST, True), ("deadline", True)] + [(MARKS[kind], True) for kind in model.kinds_of_marks] + DECLARED
     return framed(columns, (stream_row(model, number) for number in order), "streams")
 
 
@@ -110,7 +125,7 @@ def declared_row(model, number):
     name = f"{route_link(model, number)}{route.label()}</a>"
     return (
         f'<tr data-r="{number}"><td class=n>{number + 1}</td><th scope="row">{name}</th><td>{classes(route)}</td>'
-        f"<td>{ends(model, number)}</td>{declared_cells(model, route)}</tr>"
+        f"<td>{ends(model, model.ways[number])}</td>{declared_cells(model, route)}</tr>"
     )
 
 
@@ -118,6 +133,26 @@ def declared_table(model, order):
     """The table of streams of which no bounds are known."""
     rows = (declared_row(model, number) for number in order)
     return framed([("", True), ("stream", False), *DECLARED], rows, "declared")
+
+
+def flow_row(model, number, seen):
+    """The row of a flow, with the longest delay of its frames in a run."""
+    route = model.shown.flows[number - len(model.shown.streams)]
+    table = model.declared.tables.get(route.name)
+    octets = f"<td class=n>{table['max_octets']}</td>" if table else "<td class=n>-</td>"
+    worst = model.run.worst.get(route.name) if seen else None
+    marks = (cell(worst.delay, up(worst.delay), "n") if worst else "<td class=n>-</td>") if seen else ""
+    return (
+        f'<tr data-r="{number}"><th scope="row">{route_link(model, number)}{route.name}</a></th>'
+        f"<td>{classes(route)}</td><td>{ends(model, route.ports)}</td>{octets}{marks}</tr>"
+    )
+
+
+def flow_table(model, numbers):
+    """The table of the flows of these numbers, for which there are no bounds."""
+    columns = [("flow", False), ("class", False), ("from, to", False), ("longest frame, octets", True)]
+    columns += [(MARKS["run"], True)] if model.run else []
+    return framed(columns, (flow_row(model, number, model.run is not None) for number in numbers), "flows")
 
 
 def parts_of(hop):
@@ -134,7 +169,7 @@ def part_bar(hops, longest):
 def stay_cell(hop):
     """The cell of how long a frame may have to stay in the bridge behind, and the most that is allowed there."""
     if hop.stay is None:
-        return "<td>-</td>"
+        return "<td class=n>-</td>"
     over = "n late" if hop.stay > hop.residence else "n"
     return f'<td class="{over}" data-ps="{hop.stay}">{up(hop.stay)} of {down(hop.residence)}</td>'
 
@@ -145,12 +180,24 @@ def lower_cell(hop):
     return cell(hop.lower, up(hop.lower) + told, "n")
 
 
-def hop_row(hop, longest):
+def whose(model, hop):
+    """Whose bursts a part of a bound is: the stream's own alone, or those of so many streams."""
+    count = len(model.bursting(hop.port, hop.cls)) if hop.bursts else 0
+    return "" if not count else "own" if count == 1 else f"of {count} streams"
+
+
+def bursts_cell(model, hop):
+    """The cell of the second part, with whose bursts these are."""
+    told = whose(model, hop)
+    return cell(hop.bursts, up(hop.bursts) + (f" <small>{told}</small>" if told else ""), "n")
+
+
+def hop_row(model, hop, longest):
     """The row of a hop."""
-    parts = "".join(cell(ps, up(ps), "n") for ps in list(parts_of(hop).values())[1:])
+    parts = "".join(cell(ps, up(ps), "n") for ps in list(parts_of(hop).values())[2:])
     return (
-        f'<tr><th scope="row">{text(hop.port)}</th><td>{hop.cls}</td><td>{part_bar(hop, longest)}</td>'
-        f"{lower_cell(hop)}{parts}{cell(hop.bound, up(hop.bound), 'n')}{stay_cell(hop)}</tr>"
+        f'<tr><th scope="row">{text(hop.port)}</th><td>{hop.cls}</td>{cell(hop.bound, up(hop.bound), "n")}'
+        f"<td>{part_bar(hop, longest)}</td>{lower_cell(hop)}{bursts_cell(model, hop)}{parts}{stay_cell(hop)}</tr>"
     )
 
 
@@ -158,14 +205,15 @@ def hop_table(model, number, is_open=False):
     """The hops of a stream, to be opened."""
     it = model.explained.sums[number]
     longest = max((hop.bound for hop in it.hops), default=1)
-    columns = [("port", False), ("class", False), ("bound", False)]
+    columns = [("port", False), ("class", False), ("bound", True), ("its parts", False)]
     columns += [(f'<i class="key {name}"></i>{name}', True) for name, _ in PARTS]
-    columns += [("bound", True), ("stay behind", True)]
+    columns += [("stay in next bridge", True)]
     left = f"late by {up(-it.left)}" if it.left < 0 else f"{down(it.left)} left"
-    told = f"{it.label}: sum {up(it.sum)} of {down(it.deadline)} &micro;s, {left}"
+    share = used(it.sum, it.deadline)
+    told = f"<b>{it.label}</b>: {WORST} {up(it.sum)} &micro;s, {share} of {down(it.deadline)}, {left}"
     return (
         f'<details id="h{number}"{" open" if is_open else ""}><summary>{told}</summary>'
-        f"{framed(columns, (hop_row(hop, longest) for hop in it.hops))}"
+        f"{framed(columns, (hop_row(model, hop, longest) for hop in it.hops))}"
         f'<p data-r="{number}">{route_link(model, number)}its route in the drawing</a></p></details>'
     )
 
@@ -204,18 +252,20 @@ def buffer_words(model, port):
 def port_row(model, port):
     """The row of a port."""
     load, ps_per_bit = model.explained.loads[port], model.shown.ports[port].ps_per_bit
-    more = f"<td>{buffer_words(model, port)}</td>" if model.buffers else ""
+    more = f"<td>{class_words(model, port)}</td>" if model.rows else ""
+    more += f"<td>{buffer_words(model, port)}</td>" if model.buffers else ""
     return (
         f'<tr><td class=n>{model.shown.ports[port].number}</td><th scope="row">{text(port)}</th>'
         f'<td class=n data-v="{-ps_per_bit}">{link_rate(ps_per_bit)}</td>'
-        f'<td>{load_bar(model, port)}</td><td class=n data-v="{load}">{percent(load)}</td>'
-        f"<td>{class_words(model, port)}</td>{more}</tr>"
+        f'<td class=n data-v="{load}">{percent(load)}</td><td>{load_bar(model, port)}</td>'
+        f"{more}</tr>"
     )
 
 
 def port_table(model):
     """The table of the ports that streams use, the fullest first."""
-    columns = [("", True), ("port", False), ("link", True), ("load", False), ("load", True), ("of each class", False)]
+    columns = [("", True), ("port", False), ("link", True), ("load", True), ("of the link", False)]
+    columns += [("load of each class", False)] if model.rows else []
     columns += [("buffer of each class, bits", False)] if model.buffers else []
     order = sorted(model.explained.loads, key=lambda port: -model.explained.loads[port])
     return framed(columns, (port_row(model, port) for port in order), "ports")

@@ -18,10 +18,10 @@ def told_of(it):
     """What became of a frame at a port, in words."""
     words = f"frame {it.frame} {it.name}, {it.octets} octets, at {it.port}: came {exact(it.arrival)}"
     if it.verdict == "size":
-        return f"{words}, discarded: its size is not declared"
+        return f"{words} \N{MICRO SIGN}s, discarded: its size is not declared"
     if it.verdict == "late":
-        return f"{words}, discarded: eligible only at {exact(it.eligible)}"
-    return f"{words}, eligible {exact(it.eligible)}, sent {exact(it.start)} to {exact(it.end)} us"
+        return f"{words}, discarded: eligible only at {exact(it.eligible)} \N{MICRO SIGN}s"
+    return f"{words}, eligible {exact(it.eligible)}, sent {exact(it.start)} to {exact(it.end)} \N{MICRO SIGN}s"
 
 
 def rect(kind, start, end, top, height, first, more=""):
@@ -45,7 +45,7 @@ def boxes(it, lane, cls, first):
     return "".join(found)
 
 
-def labels(it, lane, first, span):
+def labels(it, lane, cls, first, span):
     """The name in a wide box, or the cross of a frame that was discarded."""
     top = f"top:{lane * LANE}px"
     if it.start is None:
@@ -55,7 +55,7 @@ def labels(it, lane, first, span):
     if seen < NAMED * span:
         return ""
     left, width = 100 * (max(it.start, first) - first) / span, 100 * seen / span
-    return f'<span style="left:{left:.3f}%;width:{width:.3f}%;{top}">{it.name}</span>'
+    return f'<span class="t{cls}" style="left:{left:.3f}%;width:{width:.3f}%;{top}">{it.name}</span>'
 
 
 def steps(first, last):
@@ -73,7 +73,7 @@ def timeline(shown, crossings, classes, first, last):
     lanes, span = {name: lane for lane, name in enumerate(ports)}, max(1, last - first)
     names = "".join(f'<div style="height:{LANE}px">{text(name)}</div>' for name in ports)
     drawn = [boxes(it, lanes[it.port], classes[it.name, it.port], first) for it in crossings]
-    named = [labels(it, lanes[it.port], first, span) for it in crossings]
+    named = [labels(it, lanes[it.port], classes[it.name, it.port], first, span) for it in crossings]
     ground = "".join(
         f'<line x1="0" x2="100%" y1="{k * LANE + GROUND}" y2="{k * LANE + GROUND}"/>' for k in range(len(ports))
     )
