@@ -1,9 +1,10 @@
 """Makes a table for people of a text of `ats`: table.py COMMAND <TEXT
 
-COMMAND is bound, check, explain or generate, whose text stands on the standard input. Times become microseconds and
-shares of a second percent. All numbers are the program's, and what is rounded is rounded to the side on which a reader
-is safe. A line `input`, `refused` or `words` is printed as it stands. The status is 0, 5 where the table could not be
-written, and 8 where the text is none of the command. What is printed here is a help for people and nothing proved."""
+COMMAND is bound, check, explain, generate, `lrq bound` or `lrq check`, in one word, whose text stands on the standard
+input. Times become microseconds and shares of a second percent. All numbers are the program's, and what is rounded is
+rounded to the side on which a reader is safe. A line `input`, `refused` or `words` is printed as it stands. The status
+is 0, 5 where the table could not be written, and 8 where the text is none of the command. What is printed here is a
+help for people and nothing proved."""
 
 import os
 import re
@@ -138,6 +139,8 @@ TABLES = {
     "check": table_of_check,
     "explain": table_of_explain,
     "generate": table_of_generate,
+    "lrq bound": table_of_bound,
+    "lrq check": table_of_check,
 }
 
 
