@@ -1,0 +1,105 @@
+"""Changes settings for clocks that are not exact: reads what `ats settings NET` prints, and prints it with the rate and
+the burst that each bridge needs, and its residence.
+
+The numbers say by how many parts in a million the clocks of bridges deviate, and in steps of how many picoseconds they
+count; then the same of the talkers, by whose clocks the rates and bursts of NET are kept. Where bridges can only be set
+to multiples of a rate and of a burst, these follow. With NET behind the numbers, it is the network file that is
+printed, with the rates and bursts that bounds have to be asked for.
+
+Usage: ats settings NET | python3 clocks.py PPM STEP TALKER_PPM TALKER_STEP [RATE_STEP BURST_STEP] [NET]
+From Python 3.11 on."""
+
+import csv
+import re
+import sys
+import tomllib
+
+MILLION = 10**6
+SECOND = 10**12
+
+
+def up(number, divisor):
+    """A division, rounded up."""
+    return -(-number // divisor)
+
+
+def in_true_time(rate, burst, ppm, step):
+    """The rate and burst in true time of frames that keep a rate and burst by such a clock."""
+    return up(rate * (MILLION + ppm), MILLION), burst + up(rate * (MILLION * step + ppm), MILLION * SECOND)
+
+
+def of_scheduler(rate, burst, clock, steps):
+    """The rate and burst by such a clock, in such steps, for a scheduler of frames that keep others in true time."""
+    own = up(up(MILLION * rate, MILLION - clock[0]), steps[0]) * steps[0]
+    return own, up(burst + up(own * clock[1], SECOND), steps[1]) * steps[1]
+
+
+def along(settings):
+    """The settings of a stream in the order of its path: each bridge receives from the port that the one before sends
+    to."""
+    by_reception = {it["received_from"]: it for it in settings}
+    port = next(iter(by_reception.keys() - {it["sent_to"] for it in settings}), None)
+    while port in by_reception:
+        yield by_reception[port]
+        port = by_reception[port]["sent_to"]
+
+
+def change(settings, kept, clock, steps):
+    """Changes the settings of a stream whose talker keeps this rate and burst in true time, and gives what its frames
+    keep behind the last bridge."""
+    for it in along(settings):
+        it["rate_bps"], it["burst_bits"] = own = of_scheduler(*kept, clock, steps)
+        it["residence_ns"] = up(
+            1000 * int(it["residence_ns"]) * (MILLION + clock[0]) + MILLION * clock[1], 1000 * MILLION
+        )
+        kept = in_true_time(*own, *clock)
+    return kept
+
+
+def declared(path, settings_of, clock, talker, steps):
+    """The text of a network file with the last rate and burst of each stream in place of its own."""
+    with open(path, encoding="utf-8") as file:
+        text = file.read()
+    streams = tomllib.loads(text).get("stream", [])
+    kept = [in_true_time(it["rate_bps"], it["burst_bits"], *talker) for it in streams]
+    last = [change(settings_of.get(it["name"], []), own, clock, steps) for it, own in zip(streams, kept)]
+    for key, values in zip(("rate_bps", "burst_bits"), zip(*last)):
+        found = iter(values)
+        text = re.sub(rf"\b{key}(\s*=\s*)[0-9_]+", lambda match: f"{key}{match[1]}{next(found, 0)}", text)
+    if [(it["rate_bps"], it["burst_bits"]) for it in tomllib.loads(text).get("stream", [])] != last:
+        sys.exit("rate_bps or burst_bits stands elsewhere than once in each stream, as in a comment")
+    return text
+
+
+def clock_of(ppm, step):
+    """The deviation and the step of a clock."""
+    if ppm >= MILLION or (ppm and not step):
+        sys.exit("a clock deviates by less than 1000000 parts in a million, and then has steps of 1 ps or more")
+    return ppm, step
+
+
+def main():
+    """Reads the words and the settings, and prints the settings or the file."""
+    words = sys.argv[1:]
+    numbers = [int(word) for word in words if word.isdigit()]
+    paths = words[len(numbers) :]
+    if len(numbers) not in (4, 6) or len(paths) > 1 or 0 in numbers[4:]:
+        sys.exit(__doc__)
+    clock, talker, steps = clock_of(*numbers[:2]), clock_of(*numbers[2:4]), numbers[4:] or [1, 1]
+    table = csv.DictReader(sys.stdin)
+    rows, settings_of = list(table), {}
+    for row in rows:
+        if row["rate_bps"]:
+            settings_of.setdefault(row["stream"], []).append(row)
+    if paths:
+        print(declared(paths[0], settings_of, clock, talker, steps), end="")
+        return
+    for settings in settings_of.values():
+        kept = int(settings[0]["rate_bps"]), int(settings[0]["burst_bits"])
+        change(settings, in_true_time(*kept, *talker), clock, steps)
+    out = csv.DictWriter(sys.stdout, table.fieldnames, lineterminator="\n")
+    out.writeheader()
+    out.writerows(rows)
+
+
+main()
