@@ -1,4 +1,4 @@
-use Rattle.std.specs.Prelude.{◌≢◌, List, Option, All, AllPairs}
+use Rattle.std.specs.Prelude.{◌≢◌, ℕ, ◌+◌, ◌*◌, ◌^◌, List, Option, All, AllPairs}
 use Rattle.std.specs.Option.{ForSome}
 use Rattle.ats_events.specs.declared.moment.Moment.{Moment}
 use Rattle.ats_events.specs.Order.{IsInRange}
@@ -17,3 +17,7 @@ pub record IsKept {E : Type 0} (before : Moment → Moment → Type 0) (entries 
   pub distinct : AreDistinct entries
   pub in_range : AreInRange entries
   pub after : ForSome last (λ moment. All (λ (x : Moment × E). before moment x.0) entries)
+
+-- time, phase and rank of a moment as the digits of one number
+abbrev pub number_of : ℕ → ℕ → ℕ → ℕ
+number_of at phase rank = at * 2 ^ 64 + phase * 2 ^ 32 + rank

@@ -1,6 +1,6 @@
 //! The order of moments.
 
-ghost use Rattle.std.specs.Prelude.{◌↔◌, IsTrue};
+ghost use Rattle.std.specs.Prelude.{◌≡◌, ◌↔◌, ◌<◌, ◌^◌, IsTrue};
 ghost use Rattle.ats_events.specs.declared.moment.Moment.{Moment};
 ghost use Rattle.ats_events.specs.Order.{IsInRange, IsIrreflexive, IsTransitive, IsTotal, IsTimed, IsBeforeByRank};
 ghost use Rattle.ats_events.specs.Order.{IsBeforeUp, IsBeforeDown, IsBeforeScrambled};
@@ -9,9 +9,16 @@ ghost use Rattle.ats_events.specs.Ranked.{down_irreflexive, down_transitive, dow
 ghost use Rattle.ats_events.specs.Ranked.{scrambled_irreflexive, scrambled_transitive, scrambled_total};
 ghost use Rattle.ats_events.specs.Ranked.{scrambled_timed};
 ghost use Rattle.ats_events.specs.Weak.{before_weakly};
+ghost use Rattle.ats_events.specs.Inside.{number_of};
 
 use crate::moment::Moment;
 use ats_heap::Precedence;
+use ats_num::Ps;
+
+/// What a picosecond counts in the number of a moment, and what a phase does.
+const TIME: u128 = 1 << 64;
+
+const PHASE: u128 = 1 << 32;
 
 /// A lawful order of moments. Time decides, and at equal times the phase; what happens at one time
 /// in one phase stands in an order that each implementation chooses. No moment is before itself,
@@ -99,16 +106,21 @@ impl TimeOrder for Scrambled {
 }
 
 /// Whether `a` is before `b` by time, then by phase, and where both are equal by their ranks `x` and `y`.
+#[tactic(auto, using(crate::proofs::Numbers::less_is_before, crate::proofs::Numbers::before_is_less))]
 fn is_before_by_rank(a: &Moment, b: &Moment, x: u32, y: u32) -> bool
     ensures { IsTrue result ↔ IsBeforeByRank a.now b.now x y }
 {
-    if a.at.0 != b.at.0 {
-        return a.at.0 < b.at.0;
-    }
-    if a.phase != b.phase {
-        return a.phase < b.phase;
-    }
-    x < y
+    as_number(a.at, a.phase, x) < as_number(b.at, b.phase, y)
+}
+
+/// Time, phase and rank of a moment as the digits of one number, so that moments are compared at once: which of two is
+/// before is seldom foreseen, and a test of each would be guessed.
+fn as_number(at: Ps, phase: u8, rank: u32) -> u128
+    ensures value { result ≡ number_of at.0 phase rank }
+    ensures phase { phase < 2 ^ 8 }
+    ensures rank { rank < 2 ^ 32 }
+{
+    u128::from(at.0) * TIME + u128::from(phase) * PHASE + u128::from(rank)
 }
 
 /// The order of an agenda's entries, which is that of their moments.

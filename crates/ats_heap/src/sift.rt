@@ -90,7 +90,8 @@ fn sink<T: Copy, O: Precedence<T>>(order: O, items: &mut [T]) -> usize
     hole
 }
 
-/// The place, of the two below this one, of the item that goes first.
+/// The place, of the two below this one, of the item that goes first. It is the left one or one more: which of the two
+/// goes first is seldom foreseen, so the place is made of the answer, with no branch.
 fn first_below<T: Copy, O: Precedence<T>>(order: O, items: &[T], place: usize) -> Option<usize>
     requires small { length items.now < 2 ^ 32 }
     requires within { place < length items.now }
@@ -99,12 +100,13 @@ fn first_below<T: Copy, O: Precedence<T>>(order: O, items: &[T], place: usize) -
     ensures none { IfNone result (length items.now ≤ 2 * place + 1) }
 {
     let left = 2 * place + 1;
-    if left >= items.len() {
-        return None;
-    }
     let right = left + 1;
-    if right < items.len() && order.goes_before(&items[right], &items[left]) {
-        return Some(right);
+    if right < items.len() {
+        let is_right = order.goes_before(&items[right], &items[left]);
+        return Some(left + is_right as usize);
     }
-    Some(left)
+    if left < items.len() {
+        return Some(left);
+    }
+    None
 }

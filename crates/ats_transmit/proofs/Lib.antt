@@ -5,5 +5,6 @@ pub mod Fronts
 pub mod Held
 pub mod Kept
 pub mod Lawful
+pub mod Pasts
 pub mod Queues
 pub mod Started

@@ -1,9 +1,8 @@
 use Rattle.std.proofs.Common.{◌≡◌, ℕ, ◌<◌, ◌≤◌, true, List, [], ◌∷◌, ◌++◌, length, get_or, All, sym}
-use Rattle.std.proofs.Common.{Option, Some, ◌∙◌, ap, subst, refl, inl, inr, arith, length-append}
+use Rattle.std.proofs.Common.{◌∙◌, ap, subst, refl, inl, inr, arith}
 use Rattle.std.specs.Prelude.{◌≢◌, map, IsPermutation}
 use Rattle.std.proofs.lemmas.Bool.{cases_lt}
 use Rattle.std.proofs.Math.Seq.{map-set_same}
-use Rattle.std.proofs.lemmas.List.{get_or_push}
 use Rattle.std.proofs.lemmas.List.Elements.{All-head, All-tail, All-set}
 use Rattle.std.proofs.lemmas.List.Sorted.{All-permutation}
 use Rattle.ats_num.specs.Wire.{IsFrameSize}
@@ -13,7 +12,7 @@ use Rattle.ats_queue.specs.Order.{GoesBefore}
 use Rattle.ats_port_rule.specs.Order.{Precedes}
 use Rattle.ats_transmit.specs.declared.offer.Offer.{Offer}
 use Rattle.ats_transmit.specs.declared.sent.Sent.{Sent}
-use Rattle.ats_transmit.specs.Sending.{sent_at, begun, never, last_of, last_end}
+use Rattle.ats_transmit.specs.Sending.{sent_at, begun, last_end}
 use Rattle.ats_transmit.specs.State.{PortState}
 use Rattle.ats_transmit.specs.Picks.{MaySend, IsBehind, Starts}
 use Rattle.ats_transmit.specs.PortQueues.{queued_as, offer_in, held_of, EachQueued, IsKept, IsHighest, TakesFrom}
@@ -96,11 +95,11 @@ taken-held {T} key now class s qs new started x =
 
 -- the frame starts
 pub starts-select : {T : Type 0} (key : T → ℕ → ℕ → ℕ) (now class : ℕ) (s : PortState T) (qs new : List (Contents T))
-    (started : Offer) (pushed : List Sent) (last : Option Sent) → IsKept key s qs last
+    (started : Offer) (pushed : List Sent) → IsKept key s qs
     → Selected key now class s qs new started → pushed ≡ s.sent ++ sent_at s.ps_per_bit started now ∷ []
     → Starts (key s.tie) s (record s { held = held_of new; sent = pushed; is_sending = true }) now started.frame
     (sent_at s.ps_per_bit started now).end.0
-starts-select key now class s qs new started pushed last k x p =
+starts-select key now class s qs new started pushed k x p =
     record {
       started = started;
       named = refl;
@@ -112,19 +111,14 @@ starts-select key now class s qs new started pushed last k x p =
       rest = refl;
     }
 
--- a transmission that was added is the last
-last-pushed : (sent : List Sent) (x : Sent) → x ≡ last_of (sent ++ x ∷ [])
-last-pushed sent x = sym (get_or_push sent x never _ (omega (arith, length-append sent (x ∷ []))))
-
 -- a port that starts a frame is kept
 pub kept-select : {T : Type 0} (key : T → ℕ → ℕ → ℕ) (now class : ℕ) (s : PortState T) (qs new : List (Contents T))
-    (started : Offer) (pushed : List Sent) (last : Option Sent) → IsKept key s qs last
+    (started : Offer) (pushed : List Sent) → IsKept key s qs
     → Selected key now class s qs new started → pushed ≡ s.sent ++ sent_at s.ps_per_bit started now ∷ []
     → last_end s.sent ≤ now → ((time : ℕ) → MaySend s.held s.sent time → now ≤ time)
     → IsKept key (record s { held = held_of new; sent = pushed; is_sending = true }) new
-    (Some (sent_at s.ps_per_bit started now))
-kept-select {T} key now class s qs new started pushed last k x p ended due =
-    let n = eight-queues key s qs last k in
+kept-select {T} key now class s qs new started pushed k x p ended due =
+    let n = eight-queues key s qs k in
     let t = x.takes in
     let named : started.class ≡ class = t.named in
     let sent : Sent = sent_at s.ps_per_bit started now in
@@ -141,7 +135,7 @@ kept-select {T} key now class s qs new started pushed last k x p ended due =
     ∙ map-set_same capacity qs class after t.before (ap capacity t.stood) in
     let first = first_of_all key s.tie s.ps_per_bit now class qs new started k.ties x.high t in
     let Kept : List Sent → Type 0 =
-    λ (ss : List Sent). IsKept key (record s { held = held_of new; sent = ss; is_sending = true }) new (Some sent) in
+    λ (ss : List Sent). IsKept key (record s { held = held_of new; sent = ss; is_sending = true }) new in
     subst Kept (sym p) (record {
       classes = k.classes;
       capacities = capacities ∙ k.capacities;
@@ -149,15 +143,13 @@ kept-select {T} key now class s qs new started pushed last k x p ended due =
       sizes = All-tail Size started (held_of new) (All-permutation Size s.held (started ∷ held_of new) taken k.sizes);
       lawful = lawful-start (key s.tie) s.ps_per_bit now s.held (held_of new) s.sent started k.lawful taken
           t.takes.eligible ended due first;
-      last = last-pushed s.sent sent;
-      sending = λ _. omega (arith, length-append s.sent (sent ∷ []));
     })
 
 -- the frame that starts is of a size that frames have
 pub started-size : {T : Type 0} (key : T → ℕ → ℕ → ℕ) (now class : ℕ) (s : PortState T) (qs new : List (Contents T))
-    (started : Offer) (last : Option Sent) → IsKept key s qs last → Selected key now class s qs new started
+    (started : Offer) → IsKept key s qs → Selected key now class s qs new started
     → IsFrameSize started.octets
-started-size key now class s qs new started last k x =
+started-size key now class s qs new started k x =
     let Size : Offer → Type 0 = λ (o : Offer). IsFrameSize o.octets in
     let taken = taken-held key now class s qs new started x in
     All-head Size started (held_of new) (All-permutation Size s.held (started ∷ held_of new) taken k.sizes)

@@ -1,4 +1,4 @@
-use Rattle.std.specs.Prelude.{◌≡◌, ℕ, suc, ◌+◌, ◌<◌, ◌≤◌, Bool, true, List, [], ◌∷◌, ◌++◌, length, map}
+use Rattle.std.specs.Prelude.{◌≡◌, ℕ, suc, ◌+◌, ◌<◌, ◌≤◌, Bool, List, [], ◌∷◌, ◌++◌, length, map}
 use Rattle.std.specs.Prelude.{slice_index_or, slice_set, All, Any, Option, MatchOption}
 use Rattle.std.specs.List.{flat_map}
 use Rattle.ats_num.specs.Wire.{IsFrameSize}
@@ -8,7 +8,6 @@ use Rattle.ats_queue.specs.Contents.{Contents}
 use Rattle.ats_queue.specs.Order.{Takes, IsNextTime}
 use Rattle.ats_transmit.specs.declared.offer.Offer.{Offer}
 use Rattle.ats_transmit.specs.declared.sent.Sent.{Sent}
-use Rattle.ats_transmit.specs.Sending.{IsLast}
 use Rattle.ats_transmit.specs.State.{PortState, IsLawfulPort}
 
 -- an offered frame, as the queue of its class holds it
@@ -49,16 +48,13 @@ port_state ps_per_bit rooms tie queues sent is_sending =
       is_sending = is_sending;
     }
 
--- what a port keeps: the queues with what is held, and the last transmission
-pub record IsKept {T : Type 0} (key : T → ℕ → ℕ → ℕ) (s : PortState T) (queues : List (Contents T))
-    (kept : Option Sent) : Type 0 where
+-- what a port keeps: the queues with what is held
+pub record IsKept {T : Type 0} (key : T → ℕ → ℕ → ℕ) (s : PortState T) (queues : List (Contents T)) : Type 0 where
   pub classes : length s.rooms ≡ 8
   pub capacities : map (λ (c : Contents T). c.capacity) queues ≡ s.rooms
   pub ties : All (λ (c : Contents T). c.tie ≡ s.tie) queues
   pub sizes : All (λ (o : Offer). IsFrameSize o.octets) s.held
   pub lawful : IsLawfulPort key s
-  pub last : IsLast s.sent kept
-  pub sending : s.is_sending ≡ true → 0 < length s.sent
 
 -- the least eligibility time in these queues, where they hold any frame
 abbrev pub NextTimeIn : List Queued → Option Ps → Type 0

@@ -1,4 +1,4 @@
-use Rattle.std.specs.Prelude.{◌≡◌, ℕ, ◌+◌, ◌-◌, ◌*◌, List, [], length, map, slice_index_or, All, Option, MatchOption}
+use Rattle.std.specs.Prelude.{◌≡◌, ℕ, ◌+◌, ◌-◌, ◌*◌, List, length, map, slice_index_or, All}
 use Rattle.ats_num.specs.Wire.{bits_of}
 use Rattle.ats_port_rule.specs.Transmission.{Transmission}
 use Rattle.ats_port_rule.specs.PortRule.{KeepsPortRule, KeepsTie}
@@ -54,16 +54,17 @@ never =
 abbrev pub last_of : List Sent → Sent
 last_of sent = slice_index_or sent (length sent - 1) never
 
--- this is the last of these transmissions, where there is any
-abbrev pub IsLast : List Sent → Option Sent → Type 0
-IsLast sent last = MatchOption last (sent ≡ []) (λ (x : Sent). x ≡ last_of sent)
-
 -- when the last transmission started and ended, 0 before the first
 abbrev pub last_start : List Sent → ℕ
 last_start sent = (last_of sent).start.0
 
 abbrev pub last_end : List Sent → ℕ
 last_end sent = (last_of sent).end.0
+
+-- the last of these transmissions ends then, and is of this frame
+pub record IsLast (sent : List Sent) (end frame : ℕ) : Type 0 where
+  pub ends : last_end sent ≡ end
+  pub named : (last_of sent).frame ≡ frame
 
 -- whenever this frame is sent after these transmissions, it may follow each of them
 abbrev pub FitsAfter : (ℕ → ℕ → ℕ) → ℕ → List Transmission → Offer → Type 0

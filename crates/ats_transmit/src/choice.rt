@@ -1,26 +1,13 @@
 //! The choice among the queues of all classes.
 
-ghost use Rattle.std.specs.Prelude.{◌≡◌, ◌<◌, ◌≤◌, List, ◌++◌, length, All, Any, IfSome, IfNone};
+ghost use Rattle.std.specs.Prelude.{◌<◌, ◌≤◌, List, ◌++◌, length, All, Any, IfSome, IfNone};
 ghost use Rattle.std.specs.Bool.{OnTrue, OnFalse};
 ghost use Rattle.ats_queue.specs.declared.queued.Queued.{Queued};
-ghost use Rattle.ats_transmit.specs.declared.sent.Sent.{Sent};
-ghost use Rattle.ats_transmit.specs.Sending.{last_end, IsLast};
 ghost use Rattle.ats_transmit.specs.PortQueues.{queued_of, NextTimeIn, IsHighest, TakesFrom};
 
 use crate::offer::Offer;
-use crate::sent::Sent;
 use ats_num::{Ps, Tie};
 use ats_queue::ClassQueue;
-
-/// When the last transmission ends, or 0 before the first.
-pub(crate) fn free_at(last: Option<Sent>) -> Ps
-    ensures { (sent : List Sent) → IsLast sent last → result.0 ≡ last_end sent }
-{
-    match last {
-        Some(sent) => sent.end,
-        None => Ps(0),
-    }
-}
 
 /// The earlier of two times, where there is any.
 fn earlier(a: Option<Ps>, b: Option<Ps>) -> Option<Ps>

@@ -9,15 +9,15 @@ use ats_num::Ps;
 use ats_port_rule::transmission_time;
 use ats_queue::Queued;
 
-/// A frame that a port was offered: its number, the number of its sender, its class from 0 to 7, the time from which it
-/// is eligible, in picoseconds, and its octets, counted with the frame check sequence.
+/// A frame that a port was offered: its number, the number of its sender, the time from which it is eligible, in
+/// picoseconds, its octets, counted with the frame check sequence, and its class from 0 to 7.
 #[derive(Clone, Copy, Debug, PartialEq, Eq)]
 pub struct Offer {
     pub frame: u32,
     pub sender: u32,
-    pub class: u8,
     pub eligible: Ps,
     pub octets: u32,
+    pub class: u8,
 }
 
 impl Offer {

@@ -8,28 +8,25 @@ ghost use Rattle.ats_transmit.specs.Sending.{last_of, last_start, last_end};
 ghost use Rattle.ats_transmit.specs.State.{opened, offered_of, IsLawfulPort};
 ghost use Rattle.ats_transmit.specs.Picks.{MaySend, IsFirstStart, IsPick};
 
-use crate::choice::free_at;
 use crate::offer::Offer;
+use crate::past::Past;
 use crate::pick::Pick;
-use crate::sent::Sent;
 use crate::waiting::Waiting;
-use ats_history::History;
 use ats_num::{Ps, Tie};
 use std::alloc::{AllocError, Global};
 use std::marker::Model;
 
 /// A port. Contracts see its picoseconds per bit, how many frames of each class it may be offered, its tie, the frames
 /// that it holds, up to their order, the list of its transmissions, and whether the last of them has still to be
-/// finished. It keeps the last of them alone.
+/// finished. It keeps of the last of them when it ends, and its frame.
 #[derive(Drop)]
 pub struct Port<T: Tie> {
+    past: Past,
     ps_per_bit: u32,
-    rooms: [u32; 8],
     tie: T,
-    waiting: Waiting<T>,
-    last: Option<Sent>,
-    sent: History<Sent>,
     is_sending: bool,
+    waiting: Waiting<T>,
+    rooms: [u32; 8],
 }
 
 impl<T: Tie> Model for Port<T> {
@@ -39,11 +36,11 @@ impl<T: Tie> Model for Port<T> {
 
     ghost use Rattle.ats_transmit.specs.PortQueues.{port_state, IsKept};
 
-    ghost view = { λ p. port_state p.ps_per_bit p.rooms p.tie p.waiting p.sent.items p.is_sending };
+    ghost view = { λ p. port_state p.ps_per_bit p.rooms p.tie p.waiting p.past p.is_sending };
 
     ghost invariant = { λ p. IsKept T.key
-        (port_state p.ps_per_bit p.rooms p.tie p.waiting p.sent.items p.is_sending)
-        p.waiting p.last };
+        (port_state p.ps_per_bit p.rooms p.tie p.waiting p.past p.is_sending)
+        p.waiting };
 }
 
 impl<T: Tie> Port<T> {
@@ -60,13 +57,12 @@ impl<T: Tie> Port<T> {
     {
         let waiting = Waiting::open(alloc, &rooms, tie)?;
         Ok(Port {
+            past: Past::new(),
             ps_per_bit,
-            rooms,
             tie,
-            waiting,
-            last: None,
-            sent: History::new(),
             is_sending: false,
+            waiting,
+            rooms,
         })
     }
 
@@ -93,7 +89,7 @@ impl<T: Tie> Port<T> {
         ensures { MatchOption result (self.now.held ≡ []) (λ time. IsFirstStart self.now.held self.now.sent time.0) }
     {
         let time = self.waiting.next_time()?;
-        Some(Ps(time.0.max(free_at(self.last).0)))
+        Some(Ps(time.0.max(self.past.end().0)))
     }
 
     /// What the port does at `now`, which is at most `END` and not after the time at which it is due. `Busy` exactly
@@ -110,15 +106,14 @@ impl<T: Tie> Port<T> {
     {
         if self.is_sending {
             return Pick::Busy {
-                end: free_at(self.last),
+                end: self.past.end(),
             };
         }
         let Some(started) = self.waiting.take(now) else {
             return Pick::Idle;
         };
         let sent = started.sent_at(self.ps_per_bit, now);
-        self.last = Some(sent);
-        self.sent = self.sent.and(&sent);
+        self.past.push(&sent);
         self.is_sending = true;
         Pick::Start {
             frame: sent.frame,
@@ -135,6 +130,6 @@ impl<T: Tie> Port<T> {
         ensures lawful { IsLawfulPort T.key self.new }
     {
         self.is_sending = false;
-        self.last.unwrap().frame
+        self.past.frame()
     }
 }

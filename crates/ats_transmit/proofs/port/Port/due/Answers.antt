@@ -12,6 +12,6 @@ pub returns : goal.returns
 returns g c =
     let time = c.in_ok-time.time.0 in
     let waiting = c.self.inside.waiting in
-    let sent = c.self.inside.sent.items in
-    let free : c.free_at.result.0 ≡ last_end sent = c.free_at.ensures sent c.self.invariant.last in
+    let sent = c.self.inside.past in
+    let free : c.end.result.0 ≡ last_end sent = c.end.ensures in
     rw (← c.self.view_is) (due_at waiting sent time c.max.result c.in_ok-time.ensures (rw free at c.max.ensures))

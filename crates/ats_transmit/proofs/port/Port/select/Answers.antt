@@ -13,8 +13,8 @@ use Rattle.ats_transmit.proofs.port.Port.select.Goals as goal
 pub take-requires : goal.take-requires
 take-requires g c =
     let i = c.self.inside in
-    let s : PortState g.row.T.Denot = port_state i.ps_per_bit i.rooms i.tie i.waiting i.sent.items i.is_sending in
-    omega (arith, eight-queues g.T.Tie.key s i.waiting _ c.self.invariant)
+    let s : PortState g.row.T.Denot = port_state i.ps_per_bit i.rooms i.tie i.waiting i.past i.is_sending in
+    omega (arith, eight-queues g.T.Tie.key s i.waiting c.self.invariant)
 
 pub returns-in_default-clause-pick : goal.returns-in_default-clause-pick
 returns-in_default-clause-pick g c =
@@ -22,7 +22,7 @@ returns-in_default-clause-pick g c =
     let i = c.self.inside in
     let s : List (Contents g.row.T.Denot) → PortState g.row.T.Denot =
     λ (waiting : List (Contents g.row.T.Denot)).
-    port_state i.ps_per_bit i.rooms i.tie waiting i.sent.items i.is_sending in
+    port_state i.ps_per_bit i.rooms i.tie waiting i.past i.is_sending in
     let Free : PortState g.row.T.Denot → Type 0 =
     λ (old : PortState g.row.T.Denot).
     (old.is_sending ≡ false) × All (λ (o : Offer). now < o.eligible.0) old.held × (s c.take.new.self ≡ old) in
@@ -32,43 +32,43 @@ returns-in_default-clause-pick g c =
 pub sent_at-sent-requires-clause-size : goal.sent_at-sent-requires-clause-size
 sent_at-sent-requires-clause-size g c =
     let i = c.self.inside in
-    let s : PortState g.row.T.Denot = port_state i.ps_per_bit i.rooms i.tie i.waiting i.sent.items i.is_sending in
+    let s : PortState g.row.T.Denot = port_state i.ps_per_bit i.rooms i.tie i.waiting i.past i.is_sending in
     let started : Offer = c.in-Some.started in
     let now = c.args.now.0 in
     let new = c.take.new.self in
     let x = selected g.T.Tie.key now s i.waiting new started refl c.in-Some.ensures.found in
-    started-size g.T.Tie.key now started.class s i.waiting new started _ c.self.invariant x
+    started-size g.T.Tie.key now started.class s i.waiting new started c.self.invariant x
 
 pub invariant_of-self-2 : goal.invariant_of-self-2
 invariant_of-self-2 g c =
     let i = c.self.inside in
-    let s : PortState g.row.T.Denot = port_state i.ps_per_bit i.rooms i.tie i.waiting i.sent.items i.is_sending in
+    let s : PortState g.row.T.Denot = port_state i.ps_per_bit i.rooms i.tie i.waiting i.past i.is_sending in
     let started : Offer = c.in-Some.started in
     let now = c.args.now.0 in
     let new = c.take.new.self in
     let x = selected g.T.Tie.key now s i.waiting new started refl c.in-Some.ensures.found in
     let is : c.sent_at-sent.result ≡ sent_at i.ps_per_bit started now = c.sent_at-sent.ensures in
-    let pushed : c.and-self-inside.result.items ≡ i.sent.items ++ sent_at i.ps_per_bit started now ∷ [] =
-    rw is at c.and-self-inside.ensures in
+    let pushed : c.push.new.self ≡ i.past ++ sent_at i.ps_per_bit started now ∷ [] =
+    rw is at c.push.ensures in
     let Finished : PortState g.row.T.Denot → Type 0 =
     λ (p : PortState g.row.T.Denot). p.is_sending ≡ false → last_end p.sent ≤ now in
-    let ended : last_end i.sent.items ≤ now = subst Finished (sym c.self.view_is) c.requires.finished c.if-self.false in
+    let ended : last_end i.past ≤ now = subst Finished (sym c.self.view_is) c.requires.finished c.if-self.false in
     let Due : PortState g.row.T.Denot → Type 0 =
     λ (p : PortState g.row.T.Denot). (time : ℕ) → MaySend p.held p.sent time → now ≤ time in
-    rw is (kept-select g.T.Tie.key now started.class s i.waiting new started c.and-self-inside.result.items i.last
-    c.self.invariant x pushed ended (subst Due (sym c.self.view_is) c.requires.due))
+    kept-select g.T.Tie.key now started.class s i.waiting new started c.push.new.self
+    c.self.invariant x pushed ended (subst Due (sym c.self.view_is) c.requires.due)
 
 pub returns-clause-pick : goal.returns-clause-pick
 returns-clause-pick g c =
     let i = c.self.inside in
-    let s : PortState g.row.T.Denot = port_state i.ps_per_bit i.rooms i.tie i.waiting i.sent.items i.is_sending in
+    let s : PortState g.row.T.Denot = port_state i.ps_per_bit i.rooms i.tie i.waiting i.past i.is_sending in
     let now = c.args.now.0 in
     let started : Offer = c.in-Some.started in
     let new = c.take.new.self in
-    let after = c.and-self-inside.result.items in
-    let sent : after ≡ i.sent.items ++ sent_at i.ps_per_bit started now ∷ [] =
-    rw c.sent_at-sent.ensures at c.and-self-inside.ensures in
-    let starts = starts-select g.T.Tie.key now started.class s i.waiting new started after _ c.self.invariant
+    let after = c.push.new.self in
+    let sent : after ≡ i.past ++ sent_at i.ps_per_bit started now ∷ [] =
+    rw c.sent_at-sent.ensures at c.push.ensures in
+    let starts = starts-select g.T.Tie.key now started.class s i.waiting new started after c.self.invariant
     (selected g.T.Tie.key now s i.waiting new started refl c.in-Some.ensures.found) sent in
     rw (← c.self.view_is, c.sent_at-sent.ensures) (c.if-self.false, starts)
 
