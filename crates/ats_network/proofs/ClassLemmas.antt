@@ -1,13 +1,16 @@
 use Rattle.std.proofs.Common.{◌≡◌, ◌≢◌, ℕ, zero, suc, ◌<◌, ◌≤◌, Bool, true, false, cond, ◌||◌, List, [], ◌∷◌, length}
-use Rattle.std.proofs.Common.{Some, get_or, map, refl, sym, ap, ◌∙◌, arith, eqb}
+use Rattle.std.proofs.Common.{Option, Some, None, get_or, map, refl, sym, ap, ◌∙◌, arith, eqb}
 use Rattle.std.specs.List.{All, AllPairs, list_any}
+use Rattle.std.specs.Option.{option_or}
 use Rattle.std.proofs.lemmas.Bool.{eq-eqb, ne_eqb, or_parts, false≢true}
 use Rattle.std.proofs.lemmas.List.Elements.{All-head, All-tail}
+use Rattle.ats_streams.specs.Branches.{routes_of}
 use Rattle.ats_streams.specs.Stream.{DeclaredStream, IsStream, IsClass}
+use Rattle.ats_streams.specs.declared.branch.Branch.{Branch}
 use Rattle.ats_streams.specs.Flow.{DeclaredFlow}
 use Rattle.ats_streams.specs.declared.stream.TheConstants.{MAX_CLASS}
 use Rattle.ats_network.specs.Sender.{Sender, stream_sender, flow_sender}
-use Rattle.ats_network.specs.Class.{before_along, class_along, class_at}
+use Rattle.ats_network.specs.Class.{before_along, before_on, class_along, class_at, port_before}
 use Rattle.ats_network.specs.Laws.{ClassIsByHop}
 use Rattle.ats_facts.proofs.Lists.{pairs_head, pairs_tail}
 
@@ -26,7 +29,7 @@ along_keeps P port (p ∷ path) (class ∷ classes) none each =
 
 -- a sender's class at a port is at most 7
 pub class_at-le : (s : Sender) (port : ℕ) → All (λ class. class ≤ MAX_CLASS) s.classes → class_at s port ≤ 7
-class_at-le s port each = along_keeps (λ class. class ≤ MAX_CLASS) port s.path s.classes (omega arith) each
+class_at-le s port each = along_keeps (λ class. class ≤ MAX_CLASS) port s.ports s.classes (omega arith) each
 
 -- a flow's class at a port is 0
 pub class_at-flow : (f : DeclaredFlow) (port : ℕ) → class_at (flow_sender f) port ≡ 0
@@ -84,9 +87,9 @@ along_holds P port (p ∷ path) (class ∷ classes) many each has =
     by false has here further = further has
 
 -- a stream's class at a port of its path is 1 to 7
-pub class_at-stream : (s : DeclaredStream) (port : ℕ) → IsStream s → list_any (λ p. eqb p port) s.path ≡ true
+pub class_at-stream : (s : DeclaredStream) (port : ℕ) → IsStream s → list_any (λ p. eqb p port) s.ports ≡ true
     → IsClass (class_at (stream_sender s) port)
-class_at-stream s port is has = along_holds IsClass port s.path s.classes is.each_port is.classes has
+class_at-stream s port is has = along_holds IsClass port s.ports s.classes is.each_port is.classes has
 
 -- where a list has no element twice, the class at the port at a place is the class at this place
 pub class_along-at : (path classes : List ℕ) (hop : ℕ) → AllPairs (λ p q. p ≢ q) path → length classes ≡ length path
@@ -101,16 +104,16 @@ class_along-at (p ∷ path) (class ∷ classes) (suc hop) apart many within =
     ∙ class_along-at path classes hop (pairs_tail (λ p q. p ≢ q) p path apart) (omega arith) (omega arith)
 
 pub class_is_by_hop : ClassIsByHop
-class_is_by_hop topology s hop is within = class_along-at s.path s.classes hop is.apart is.each_port within
+class_is_by_hop topology s hop is within = class_along-at s.ports s.classes hop is.apart is.each_port within
 
 -- a stream's class at a hop is its class at the port there, where its ports and classes are given under other names
-pub class_listed : (s : DeclaredStream) (ports classes : List ℕ) (hop : ℕ) → ports ≡ s.path → classes ≡ s.classes
-    → AllPairs (λ p q. p ≢ q) s.path → length s.classes ≡ length s.path → hop < length ports
+pub class_listed : (s : DeclaredStream) (ports classes : List ℕ) (hop : ℕ) → ports ≡ s.ports → classes ≡ s.classes
+    → AllPairs (λ p q. p ≢ q) s.ports → length s.classes ≡ length s.ports → hop < length ports
     → get_or classes hop 0 ≡ class_at (stream_sender s) (get_or ports hop 0)
 class_listed s ports classes hop path_is classes_are apart many within =
-    let long : length ports ≡ length s.path = ap (λ (l : List ℕ). length l) path_is in
+    let long : length ports ≡ length s.ports = ap (λ (l : List ℕ). length l) path_is in
     ap (λ (l : List ℕ). get_or l hop 0) classes_are
-    ∙ sym (class_along-at s.path s.classes hop apart many (omega (arith, long)))
+    ∙ sym (class_along-at s.ports s.classes hop apart many (omega (arith, long)))
     ∙ ap (λ (l : List ℕ). class_at (stream_sender s) (get_or l hop 0)) (sym path_is)
 
 -- where a list has no element twice, the port before the one at a place but the first is the one at the place before
@@ -126,3 +129,13 @@ before_along-at (p ∷ q ∷ path) (suc hop) apart within =
     let other : q ≢ port = pairs_head (λ p q. p ≢ q) q path rest hop 0 (omega arith) in
     ap (λ (t : Bool). cond t (Some p) (before_along port (q ∷ path))) (ne_eqb q port other)
     ∙ before_along-at (q ∷ path) hop rest (omega arith)
+
+or_none : {X : Type 0} (o : Option X) → option_or o None ≡ o
+or_none None = refl
+or_none (Some x) = refl
+
+-- the port before one of a sender with one listener is that on its path
+pub port_before-one : (s : Sender) (port : ℕ) → s.branches ≡ [] → port_before s port ≡ before_along port s.ports
+port_before-one s port alone =
+    ap (λ (branches : List Branch). before_on port (routes_of s.ports branches)) alone
+    ∙ or_none (before_along port s.ports)

@@ -7,6 +7,7 @@ use Rattle.std.proofs.lemmas.List.{get_or-map, get_or_append_left, length-map, l
 use Rattle.std.proofs.lemmas.List.Edits.{length-remove}
 use Rattle.std.proofs.lemmas.List.Elements.{All-append, All-cons, All-head, All-replicate, All-set, All-tail}
 use Rattle.std.proofs.lemmas.List.Quantifiers.{all_pairs_remove}
+use Rattle.std.proofs.lemmas.List.Sums.{sum_by-remove, sum_by-set}
 use Rattle.ats_facts.proofs.Lists.{all_left, all_right}
 use Rattle.ats_num.specs.Places.{place_of}
 use Rattle.ats_num.proofs.Numbered.{place_of-lt}
@@ -16,7 +17,7 @@ use Rattle.ats_streams.specs.Rules.{CoversLongest, IsBurst}
 use Rattle.ats_streams.specs.Stream.{DeclaredStream, IsClass, IsStream, with_burst, with_class}
 use Rattle.ats_network.specs.Edits.{less_at, no_stream, with_burst_at, with_class_at, without_named}
 use Rattle.ats_network.specs.Network.{AreIdentified, DeclaredNetwork, IsNetwork, Share}
-use Rattle.ats_network.specs.Path.{IsValidPath}
+use Rattle.ats_network.specs.Path.{IsTree}
 use Rattle.ats_network.specs.Sender.{Sender, stream_sender, flow_sender}
 use Rattle.ats_network.specs.Tables.{flow_names, stream_identities, stream_names}
 use Rattle.ats_network.proofs.NameLemmas.{apart_from_pairs, names_of-senders, pairs_from_apart}
@@ -25,19 +26,23 @@ use Rattle.ats_network.proofs.TableLemmas.{map-remove}
 abbrev name : DeclaredStream → List ℕ
 name s = s.name
 
+abbrev many : DeclaredStream → ℕ
+many s = length s.ports
+
 abbrev identity : DeclaredStream → Option (ℕ × ℕ)
 identity s = s.identity
 
 abbrev Goes : DeclaredTopology → Sender → Type 0
-Goes topology s = IsValidPath topology s.path
+Goes topology s = IsTree topology s.ports s.branches
 
 -- a stream with another class keeps a stream's rules
 is_classed : (s : DeclaredStream) (class : ℕ) → IsStream s → IsClass class → IsStream (with_class s class)
 is_classed s class is valid = record {
-  classes = All-replicate IsClass (length s.path) class valid;
-  each_port = length-replicate (length s.path) class;
+  classes = All-replicate IsClass (length s.ports) class valid;
+  each_port = length-replicate (length s.ports) class;
   rules = is.rules;
-  path = is.path;
+  branches = is.branches;
+  routes = is.routes;
   deadline = is.deadline;
   identity = is.identity;
 }
@@ -66,26 +71,31 @@ is_burst_changed s burst_bits is covers most = record {
   classes = is.classes;
   each_port = is.each_port;
   rules = record { rate = is.rules.rate; sizes = is.rules.sizes; covers = covers; burst = most };
-  path = is.path;
+  branches = is.branches;
+  routes = is.routes;
   deadline = is.deadline;
   identity = is.identity;
 }
 
--- a network in which another stream with the same name, path and identity stands in the place of one keeps what a
--- network keeps
+-- a network in which another stream with the same name, ports, branches and identity stands in the place of one keeps
+-- what a network keeps
 replaced_network : (network : DeclaredNetwork) (n : ℕ) (it : DeclaredStream) → IsNetwork network
     → n < length network.streams → IsStream it → it.name ≡ (get_or network.streams n no_stream).name
-    → it.path ≡ (get_or network.streams n no_stream).path → it.identity ≡ (get_or network.streams n no_stream).identity
-    → IsNetwork (record network { streams = set network.streams n it })
-replaced_network network n it is within keeps same_name same_path same_identity = record {
+    → it.ports ≡ (get_or network.streams n no_stream).ports
+    → it.branches ≡ (get_or network.streams n no_stream).branches
+    → it.identity ≡ (get_or network.streams n no_stream).identity → IsNetwork (record network {
+      streams = set
+          network.streams n it;
+    })
+replaced_network network n it is within keeps same_name same_ports same_branches same_identity = record {
   topology = is.topology;
   streams = All-set IsStream network.streams n it keeps is.streams;
   flows = is.flows;
-  paths =
+  trees =
       rw (map-set stream_sender network.streams n it)
       (All-append (Goes network.topology) (set streams n (stream_sender it)) flows
-      (All-set (Goes network.topology) streams n (stream_sender it) path left)
-      (all_right (Goes network.topology) streams flows is.paths));
+      (All-set (Goes network.topology) streams n (stream_sender it) tree left)
+      (all_right (Goes network.topology) streams flows is.trees));
   names = subst AreApart (sym (names_of-senders (record network { streams = set network.streams n it })
       ∙ ap (λ (t : List (List ℕ)). t ++ flow_names network.flows)
       (map-set_same name network.streams n it no_stream same_name) ∙ sym (names_of-senders network))) is.names;
@@ -93,6 +103,9 @@ replaced_network network n it is within keeps same_name same_path same_identity 
       (map-set_same identity network.streams n it no_stream same_identity) is.identities;
   few_streams = omega (arith, length-set network.streams n it, is.few_streams);
   few_flows = is.few_flows;
+  few_ports = omega (arith, sum_by-set many network.streams n it no_stream within, ap length same_ports, is.few_ports);
+  one_listener = All-set (λ (s : DeclaredStream). s.branches ≡ []) network.streams n it
+      (same_branches ∙ is.one_listener n no_stream within) is.one_listener;
 }
   where
     streams : List Sender
@@ -102,15 +115,17 @@ replaced_network network n it is within keeps same_name same_path same_identity 
     flows = map flow_sender network.flows
 
     left : All (Goes network.topology) (map stream_sender network.streams)
-    left = all_left (Goes network.topology) (map stream_sender network.streams) (map flow_sender network.flows) is.paths
+    left = all_left (Goes network.topology) (map stream_sender network.streams) (map flow_sender network.flows) is.trees
 
-    before : IsValidPath network.topology (get_or network.streams n no_stream).path
-    before = subst (λ (s : Sender). IsValidPath network.topology s.path)
+    before : IsTree network.topology (get_or network.streams n no_stream).ports
+        (get_or network.streams n no_stream).branches
+    before = subst (Goes network.topology)
         (get_or-map stream_sender network.streams n no_stream (stream_sender no_stream) within)
         (left n (stream_sender no_stream) (omega (arith, length-map network.streams stream_sender, within)))
 
-    path : IsValidPath network.topology it.path
-    path = subst (IsValidPath network.topology) (sym same_path) before
+    tree : IsTree network.topology it.ports it.branches
+    tree = subst (λ (ports : List ℕ). IsTree network.topology ports it.branches) (sym same_ports)
+        (subst (IsTree network.topology (get_or network.streams n no_stream).ports) (sym same_branches) before)
 
 -- a network in which a stream has another class keeps what a network keeps
 pub classed_network : (network : DeclaredNetwork) (n class : ℕ) → IsNetwork network → n < length network.streams
@@ -118,7 +133,7 @@ pub classed_network : (network : DeclaredNetwork) (n class : ℕ) → IsNetwork 
 classed_network network n class is within valid =
     let before : DeclaredStream = get_or network.streams n no_stream in
     replaced_network network n (with_class before class) is within
-    (is_classed before class (is.streams n no_stream within) valid) refl refl refl
+    (is_classed before class (is.streams n no_stream within) valid) refl refl refl refl
 
 -- a network in which a stream has another burst, which covers its longest frame, keeps what a network keeps
 pub burst_changed_network : (network : DeclaredNetwork) (n burst_bits : ℕ) → IsNetwork network
@@ -127,7 +142,7 @@ pub burst_changed_network : (network : DeclaredNetwork) (n burst_bits : ℕ) →
 burst_changed_network network n burst_bits is within covers most =
     let before : DeclaredStream = get_or network.streams n no_stream in
     replaced_network network n (with_burst before burst_bits) is within
-    (is_burst_changed before burst_bits (is.streams n no_stream within) covers most) refl refl refl
+    (is_burst_changed before burst_bits (is.streams n no_stream within) covers most) refl refl refl refl
 
 -- what holds of each element holds of each of the others without one
 all_remove : {X : Type 0} (P : X → Type 0) (xs : List X) (n : ℕ) → n < length xs → All P xs → All P (remove xs n)
@@ -168,12 +183,12 @@ less_network network n is within = record {
   topology = is.topology;
   streams = all_remove IsStream network.streams n within is.streams;
   flows = is.flows;
-  paths =
+  trees =
       rw (map-remove stream_sender network.streams n)
       (All-append (Goes network.topology) (remove streams n) flows
       (all_remove (Goes network.topology) streams n (omega (arith, length-map network.streams stream_sender, within))
-      (all_left (Goes network.topology) streams flows is.paths))
-      (all_right (Goes network.topology) streams flows is.paths));
+      (all_left (Goes network.topology) streams flows is.trees))
+      (all_right (Goes network.topology) streams flows is.trees));
   names = subst AreApart (sym (names_of-senders (record network { streams = remove network.streams n })
       ∙ ap (λ (t : List (List ℕ)). t ++ flow_names network.flows) (map-remove name network.streams n)))
       (apart_less (stream_names network.streams) (flow_names network.flows) n
@@ -184,6 +199,8 @@ less_network network n is within = record {
       length-remove network.streams n within in
       omega (arith, less, is.few_streams);
   few_flows = is.few_flows;
+  few_ports = omega (arith, sum_by-remove many network.streams n no_stream within, is.few_ports);
+  one_listener = all_remove (λ (s : DeclaredStream). s.branches ≡ []) network.streams n within is.one_listener;
 }
   where
     streams : List Sender

@@ -7,6 +7,13 @@ pub mod Pushed
 pub mod Edited
 pub mod PathLemmas
 pub mod PathTests
+pub mod TreeLemmas
+pub mod Parts
+pub mod ValidRoutes
+pub mod Grown
+pub mod LeastWalkLemmas
+pub mod LeastTrees
+pub mod Together
 pub mod CountLemmas
 pub mod BridgeLemmas
 pub mod SenderLemmas

@@ -1,8 +1,10 @@
-use Rattle.std.proofs.Common.{◌≡◌, ℕ, ◌<◌, false, List, [], ◌∷◌, ◌++◌, map, length, Option, None, sym, arith}
+use Rattle.std.proofs.Common.{◌≡◌, ℕ, ◌+◌, ◌<◌, ◌≤◌, false, List, [], ◌∷◌, ◌++◌, map, length, Option, None, sym, arith}
 use Rattle.std.proofs.Common.{ap, ◌∙◌, append_assoc, length-append}
-use Rattle.std.specs.Prelude.{is_some}
+use Rattle.std.specs.Prelude.{is_some, nat_le, nat_lt}
+use Rattle.std.proofs.lemmas.Bool.{leb-false, ltb-false, or_parts}
 use Rattle.std.proofs.lemmas.List.{map-append, append-nil}
 use Rattle.std.proofs.lemmas.List.Elements.{All-append, All-push}
+use Rattle.std.proofs.lemmas.List.Sums.{sum_by_push}
 use Rattle.ats_facts.proofs.Lists.{all_left, all_right}
 use Rattle.ats_facts.proofs.Options.{is_some-false}
 use Rattle.ats_num.specs.Places.{place_of}
@@ -10,13 +12,29 @@ use Rattle.ats_topology.specs.Node.{AreApart}
 use Rattle.ats_streams.specs.Stream.{DeclaredStream, IsStream}
 use Rattle.ats_streams.specs.Flow.{DeclaredFlow, IsFlow}
 use Rattle.ats_network.specs.Sender.{Sender, stream_sender, flow_sender}
-use Rattle.ats_network.specs.Path.{IsValidPath}
-use Rattle.ats_network.specs.Network.{DeclaredNetwork, IsNetwork, senders_of, names_of}
-use Rattle.ats_network.specs.Pushes.{with_stream, with_flow, is_identity_taken}
+use Rattle.ats_network.specs.Path.{IsTree, IsValidPath}
+use Rattle.ats_network.specs.Network.{DeclaredNetwork, IsNetwork, senders_of, names_of, ports_together}
+use Rattle.ats_network.specs.Pushes.{with_stream, with_flow, is_full, is_identity_taken}
 use Rattle.ats_network.specs.Tables.{stream_names, flow_names}
-use Rattle.ats_network.specs.declared.network.TheConstants.{MAX_STREAMS, MAX_FLOWS}
+use Rattle.ats_network.specs.declared.network.TheConstants.{MAX_STREAMS, MAX_FLOWS, MAX_PORTS_TOGETHER}
 use Rattle.ats_network.proofs.NameLemmas.{names_of-senders, apart_insert}
 use Rattle.ats_network.proofs.IdentityLemmas.{share_push}
+use Rattle.ats_network.proofs.TreeLemmas.{tree_of_path}
+
+-- there is room for one more stream with these ports
+pub record Fits (streams : List DeclaredStream) (ports : List ℕ) : Type 0 where
+  pub few_streams : length streams < MAX_STREAMS
+  pub few_ports : ports_together streams + length ports ≤ MAX_PORTS_TOGETHER
+
+pub not_full : (streams : List DeclaredStream) (ports : List ℕ) → is_full streams ports ≡ false → Fits streams ports
+not_full streams ports room =
+    let together : ℕ = ports_together streams + length ports in
+    let parts : (nat_le MAX_STREAMS (length streams) ≡ false) × (nat_lt MAX_PORTS_TOGETHER together ≡ false) =
+    or_parts (nat_le MAX_STREAMS (length streams)) (nat_lt MAX_PORTS_TOGETHER together) room in
+    record {
+      few_streams = leb-false MAX_STREAMS (length streams) parts.0;
+      few_ports = ltb-false MAX_PORTS_TOGETHER together parts.1;
+    }
 
 stream_names-push : (streams : List DeclaredStream) (stream : DeclaredStream)
     → stream_names (streams ++ stream ∷ []) ≡ stream_names streams ++ stream.name ∷ []
@@ -28,24 +46,31 @@ flow_names-push flows flow = map-append (λ (f : DeclaredFlow). f.name) flows (f
 
 -- a network with one stream more keeps what a network keeps
 pub pushed_stream : (network : DeclaredNetwork) (stream : DeclaredStream) → IsNetwork network → IsStream stream
-    → IsValidPath network.topology stream.path
+    → IsTree network.topology stream.ports stream.branches → stream.branches ≡ []
     → place_of stream.name (names_of (senders_of network)) ≡ None → is_identity_taken network.streams stream.identity
-    ≡ false → length network.streams < MAX_STREAMS → IsNetwork (with_stream network stream)
-pushed_stream network stream is keeps valid absent free room = record {
+    ≡ false → is_full network.streams stream.ports ≡ false → IsNetwork (with_stream network stream)
+pushed_stream network stream is keeps tree alone absent free room = record {
   topology = is.topology;
   streams = All-push IsStream network.streams stream is.streams keeps;
   flows = is.flows;
-  paths =
+  trees =
       rw (map-append stream_sender network.streams (stream ∷ []))
       (All-append Goes (streams ++ stream_sender stream ∷ []) flows
-      (All-push Goes streams (stream_sender stream) (all_left Goes streams flows is.paths) valid)
-      (all_right Goes streams flows is.paths));
+      (All-push Goes streams (stream_sender stream) (all_left Goes streams flows is.trees) tree)
+      (all_right Goes streams flows is.trees));
   names = rw (names_of-senders (with_stream network stream), stream_names-push network.streams stream)
       (apart_insert (stream_names network.streams) (flow_names network.flows) stream.name
       (rw (names_of-senders network) at is.names) (rw (names_of-senders network) at absent));
   identities = share_push network.streams stream is.identities free;
-  few_streams = omega (arith, length-append network.streams (stream ∷ []));
+  few_streams = omega (arith, length-append network.streams (stream ∷ []), fits.few_streams);
   few_flows = is.few_flows;
+  few_ports = omega (
+    arith,
+    fits.few_ports,
+    sum_by_push (λ (s : DeclaredStream). length s.ports) network.streams
+        stream,
+  );
+  one_listener = All-push (λ (s : DeclaredStream). s.branches ≡ []) network.streams stream is.one_listener alone;
 }
   where
     streams : List Sender
@@ -55,7 +80,10 @@ pushed_stream network stream is keeps valid absent free room = record {
     flows = map flow_sender network.flows
 
     Goes : Sender → Type 0
-    Goes s = IsValidPath network.topology s.path
+    Goes s = IsTree network.topology s.ports s.branches
+
+    fits : Fits network.streams stream.ports
+    fits = not_full network.streams stream.ports room
 
 -- a network with one flow more keeps what a network keeps
 pub pushed_flow : (network : DeclaredNetwork) (flow : DeclaredFlow) → IsNetwork network → IsFlow flow
@@ -66,14 +94,17 @@ pushed_flow network flow is keeps valid absent room = record {
   topology = is.topology;
   streams = is.streams;
   flows = All-push IsFlow network.flows flow is.flows keeps;
-  paths =
+  trees =
       rw (map-append flow_sender network.flows (flow ∷ []))
-      (All-append Goes streams (flows ++ flow_sender flow ∷ []) (all_left Goes streams flows is.paths)
-      (All-push Goes flows (flow_sender flow) (all_right Goes streams flows is.paths) valid));
+      (All-append Goes streams (flows ++ flow_sender flow ∷ []) (all_left Goes streams flows is.trees)
+      (All-push Goes flows (flow_sender flow) (all_right Goes streams flows is.trees)
+      (tree_of_path network.topology flow.path valid)));
   names = rw (names_of-senders (with_flow network flow), flow_names-push network.flows flow) apart;
   identities = is.identities;
   few_streams = is.few_streams;
   few_flows = omega (arith, length-append network.flows (flow ∷ []));
+  few_ports = is.few_ports;
+  one_listener = is.one_listener;
 }
   where
     streams : List Sender
@@ -83,7 +114,7 @@ pushed_flow network flow is keeps valid absent room = record {
     flows = map flow_sender network.flows
 
     Goes : Sender → Type 0
-    Goes s = IsValidPath network.topology s.path
+    Goes s = IsTree network.topology s.ports s.branches
 
     names : List (List ℕ)
     names = stream_names network.streams ++ flow_names network.flows

@@ -1,10 +1,12 @@
-use Rattle.std.proofs.Common.{◌≡◌, ◌≢◌, ℕ, ◌-◌, ◌<◌, ◌≤◌, List, [], ◌∷◌, map, length, get_or, sym, ap, ◌∙◌, arith}
+use Rattle.std.proofs.Common.{◌≡◌, ◌≢◌, ℕ, ◌-◌, ◌<◌, ◌≤◌, List, [], ◌∷◌, map, length, get_or, refl, sym, ap, ◌∙◌, arith}
 use Rattle.std.proofs.Common.{length-append}
 use Rattle.std.specs.List.{All, AllPairs}
 use Rattle.std.proofs.lemmas.List.{get_or-append_right, get_or-map, length-map}
 use Rattle.std.proofs.lemmas.List.Elements.{All-nil, All-cons, All-head, All-tail, All-append, All-weaker}
 use Rattle.ats_facts.proofs.Lists.{all_left, all_right, pairs_tail}
 use Rattle.ats_streams.specs.Rules.{AreSizes, KeepsRules}
+use Rattle.ats_streams.proofs.OneListener.{alone_path, no_branches}
+use Rattle.ats_streams.specs.Branches.{AreBranches, routes_of}
 use Rattle.ats_streams.specs.Path.{IsPath}
 use Rattle.ats_streams.specs.Stream.{DeclaredStream, IsStream, IsClass}
 use Rattle.ats_streams.specs.Flow.{DeclaredFlow, IsFlow}
@@ -13,13 +15,14 @@ use Rattle.ats_topology.specs.Port.{port_at}
 use Rattle.ats_topology.specs.Topology.{DeclaredTopology, IsTopology}
 use Rattle.ats_network.specs.Sender.{Sender, stream_sender, flow_sender}
 use Rattle.ats_network.specs.Class.{class_at}
-use Rattle.ats_network.specs.Path.{IsValidPath}
+use Rattle.ats_network.specs.Path.{IsTree, IsValidPath, nodes_along}
 use Rattle.ats_network.specs.Network.{DeclaredNetwork, IsNetwork, senders_of}
 use Rattle.ats_network.specs.Senders.{IsSender, sender_at, no_sender}
 use Rattle.ats_network.specs.Laws.{EachIsSender}
 use Rattle.ats_network.proofs.ClassLemmas.{class_at-flow}
-use Rattle.ats_network.proofs.PathLemmas.{nodes_to, walk_ports}
+use Rattle.ats_network.proofs.PathLemmas.{nodes_to}
 use Rattle.ats_network.proofs.BridgeLemmas.{meet_at_bridges}
+use Rattle.ats_network.proofs.TreeLemmas.{path_of_tree, tree_ports}
 
 -- numbers with different values are different
 pairs_unmap : (f : ℕ → ℕ) (xs : List ℕ) → AllPairs (λ a b. a ≢ b) (map f xs) → AllPairs (λ a b. a ≢ b) xs
@@ -27,43 +30,55 @@ pairs_unmap f xs pairs i j d below within same =
     pairs i j (f d) below (omega (arith, length-map xs f))
     (get_or-map f xs i d (f d) (omega arith) ∙ ap f same ∙ sym (get_or-map f xs j d (f d) within))
 
--- the ports of a valid path are different
-ports_apart : (topology : DeclaredTopology) (path : List ℕ) → IsValidPath topology path → AllPairs (λ p q. p ≢ q) path
-ports_apart topology [] valid = λ i j d below within. absurd (omega arith)
-ports_apart topology (p ∷ path) valid =
-    pairs_unmap (λ q. (port_at topology.ports q).to) (p ∷ path)
-    (pairs_tail (λ m n. m ≢ n) (port_at topology.ports p).from (nodes_to topology.ports (p ∷ path)) valid.apart)
+-- ports along which no node occurs twice are different
+ports_apart : (topology : DeclaredTopology) (ports : List ℕ)
+    → AllPairs (λ m n. m ≢ n) (nodes_along topology.ports ports) → AllPairs (λ p q. p ≢ q) ports
+ports_apart topology [] apart = λ i j d below within. absurd (omega arith)
+ports_apart topology (p ∷ ports) apart =
+    pairs_unmap (λ q. (port_at topology.ports q).to) (p ∷ ports)
+    (pairs_tail (λ m n. m ≢ n) (port_at topology.ports p).from (nodes_to topology.ports (p ∷ ports)) apart)
 
-is_sender : (topology : DeclaredTopology) (s : Sender) → IsTopology topology → IsValidPath topology s.path
-    → IsPath s.path → length s.classes ≡ length s.path → All (λ class. class ≤ MAX_CLASS) s.classes
-    → AreSizes s.min_octets s.max_octets
+is_sender : (topology : DeclaredTopology) (s : Sender) → IsTopology topology → s.branches ≡ []
+    → AreBranches s.ports s.branches → All IsPath (routes_of s.ports s.branches)
+    → IsTree topology s.ports s.branches → length s.classes ≡ length s.ports
+    → All (λ class. class ≤ MAX_CLASS) s.classes → AreSizes s.min_octets s.max_octets
     → ((port : ℕ) → 1 ≤ class_at s port → KeepsRules s.rate s.burst_bits s.min_octets s.max_octets)
     → IsSender topology s
-is_sender topology s is valid path each_port classes sizes shaped = record {
-  path = path;
+is_sender topology s is alone branches routes tree each_port classes sizes shaped = record {
+  branches = branches;
+  routes = routes;
+  tree = tree;
+  ports = tree_ports topology s.ports s.branches branches tree;
+  apart = ports_apart topology s.ports tree.apart;
+  one_listener = alone;
+  path = alone_path s.ports s.branches alone routes;
   valid = valid;
-  ports = walk_ports topology.ports valid.talker s.path valid.listener valid.walk;
-  apart = ports_apart topology s.path valid;
-  bridges = meet_at_bridges topology s.path is valid;
+  bridges = meet_at_bridges topology s.ports is valid;
   each_port = each_port;
   classes = classes;
   sizes = sizes;
   shaped = shaped;
 }
+  where
+    valid : IsValidPath topology s.ports
+    valid = path_of_tree topology s.ports s.branches alone tree
 
 streams_are : (topology : DeclaredTopology) (streams : List DeclaredStream) → IsTopology topology
-    → All IsStream streams → All (λ (s : Sender). IsValidPath topology s.path) (map stream_sender streams)
+    → All IsStream streams → All (λ (s : DeclaredStream). s.branches ≡ []) streams
+    → All (λ (s : Sender). IsTree topology s.ports s.branches) (map stream_sender streams)
     → All (IsSender topology) (map stream_sender streams)
-streams_are topology [] is keep valid = All-nil (IsSender topology)
-streams_are topology (s ∷ streams) is keep valid =
+streams_are topology [] is keep alone trees = All-nil (IsSender topology)
+streams_are topology (s ∷ streams) is keep alone trees =
     let rules : IsStream s = All-head IsStream s streams keep in
     All-cons (IsSender topology) (stream_sender s) (map stream_sender streams)
-    (is_sender topology (stream_sender s) is (All-head (λ (s : Sender). IsValidPath topology s.path) (stream_sender s)
-    (map stream_sender streams) valid) rules.path rules.each_port
+    (is_sender topology (stream_sender s) is (All-head (λ (s : DeclaredStream). s.branches ≡ []) s streams alone)
+    rules.branches rules.routes (All-head (λ (s : Sender). IsTree topology s.ports s.branches) (stream_sender s)
+    (map stream_sender streams) trees) rules.each_port
     (All-weaker IsClass (λ class. class ≤ MAX_CLASS) (λ class h. h.most) s.classes rules.classes)
     rules.rules.sizes (λ port _. rules.rules))
     (streams_are topology streams is (All-tail IsStream s streams keep)
-    (All-tail (λ (s : Sender). IsValidPath topology s.path) (stream_sender s) (map stream_sender streams) valid))
+    (All-tail (λ (s : DeclaredStream). s.branches ≡ []) s streams alone)
+    (All-tail (λ (s : Sender). IsTree topology s.ports s.branches) (stream_sender s) (map stream_sender streams) trees))
 
 no_classes : (path : List ℕ) → All (λ class. class ≤ MAX_CLASS) (map (λ port. 0) path)
 no_classes [] = All-nil (λ class. class ≤ MAX_CLASS)
@@ -74,28 +89,30 @@ no_class : (f : DeclaredFlow) (port : ℕ) → 1 ≤ class_at (flow_sender f) po
 no_class f port positive = let none : class_at (flow_sender f) port ≡ 0 = class_at-flow f port in omega (arith, none)
 
 flows_are : (topology : DeclaredTopology) (flows : List DeclaredFlow) → IsTopology topology
-    → All IsFlow flows → All (λ (s : Sender). IsValidPath topology s.path) (map flow_sender flows)
+    → All IsFlow flows → All (λ (s : Sender). IsTree topology s.ports s.branches) (map flow_sender flows)
     → All (IsSender topology) (map flow_sender flows)
-flows_are topology [] is keep valid = All-nil (IsSender topology)
-flows_are topology (f ∷ flows) is keep valid =
+flows_are topology [] is keep trees = All-nil (IsSender topology)
+flows_are topology (f ∷ flows) is keep trees =
     let rules : IsFlow f = All-head IsFlow f flows keep in
     All-cons (IsSender topology) (flow_sender f) (map flow_sender flows)
-    (is_sender topology (flow_sender f) is
-    (All-head (λ (s : Sender). IsValidPath topology s.path) (flow_sender f) (map flow_sender flows) valid)
-    rules.path (length-map f.path (λ port. 0)) (no_classes f.path)
+    (is_sender topology (flow_sender f) is refl (no_branches f.path)
+    (All-cons IsPath f.path [] rules.path (All-nil IsPath))
+    (All-head (λ (s : Sender). IsTree topology s.ports s.branches) (flow_sender f) (map flow_sender flows) trees)
+    (length-map f.path (λ port. 0)) (no_classes f.path)
     (record { least = omega arith; ordered = rules.size.least; most = rules.size.most })
     (λ port positive. absurd (no_class f port positive)))
     (flows_are topology flows is (All-tail IsFlow f flows keep)
-    (All-tail (λ (s : Sender). IsValidPath topology s.path) (flow_sender f) (map flow_sender flows) valid))
+    (All-tail (λ (s : Sender). IsTree topology s.ports s.branches) (flow_sender f) (map flow_sender flows) trees))
 
 pub each_is_sender : EachIsSender
 each_is_sender network is =
-    let Goes : Sender → Type 0 = λ s. IsValidPath network.topology s.path in
+    let Goes : Sender → Type 0 = λ s. IsTree network.topology s.ports s.branches in
     let streams : List Sender = map stream_sender network.streams in
     let flows : List Sender = map flow_sender network.flows in
     All-append (IsSender network.topology) streams flows
-    (streams_are network.topology network.streams is.topology is.streams (all_left Goes streams flows is.paths))
-    (flows_are network.topology network.flows is.topology is.flows (all_right Goes streams flows is.paths))
+    (streams_are network.topology network.streams is.topology is.streams is.one_listener
+    (all_left Goes streams flows is.trees))
+    (flows_are network.topology network.flows is.topology is.flows (all_right Goes streams flows is.trees))
 
 -- the sender with a number keeps a sender's rules
 pub sender_keeps : (network : DeclaredNetwork) (n : ℕ) → IsNetwork network → n < length (senders_of network)

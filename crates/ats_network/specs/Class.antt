@@ -1,4 +1,6 @@
-use Rattle.std.specs.Prelude.{ℕ, ◌==◌, if◌then◌else◌, List, ◌∷◌, Option, Some, None}
+use Rattle.std.specs.Prelude.{ℕ, ◌==◌, if◌then◌else◌, List, [], ◌∷◌, Option, Some, None}
+use Rattle.std.specs.Option.{option_or}
+use Rattle.ats_streams.specs.Branches.{routes_of}
 use Rattle.ats_network.specs.Sender.{Sender}
 
 -- of classes that belong to the ports of a path, one by one, that of this port; 0 where the path does not have it
@@ -8,16 +10,22 @@ class_along port path classes = 0
 
 -- the class of a sender's frames at a port
 abbrev pub class_at : Sender → ℕ → ℕ
-class_at sender port = class_along port sender.path sender.classes
+class_at sender port = class_along port sender.ports sender.classes
 
 -- the port just before another one on a path, where the path has one before it
 abbrev pub before_along : ℕ → List ℕ → Option ℕ
 before_along port (p ∷ q ∷ path) = if q == port then Some p else before_along port (q ∷ path)
 before_along port path = None
 
--- the port just before another one on a sender's path; the first port of the path has none before it
+-- the port just before another one on the first of these routes on which it has one before it
+abbrev pub before_on : ℕ → List (List ℕ) → Option ℕ
+before_on port [] = None
+before_on port (route ∷ routes) = option_or (before_along port route) (before_on port routes)
+
+-- the port just before another one on a sender's routes, all of which come to a port in the same way; the first port of
+-- the trunk has none before it
 abbrev pub port_before : Sender → ℕ → Option ℕ
-port_before sender port = before_along port sender.path
+port_before sender port = before_on port (routes_of sender.ports sender.branches)
 
 -- what a port sees of a sender: its class there, its committed rate in bits per second, its committed burst in bits,
 -- and its least and greatest octets

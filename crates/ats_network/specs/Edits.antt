@@ -10,7 +10,8 @@ use Rattle.ats_network.specs.Tables.{stream_names}
 abbrev pub no_stream : DeclaredStream
 no_stream = record {
   name = [];
-  path = [];
+  ports = [];
+  branches = [];
   classes = [];
   rate = 0;
   burst_bits = 0;
@@ -20,11 +21,11 @@ no_stream = record {
   identity = None;
 }
 
--- streams, where the one with this number has this class at each port of its path
+-- streams, where the one with this number has this class at each of its ports
 abbrev pub classed : List DeclaredStream → ℕ → ℕ → List DeclaredStream
 classed streams n class = slice_set streams n (with_class (slice_index_or streams n no_stream) class)
 
--- the network, where the stream with this number has this class at each port of its path
+-- the network, where the stream with this number has this class at each of its ports
 abbrev pub with_class_at : DeclaredNetwork → ℕ → ℕ → DeclaredNetwork
 with_class_at network n class = record network { streams = classed network.streams n class }
 

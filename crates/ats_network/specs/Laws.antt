@@ -1,7 +1,10 @@
-use Rattle.std.specs.Prelude.{◌≡◌, ℕ, ◌<◌, List, length, slice_index_or, Some, None, All}
+use Rattle.std.specs.Prelude.{◌≡◌, ◌≢◌, ◌↔◌, ℕ, ◌<◌, ◌≤◌, List, [], ◌∷◌, length, slice_index_or, Some, None, All}
+use Rattle.std.specs.Prelude.{AllPairs}
 use Rattle.ats_topology.specs.Topology.{DeclaredTopology, IsTopology}
 use Rattle.ats_topology.specs.Walks.{IsLeastWalk, NoWalk}
-use Rattle.ats_network.specs.Path.{IsValidPath}
+use Rattle.ats_streams.specs.Branches.{AreBranches, routes_of}
+use Rattle.ats_streams.specs.declared.branch.Branch.{Branch}
+use Rattle.ats_network.specs.Path.{IsTree, IsValidPath}
 use Rattle.ats_network.specs.Bridges.{MeetAtBridge}
 use Rattle.ats_network.specs.Sender.{Sender}
 use Rattle.ats_network.specs.Class.{class_at}
@@ -13,10 +16,20 @@ use Rattle.ats_network.specs.Shortest.{shortest_of}
 abbrev pub EachIsSender : Type 0
 EachIsSender = (network : DeclaredNetwork) → IsNetwork network → All (IsSender network.topology) (senders_of network)
 
--- a sender's class at a port of its path is the class at the port's place on the path
+-- a sender's class at one of its ports is the class at the port's place among them
 abbrev pub ClassIsByHop : Type 0
-ClassIsByHop = (topology : DeclaredTopology) (s : Sender) (hop : ℕ) → IsSender topology s → hop < length s.path
-    → class_at s (slice_index_or s.path hop 0) ≡ slice_index_or s.classes hop 0
+ClassIsByHop = (topology : DeclaredTopology) (s : Sender) (hop : ℕ) → IsSender topology s → hop < length s.ports
+    → class_at s (slice_index_or s.ports hop 0) ≡ slice_index_or s.classes hop 0
+
+-- each route of a tree is a valid path
+abbrev pub EachRouteIsAPath : Type 0
+EachRouteIsAPath = (topology : DeclaredTopology) (ports : List ℕ) (branches : List Branch) → AreBranches ports branches
+    → IsTree topology ports branches → All (IsValidPath topology) (routes_of ports branches)
+
+-- ports without branches are a tree just where they are a valid path, and this path is the one route
+abbrev pub OneListenerIsAPath : Type 0
+OneListenerIsAPath = (topology : DeclaredTopology) (path : List ℕ)
+    → (IsTree topology path [] ↔ IsValidPath topology path) × (routes_of path [] ≡ path ∷ [])
 
 -- the ports of a valid path meet at bridges: each but the last leads to one, and each but the first leaves one
 abbrev pub PathsMeetAtBridges : Type 0
@@ -27,6 +40,27 @@ PathsMeetAtBridges = (topology : DeclaredTopology) (path : List ℕ) → IsTopol
 pub record IsShortest (topology : DeclaredTopology) (a b : ℕ) : Type 0 where
   pub least : (walk : List ℕ) → shortest_of topology a b ≡ Some walk → IsLeastWalk topology.ports a b walk
   pub none : shortest_of topology a b ≡ None → NoWalk topology.ports a b
+
+-- walks are, one by one, least walks from a node to these listeners, and valid paths
+abbrev pub AreLeast : DeclaredTopology → ℕ → List ℕ → List (List ℕ) → Type 0
+AreLeast topology talker [] [] = Unit {0}
+AreLeast topology talker (l ∷ listeners) (r ∷ walks) =
+    (IsLeastWalk topology.ports talker l r × IsValidPath topology r) × AreLeast topology talker listeners walks
+AreLeast topology talker listeners walks = ⊥
+
+-- these are the routes of a trunk and branches
+pub record MakesTree (topology : DeclaredTopology) (routes : List (List ℕ)) : Type 0 where
+  pub ports : List ℕ
+  pub branches : List Branch
+  pub are : AreBranches ports branches
+  pub tree : IsTree topology ports branches
+  pub routes_are : routes_of ports branches ≡ routes
+
+-- valid least walks from one station to different ones, 65,536 at most, are the routes of a trunk and branches
+abbrev pub LeastWalksMakeATree : Type 0
+LeastWalksMakeATree = (topology : DeclaredTopology) (talker l : ℕ) (listeners : List ℕ) (r : List ℕ)
+    (walks : List (List ℕ)) → IsTopology topology → AreLeast topology talker (l ∷ listeners) (r ∷ walks)
+    → AllPairs (λ a b. a ≢ b) (l ∷ listeners) → length (l ∷ listeners) ≤ 65536 → MakesTree topology (r ∷ walks)
 
 -- between two nodes of a topology, the walk that is computed is the least, and there is none only where no walk leads
 -- there

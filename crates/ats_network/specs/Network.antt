@@ -1,11 +1,11 @@
-use Rattle.std.specs.Prelude.{◌≡◌, ℕ, ◌≤◌, List, ◌++◌, length, map, Some, All, AllPairs}
+use Rattle.std.specs.Prelude.{◌≡◌, ℕ, ◌≤◌, List, [], ◌++◌, length, map, sum_by, Some, All, AllPairs}
 use Rattle.ats_topology.specs.Node.{AreApart}
 use Rattle.ats_topology.specs.Topology.{DeclaredTopology, IsTopology}
 use Rattle.ats_streams.specs.Stream.{DeclaredStream, IsStream}
 use Rattle.ats_streams.specs.Flow.{DeclaredFlow, IsFlow}
 use Rattle.ats_network.specs.Sender.{Sender, stream_sender, flow_sender}
-use Rattle.ats_network.specs.Path.{IsValidPath}
-use Rattle.ats_network.specs.declared.network.TheConstants.{MAX_STREAMS, MAX_FLOWS}
+use Rattle.ats_network.specs.Path.{IsTree}
+use Rattle.ats_network.specs.declared.network.TheConstants.{MAX_STREAMS, MAX_FLOWS, MAX_PORTS_TOGETHER}
 
 -- a network: nodes, links and ports, and the streams and flows that are declared over them
 pub record DeclaredNetwork : Type 0 where
@@ -34,13 +34,19 @@ pub record Share (s t : DeclaredStream) (identity : ℕ × ℕ) : Type 0 where
 abbrev pub AreIdentified : List DeclaredStream → Type 0
 AreIdentified streams = AllPairs (λ (s t : DeclaredStream). (identity : ℕ × ℕ) → ¬ Share s t identity) streams
 
--- what each network keeps
+-- the ports of streams, counted together
+abbrev pub ports_together : List DeclaredStream → ℕ
+ports_together streams = sum_by (λ (s : DeclaredStream). length s.ports) streams
+
+-- what each network keeps; as long as runs know of no branch, no stream has one
 pub record IsNetwork (network : DeclaredNetwork) : Type 0 where
   pub topology : IsTopology network.topology
   pub streams : All IsStream network.streams
   pub flows : All IsFlow network.flows
-  pub paths : All (λ (s : Sender). IsValidPath network.topology s.path) (senders_of network)
+  pub trees : All (λ (s : Sender). IsTree network.topology s.ports s.branches) (senders_of network)
   pub names : AreApart (names_of (senders_of network))
   pub identities : AreIdentified network.streams
   pub few_streams : length network.streams ≤ MAX_STREAMS
   pub few_flows : length network.flows ≤ MAX_FLOWS
+  pub few_ports : ports_together network.streams ≤ MAX_PORTS_TOGETHER
+  pub one_listener : All (λ (s : DeclaredStream). s.branches ≡ []) network.streams

@@ -1,4 +1,6 @@
-use Rattle.std.specs.Prelude.{ℕ, ◌≢◌, List, [], ◌∷◌, map, AllPairs}
+use Rattle.std.specs.Prelude.{ℕ, ◌+◌, ◌<◌, ◌≢◌, List, [], ◌∷◌, length, map, AllPairs, slice_index_or}
+use Rattle.ats_streams.specs.Branches.{leg_at, legs_of, no_branch}
+use Rattle.ats_streams.specs.declared.branch.Branch.{Branch}
 use Rattle.ats_topology.specs.Port.{port_at}
 use Rattle.ats_topology.specs.Topology.{DeclaredTopology, IsStationAt}
 use Rattle.ats_topology.specs.Walks.{IsWalk}
@@ -19,3 +21,21 @@ pub record IsValidPath (topology : DeclaredTopology) (path : List ℕ) : Type 0 
   pub ends : IsStationAt topology listener
   pub differ : talker ≢ listener
   pub apart : AllPairs (λ a b. a ≢ b) (nodes_along topology.ports path)
+
+-- the node where a branch begins: the one that the port of its hop leaves
+abbrev pub node_of_branch : List Port → List (List ℕ) → Branch → ℕ
+node_of_branch ports legs b = (port_at ports (slice_index_or (leg_at legs b.leg) b.hop 0)).from
+
+-- a branch leads, along these ports, from the node where it begins to a station
+pub record IsBranch (topology : DeclaredTopology) (legs : List (List ℕ)) (b : Branch) (path : List ℕ) : Type 0 where
+  pub listener : ℕ
+  pub walk : IsWalk topology.ports (node_of_branch topology.ports legs b) listener path
+  pub ends : IsStationAt topology listener
+
+-- legs make a tree: the trunk is a valid path, each branch leads from the node where it begins to a station, and no
+-- node occurs twice among those of the trunk and those to which the ports of branches lead
+pub record IsTree (topology : DeclaredTopology) (ports : List ℕ) (branches : List Branch) : Type 0 where
+  pub trunk : IsValidPath topology (leg_at (legs_of ports branches) 0)
+  pub each : (n : ℕ) → n < length branches → IsBranch topology (legs_of ports branches)
+      (slice_index_or branches n no_branch) (leg_at (legs_of ports branches) (1 + n))
+  pub apart : AllPairs (λ a b. a ≢ b) (nodes_along topology.ports ports)

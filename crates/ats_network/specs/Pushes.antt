@@ -1,11 +1,12 @@
-use Rattle.std.specs.Prelude.{ℕ, Bool, false, ◌&&◌, ◌==◌, nat_le, if◌then◌else◌, List, [], ◌∷◌, ◌++◌, length}
+use Rattle.std.specs.Prelude.{ℕ, ◌+◌, Bool, false, ◌&&◌, ◌||◌, ◌==◌, nat_le, nat_lt, if◌then◌else◌, List, [], ◌∷◌}
+use Rattle.std.specs.Prelude.{◌++◌, length}
 use Rattle.std.specs.Prelude.{Option, Some, None, is_some}
 use Rattle.std.specs.List.{position_from}
 use Rattle.ats_num.specs.Places.{place_of}
 use Rattle.ats_streams.specs.Stream.{DeclaredStream}
 use Rattle.ats_streams.specs.Flow.{DeclaredFlow}
-use Rattle.ats_network.specs.Network.{DeclaredNetwork, declared_network, senders_of, names_of}
-use Rattle.ats_network.specs.declared.network.TheConstants.{MAX_STREAMS, MAX_FLOWS}
+use Rattle.ats_network.specs.Network.{DeclaredNetwork, declared_network, senders_of, names_of, ports_together}
+use Rattle.ats_network.specs.declared.network.TheConstants.{MAX_STREAMS, MAX_FLOWS, MAX_PORTS_TOGETHER}
 use Rattle.ats_network.specs.declared.fault.PushFault.{PushFault}
 use Rattle.ats_network.specs.declared.fault.PushFault.TheVariants.{NameTaken, IdentityTaken, Limit}
 
@@ -39,13 +40,18 @@ abbrev pub is_identity_taken : List DeclaredStream → Option (ℕ × ℕ) → B
 is_identity_taken streams None = false
 is_identity_taken streams (Some identity) = is_some (place_identified identity streams)
 
--- why a stream can't be added, if it can't: its name is taken, then its identity, then as many streams as may be are
--- there
+-- there is no room for one more stream with these ports: there are as many streams as may be, or with it they would
+-- have more ports together than they may
+abbrev pub is_full : List DeclaredStream → List ℕ → Bool
+is_full streams ports =
+    nat_le MAX_STREAMS (length streams) || nat_lt MAX_PORTS_TOGETHER (ports_together streams + length ports)
+
+-- why a stream can't be added, if it can't: its name is taken, then its identity, then there is no room for it
 abbrev pub stream_push_fault : DeclaredNetwork → DeclaredStream → Option PushFault
 stream_push_fault network stream =
     if is_name_taken network stream.name then Some NameTaken
     else if is_identity_taken network.streams stream.identity then Some IdentityTaken
-    else if nat_le MAX_STREAMS (length network.streams) then Some Limit
+    else if is_full network.streams stream.ports then Some Limit
     else None
 
 -- why a flow can't be added, if it can't: its name is taken, then as many flows as may be are there

@@ -2,12 +2,13 @@ use Rattle.std.specs.Prelude.{◌≡◌, ◌≢◌, ℕ, ◌≤◌, List, [], �
 use Rattle.ats_num.specs.declared.wire.TheConstants.{MIN_OCTETS}
 use Rattle.ats_streams.specs.Rules.{AreSizes, KeepsRules}
 use Rattle.ats_streams.specs.Path.{IsPath}
+use Rattle.ats_streams.specs.Branches.{AreBranches, routes_of}
 use Rattle.ats_streams.specs.declared.stream.TheConstants.{MAX_CLASS}
 use Rattle.ats_topology.specs.Topology.{DeclaredTopology}
 use Rattle.ats_topology.specs.Walks.{ArePorts}
 use Rattle.ats_network.specs.Sender.{Sender}
 use Rattle.ats_network.specs.Class.{class_at}
-use Rattle.ats_network.specs.Path.{IsValidPath}
+use Rattle.ats_network.specs.Path.{IsTree, IsValidPath}
 use Rattle.ats_network.specs.Bridges.{MeetAtBridge}
 use Rattle.ats_network.specs.Network.{DeclaredNetwork, senders_of}
 
@@ -15,7 +16,8 @@ use Rattle.ats_network.specs.Network.{DeclaredNetwork, senders_of}
 abbrev pub no_sender : Sender
 no_sender = record {
   name = [];
-  path = [];
+  ports = [];
+  branches = [];
   classes = [];
   rate = 0;
   burst_bits = 0;
@@ -33,16 +35,21 @@ AllNeighbours R [] = Unit {0}
 AllNeighbours R (p ∷ []) = Unit {0}
 AllNeighbours R (p ∷ q ∷ path) = R p q × AllNeighbours R (q ∷ path)
 
--- what each sender of a network keeps: a valid path of 1 to 16 different ports of the topology that meet at bridges, a
--- class of at most 7 for each of them, and sizes of frames; and, where its class at a port is not 0, a rate and a burst
--- as a declared stream has them
+-- what each sender of a network keeps: legs that make a tree of different ports of the topology, routes of 1 to 16
+-- ports, a class of at most 7 for each port, and sizes of frames; and, where its class at a port is not 0, a rate and a
+-- burst as a declared stream has them. As yet each sender has one listener, so its ports are a valid path, and they
+-- meet at bridges
 pub record IsSender (topology : DeclaredTopology) (sender : Sender) : Type 0 where
-  pub path : IsPath sender.path
-  pub valid : IsValidPath topology sender.path
-  pub ports : ArePorts topology.ports sender.path
-  pub apart : AllPairs (λ p q. p ≢ q) sender.path
-  pub bridges : AllNeighbours (MeetAtBridge topology) sender.path
-  pub each_port : length sender.classes ≡ length sender.path
+  pub branches : AreBranches sender.ports sender.branches
+  pub routes : All IsPath (routes_of sender.ports sender.branches)
+  pub tree : IsTree topology sender.ports sender.branches
+  pub ports : ArePorts topology.ports sender.ports
+  pub apart : AllPairs (λ p q. p ≢ q) sender.ports
+  pub one_listener : sender.branches ≡ []
+  pub path : IsPath sender.ports
+  pub valid : IsValidPath topology sender.ports
+  pub bridges : AllNeighbours (MeetAtBridge topology) sender.ports
+  pub each_port : length sender.classes ≡ length sender.ports
   pub classes : All (λ class. class ≤ MAX_CLASS) sender.classes
   pub sizes : AreSizes sender.min_octets sender.max_octets
   pub shaped : (port : ℕ) → 1 ≤ class_at sender port

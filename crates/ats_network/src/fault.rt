@@ -11,7 +11,7 @@ pub enum PushFault {
     NameTaken,
     /// A stream of the network has the destination address and VLAN identifier. No flow is refused so.
     IdentityTaken,
-    /// As many streams, or flows, are there as a network may have.
+    /// As many streams, or flows, are there as a network may have, or the streams would have more ports together.
     Limit,
 }
 

@@ -1,16 +1,28 @@
 //! Laws of the definitions.
 
-ghost use Rattle.ats_network.specs.Laws.{ClassIsByHop, EachIsSender, PathsMeetAtBridges, ShortestIsLeast};
+ghost use Rattle.ats_network.specs.Laws.{ClassIsByHop, EachIsSender, EachRouteIsAPath, OneListenerIsAPath};
+ghost use Rattle.ats_network.specs.Laws.{LeastWalksMakeATree, PathsMeetAtBridges, ShortestIsLeast};
 
 /// A law: each sender of a network keeps a sender's rules.
 pub fn each_is_sender()
     ensures { EachIsSender }
 {}
 
-/// A law: a sender's class at a port of its path is the class at the port's place on the path, since
-/// a path has no port twice.
+/// A law: a sender's class at one of its ports is the class at the port's place among them, since
+/// no port is there twice.
 pub fn class_is_by_hop()
     ensures { ClassIsByHop }
+{}
+
+/// A law: each route of a tree is a valid path.
+pub fn each_route_is_a_path()
+    ensures { EachRouteIsAPath }
+{}
+
+/// A law: ports without branches are a tree just where they are a valid path, and this path is the one route. So with
+/// one listener each, a network is what it is without branches.
+pub fn one_listener_is_a_path()
+    ensures { OneListenerIsAPath }
 {}
 
 /// A law: each port of a valid path but the last leads to a bridge, and each but the first leaves one.
@@ -21,4 +33,9 @@ pub fn paths_meet_at_bridges()
 /// A law: the walk that `shortest_of` computes is the least, and where it computes none, no walk leads there.
 pub fn shortest_is_least()
     ensures { ShortestIsLeast }
+{}
+
+/// A law: valid least walks from one station to different ones are the routes of a trunk and branches.
+pub fn least_walks_make_a_tree()
+    ensures { LeastWalksMakeATree }
 {}

@@ -4,16 +4,17 @@ ghost use Rattle.std.specs.Prelude.{◌≡◌, ◌↔◌, ◌<◌, ◌≤◌, []
 ghost use Rattle.std.specs.Prelude.{OnErr, nat_lt, slice_index_or};
 ghost use Rattle.ats_num.specs.Failure.{IsDue};
 ghost use Rattle.ats_num.specs.Places.{place_of};
+ghost use Rattle.ats_streams.specs.Branches.{leg_at, legs_of};
 ghost use Rattle.ats_streams.specs.Rules.{CoversLongest, IsBurst};
 ghost use Rattle.ats_streams.specs.Stream.{IsClass};
-ghost use Rattle.ats_network.specs.Network.{IsNetwork, declared_network, senders_of, names_of};
-ghost use Rattle.ats_network.specs.Path.{IsValidPath};
+ghost use Rattle.ats_network.specs.Network.{IsNetwork, declared_network, senders_of, names_of, ports_together};
+ghost use Rattle.ats_network.specs.Path.{IsTree, IsValidPath};
 ghost use Rattle.ats_network.specs.Class.{class_at};
 ghost use Rattle.ats_network.specs.Senders.{IsSender, sender_at};
 ghost use Rattle.ats_network.specs.SenderView.{sender_of, is_stream};
 ghost use Rattle.ats_network.specs.Residence.{residence_after, leads_to_station};
 ghost use Rattle.ats_network.specs.Pushes.{with_stream, with_flow, place_identified, is_identity_taken};
-ghost use Rattle.ats_network.specs.Pushes.{stream_push_fault, flow_push_fault};
+ghost use Rattle.ats_network.specs.Pushes.{is_full, stream_push_fault, flow_push_fault};
 ghost use Rattle.ats_network.specs.Edits.{IsLess, no_stream, with_burst_at, with_class_at, stream_named, without_named};
 
 use crate::fault::PushFault;
@@ -33,9 +34,12 @@ pub const MAX_STREAMS: usize = 4096;
 /// The most flows of a network.
 pub const MAX_FLOWS: usize = 1024;
 
+/// The most ports of all streams of a network, counted together.
+pub const MAX_PORTS_TOGETHER: usize = 65_536;
+
 /// A network: nodes and links with their ports, and the streams and flows that are declared over
-/// them. Each stream and flow has a valid path and a name of its own, and no two streams declare
-/// one destination address and VLAN identifier. The streams in their order and then the flows in
+/// them. Each flow has a valid path, the legs of each stream make a tree, each has a name of its own, and no two
+/// streams declare one destination address and VLAN identifier. The streams in their order and then the flows in
 /// theirs are the senders, numbered from 0. Contracts see the topology and the two lists.
 #[derive(Drop)]
 pub struct Network {
@@ -137,25 +141,46 @@ impl Network {
         Sender::Flow(&self.flow_table.as_slice()[place - streams.len()])
     }
 
-    /// The numbers of the ports of a sender's path, in order.
-    pub fn sender_path(&self, sender: u32) -> &[u32]
+    /// The numbers of a sender's ports: of its trunk, and then of each branch.
+    pub fn sender_ports(&self, sender: u32) -> &[u32]
         requires { sender < length (senders_of self.now) }
-        ensures value { result.now ≡ (sender_at self.now sender).path }
+        ensures value { result.now ≡ (sender_at self.now sender).ports }
         ensures rules { IsNetwork self.now }
     {
-        self.sender(sender).path()
+        self.sender(sender).ports()
     }
 
-    /// A sender's class at one hop of its path, counted from 0: 1 to 7 for a stream, 0 for a flow. A
-    /// path has no port twice, so it is the sender's class at the port of this hop.
-    pub fn sender_class(&self, sender: u32, hop: u32) -> u8
-        requires { (sender < length (senders_of self.now)) × (hop < length (sender_at self.now sender).path) }
-        ensures value { result ≡ slice_index_or (sender_at self.now sender).classes hop 0 }
-        ensures port { result ≡ class_at (sender_at self.now sender)
-            (slice_index_or (sender_at self.now sender).path hop 0) }
+    /// The number of a sender's legs, and of its listeners: of its trunk and its branches.
+    pub fn sender_legs(&self, sender: u32) -> u32
+        requires { sender < length (senders_of self.now) }
+        ensures value { result
+            ≡ length (legs_of (sender_at self.now sender).ports (sender_at self.now sender).branches) }
         ensures rules { IsNetwork self.now }
     {
-        self.sender(sender).class_at_hop(hop)
+        self.sender(sender).legs()
+    }
+
+    /// The numbers of the ports of one leg of a sender, counted from 0: of its trunk, and then of each branch.
+    pub fn sender_leg(&self, sender: u32, leg: u32) -> &[u32]
+        requires sender { sender < length (senders_of self.now) }
+        requires leg { leg ≤ length (sender_at self.now sender).branches }
+        ensures value { result.now
+            ≡ leg_at (legs_of (sender_at self.now sender).ports (sender_at self.now sender).branches) leg }
+        ensures rules { IsNetwork self.now }
+    {
+        self.sender(sender).leg(leg)
+    }
+
+    /// A sender's class at one of its ports, by the port's place among them, counted from 0: 1 to 7 for a stream, 0 for
+    /// a flow. No port is there twice, so it is the sender's class at this port.
+    pub fn sender_class(&self, sender: u32, place: u32) -> u8
+        requires { (sender < length (senders_of self.now)) × (place < length (sender_at self.now sender).ports) }
+        ensures value { result ≡ slice_index_or (sender_at self.now sender).classes place 0 }
+        ensures port { result ≡ class_at (sender_at self.now sender)
+            (slice_index_or (sender_at self.now sender).ports place 0) }
+        ensures rules { IsNetwork self.now }
+    {
+        self.sender(sender).class_at_place(place)
     }
 
     /// A sender's name.
@@ -193,16 +218,19 @@ impl Network {
         }
     }
 
-    /// Adds a stream with a valid path as the last of the streams, of which there may be 4096. All else stays.
+    /// Adds a stream whose legs make a tree as the last of the streams, of which there may be 4096, with 65,536 ports
+    /// together. All else stays. As yet the stream has no branch.
     ///
     /// # Errors
     ///
     /// The network stays as it was. The first of these, in this order: `NameTaken` exactly where a
     /// stream or a flow has the name; `IdentityTaken` exactly where a stream has the same
-    /// destination address and VLAN identifier; `Limit` exactly where 4096 streams are there;
-    /// `Failure::NoMemory` where memory runs out.
+    /// destination address and VLAN identifier; `Limit` exactly where 4096 streams are there, or
+    /// where their ports and those of the new one are more than 65,536; `Failure::NoMemory` where
+    /// memory runs out.
     pub fn push_stream(&mut self, stream: Stream) -> Result<(), Failure<PushFault>>
-        requires { IsValidPath self.old.topology stream.path }
+        requires tree { IsTree self.old.topology stream.ports stream.branches }
+        requires one_listener { stream.branches ≡ [] }
         ensures ok { OnOk result (self.new ≡ with_stream self.old stream) }
         ensures sound { OnOk result (stream_push_fault self.old stream ≡ None) }
         ensures fault { IfErr result (λ fault. IsDue fault (stream_push_fault self.old stream)) }
@@ -215,14 +243,14 @@ impl Network {
         if self.is_identity_taken(stream.identity()) {
             return Err(Failure::Fault(PushFault::IdentityTaken));
         }
-        if self.streams().len() >= MAX_STREAMS {
+        if self.is_full(stream.ports()) {
             return Err(Failure::Fault(PushFault::Limit));
         }
         self.stream_table.push(stream)?;
         Ok(())
     }
 
-    /// Sets a stream's class at each port of its path. All else stays, and it takes no memory.
+    /// Sets a stream's class at each of its ports. All else stays, and it takes no memory.
     pub fn set_class(&mut self, stream: u32, class: u8)
         requires stream { stream < length self.old.streams }
         requires class { IsClass class }
@@ -279,6 +307,14 @@ impl Network {
         Ok(())
     }
 
+    // Whether there is no room for one more stream with these ports.
+    fn is_full(&self, ports: &[u32]) -> bool
+        ensures { result ≡ is_full self.now.streams ports.now }
+    {
+        let streams = self.streams();
+        streams.len() >= MAX_STREAMS || ports.len() > MAX_PORTS_TOGETHER - ports_of(streams)
+    }
+
     // Whether an identity is given, and one of the streams has it.
     fn is_identity_taken(&self, identity: Option<(u64, u16)>) -> bool
         ensures { result ≡ is_identity_taken self.now.streams identity }
@@ -288,4 +324,16 @@ impl Network {
             None => false,
         }
     }
+}
+
+// The ports of streams, counted together.
+fn ports_of(streams: &[Stream]) -> usize
+    requires { ports_together streams.now ≤ MAX_PORTS_TOGETHER }
+    ensures { result ≡ ports_together streams.now }
+{
+    let mut ports = 0;
+    for stream in streams {
+        ports += stream.ports().len();
+    }
+    ports
 }

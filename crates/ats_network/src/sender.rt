@@ -1,6 +1,7 @@
 //! A sender: a stream or a flow.
 
-ghost use Rattle.std.specs.Prelude.{◌≡◌, ◌<◌, length, slice_index_or};
+ghost use Rattle.std.specs.Prelude.{◌≡◌, ◌<◌, ◌≤◌, length, slice_index_or};
+ghost use Rattle.ats_streams.specs.Branches.{leg_at, legs_of};
 ghost use Rattle.ats_streams.specs.Traffic.{is_declared_size};
 ghost use Rattle.ats_network.specs.Sender.{declared_of};
 ghost use Rattle.ats_network.specs.SenderView.{sender_of, is_stream, deadline_of};
@@ -39,23 +40,46 @@ impl<'a> Sender<'a> {
         }
     }
 
-    /// The numbers of the ports of its path, in order.
-    pub fn path(&self) -> &'a [u32]
-        ensures { result.now ≡ (sender_of self.now).path }
+    /// The numbers of its ports: of a stream those of the trunk, and then those of each branch; of a flow those of its
+    /// path.
+    pub fn ports(&self) -> &'a [u32]
+        ensures { result.now ≡ (sender_of self.now).ports }
     {
         match self {
-            Sender::Stream(stream) => stream.path(),
+            Sender::Stream(stream) => stream.ports(),
             Sender::Flow(flow) => flow.path(),
         }
     }
 
-    /// Its class at one hop of its path, counted from 0: 1 to 7 for a stream, 0 for a flow.
-    pub fn class_at_hop(&self, hop: u32) -> u8
-        requires { hop < length (sender_of self.now).path }
-        ensures { result ≡ slice_index_or (sender_of self.now).classes hop 0 }
+    /// The number of its legs, and of its listeners: of its trunk and its branches. A flow has one.
+    pub fn legs(&self) -> u32
+        ensures { result ≡ length (legs_of (sender_of self.now).ports (sender_of self.now).branches) }
     {
         match self {
-            Sender::Stream(stream) => stream.classes()[hop as usize],
+            Sender::Stream(stream) => stream.legs(),
+            Sender::Flow(_) => 1,
+        }
+    }
+
+    /// The numbers of the ports of one leg, counted from 0: of the trunk, and then of each branch.
+    pub fn leg(&self, leg: u32) -> &'a [u32]
+        requires { leg ≤ length (sender_of self.now).branches }
+        ensures { result.now ≡ leg_at (legs_of (sender_of self.now).ports (sender_of self.now).branches) leg }
+    {
+        match self {
+            Sender::Stream(stream) => stream.leg(leg),
+            Sender::Flow(flow) => flow.path(),
+        }
+    }
+
+    /// Its class at one of its ports, by the port's place among them, counted from 0: 1 to 7 for a stream, 0 for a
+    /// flow.
+    pub fn class_at_place(&self, place: u32) -> u8
+        requires { place < length (sender_of self.now).ports }
+        ensures { result ≡ slice_index_or (sender_of self.now).classes place 0 }
+    {
+        match self {
+            Sender::Stream(stream) => stream.classes()[place as usize],
             Sender::Flow(_) => 0,
         }
     }

@@ -98,7 +98,7 @@ impl StreamTable {
         Ok(())
     }
 
-    /// Sets a stream's class at each port of its path. All else stays.
+    /// Sets a stream's class at each of its ports. All else stays.
     pub(crate) fn set_class(&mut self, stream: u32, class: u8)
         requires stream { stream < length self.old }
         requires class { IsClass class }

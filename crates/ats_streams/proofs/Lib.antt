@@ -1,1 +1,4 @@
+pub mod BranchLemmas
+pub mod RouteLemmas
+pub mod OneListener
 pub mod ClassLemmas

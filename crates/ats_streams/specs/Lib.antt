@@ -1,5 +1,6 @@
 pub mod Fault
 pub mod Path
+pub mod Branches
 pub mod Stream
 pub mod Flow
 pub mod Rules

@@ -3,6 +3,7 @@
 ghost use Rattle.std.specs.Prelude.{◌≡◌, Some};
 ghost use Rattle.ats_streams.specs.Fault.{text_of};
 
+use ats_num::Fault;
 use std::error::Error;
 use std::fmt;
 
@@ -17,7 +18,7 @@ pub enum StreamFault {
     BadSizes,
     /// The burst is below the wire bits of the longest frame.
     BurstBelowFrame,
-    /// A limit is passed: a path of 1 to 16 ports, a burst of at most 1,000,000,000 bits, a deadline of 1 ns to 1 s.
+    /// A limit is passed: routes of 1 to 16 ports, a burst of at most 1,000,000,000 bits, a deadline of 1 ns to 1 s.
     Limit,
 }
 
@@ -35,6 +36,8 @@ impl StreamFault {
         }
     }
 }
+
+impl Fault for StreamFault {}
 
 impl fmt::Display for StreamFault {
     ghost output = { λ fault. Some (text_of fault) };

@@ -1,6 +1,7 @@
 //! Declared streams and flows, and the rules that they keep.
 #![tactic(auto)]
 
+pub mod branch;
 pub mod classes;
 pub mod fault;
 pub mod flow;
@@ -10,6 +11,7 @@ pub mod rules;
 pub mod stream;
 pub mod traffic;
 
+pub use branch::Branch;
 pub use fault::StreamFault;
 pub use flow::Flow;
 pub use rules::{are_sizes, covers_longest, is_burst, is_frame_size, keeps_rules};

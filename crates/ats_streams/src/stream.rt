@@ -1,21 +1,24 @@
 //! Declared streams.
 
-ghost use Rattle.std.specs.Prelude.{◌≡◌, ◌↔◌, ◌*◌, length, IsTrue, IsNone, IfOk};
-ghost use Rattle.std.specs.Result.{result_err};
+ghost use Rattle.std.specs.Prelude.{◌≡◌, ◌↔◌, ◌*◌, ◌+◌, ◌-◌, ◌<◌, ◌≤◌, length, IsTrue, IsNone, IfOk, IfErr, OnOk, None};
+ghost use Rattle.std.specs.Prelude.{All, slice_index_or};
+ghost use Rattle.ats_num.specs.Failure.{IsDue};
 ghost use Rattle.ats_num.specs.Rate.{IsRate};
 ghost use Rattle.ats_num.specs.declared.time.TheConstants.{PS_PER_NS};
 ghost use Rattle.ats_streams.specs.Rules.{CoversLongest, IsBurst, KeepsRules};
 ghost use Rattle.ats_streams.specs.Path.{IsPath};
-ghost use Rattle.ats_streams.specs.Stream.{IsDeadline, IsIdentity, MayIdentify, IsStream, declared_stream};
+ghost use Rattle.ats_streams.specs.Branches.{AreBranches, leg_at, legs_of, no_branch, routes_of};
+ghost use Rattle.ats_streams.specs.Stream.{IsDeadline, IsIdentity, MayIdentify, IsStream, branching_stream};
 ghost use Rattle.ats_streams.specs.Stream.{IsClass, classes_for, with_burst, with_class, limit_fault, stream_fault};
 ghost use Rattle.ats_streams.specs.Traffic.{IsRuled, traffic_of};
 
+use crate::branch::{Branch, has_bad_route, leg_of};
 use crate::classes::{are_bad_classes, classes_for};
 use crate::fault::StreamFault;
-use crate::path::is_path;
 use crate::traffic::Declared;
 use ats_num::time::PS_PER_NS;
-use ats_num::{Name, Ps, Rate};
+use ats_num::{Failure, Name, Ps, Rate};
+use std::alloc::Global;
 use std::marker::Model;
 
 /// The highest class of a stream.
@@ -39,47 +42,50 @@ pub fn is_identity(address: u64, vlan: u16) -> bool
 #[derive(Debug, Drop)]
 pub struct Stream {
     name: Name,
-    path: Vec<u32>,
-    classes: [u8; 16],
+    ports: Vec<u32>,
+    branches: Vec<Branch>,
+    classes: Vec<u8>,
     declared: Declared,
     deadline_ns: u64,
     identity: Option<(u64, u16)>,
 }
 
 impl Model for Stream {
-    ghost use Rattle.std.specs.Prelude.{length, take};
-    ghost use Rattle.ats_streams.specs.Stream.{DeclaredStream, IsStream, HasZerosBehind, declared_stream};
+    ghost use Rattle.ats_streams.specs.Stream.{DeclaredStream, IsStream, branching_stream};
 
     ghost Value = { DeclaredStream };
 
-    ghost view = { λ s. declared_stream s.name s.path.items (take (length s.path.items) s.classes) s.declared.rate
+    ghost view = { λ s. branching_stream s.name s.ports.items s.branches.items s.classes.items s.declared.rate
         s.declared.burst_bits s.declared.min_octets s.declared.max_octets s.deadline_ns s.identity };
 
-    ghost invariant = { λ s. IsStream (declared_stream s.name s.path.items (take (length s.path.items) s.classes)
-        s.declared.rate s.declared.burst_bits s.declared.min_octets s.declared.max_octets s.deadline_ns s.identity)
-        × HasZerosBehind (length s.path.items) s.classes };
+    ghost invariant = { λ s. IsStream (branching_stream s.name s.ports.items s.branches.items s.classes.items
+        s.declared.rate s.declared.burst_bits s.declared.min_octets s.declared.max_octets s.deadline_ns s.identity) };
 }
 
 impl Stream {
-    /// The stream with this name, the ports of its path, its class at each of them, its rate in bits
-    /// per second, its burst in bits, its least and greatest octets counted with the frame check
-    /// sequence, its deadline in nanoseconds, and the destination address and VLAN identifier of its
-    /// frames, where they are declared. It holds exactly these, and takes no memory. Of the classes,
-    /// a single one stands for each port; else each port has its own, in the order of the path.
+    /// The stream with this name, its ports, those of the trunk first and then those of each branch, its branches, its
+    /// class at each port, its rate in bits per second, its burst in bits, its least and greatest octets counted with
+    /// the frame check sequence, its deadline in nanoseconds, and the destination address and VLAN identifier of its
+    /// frames, where they are declared. It holds exactly these. Of the classes, a single one stands for each port; else
+    /// each port has its own, in the order of the ports.
     ///
-    /// An address that is given has 48 bits, and its VLAN identifier is 1 to 4094; `is_identity` tests it.
+    /// The ports of branches begin at places that ascend, each leg has a port, and each branch begins at a hop, other
+    /// than the first, of an earlier leg. An address that is given has 48 bits, and its VLAN identifier is 1 to 4094;
+    /// `is_identity` tests it.
     ///
     /// # Errors
     ///
     /// The first of these, in this order: `BadClass` where a class is not 1 to 7, or where there are
-    /// neither one class nor as many as the path has ports; `BadRate` where the rate is not 1 to
+    /// neither one class nor as many as there are ports; `BadRate` where the rate is not 1 to
     /// 100,000,000,000; `BadSizes` where the sizes are not `64 <= min_octets <= max_octets <= 2000`;
     /// `BurstBelowFrame` where the burst is below the wire bits of `max_octets`; `Limit` where the
-    /// path has no port or more than 16, the burst is over 1,000,000,000, or the deadline is not 1 to
-    /// 1,000,000,000.
+    /// route to a listener has no port or more than 16, the burst is over 1,000,000,000, or the deadline is not 1 to
+    /// 1,000,000,000. `Failure::NoMemory` where memory runs out.
     pub fn new(
+        alloc: Global,
         name: Name,
-        path: Vec<u32>,
+        ports: Vec<u32>,
+        branches: Vec<Branch>,
         classes: &[u64],
         rate_bps: u64,
         burst_bits: u64,
@@ -87,27 +93,32 @@ impl Stream {
         max_octets: u64,
         deadline_ns: u64,
         identity: Option<(u64, u16)>,
-    ) -> Result<Self, StreamFault>
-        requires { MayIdentify identity }
-        ensures fault { result_err result ≡ stream_fault classes.now (declared_stream name path.items
-            (classes_for (length path.items) classes.now) rate_bps burst_bits min_octets max_octets deadline_ns
+    ) -> Result<Self, Failure<StreamFault>>
+        requires branches { AreBranches ports.items branches.items }
+        requires identity { MayIdentify identity }
+        ensures value { IfOk result (λ stream. stream ≡ branching_stream name ports.items branches.items
+            (classes_for (length ports.items) classes.now) rate_bps burst_bits min_octets max_octets deadline_ns
             identity) }
-        ensures value { IfOk result (λ stream. stream ≡ declared_stream name path.items
-            (classes_for (length path.items) classes.now) rate_bps burst_bits min_octets max_octets deadline_ns
-            identity) }
+        ensures sound { OnOk result (stream_fault classes.now (branching_stream name ports.items branches.items
+            (classes_for (length ports.items) classes.now) rate_bps burst_bits min_octets max_octets deadline_ns
+            identity) ≡ None) }
+        ensures fault { IfErr result (λ fault. IsDue fault (stream_fault classes.now (branching_stream name ports.items
+            branches.items (classes_for (length ports.items) classes.now) rate_bps burst_bits min_octets max_octets
+            deadline_ns identity))) }
         ensures rules { IfOk result IsStream }
     {
-        if are_bad_classes(path.len(), classes) {
-            return Err(StreamFault::BadClass);
+        if are_bad_classes(ports.len(), classes) {
+            return Err(Failure::Fault(StreamFault::BadClass));
         }
         let declared = Declared::new(rate_bps, burst_bits, min_octets, max_octets)?;
-        if let Some(fault) = limit_fault(&path, deadline_ns) {
-            return Err(fault);
+        if let Some(fault) = limit_fault(&ports, &branches, deadline_ns) {
+            return Err(Failure::Fault(fault));
         }
-        let classes = classes_for(path.len(), classes);
+        let classes = classes_for(alloc, ports.len(), classes)?;
         Ok(Stream {
             name,
-            path,
+            ports,
+            branches,
             classes,
             declared,
             deadline_ns,
@@ -122,20 +133,48 @@ impl Stream {
         self.name
     }
 
-    /// The numbers of the ports of its path, in order. The clause `rules` tells all that a stream keeps.
-    pub fn path(&self) -> &[u32]
-        ensures value { result.now ≡ self.now.path }
+    /// The numbers of its ports: those of the trunk, and then those of each branch. The clause `rules` tells all that a
+    /// stream keeps.
+    pub fn ports(&self) -> &[u32]
+        ensures value { result.now ≡ self.now.ports }
         ensures rules { IsStream self.now }
     {
-        self.path.as_slice()
+        self.ports.as_slice()
     }
 
-    /// Its class at each port of its path, from 1 to 7, in the order of the path.
+    /// The number of its legs, and of its listeners: of the trunk and the branches.
+    pub fn legs(&self) -> u32
+        ensures value { result ≡ 1 + length self.now.branches }
+        ensures listeners { result ≡ length (legs_of self.now.ports self.now.branches) }
+        ensures rules { IsStream self.now }
+    {
+        self.branches.len() as u32 + 1
+    }
+
+    /// The numbers of the ports of one leg, counted from 0: of the trunk, and then of each branch.
+    pub fn leg(&self, leg: u32) -> &[u32]
+        requires { leg ≤ length self.now.branches }
+        ensures value { result.now ≡ leg_at (legs_of self.now.ports self.now.branches) leg }
+        ensures rules { IsStream self.now }
+    {
+        leg_of(&self.ports, &self.branches, leg as usize)
+    }
+
+    /// The branch that is a leg, 1 or more.
+    pub fn branch(&self, leg: u32) -> Branch
+        requires { (1 ≤ leg) × (leg ≤ length self.now.branches) }
+        ensures value { result ≡ slice_index_or self.now.branches (leg - 1) no_branch }
+        ensures rules { IsStream self.now }
+    {
+        self.branches[leg as usize - 1]
+    }
+
+    /// Its class at each of its ports, from 1 to 7, in the order of the ports.
     pub fn classes(&self) -> &[u8]
         ensures value { result.now ≡ self.now.classes }
         ensures rules { IsStream self.now }
     {
-        &self.classes[..self.path.len()]
+        self.classes.as_slice()
     }
 
     /// Its committed rate and burst, and the least and greatest octets of its frames.
@@ -203,12 +242,12 @@ impl Stream {
         self.identity
     }
 
-    /// Sets the class at each port of its path, from 1 to 7. All else stays, and it takes no memory.
+    /// Sets the class at each of its ports, from 1 to 7. All else stays, and it takes no memory.
     pub fn set_class(&mut self, class: u8)
         requires { IsClass class }
         ensures { self.new ≡ with_class self.old class }
     {
-        self.classes = classes_for(self.path.len(), &[u64::from(class)]);
+        self.classes.fill(class);
     }
 
     /// Sets the committed burst, in bits: at least the wire bits of the longest frame, and at most 1,000,000,000 (IEEE
@@ -222,12 +261,13 @@ impl Stream {
     }
 }
 
-fn limit_fault(path: &[u32], deadline_ns: u64) -> Option<StreamFault>
-    ensures fault { result ≡ limit_fault path.now deadline_ns }
-    ensures path { IsNone result → IsPath path.now }
+fn limit_fault(ports: &[u32], branches: &[Branch], deadline_ns: u64) -> Option<StreamFault>
+    requires { AreBranches ports.now branches.now }
+    ensures fault { result ≡ limit_fault (routes_of ports.now branches.now) deadline_ns }
+    ensures routes { IsNone result → All IsPath (routes_of ports.now branches.now) }
     ensures deadline { IsNone result → IsDeadline deadline_ns }
 {
-    if !is_path(path) {
+    if has_bad_route(ports, branches) {
         return Some(StreamFault::Limit);
     }
     if deadline_ns < 1 || deadline_ns > MAX_DEADLINE_NS {

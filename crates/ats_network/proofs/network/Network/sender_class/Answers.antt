@@ -7,6 +7,6 @@ use Rattle.ats_network.proofs.network.Network.sender_class.Goals as goal
 pub returns-clause-port : goal.returns-clause-port
 returns-clause-port c =
     let it : Sender = sender_at c.args.self.now c.args.sender in
-    c.class_at_hop.ensures
-    ∙ ap (λ (s : Sender). get_or s.classes c.args.hop 0) c.sender.ensures.value
-    ∙ sym (class_is_by_hop c.args.self.now.topology it c.args.hop c.sender.ensures.sender c.requires.1)
+    c.class_at_place.ensures
+    ∙ ap (λ (s : Sender). get_or s.classes c.args.place 0) c.sender.ensures.value
+    ∙ sym (class_is_by_hop c.args.self.now.topology it c.args.place c.sender.ensures.sender c.requires.1)

@@ -1,0 +1,24 @@
+use Rattle.std.proofs.Common.{◌≡◌, ℕ, length, subst, sym, arith}
+use Rattle.ats_streams.specs.Branches.{first_from}
+use Rattle.ats_streams.proofs.BranchLemmas.{Spans, spans_here, spans_end}
+use Rattle.ats_streams.proofs.branch.places_of.Goals as goal
+
+pub returns-then-leg-branches-clause-ordered : goal.returns-then-leg-branches-clause-ordered
+returns-then-leg-branches-clause-ordered c = (spans_end c.args.ports.now c.args.branches.now c.args.leg _
+    c.requires.branches c.if-leg-branches.true c.first_place-first.ensures).ordered
+
+pub returns-then-leg-branches-clause-leg : goal.returns-then-leg-branches-clause-leg
+returns-then-leg-branches-clause-leg c = (spans_end c.args.ports.now c.args.branches.now c.args.leg _
+    c.requires.branches c.if-leg-branches.true c.first_place-first.ensures).leg_is
+
+pub returns-clause-ordered : goal.returns-clause-ordered
+returns-clause-ordered c = (spans_here c.args.ports.now c.args.branches.now c.args.leg _ c.requires.branches
+    (omega (arith, c.requires.leg, c.if-leg-branches.false)) c.first_place-first.ensures).ordered
+
+pub returns-clause-within : goal.returns-clause-within
+returns-clause-within c = (spans_here c.args.ports.now c.args.branches.now c.args.leg _ c.requires.branches
+    (omega (arith, c.requires.leg, c.if-leg-branches.false)) c.first_place-first.ensures).within
+
+pub returns-clause-leg : goal.returns-clause-leg
+returns-clause-leg c = (spans_here c.args.ports.now c.args.branches.now c.args.leg _ c.requires.branches
+    (omega (arith, c.requires.leg, c.if-leg-branches.false)) c.first_place-first.ensures).leg_is

@@ -1,0 +1,79 @@
+use Rattle.std.specs.Prelude.{ℕ, zero, suc, ◌+◌, ◌<◌, ◌≤◌, Bool, ◌||◌, nat_lt, List, [], ◌∷◌, ◌++◌, length, take, drop}
+use Rattle.std.specs.Prelude.{slice_index_or}
+use Rattle.std.specs.List.{slice_range}
+use Rattle.ats_streams.specs.declared.branch.Branch.{Branch}
+use Rattle.ats_streams.specs.declared.branch.TheConstants.{MAX_BRANCHES}
+use Rattle.ats_streams.specs.declared.path.TheConstants.{MAX_PORTS}
+
+-- the ports of legs, leg by leg, of which the first begins at a place: each goes up to where the next begins, and the
+-- last one to the end
+abbrev pub legs_from : ℕ → List ℕ → List Branch → List (List ℕ)
+legs_from at ports [] = drop at ports ∷ []
+legs_from at ports (b ∷ branches) = slice_range ports at b.first ∷ legs_from b.first ports branches
+
+-- the ports of each leg of a stream: of the trunk, then of each branch
+abbrev pub legs_of : List ℕ → List Branch → List (List ℕ)
+legs_of ports branches = legs_from 0 ports branches
+
+-- for numbers past the end of a list of branches
+abbrev pub no_branch : Branch
+no_branch = record { first = 0; leg = 0; hop = 0 }
+
+-- the place of the first port of a leg, where the first leg begins at a place
+abbrev pub first_from : ℕ → List Branch → ℕ → ℕ
+first_from at branches zero = at
+first_from at branches (suc n) = (slice_index_or branches n no_branch).first
+
+-- of lists of ports, leg by leg, that of the leg with a number
+abbrev pub leg_at : List (List ℕ) → ℕ → List ℕ
+leg_at lists leg = slice_index_or lists leg []
+
+-- the ports that lead to the node where a branch begins: those in front of its leg, and those of this leg in front of
+-- its hop
+abbrev pub lead_to : List (List ℕ) → List (List ℕ) → Branch → List ℕ
+lead_to legs leads b = leg_at leads b.leg ++ take b.hop (leg_at legs b.leg)
+
+-- the ports in front of each leg, where those in front of the first legs are known
+abbrev pub leads_from : List (List ℕ) → List (List ℕ) → List Branch → List (List ℕ)
+leads_from legs leads [] = leads
+leads_from legs leads (b ∷ branches) = leads_from legs (leads ++ lead_to legs leads b ∷ []) branches
+
+-- the ports in front of each leg, from the talker on: the trunk has none
+abbrev pub leads_of : List ℕ → List Branch → List (List ℕ)
+leads_of ports branches = leads_from (legs_of ports branches) ([] ∷ []) branches
+
+-- lists joined one by one
+abbrev pub joined : List (List ℕ) → List (List ℕ) → List (List ℕ)
+joined (lead ∷ leads) (leg ∷ legs) = (lead ++ leg) ∷ joined leads legs
+joined leads legs = []
+
+-- the route to each listener, leg by leg: the ports in front of the leg, and those of the leg
+abbrev pub routes_of : List ℕ → List Branch → List (List ℕ)
+routes_of ports branches = joined (leads_of ports branches) (legs_of ports branches)
+
+-- the ports of branches begin at places that ascend, behind this one and in front of the end
+abbrev pub Ascend : ℕ → List Branch → ℕ → Type 0
+Ascend at [] end = Unit {0}
+Ascend at (b ∷ branches) end = (at < b.first) × (b.first < end) × Ascend b.first branches end
+
+-- a branch begins at a hop, other than the first, of a leg with a lower number than its own
+pub record BeginsEarlier (legs : List (List ℕ)) (own : ℕ) (b : Branch) : Type 0 where
+  pub earlier : b.leg < own
+  pub later : 1 ≤ b.hop
+  pub within : b.hop < length (leg_at legs b.leg)
+
+-- so do branches, of which the first has this number among the legs
+abbrev pub BeginEarlier : List (List ℕ) → ℕ → List Branch → Type 0
+BeginEarlier legs own [] = Unit {0}
+BeginEarlier legs own (b ∷ branches) = BeginsEarlier legs own b × BeginEarlier legs (own + 1) branches
+
+-- what the branches of a stream keep: each of its legs has a port, and each branch begins at a hop, other than the
+-- first, of an earlier leg
+pub record AreBranches (ports : List ℕ) (branches : List Branch) : Type 0 where
+  pub places : Ascend 0 branches (length ports)
+  pub begin : BeginEarlier (legs_of ports branches) 1 branches
+  pub few : length branches ≤ MAX_BRANCHES
+
+-- no route has so many ports
+abbrev pub is_bad_route : List ℕ → Bool
+is_bad_route route = nat_lt (length route) 1 || nat_lt MAX_PORTS (length route)
