@@ -7,6 +7,7 @@ use Rattle.std.proofs.lemmas.List.{flat_map_more, length-map, length-take, take_
 use Rattle.std.proofs.lemmas.List.Elements.{All-append, All-cons, All-head, All-nil, All-tail}
 use Rattle.std.proofs.lemmas.List.Folds.{length-flat_map-take}
 use Rattle.std.proofs.lemmas.List.FromFn.{map-range_with_len_more}
+use Rattle.std.proofs.lemmas.List.Sums.{sum_by-cons}
 use Rattle.ats_facts.proofs.Lists.{all_left, all_unmapped}
 use Rattle.ats_group.specs.GroupsState.{IsMember}
 use Rattle.ats_streams.specs.declared.traffic.Declared.{Declared}
@@ -16,7 +17,7 @@ use Rattle.ats_topology.specs.Topology.{DeclaredTopology, IsTopology, HasLawfulP
 use Rattle.ats_topology.proofs.Rules.{ports_are_lawful}
 use Rattle.ats_streams.specs.Stream.{DeclaredStream, IsStream}
 use Rattle.ats_streams.specs.declared.stream.TheConstants.{MAX_CLASS}
-use Rattle.ats_network.specs.Network.{DeclaredNetwork, IsNetwork}
+use Rattle.ats_network.specs.Network.{DeclaredNetwork, IsNetwork, ports_together}
 use Rattle.ats_network.specs.Sender.{Sender, stream_sender, flow_sender, declared_of}
 use Rattle.ats_network.specs.Senders.{IsSender}
 use Rattle.ats_network.specs.Class.{class_at}
@@ -51,16 +52,16 @@ firsts_more streams i = map-range_with_len_more (first_of streams) 0 i i (omega 
 
 -- the scheduler behind the port of a hop, by the class at this hop
 pub member_is : (stream : DeclaredStream) (hop : ℕ) (made : Member) → IsListable stream
-    → length stream.classes ≡ length stream.path → hop < length stream.path
-    → made.group ≡ 8 * get_or stream.path hop 0 + get_or stream.classes hop 0
+    → length stream.classes ≡ length stream.ports → hop < length stream.ports
+    → made.group ≡ 8 * get_or stream.ports hop 0 + get_or stream.classes hop 0
     → made.declared ≡ declared_of (stream_sender stream)
-    → made ≡ member_behind (stream_sender stream) (get_or stream.path hop 0)
+    → made ≡ member_behind (stream_sender stream) (get_or stream.ports hop 0)
 member_is stream hop made is many within group declared =
-    let class = class_along-at stream.path stream.classes hop is.apart many within in
+    let class = class_along-at stream.ports stream.classes hop is.apart many within in
     ap (λ (n : ℕ). record { group = n; declared = made.declared })
-    (group ∙ ap (λ (c : ℕ). 8 * get_or stream.path hop 0 + c) (sym class))
+    (group ∙ ap (λ (c : ℕ). 8 * get_or stream.ports hop 0 + c) (sym class))
     ∙ ap (λ (d : Declared). record {
-      group = (member_behind (stream_sender stream) (get_or stream.path hop 0)).group;
+      group = (member_behind (stream_sender stream) (get_or stream.ports hop 0)).group;
       declared = d;
     }) declared
 
@@ -75,36 +76,39 @@ each_listable network is =
     all_unmapped Is stream_sender network.streams (all_left Is streams flows (each_is_sender network is)) k d lt in
     record {
       apart = sender.apart;
-      few = λ j e within. below (get_or (get_or network.streams k d).path j e) (length network.topology.ports)
+      few = λ j e within. below (get_or (get_or network.streams k d).ports j e) (length network.topology.ports)
           (sender.ports j e within) (ports_few network.topology is.topology);
     }
   where
     below : (p n : ℕ) → p < n → n ≤ 4096 → p < 4096
     below p n within few = omega arith
 
--- a stream has a scheduler behind each port of its path but the last
-pub count_is : (stream : DeclaredStream) → length (stream_members stream) ≡ length stream.path - 1
+-- a stream has a scheduler behind each of its ports but the last
+pub count_is : (stream : DeclaredStream) → length (stream_members stream) ≡ length stream.ports - 1
 count_is stream =
-    let mapped : length (stream_members stream) ≡ length (take (length stream.path - 1) stream.path) =
+    let mapped : length (stream_members stream) ≡ length (take (length stream.ports - 1) stream.ports) =
     simp length-map in
-    mapped ∙ counted (length stream.path) stream.path refl
+    mapped ∙ counted (length stream.ports) stream.ports refl
   where
     counted : (n : ℕ) (path : List ℕ) → n ≡ length path → length (take (n - 1) path) ≡ n - 1
     counted n path e = let cut = length-take (n - 1) path in omega (arith, cut)
 
--- so streams have at most 15 times as many
-all_few : (streams : List DeclaredStream) → All IsStream streams
-    → length (flat_map stream_members streams) ≤ 15 * length streams
-all_few [] each = omega arith
-all_few (s ∷ streams) each =
-    let is : IsStream s = All-head IsStream s streams each in
-    let rest = all_few streams (All-tail IsStream s streams each) in
-    omega (arith, length-append (stream_members s) (flat_map stream_members streams), count_is s, is.path.most, rest)
+-- so streams have at most as many as they have ports together
+all_few : (streams : List DeclaredStream) → length (flat_map stream_members streams) ≤ ports_together streams
+all_few [] = omega arith
+all_few (s ∷ streams) =
+    omega (
+      arith,
+      length-append (stream_members s) (flat_map stream_members streams),
+      count_is s,
+      sum_by-cons (λ (t : DeclaredStream). length t.ports) s streams,
+      all_few streams,
+    )
 
 -- and those of a network fewer than 100,000
 pub members_few : (network : DeclaredNetwork) → IsNetwork network
     → length (flat_map stream_members network.streams) < 100000
-members_few network is = let few = all_few network.streams is.streams in omega (arith, few, is.few_streams)
+members_few network is = let few = all_few network.streams in omega (arith, few, is.few_ports)
 
 -- the first streams have no more
 pub so_far_few : (streams : List DeclaredStream) (i : ℕ) (d : DeclaredStream)
@@ -140,9 +144,9 @@ places_more streams i n members firsts after so_far places count more =
 
 -- the schedulers of a stream are members of groups behind its ports
 stream_members_are : (ports : ℕ) (s : DeclaredStream) → IsStream s
-    → All (λ class. class ≤ MAX_CLASS) s.classes → All (λ p. p < ports) s.path
+    → All (λ class. class ≤ MAX_CLASS) s.classes → All (λ p. p < ports) s.ports
     → All (IsMember (8 * ports)) (stream_members s)
-stream_members_are ports s is classes within = along (length s.path - 1) s.path within
+stream_members_are ports s is classes within = along (length s.ports - 1) s.ports within
   where
     made : (p : ℕ) → p < ports → IsMember (8 * ports) (member_behind (stream_sender s) p)
     made p below =

@@ -21,7 +21,8 @@ use Rattle.ats_schedulers.proofs.Listing.{count_is, members_few}
 no_stream : DeclaredStream
 no_stream = record {
   name = [];
-  path = [];
+  ports = [];
+  branches = [];
   classes = [];
   rate = 0;
   burst_bits = 0;
@@ -48,8 +49,8 @@ sender_is network stream within =
 of_stream : (network : DeclaredNetwork) (stream hop : ℕ) → IsHop network stream hop
     → hop - 1 < length (stream_members (stream_at network stream))
 of_stream network stream hop is =
-    let path = ap (λ (s : Sender). length s.path) (sender_is network stream is.exists) in
-    omega (arith, is.later, is.within, path, count_is (stream_at network stream))
+    let ports = ap (λ (s : Sender). length s.ports) (sender_is network stream is.exists) in
+    omega (arith, is.later, is.within, ports, count_is (stream_at network stream))
 
 -- a hop's scheduler is one of the network's
 pub scheduler_within : (network : DeclaredNetwork) (stream hop : ℕ) → IsHop network stream hop
@@ -62,18 +63,18 @@ scheduler_within network stream hop is =
 -- it is the one behind the port before the hop
 pub scheduler_there : (network : DeclaredNetwork) (stream hop : ℕ) → IsHop network stream hop
     → member_at (members_of network) (scheduler_of network stream hop)
-    ≡ member_behind (sender_at network stream) (get_or (sender_at network stream).path (hop - 1) 0)
+    ≡ member_behind (sender_at network stream) (get_or (sender_at network stream).ports (hop - 1) 0)
 unfolding stream_at
 scheduler_there network stream hop is =
     let own : DeclaredStream = stream_at network stream in
     let inner = of_stream network stream hop is in
     let counted = count_is own in
-    let ports : List ℕ = ports_to_bridges own.path in
-    let cut = length-take (length own.path - 1) own.path in
+    let ports : List ℕ = ports_to_bridges own.ports in
+    let cut = length-take (length own.ports - 1) own.ports in
     get_or-flat_map stream_members network.streams stream (hop - 1) no_stream no_member is.exists inner
     ∙ get_or-map (member_behind (stream_sender own)) ports (hop - 1) 0 no_member (omega (arith, cut))
-    ∙ ap (member_behind (stream_sender own)) (get_or-take (length own.path - 1) own.path (hop - 1) 0 (omega arith))
-    ∙ sym (ap (λ (s : Sender). member_behind s (get_or s.path (hop - 1) 0)) (sender_is network stream is.exists))
+    ∙ ap (member_behind (stream_sender own)) (get_or-take (length own.ports - 1) own.ports (hop - 1) 0 (omega arith))
+    ∙ sym (ap (λ (s : Sender). member_behind s (get_or s.ports (hop - 1) 0)) (sender_is network stream is.exists))
 
 -- the place that is kept for a stream
 pub first_there : (streams : List DeclaredStream) (firsts : List ℕ) (stream d : ℕ) → firsts ≡ firsts_of streams
@@ -92,7 +93,7 @@ pub record IsPlace (network : DeclaredNetwork) (stream hop made : ℕ) : Type 0 
   pub within : made < length (members_of network)
   pub small : made < 100000
   pub member : member_at (members_of network) made
-      ≡ member_behind (sender_at network stream) (get_or (sender_at network stream).path (hop - 1) 0)
+      ≡ member_behind (sender_at network stream) (get_or (sender_at network stream).ports (hop - 1) 0)
 
 pub placed : (network inside : DeclaredNetwork) (firsts items : List ℕ) (stream hop d : ℕ) → network ≡ inside
     → items ≡ firsts → firsts ≡ firsts_of inside.streams → IsNetwork inside → IsHop network stream hop

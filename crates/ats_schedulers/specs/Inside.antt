@@ -6,10 +6,10 @@ use Rattle.ats_streams.specs.Stream.{DeclaredStream}
 use Rattle.ats_network.specs.Network.{DeclaredNetwork, IsNetwork}
 use Rattle.ats_schedulers.specs.Schedulers.{first_of, residences_of, stream_members}
 
--- the path of a stream has no port twice, and no port past the most that a network has
+-- the ports of a stream are different, and none is past the most that a network has
 pub record IsListable (stream : DeclaredStream) : Type 0 where
-  pub apart : AllPairs (λ p q. p ≢ q) stream.path
-  pub few : All (λ p. p < 4096) stream.path
+  pub apart : AllPairs (λ p q. p ≢ q) stream.ports
+  pub few : All (λ p. p < 4096) stream.ports
 
 -- the place of each stream's first scheduler
 abbrev pub firsts_of : List DeclaredStream → List ℕ

@@ -31,7 +31,7 @@ ports_to_bridges path = take (length path - 1) path
 
 -- the schedulers of a stream along its path
 abbrev pub stream_members : DeclaredStream → List Member
-stream_members stream = map (member_behind (stream_sender stream)) (ports_to_bridges stream.path)
+stream_members stream = map (member_behind (stream_sender stream)) (ports_to_bridges stream.ports)
 
 -- the schedulers of all streams, one stream after the other
 abbrev pub members_of : DeclaredNetwork → List Member
@@ -49,4 +49,4 @@ scheduler_of network stream hop = first_of network.streams stream + (hop - 1)
 pub record IsHop (network : DeclaredNetwork) (stream hop : ℕ) : Type 0 where
   pub exists : stream < length network.streams
   pub later : 1 ≤ hop
-  pub within : hop < length (sender_at network stream).path
+  pub within : hop < length (sender_at network stream).ports

@@ -41,23 +41,23 @@ pub(crate) fn residences_of(alloc: Global, network: &Network) -> Result<Vec<u32>
 // The scheduler of a stream behind the port of a hop.
 fn member(stream: &Stream, hop: usize) -> Member
     requires stream { IsListable stream.now }
-    requires hop { hop < length stream.now.path }
-    ensures { result ≡ member_behind (stream_sender stream.now) (slice_index_or stream.now.path hop 0) }
+    requires hop { hop < length stream.now.ports }
+    ensures { result ≡ member_behind (stream_sender stream.now) (slice_index_or stream.now.ports hop 0) }
 {
     let class = stream.classes()[hop];
     Member {
-        group: CLASSES * stream.path()[hop] + u32::from(class),
+        group: CLASSES * stream.ports()[hop] + u32::from(class),
         declared: stream.declared(),
     }
 }
 
-// Appends the schedulers of a stream: one behind each port of its path but the last.
-#[tactic(auto, using(std::proofs::lemmas::List::map_more))]
+// Appends the schedulers of a stream: one behind each of its ports but the last.
+#[tactic(auto, using(std::proofs::lemmas::List::map_more, ats_streams::proofs::BranchLemmas::some_port))]
 fn push_stream(members: &mut Vec<Member>, stream: &Stream) -> Result<(), AllocError>
     requires { IsListable stream.now }
     ensures { OnOk result (members.new.items ≡ members.old.items ++ stream_members stream.now) }
 {
-    for hop in 0..stream.path().len() - 1 {
+    for hop in 0..stream.ports().len() - 1 {
         members.push(member(stream, hop))?;
     }
     Ok(())

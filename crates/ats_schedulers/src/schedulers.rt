@@ -37,7 +37,7 @@ impl<'a> Model for Schedulers<'a> {
 
 impl<'a> Schedulers<'a> {
     /// The schedulers of a network. It takes time and memory linear in the number of ports and the
-    /// sum of the paths' lengths. `AllocError` where there is no memory for them.
+    /// number of the streams' ports. `AllocError` where there is no memory for them.
     pub fn new(alloc: Global, network: &'a Network) -> Result<Self, AllocError>
         ensures { IfOk result (λ schedulers. schedulers ≡ network.now) }
     {
@@ -61,7 +61,7 @@ impl<'a> Schedulers<'a> {
         self.residence_list.as_slice()
     }
 
-    /// The members of all groups: for each stream, and for each port of its path but the last, the
+    /// The members of all groups: for each stream, and for each of its ports but the last, the
     /// scheduler behind this port, with what the stream declares.
     pub fn members(&self) -> &[Member]
         ensures value { result.now ≡ members_of self.now }
@@ -77,7 +77,7 @@ impl<'a> Schedulers<'a> {
         ensures place { result ≡ scheduler_of self.now stream hop }
         ensures within { result < length (members_of self.now) }
         ensures member { member_at (members_of self.now) result
-            ≡ member_behind (sender_at self.now stream) (slice_index_or (sender_at self.now stream).path (hop - 1) 0) }
+            ≡ member_behind (sender_at self.now stream) (slice_index_or (sender_at self.now stream).ports (hop - 1) 0) }
     {
         let firsts = self.firsts.as_slice();
         firsts[stream as usize] + (hop - 1)

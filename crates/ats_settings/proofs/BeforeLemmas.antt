@@ -7,6 +7,7 @@ use Rattle.std.proofs.lemmas.Bool.{eq-eqb, ne_eqb}
 use Rattle.ats_facts.proofs.Lists.{pairs_head, pairs_tail}
 use Rattle.ats_network.specs.Network.{DeclaredNetwork, IsNetwork}
 use Rattle.ats_network.specs.Senders.{IsSender, sender_at}
+use Rattle.ats_network.proofs.ClassLemmas.{port_before-one}
 use Rattle.ats_network.proofs.SenderLemmas.{sender_keeps}
 use Rattle.ats_network.specs.Class.{before_along, port_before}
 use Rattle.ats_settings.specs.Settings.{LeavesBridge, port_of_hop}
@@ -30,9 +31,10 @@ pub before_hop : (network : DeclaredNetwork) (sender hop : ℕ) → IsNetwork ne
     ≡ Some (port_of_hop network sender (hop - 1))
 before_hop network sender hop is at =
     let keeps : IsSender network.topology (sender_at network sender) = sender_keeps network sender is at.exists in
-    let path : List ℕ = (sender_at network sender).path in
+    let path : List ℕ = (sender_at network sender).ports in
     let next : hop ≡ suc (hop - 1) = omega (arith, at.later) in
-    ap (λ (h : ℕ). before_along (get_or path h 0) path) next
+    port_before-one (sender_at network sender) (port_of_hop network sender hop) keeps.one_listener
+    ∙ ap (λ (h : ℕ). before_along (get_or path h 0) path) next
     ∙ before_along-next path (hop - 1) keeps.apart (omega (arith, at.later, at.within))
 
 -- so that is where frames come from

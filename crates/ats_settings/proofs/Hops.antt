@@ -43,7 +43,7 @@ pub each_of_hops : (P : Setting → Type 0) (network : DeclaredNetwork)
     → ((sender hop : ℕ) → LeavesBridge network sender hop → P (setting_at network sender hop))
     → All P (hop_settings network)
 each_of_hops P network each = all_along P (sender_settings network) 0 (length (senders_of network))
-    (λ sender least exists. all_mapped P (setting_at network sender) 1 (length (sender_at network sender).path - 1)
+    (λ sender least exists. all_mapped P (setting_at network sender) 1 (length (sender_at network sender).ports - 1)
     (λ hop later within. each sender hop
     (record { exists = omega (arith, exists); later = later; within = omega (arith, within) })))
 

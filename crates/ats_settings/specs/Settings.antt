@@ -18,7 +18,7 @@ use Rattle.ats_settings.specs.declared.setting.Shaping.{Shaping}
 pub record LeavesBridge (network : DeclaredNetwork) (sender hop : ℕ) : Type 0 where
   pub exists : sender < length (senders_of network)
   pub later : 1 ≤ hop
-  pub within : hop < length (sender_at network sender).path
+  pub within : hop < length (sender_at network sender).ports
 
 -- what is told of the scheduler of a member of the network's groups: what is declared of it there, and the maximum
 -- residence time of its group
@@ -38,7 +38,7 @@ scheduler_at network sender hop =
 
 -- the port of a hop of a sender's path
 abbrev pub port_of_hop : DeclaredNetwork → ℕ → ℕ → ℕ
-port_of_hop network sender hop = slice_index_or (sender_at network sender).path hop 0
+port_of_hop network sender hop = slice_index_or (sender_at network sender).ports hop 0
 
 -- what the bridge that a sender's frames leave at a hop is told of them: they come through the port before on their
 -- path, and go on by the port of the hop
@@ -61,7 +61,7 @@ setting_at network sender hop =
 -- the settings of a sender, one for each hop of its path at which its frames leave a bridge
 abbrev pub sender_settings : DeclaredNetwork → ℕ → List Setting
 sender_settings network sender =
-    map (setting_at network sender) (range_with_len 1 (length (sender_at network sender).path - 1))
+    map (setting_at network sender) (range_with_len 1 (length (sender_at network sender).ports - 1))
 
 -- those of all senders, one sender after the other
 abbrev pub hop_settings : DeclaredNetwork → List Setting

@@ -15,7 +15,7 @@ use std::alloc::{AllocError, Global};
 
 /// What to set in the bridges of a network: one setting for each stream and flow at each bridge of its
 /// path. They come by bridge, then by port of reception, then by class there, then by sender, each by
-/// its number. It takes memory linear in the sum of the paths' lengths, and time as sorting these
+/// its number. It takes memory linear in the number of the senders' ports, and time as sorting these
 /// takes. `AllocError` where there is no memory for them.
 pub fn settings(alloc: Global, network: &Network) -> Result<Vec<Setting>, AllocError>
     ensures value { IfOk result (λ settings. AreSettings network.now settings.items) }
@@ -40,7 +40,7 @@ fn push_settings(
     requires sender { sender < length (senders_of network.now) }
     ensures { OnOk result (made.new.items ≡ made.old.items ++ sender_settings network.now sender) }
 {
-    for hop in 1..network.sender_path(sender).len() as u32 {
+    for hop in 1..network.sender_ports(sender).len() as u32 {
         made.push(setting(network, schedulers, sender, hop))?;
     }
     Ok(())
@@ -52,7 +52,7 @@ fn setting(network: &Network, schedulers: &Schedulers, sender: u32, hop: u32) ->
     requires hop { LeavesBridge network.now sender hop }
     ensures { result ≡ setting_at network.now sender hop }
 {
-    let path = network.sender_path(sender);
+    let path = network.sender_ports(sender);
     let received_from = path[hop as usize - 1];
     Setting {
         bridge: end_of(network, sender, hop - 1),
@@ -69,10 +69,10 @@ fn setting(network: &Network, schedulers: &Schedulers, sender: u32, hop: u32) ->
 // The node to which the port of a hop leads.
 fn end_of(network: &Network, sender: u32, hop: u32) -> u32
     requires sender { sender < length (senders_of network.now) }
-    requires hop { hop < length (sender_at network.now sender).path }
+    requires hop { hop < length (sender_at network.now sender).ports }
     ensures { result ≡ (port_at network.now.topology.ports (port_of_hop network.now sender hop)).to }
 {
-    let port = network.sender(sender).path()[hop as usize];
+    let port = network.sender(sender).ports()[hop as usize];
     network.topology().ports()[port as usize].to
 }
 

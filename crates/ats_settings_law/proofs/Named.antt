@@ -9,7 +9,9 @@ use Rattle.std.proofs.lemmas.List.Elements.{Contains-append_left, Contains-appen
 use Rattle.std.proofs.lemmas.List.Sorted.{Contains-permutation}
 use Rattle.ats_network.specs.Class.{before_along}
 use Rattle.ats_network.specs.Network.{DeclaredNetwork, senders_of}
-use Rattle.ats_network.specs.Senders.{sender_at}
+use Rattle.ats_network.specs.Senders.{IsSender, sender_at}
+use Rattle.ats_network.proofs.ClassLemmas.{port_before-one}
+use Rattle.ats_network.proofs.SenderLemmas.{sender_keeps}
 use Rattle.ats_settings.specs.Settings.{LeavesBridge, hop_settings, sender_settings, setting_at}
 use Rattle.ats_settings.specs.declared.setting.Setting.{Setting}
 use Rattle.ats_settings.proofs.BeforeLemmas.{comes_from}
@@ -61,8 +63,10 @@ stand_together port before (p ∷ q ∷ path) h = by (q == port) refl (stand_tog
 
 pub each_hop_is_named : EachHopIsNamed
 each_hop_is_named network settings is are sender exists before port h =
-    let path : List ℕ = (sender_at network sender).path in
-    let at : StandTogether path before port = stand_together port before path h in
+    let path : List ℕ = (sender_at network sender).ports in
+    let keeps : IsSender network.topology (sender_at network sender) = sender_keeps network sender is exists in
+    let at : StandTogether path before port = stand_together port before path
+    (sym (port_before-one (sender_at network sender) port keeps.one_listener) ∙ h) in
     let hop : ℕ = suc at.place in
     let leaves : LeavesBridge network sender hop =
     record { exists = exists; later = omega arith; within = at.within } in

@@ -99,7 +99,7 @@ exact_journey network net n j is all =
     record {
       sender = is.sender;
       octets = is.octets;
-      way = exact_way network.topology.ports n j.release s s.path j.hops j.ending j.release.at.0 keeps.ports all is.way
+      way = exact_way network.topology.ports n j.release s s.ports j.hops j.ending j.release.at.0 keeps.ports all is.way
           (comes_first j.release j.hops j.ending is.released);
       released = eligible_first j.release j.hops is.released;
     }
@@ -224,7 +224,7 @@ crossed network n (j ∷ run) all =
     let s : Sender = sender_at network j.release.sender in
     let is : IsJourneyAt network j = All-head (IsJourneyAt network) j run all in
     All-append (IsExact network.topology.ports) (journey_crossings network n j) (crossings_from network (n + 1) run)
-    (crossed_along network.topology.ports n j.release s s.path j.hops j.ending j.release.at.0 is.way)
+    (crossed_along network.topology.ports n j.release s s.ports j.hops j.ending j.release.at.0 is.way)
     (crossed network (n + 1) run (All-tail (IsJourneyAt network) j run all))
 
 released_from : (ports : List Port) (release : Release) (path : List ℕ) (hops : List HopRecord) (ending : Ending)
@@ -240,8 +240,8 @@ form_journey network j is =
     record {
       sender = is.sender;
       octets = is.octets;
-      way = form_way network.topology.ports j.release.at.0 s.path j.hops j.ending is.way;
-      released = released_from network.topology.ports j.release s.path j.hops j.ending is.way is.released;
+      way = form_way network.topology.ports j.release.at.0 s.ports j.hops j.ending is.way;
+      released = released_from network.topology.ports j.release s.ports j.hops j.ending is.way is.released;
     }
 
 -- exact arrivals are in time, and in the order of the ends

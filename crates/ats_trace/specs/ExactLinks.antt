@@ -54,7 +54,7 @@ IsEligibleAtRelease release (hop ∷ hops) = hop.verdict ≡ Eligible release.at
 pub record IsJourneyAt (network : DeclaredNetwork) (journey : Travel) : Type 0 where
   pub sender : journey.release.sender < length (senders_of network)
   pub octets : IsFrameSize journey.release.octets
-  pub way : IsWayAt network.topology.ports journey.release.at.0 (sender_at network journey.release.sender).path
+  pub way : IsWayAt network.topology.ports journey.release.at.0 (sender_at network journey.release.sender).ports
       journey.hops journey.ending
   pub released : IsEligibleAtRelease journey.release journey.hops
 

@@ -43,7 +43,7 @@ IsReleased release (hop ∷ hops) = (hop.arrival ≡ release.at) × (hop.verdict
 pub record IsJourney (network : DeclaredNetwork) (journey : Travel) : Type 0 where
   pub sender : journey.release.sender < length (senders_of network)
   pub octets : IsFrameSize journey.release.octets
-  pub way : IsWay (sender_at network journey.release.sender).path journey.hops journey.ending
+  pub way : IsWay (sender_at network journey.release.sender).ports journey.hops journey.ending
   pub released : IsReleased journey.release journey.hops
 
 -- the frame is one of a stream: these are the first senders, and the flows follow

@@ -41,7 +41,7 @@ Keeps in_order network run = IsNonDecreasing (map (λ (r : Release). r.at.0) (re
 Keeps octets network run = All (λ (j : Travel). IsFrameSize j.release.octets) run
 Keeps way network run =
     All (λ (j : Travel). (j.release.sender < length (senders_of network))
-    × IsWay (sender_at network j.release.sender).path j.hops j.ending) run
+    × IsWay (sender_at network j.release.sender).ports j.hops j.ending) run
 Keeps released network run = All (λ (j : Travel). IsReleased j.release j.hops) run
 Keeps links network run =
     (port : ℕ) → port < length network.topology.ports

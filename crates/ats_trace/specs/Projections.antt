@@ -100,16 +100,16 @@ handed_along frame release sender (p ∷ path) (hop ∷ hops) =
 -- of the journey with this number
 abbrev pub journey_hops : DeclaredNetwork → ℕ → Travel → List Hop
 journey_hops network frame j =
-    hops_along frame j.release (sender_at network j.release.sender) (sender_at network j.release.sender).path j.hops
+    hops_along frame j.release (sender_at network j.release.sender) (sender_at network j.release.sender).ports j.hops
 
 abbrev pub journey_crossings : DeclaredNetwork → ℕ → Travel → List Crossing
 journey_crossings network frame j =
     crossings_along frame j.release (sender_at network j.release.sender)
-    (sender_at network j.release.sender).path j.hops j.ending
+    (sender_at network j.release.sender).ports j.hops j.ending
 
 abbrev pub journey_handed : DeclaredNetwork → ℕ → Travel → List Handed
 journey_handed network frame j =
-    handed_along frame j.release (sender_at network j.release.sender) (sender_at network j.release.sender).path j.hops
+    handed_along frame j.release (sender_at network j.release.sender) (sender_at network j.release.sender).ports j.hops
 
 -- of journeys that are numbered from this number on
 abbrev pub hops_from : DeclaredNetwork → ℕ → List Travel → List Hop

@@ -18,7 +18,7 @@ start_of ports (p ∷ path) = (port_at ports p).from
 
 -- the station of a sender
 abbrev pub talker_of : DeclaredNetwork → ℕ → ℕ
-talker_of network i = start_of network.topology.ports (sender_at network i).path
+talker_of network i = start_of network.topology.ports (sender_at network i).ports
 
 -- a release as a token bucket counts it
 abbrev pub frame_of : Release → Frame

@@ -4,7 +4,7 @@ use Rattle.ats_schedulers.proofs.lists.member.Goals as goal
 
 pub returns : goal.returns
 returns c = member_is c.args.stream.now c.args.hop
-    (record { group = 8 * get_or c.path.result.now c.args.hop 0 + c.from.result; declared = c.declared.result })
-    c.requires.stream c.path.ensures.rules.each_port c.requires.hop
-    (rw (c.path.ensures.value, c.from.ensures, c.classes.ensures.value) refl)
+    (record { group = 8 * get_or c.ports.result.now c.args.hop 0 + c.from.result; declared = c.declared.result })
+    c.requires.stream c.ports.ensures.rules.each_port c.requires.hop
+    (rw (c.ports.ensures.value, c.from.ensures, c.classes.ensures.value) refl)
     c.declared.ensures.value

@@ -6,4 +6,4 @@ use Rattle.ats_schedulers.proofs.lists.push_stream.Given as goal
 -- the schedulers behind the ports so far
 abbrev pub invariant-loop-hop : goal.invariant-loop-hop
 invariant-loop-hop l = l.members.items
-    ≡ l.initial.members.items ++ map (member_behind (stream_sender l.stream)) (take l.hop l.stream.path)
+    ≡ l.initial.members.items ++ map (member_behind (stream_sender l.stream)) (take l.hop l.stream.ports)
