@@ -59,7 +59,7 @@ pub record IsAtHop (network : DeclaredNetwork) (path : List ℕ) (hop class : �
 
 -- so it is on a sender's path, with the sender's class
 pub at-hop : {network : DeclaredNetwork} {sender hop : ℕ} {path : List ℕ} {class : ℕ} → IsNetwork network
-    → sender < length (senders_of network) → path ≡ (sender_at network sender).path → hop < length path
+    → sender < length (senders_of network) → path ≡ (sender_at network sender).ports → hop < length path
     → class ≡ get_or (sender_at network sender).classes hop 0 → IsAtHop network path hop class
 at-hop {network} {sender} {hop} {path} {class} rules some is within here =
     let kept = sender-kept network sender rules some in

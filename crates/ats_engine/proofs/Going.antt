@@ -11,6 +11,7 @@ use Rattle.ats_engine_steps.specs.Bounds.{steps_left}
 use Rattle.ats_engine_steps.specs.Course.{Course}
 use Rattle.ats_engine_steps.specs.Invariant.{Holds}
 use Rattle.ats_engine_steps.specs.Seen.{course_of}
+use Rattle.ats_engine_steps.specs.Entries.{event_of}
 use Rattle.ats_engine_steps.specs.declared.event.Event.{Event}
 use Rattle.ats_engine_steps.specs.declared.state.State.{State}
 use Rattle.ats_engine_proofs.specs.Next.{IsNext, IsAfter}
@@ -18,6 +19,7 @@ use Rattle.ats_engine.specs.Entering.{MayEnter, Enters}
 use Rattle.ats_engine.specs.Ready.{IsAtEvent, Goes, releases_in}
 use Rattle.ats_engine_proofs.proofs.Entries.{before-is-reached, holds-permuted, moments-apart, moments-in-range}
 use Rattle.ats_engine_proofs.proofs.Entries.{room-for-all}
+use Rattle.ats_engine.proofs.Telling.{events-told}
 use Rattle.ats_engine.specs.declared.runner.Runner.{Runner}
 
 -- a moment that is after another one by time and phase is so by a lawful order
@@ -68,6 +70,7 @@ may-enter {T} {O} {P} {key} {wait} {before} {runner} {agenda} {now} {event} {new
           (after k d within) in
           λ (last : Moment) (is : agenda.last ≡ Some last). (let same : now ≡ last = cc (at.last, is) in
           subst (λ (m : Moment). before agenda.order m x.0) same later));
+      told = all_left (λ (x : Moment × Event). event_of x.0 ≡ x.1) more agenda.entries (events-told holds);
     }
 
 -- a step was taken, and its entries were put into the agenda

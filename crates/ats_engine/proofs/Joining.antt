@@ -8,6 +8,7 @@ use Rattle.ats_facts.proofs.Lists.{all_left, all_right, pairs_head, pairs_tail}
 use Rattle.ats_facts.proofs.Pairs.{AllPairs-permutation}
 use Rattle.ats_events.specs.Contents.{Contents}
 use Rattle.ats_events.specs.declared.moment.Moment.{Moment}
+use Rattle.ats_engine_steps.specs.Entries.{event_of}
 use Rattle.ats_engine_steps.specs.declared.event.Event.{Event}
 use Rattle.ats_engine.specs.Entering.{MayEnter, Enters}
 
@@ -30,6 +31,7 @@ may-enter-later {O} {before} {agenda} one {other} may =
           (subst (AllPairs (λ (x y : Moment × Event). x.0 ≢ y.0)) joined may.apart);
       after = all_right (λ (x : Moment × Event). ForSome agenda.last (λ last. before agenda.order last x.0)) one other
           may.after;
+      told = all_right (λ (x : Moment × Event). event_of x.0 ≡ x.1) one other may.told;
     }
 
 -- and then the earlier one
@@ -52,6 +54,7 @@ may-enter-earlier {O} {before} {agenda} {next} {one} {other} may enters =
           (sym enters.order)
           (subst (λ l. All (λ (x : Moment × Event). ForSome l (λ last. before agenda.order last x.0)) (one ++ other))
           (sym enters.last) may.after));
+      told = all_left (λ (x : Moment × Event). event_of x.0 ≡ x.1) one other may.told;
     }
 
 -- what is put in by two parts is put in

@@ -4,3 +4,4 @@ pub mod Going
 pub mod Joining
 pub mod Releasing
 pub mod Starting
+pub mod Telling

@@ -35,7 +35,7 @@ use Rattle.ats_engine.proofs.Counting.{sender-kept}
 
 -- a sender's path has 16 ports at most
 pub path-few : {sender : ℕ} (network : DeclaredNetwork) (path : List ℕ) → IsNetwork network
-    → path ≡ (sender_at network sender).path → sender < length (senders_of network) → length path ≤ 16
+    → path ≡ (sender_at network sender).ports → sender < length (senders_of network) → length path ≤ 16
 path-few {sender} network path rules is within =
     let kept = sender-kept network sender rules within in
     omega (arith, kept.path.most, ap (λ (l : List ℕ). length l) is)
@@ -45,9 +45,9 @@ pub rooms-few : (network : DeclaredNetwork) (releases : List Release) (rooms : L
     → AreReleases network releases → rooms ≡ rooms_of network releases → All (λ (room : ℕ). room ≤ 16) rooms
 rooms-few network releases rooms rules are is =
     subst (All (λ (room : ℕ). room ≤ 16)) (sym is)
-    (All-map (λ (room : ℕ). room ≤ 16) (λ (r : Release). length (sender_at network r.sender).path) releases
-    (All-weaker (IsRelease network) (λ (r : Release). length (sender_at network r.sender).path ≤ 16)
-    (λ r kept. path-few {sender = r.sender} network (sender_at network r.sender).path rules refl kept.sender) releases
+    (All-map (λ (room : ℕ). room ≤ 16) (λ (r : Release). length (sender_at network r.sender).ports) releases
+    (All-weaker (IsRelease network) (λ (r : Release). length (sender_at network r.sender).ports ≤ 16)
+    (λ r kept. path-few {sender = r.sender} network (sender_at network r.sender).ports rules refl kept.sender) releases
     are.each))
 
 -- a port's room is counted over records that were just opened as over their releases
@@ -120,7 +120,7 @@ ports-fresh {T} network releases tie course opened tied records port within =
           ∙ ap (states.opened (port_at network.topology.ports port).ps_per_bit this.rooms) (sym tied);
       each = λ class low. this.each class low
           ∙ sym (room-counted network releases (rooms_of network releases) port class
-          (length-map releases (λ (r : Release). length (sender_at network r.sender).path)))
+          (length-map releases (λ (r : Release). length (sender_at network r.sender).ports)))
           ∙ ap (λ (rs : List Progress). room_of network rs port class) (sym records);
     }
 

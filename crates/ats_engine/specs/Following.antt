@@ -1,8 +1,10 @@
+use Rattle.std.specs.Prelude.{⊤}
 use Rattle.std.proofs.Common.{ℕ, List, IsPermutation, refl, ◌∙◌}
+use Rattle.std.proofs.lemmas.List.Sorted.{IsPermutation-map}
 use Rattle.ats_events.specs.declared.moment.Moment.{Moment}
-use Rattle.ats_engine_steps.specs.declared.event.Event.{Event}
 use Rattle.ats_engine.specs.declared.runner.Runner.{Runner}
 use Rattle.ats_engine.specs.Ready.{IsReady, Follows}
+use Rattle.ats_engine.specs.Told.{with_event, told}
 use Rattle.ats_engine_proofs.proofs.Entries.{holds-permuted}
 
 -- a run goes on from itself
@@ -21,10 +23,10 @@ follows-both third second first later earlier = record {
 
 -- what holds between two events does not depend on the order of the entries
 pub ready-permuted : {T P : Type 0} (key : T → ℕ → ℕ → ℕ) (wait : P → ℕ → ℕ → ℕ) (runner : Runner T P)
-    (entries other : List (Moment × Event)) (capacity : ℕ) → IsPermutation entries other
-    → IsReady key wait runner entries capacity → IsReady key wait runner other capacity
+    (entries other : List (Moment × ⊤)) (capacity : ℕ) → IsPermutation entries other
+    → IsReady key wait runner (told entries) capacity → IsReady key wait runner (told other) capacity
 ready-permuted key wait runner entries other capacity moved ready = record {
-  holds = holds-permuted moved ready.holds;
+  holds = holds-permuted (IsPermutation-map with_event entries other moved) ready.holds;
   schedulers = ready.schedulers;
   room = ready.room;
 }

@@ -5,3 +5,4 @@ pub mod Ready
 pub mod Rooms
 pub mod Setting
 pub mod Starts
+pub mod Told

@@ -13,9 +13,9 @@ use Rattle.ats_transmit.specs.State.{PortState, opened}
 abbrev pub goes_over : List ℕ → ℕ → ℕ → Sender → Bool
 goes_over ports port class sender = list_any (λ p. p == port) ports && class_at sender port == class
 
--- the port is on the path of a sender, which has this class there
+-- the port is one of those of a sender, which has this class there
 abbrev pub goes_through : ℕ → ℕ → Sender → Bool
-goes_through port class sender = goes_over sender.path port class sender
+goes_through port class sender = goes_over sender.ports port class sender
 
 -- how many of these releases are of frames that pass the port in this class
 abbrev pub count_at : DeclaredNetwork → List Release → ℕ → ℕ → ℕ
@@ -45,9 +45,9 @@ pub record CountsOver (network : DeclaredNetwork) (sender : ℕ) (ports old new 
       → count_in new port class
       ≡ count_in old port class + cond (goes_over ports port class (sender_at network sender)) 1 0
 
--- and so at each port of its path
+-- and so at each of its ports
 abbrev pub Counts : DeclaredNetwork → ℕ → List ℕ → List ℕ → Type 0
-Counts network sender old new = CountsOver network sender (sender_at network sender).path old new
+Counts network sender old new = CountsOver network sender (sender_at network sender).ports old new
 
 -- the counts of one port, by class
 abbrev pub rooms_at : List ℕ → ℕ → List ℕ

@@ -7,7 +7,6 @@ ghost use Rattle.ats_trace.specs.Run.{IsRunBy, HasReleases};
 
 use crate::opening::{agenda_of, state_of};
 use crate::runner::Runner;
-use ats_engine_steps::Event;
 use ats_events::{Agenda, TimeOrder, drive};
 use ats_network::Network;
 use ats_num::{Pace, Tie};
@@ -22,7 +21,7 @@ use std::marker::Model;
 #[derive(Drop)]
 pub struct Engine<'a, T: Tie, O: TimeOrder, P: Pace> {
     runner: Runner<'a, T, P>,
-    agenda: Agenda<O, Event>,
+    agenda: Agenda<O, ()>,
 }
 
 impl<'a, T: Tie, O: TimeOrder, P: Pace> Model for Engine<'a, T, O, P> {
@@ -31,10 +30,11 @@ impl<'a, T: Tie, O: TimeOrder, P: Pace> Model for Engine<'a, T, O, P> {
     ghost Value = { Setting T O P };
 
     ghost use Rattle.ats_engine.specs.Opened.{setting_of, IsFirst};
+    ghost use Rattle.ats_engine.specs.Told.{agenda_told};
 
-    ghost view = { λ e. setting_of e.runner e.agenda };
+    ghost view = { λ e. setting_of e.runner (agenda_told e.agenda) };
 
-    ghost invariant = { λ e. IsFirst T.key P.wait e.runner e.agenda };
+    ghost invariant = { λ e. IsFirst T.key P.wait e.runner (agenda_told e.agenda) };
 }
 
 impl<'a, T: Tie, O: TimeOrder, P: Pace> Engine<'a, T, O, P> {

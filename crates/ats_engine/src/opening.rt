@@ -7,6 +7,7 @@ ghost use Rattle.ats_engine_steps.specs.Seen.{course_of};
 ghost use Rattle.ats_engine_steps.specs.declared.stage.Stage.TheVariants.{Coming};
 ghost use Rattle.ats_engine.specs.Starts.{IsStart, AreReleased};
 ghost use Rattle.ats_engine.specs.Rooms.{AreOpened};
+ghost use Rattle.ats_engine.specs.Told.{agenda_told};
 
 use crate::rooms::{counts_of, rooms_at, rooms_of};
 use ats_engine_steps::{Event, Stage, State, Turn};
@@ -87,15 +88,15 @@ pub(crate) fn agenda_of<O: TimeOrder>(
     net: &Network,
     releases: &[Release],
     order: O,
-) -> Result<Agenda<O, Event>, AllocError>
+) -> Result<Agenda<O, ()>, AllocError>
     requires { AreReleases net.now releases.now }
-    ensures { IfOk result (AreReleased net.now releases.now order) }
+    ensures { IfOk result (λ agenda. AreReleased net.now releases.now order (agenda_told agenda)) }
 {
     let capacity = releases.len() + net.topology().ports().len();
     let mut agenda = Agenda::open(alloc, capacity as u32, order)?;
     for (frame, release) in releases.iter().enumerate() {
-        let (moment, event) = Event::Arrival(frame as u32).at(release.at);
-        agenda.insert(moment, event);
+        let (moment, _event) = Event::Arrival(frame as u32).at(release.at);
+        agenda.insert(moment, ());
     }
     Ok(agenda)
 }

@@ -14,7 +14,7 @@ use std::alloc::{AllocError, Global};
 /// The number of classes of a port.
 pub(crate) const CLASSES: usize = 8;
 
-/// How many hop records each frame may get: one for each port of its path.
+/// How many hop records each frame may get: one for each of its sender's ports.
 pub(crate) fn rooms_of(
     alloc: Global,
     net: &Network,
@@ -25,19 +25,19 @@ pub(crate) fn rooms_of(
 {
     let mut rooms = Vec::with_capacity(alloc, releases.len())?;
     for release in releases {
-        rooms.push(net.sender_path(release.sender).len() as u32)?;
+        rooms.push(net.sender_ports(release.sender).len() as u32)?;
     }
     Ok(rooms)
 }
 
-/// Counts a sender's frame at each port of its path, in its class there. The count of a class at a
+/// Counts a sender's frame at each of its ports, in its class there. The count of a class at a
 /// port stands at eight times the port's number, and the class.
 fn count(net: &Network, sender: u32, counts: &mut Vec<u32>)
     requires sender { sender < length (senders_of net.now) }
     requires below { AreBelow net.now counts.old.items }
     ensures { Counts net.now sender counts.old.items counts.new.items }
 {
-    let path = net.sender_path(sender);
+    let path = net.sender_ports(sender);
     for (hop, port) in path.iter().enumerate() {
         let class = net.sender_class(sender, hop as u32);
         let place = CLASSES * *port as usize + class as usize;

@@ -6,6 +6,7 @@ ghost use Rattle.ats_engine_steps.specs.Bounds.{steps_left};
 ghost use Rattle.ats_engine_steps.specs.Seen.{course_of};
 ghost use Rattle.ats_engine_steps.specs.declared.event.Event.TheVariants.{Arrival, Eligibility, Selection, End};
 ghost use Rattle.ats_engine.specs.Ready.{IsReady, IsAtEvent, Goes, Follows};
+ghost use Rattle.ats_engine.specs.Told.{told, agenda_told};
 ghost use Rattle.ats_engine.specs.Following.{follows-itself, follows-both, ready-permuted};
 
 use crate::entering::{enter, enter_both};
@@ -26,41 +27,36 @@ pub(crate) struct Runner<'a, T: Tie, P: Pace> {
 
 impl<'a, T: Tie, P: Pace> Runner<'a, T, P> {
     /// A frame comes to the next port of its path.
-    fn come<O: TimeOrder>(&mut self, now: Moment, frame: u32, agenda: &mut Agenda<O, Event>)
-        requires { IsAtEvent T.key P.wait O.before self.old agenda.old now (Arrival frame) }
-        ensures { Goes T.key P.wait self.old self.new agenda.old agenda.new }
+    fn come<O: TimeOrder>(&mut self, now: Moment, frame: u32, agenda: &mut Agenda<O, ()>)
+        requires { IsAtEvent T.key P.wait O.before self.old (agenda_told agenda.old) now (Arrival frame) }
+        ensures { Goes T.key P.wait self.old self.new (agenda_told agenda.old) (agenda_told agenda.new) }
     {
         let entry = come(self.network, &self.schedulers, &mut self.state, now, frame);
         enter(agenda, entry);
     }
 
     /// A frame becomes eligible.
-    fn become_eligible<O: TimeOrder>(
-        &mut self,
-        now: Moment,
-        frame: u32,
-        agenda: &mut Agenda<O, Event>,
-    )
-        requires { IsAtEvent T.key P.wait O.before self.old agenda.old now (Eligibility frame) }
-        ensures { Goes T.key P.wait self.old self.new agenda.old agenda.new }
+    fn become_eligible<O: TimeOrder>(&mut self, now: Moment, frame: u32, agenda: &mut Agenda<O, ()>)
+        requires { IsAtEvent T.key P.wait O.before self.old (agenda_told agenda.old) now (Eligibility frame) }
+        ensures { Goes T.key P.wait self.old self.new (agenda_told agenda.old) (agenda_told agenda.new) }
     {
         let entry = become_eligible(self.network, &mut self.state, now, frame);
         enter(agenda, entry);
     }
 
     /// A port selects a frame.
-    fn select<O: TimeOrder>(&mut self, now: Moment, port: u32, agenda: &mut Agenda<O, Event>)
-        requires { IsAtEvent T.key P.wait O.before self.old agenda.old now (Selection port) }
-        ensures { Goes T.key P.wait self.old self.new agenda.old agenda.new }
+    fn select<O: TimeOrder>(&mut self, now: Moment, port: u32, agenda: &mut Agenda<O, ()>)
+        requires { IsAtEvent T.key P.wait O.before self.old (agenda_told agenda.old) now (Selection port) }
+        ensures { Goes T.key P.wait self.old self.new (agenda_told agenda.old) (agenda_told agenda.new) }
     {
         let entry = select(&mut self.state, now, port);
         enter(agenda, Some(entry));
     }
 
     /// A transmission ends.
-    fn end<O: TimeOrder>(&mut self, now: Moment, frame: u32, agenda: &mut Agenda<O, Event>)
-        requires { IsAtEvent T.key P.wait O.before self.old agenda.old now (End frame) }
-        ensures { Goes T.key P.wait self.old self.new agenda.old agenda.new }
+    fn end<O: TimeOrder>(&mut self, now: Moment, frame: u32, agenda: &mut Agenda<O, ()>)
+        requires { IsAtEvent T.key P.wait O.before self.old (agenda_told agenda.old) now (End frame) }
+        ensures { Goes T.key P.wait self.old self.new (agenda_told agenda.old) (agenda_told agenda.new) }
     {
         let (arrival, selection) = end(self.network, &mut self.state, &self.pace, now, frame);
         enter_both(agenda, arrival, selection);
@@ -68,16 +64,17 @@ impl<'a, T: Tie, P: Pace> Runner<'a, T, P> {
 }
 
 impl<'a, T: Tie, O: TimeOrder, P: Pace> Actor<O> for Runner<'a, T, P> {
-    type Event = Event;
+    /// An entry is a moment alone, which tells the event.
+    type Event = ();
 
     ghost left = { λ runner. steps_left (course_of runner.state) };
 
-    ghost holds = { λ runner entries capacity _. IsReady T.key P.wait runner entries capacity };
+    ghost holds = { λ runner entries capacity _. IsReady T.key P.wait runner (told entries) capacity };
 
     ghost follows = { Follows };
 
-    fn handle(&mut self, moment: Moment, event: Event, agenda: &mut Agenda<O, Event>) {
-        match event {
+    fn handle(&mut self, moment: Moment, _event: (), agenda: &mut Agenda<O, ()>) {
+        match Event::of(moment) {
             Event::End(frame) => self.end(moment, frame, agenda),
             Event::Arrival(frame) => self.come(moment, frame, agenda),
             Event::Eligibility(frame) => self.become_eligible(moment, frame, agenda),

@@ -34,7 +34,7 @@ no_release = record { at = record { 0 = 0 }; sender = 0; octets = 0 }
 
 -- what is kept of a frame that is to come at its release
 abbrev pub start : DeclaredNetwork → Release → Progress
-start network r = unmoved r (length (sender_at network r.sender).path)
+start network r = unmoved r (length (sender_at network r.sender).ports)
 
 -- its stage
 abbrev pub coming : Release → Stage
@@ -89,7 +89,7 @@ none-from : (network : DeclaredNetwork) (frame : ℕ) (releases : List Release)
 none-from network frame [] = refl
 none-from network frame (r ∷ releases) =
     let s : Sender = sender_at network r.sender in
-    ap (λ (hs : List Hop). hs ++ hops_from network (frame + 1) (map still releases)) (none-along frame r s s.path)
+    ap (λ (hs : List Hop). hs ++ hops_from network (frame + 1) (map still releases)) (none-along frame r s s.ports)
     ∙ none-from network (frame + 1) releases
 
 -- none has crossed a port
@@ -99,7 +99,7 @@ none-crossed_from network frame [] = refl
 none-crossed_from network frame (r ∷ releases) =
     let s : Sender = sender_at network r.sender in
     ap (λ (xs : List Crossing). xs ++ crossings_from network (frame + 1) (map still releases))
-    (none-crossed_along frame r s s.path (Sink r.at))
+    (none-crossed_along frame r s s.ports (Sink r.at))
     ∙ none-crossed_from network (frame + 1) releases
 
 -- and none was handed on
@@ -109,7 +109,7 @@ none-handed_from network frame [] = refl
 none-handed_from network frame (r ∷ releases) =
     let s : Sender = sender_at network r.sender in
     ap (λ (hs : List Handed). hs ++ handed_from network (frame + 1) (map still releases))
-    (none-handed_along frame r s s.path)
+    (none-handed_along frame r s s.ports)
     ∙ none-handed_from network (frame + 1) releases
 
 -- so it is at each port: none was sent

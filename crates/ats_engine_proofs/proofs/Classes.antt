@@ -63,7 +63,7 @@ low-journey : (network : DeclaredNetwork) (frame : ℕ) (j : Travel) → IsNetwo
 low-journey network frame j rules within =
     let s : Sender = sender_at network j.release.sender in
     let is : IsSender network.topology s = sender_keeps network j.release.sender rules within in
-    low-along frame j.release s s.path j.hops (λ port. class_at-le s port is.classes)
+    low-along frame j.release s s.ports j.hops (λ port. class_at-le s port is.classes)
 
 -- the sender of a journey is one of the network
 abbrev pub IsKnown : DeclaredNetwork → Travel → Type 0

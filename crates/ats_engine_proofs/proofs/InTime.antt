@@ -201,9 +201,9 @@ journey-before network time n j rules is later crossed =
     let s : Sender = sender_at network j.release.sender in
     let ports : ℕ = length network.topology.ports in
     let keeps : IsSender network.topology s = sender_keeps network j.release.sender rules is.sender in
-    let release : j.release.at.0 < time = release-before time ports n j.release s s.path j.hops j.ending keeps.ports
+    let release : j.release.at.0 < time = release-before time ports n j.release s s.ports j.hops j.ending keeps.ports
     is.way later crossed is.released in
-    let way = way-before time ports n j.release s s.path j.hops j.ending keeps.ports is.way later crossed
+    let way = way-before time ports n j.release s s.ports j.hops j.ending keeps.ports is.way later crossed
     (comes-released time j.release j.hops j.ending release is.released) in
     record { release = release; hops = way.hops; ending = way.ending }
 

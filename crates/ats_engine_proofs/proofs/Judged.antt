@@ -61,7 +61,7 @@ residence_behind network port class below few =
 -- the scheduler that a stream's frame meets before it comes to a hop, behind this port, for its class there
 pub record IsScheduler (network : DeclaredNetwork) (stream hop port class : ℕ) : Type 0 where
   pub is_hop : IsHop network stream hop
-  pub behind : get_or (sender_at network stream).path (hop - 1) 0 ≡ port
+  pub behind : get_or (sender_at network stream).ports (hop - 1) 0 ≡ port
   pub in_class : class_at (sender_at network stream) port ≡ class
   pub few : class ≤ 7
 
@@ -105,7 +105,7 @@ verdict-is network groups stream hop port class state arrival octets are is belo
 
 -- a path has a port once, so a stream has one scheduler behind it
 pub one-scheduler : (network : DeclaredNetwork) (stream hop next port class c : ℕ)
-    → AllPairs (λ p q. p ≢ q) (sender_at network stream).path → IsScheduler network stream hop port class
+    → AllPairs (λ p q. p ≢ q) (sender_at network stream).ports → IsScheduler network stream hop port class
     → IsScheduler network stream next port c → hop ≡ next
 one-scheduler network stream hop next port class c apart is other =
     elim (cases_order (hop - 1) (next - 1)) as (λ _. hop ≡ next) [
@@ -120,7 +120,7 @@ one-scheduler network stream hop next port class c apart is other =
 
 -- what the group of a verdict keeps then: a step further
 pub state-own : (network : DeclaredNetwork) (groups : GroupsState) (stream hop port class : ℕ) (state : State)
-    (arrival octets : ℕ) (v : Verdict) → AllPairs (λ p q. p ≢ q) (sender_at network stream).path
+    (arrival octets : ℕ) (v : Verdict) → AllPairs (λ p q. p ≢ q) (sender_at network stream).ports
     → AreGroupsOf network groups → IsScheduler network stream hop port class
     → IsStateOf network groups port class state
     → IsStateOf network (groups_after groups (scheduler_of network stream hop) octets v) port class
@@ -194,8 +194,8 @@ state-other network groups stream hop port class octets (Eligible e) other c sta
           get_or-set_other groups.empties member (scheduler_of network s h) _ (pos 0) (λ place.
           let same = schedulers_are_apart network s stream h hop is_hop is.is_hop place in
           let ports : other ≡ port = sym at_port
-          ∙ ap (λ (n : ℕ). get_or (sender_at network n).path (h - 1) 0) same.0
-          ∙ ap (λ (n : ℕ). get_or (sender_at network stream).path (n - 1) 0) same.1 ∙ is.behind in
+          ∙ ap (λ (n : ℕ). get_or (sender_at network n).ports (h - 1) 0) same.0
+          ∙ ap (λ (n : ℕ). get_or (sender_at network stream).ports (n - 1) 0) same.1 ∙ is.behind in
           let classes : c ≡ class = sym at_class
           ∙ ap (λ (n : ℕ). class_at (sender_at network n) other) same.0
           ∙ ap (class_at (sender_at network stream)) ports ∙ is.in_class in

@@ -105,7 +105,7 @@ come-run network time n (j ∷ run) rules journeys done =
     let s : Sender = sender_at network j.release.sender in
     let keeps : IsSender network.topology s = sender_keeps network j.release.sender rules is.sender in
     All-append (IsCome network time) (journey_handed network n j) (handed_from network (n + 1) run)
-    (come-along network time n j.release s s.path j.hops keeps.ports keeps.shaped
+    (come-along network time n j.release s s.ports j.hops keeps.ports keeps.shaped
     (All-head (IsJourneyDoneBefore time) j run done).hops)
     (come-run network time (n + 1) run rules (All-tail (IsJourney network) j run journeys)
     (All-tail (IsJourneyDoneBefore time) j run done))
@@ -266,7 +266,7 @@ late-run network limit n (j ∷ run) journeys late =
     let own : List Handed = journey_handed network n j in
     let others : List Handed = handed_from network (n + 1) run in
     All-cons (λ (j : Travel). All (IsLateHop limit) j.hops) j run
-    (late-along limit n j.release s s.path j.hops j.ending (λ next rest e. is.way)
+    (late-along limit n j.release s s.ports j.hops j.ending (λ next rest e. is.way)
     (released-late limit j.release j.hops is.released) (all_left (IsLateHanded limit) own others late))
     (late-run network limit (n + 1) run (All-tail (IsJourney network) j run journeys)
     (all_right (IsLateHanded limit) own others late))

@@ -45,7 +45,7 @@ pub room-set : (network : DeclaredNetwork) (records : List Progress) (frame : �
     → frame < length records → p.release ≡ (progress_at records frame).release
     → room_of network (set records frame p) port class ≡ room_of network records port class
 room-set network records frame p port class within same =
-    let test : Release → ℕ = λ (r : Release). cond (list_any (λ q. q == port) (sender_at network r.sender).path
+    let test : Release → ℕ = λ (r : Release). cond (list_any (λ q. q == port) (sender_at network r.sender).ports
     && class_at (sender_at network r.sender) port == class) 1 0 in
     let count : Progress → ℕ = λ (q : Progress). cond (passes network port class q) 1 0 in
     let equal : count p ≡ count (progress_at records frame) = ap test same in

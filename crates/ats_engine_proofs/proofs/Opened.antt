@@ -173,7 +173,7 @@ opened-frames network releases course rules are opened frame within =
       octets = is.octets;
       room = refl;
       stands = record {
-        here = (goes-at-first (sender_at network r.sender).path sender.path.least, refl);
+        here = (goes-at-first (sender_at network r.sender).ports sender.path.least, refl);
         unended = refl;
       };
     } in

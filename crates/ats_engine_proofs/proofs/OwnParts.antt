@@ -358,5 +358,5 @@ crossings-of-sent P network port n (j ∷ run) all =
     All-append (λ (x : Crossing). P x.sent) (crossings_part network port n j)
     (gather (crossings_part network port) (n + 1) run)
     (crossings-are-of-hops P port n j.release (sender_at network j.release.sender)
-    (sender_at network j.release.sender).path j.hops j.ending (all_left P sent later all))
+    (sender_at network j.release.sender).ports j.hops j.ending (all_left P sent later all))
     (crossings-of-sent P network port (n + 1) run (all_right P sent later all))

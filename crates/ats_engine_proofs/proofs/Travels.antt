@@ -666,7 +666,7 @@ numbered-others network port frame other j apart =
     (All-weaker (λ (x : Crossing). x.sent.frame ≡ other) (λ (x : Crossing). x.sent.frame ≢ frame)
     (λ x is e. apart (sym is ∙ e)) (journey_crossings network other j)
     (crossings-numbered other j.release (sender_at network j.release.sender)
-    (sender_at network j.release.sender).path j.hops j.ending))
+    (sender_at network j.release.sender).ports j.hops j.ending))
 
 -- before, the frame had not crossed it
 pub ends-others : {T : Type 0} {key : T → ℕ → ℕ → ℕ} {wait : ℕ → ℕ → ℕ} {network : DeclaredNetwork}

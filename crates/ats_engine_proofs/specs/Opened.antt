@@ -21,9 +21,9 @@ abbrev pub released_from : ℕ → List Release → List (Moment × Event)
 released_from frame [] = []
 released_from frame (r ∷ releases) = (arrival_moment frame r.at, Arrival frame) ∷ released_from (frame + 1) releases
 
--- how many hop records each frame may get: one for each port of its path
+-- how many hop records each frame may get: one for each of its sender's ports
 abbrev pub rooms_of : DeclaredNetwork → List Release → List ℕ
-rooms_of network releases = map (λ (r : Release). length (sender_at network r.sender).path) releases
+rooms_of network releases = map (λ (r : Release). length (sender_at network r.sender).ports) releases
 
 -- a port that was just opened, with room for all frames that pass it
 pub record IsFresh {T : Type 0} (network : DeclaredNetwork) (course : Course T) (port : ℕ) : Type 0 where

@@ -48,7 +48,7 @@ abbrev pub sender_of : DeclaredNetwork → Progress → Sender
 sender_of network progress = sender_at network progress.release.sender
 
 abbrev pub path_of : DeclaredNetwork → Progress → List ℕ
-path_of network progress = (sender_of network progress).path
+path_of network progress = (sender_of network progress).ports
 
 -- the port of a frame's last hop record
 abbrev pub place_of : DeclaredNetwork → Progress → ℕ

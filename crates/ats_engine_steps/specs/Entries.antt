@@ -1,4 +1,5 @@
-use Rattle.std.specs.Prelude.{◌≡◌, ◌≢◌, ℕ, ◌≤◌, List, Option, Some, None, All, AllPairs, Contains, IfSome}
+use Rattle.std.specs.Prelude.{◌≡◌, ◌≢◌, ℕ, ◌≤◌, ◌==◌, if◌then◌else◌, List, Option, Some, None}
+use Rattle.std.specs.Prelude.{All, AllPairs, Contains, IfSome}
 use Rattle.ats_num.specs.declared.time.Ps.{Ps}
 use Rattle.ats_events.specs.declared.moment.Moment.{Moment}
 use Rattle.ats_events.specs.declared.phase.TheConstants.{TRANSMISSION_END, ARRIVAL, ELIGIBLE, SELECTION}
@@ -29,6 +30,13 @@ moment_at (End frame) at = end_moment frame at
 moment_at (Arrival frame) at = arrival_moment frame at
 moment_at (Eligibility frame) at = eligible_moment frame at
 moment_at (Selection port) at = selection_moment port at
+
+-- the event that happens at a moment: its phase and its number tell it
+abbrev pub event_of : Moment → Event
+event_of moment =
+    if moment.phase == TRANSMISSION_END then End moment.id
+    else (if moment.phase == ARRIVAL then Arrival moment.id
+    else (if moment.phase == ELIGIBLE then Eligibility moment.id else Selection moment.id))
 
 -- when a frame at this stage arrives, becomes eligible, or has been sent; no more than one of them is still to happen
 abbrev pub arrival_by : ℕ → Stage → Option Moment

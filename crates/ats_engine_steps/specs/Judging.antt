@@ -22,7 +22,7 @@ pub record IsStateOf (network : DeclaredNetwork) (groups : GroupsState) (port cl
     : Type 0 where
   pub time : time_at groups.times (group_behind port class) ≡ state.time
   pub empties : (stream hop : ℕ) → IsHop network stream hop
-      → slice_index (sender_at network stream).path (hop - 1) ≡ port → class_at (sender_at network stream) port ≡ class
+      → slice_index (sender_at network stream).ports (hop - 1) ≡ port → class_at (sender_at network stream) port ≡ class
       → empty_at groups.empties (scheduler_of network stream hop) ≡ state.empty stream
 
 -- the frames that came behind a port in a class were judged by the group there, and it keeps what they left

@@ -1,7 +1,7 @@
 //! What may happen next.
 
 ghost use Rattle.std.specs.Prelude.{◌≡◌};
-ghost use Rattle.ats_engine_steps.specs.Entries.{moment_at};
+ghost use Rattle.ats_engine_steps.specs.Entries.{moment_at, event_of};
 
 use ats_events::Moment;
 use ats_events::phase::{ARRIVAL, ELIGIBLE, SELECTION, TRANSMISSION_END};
@@ -21,6 +21,22 @@ pub enum Event {
 }
 
 impl Event {
+    /// The event that happens at a moment, by its phase and its number.
+    pub fn of(moment: Moment) -> Event
+        ensures { result ≡ event_of moment }
+    {
+        if moment.phase == TRANSMISSION_END {
+            return Event::End(moment.id);
+        }
+        if moment.phase == ARRIVAL {
+            return Event::Arrival(moment.id);
+        }
+        if moment.phase == ELIGIBLE {
+            return Event::Eligibility(moment.id);
+        }
+        Event::Selection(moment.id)
+    }
+
     /// The entry of an agenda for this event at a time: its moment, and the event.
     pub fn at(self, time: Ps) -> (Moment, Event)
         ensures { result ≡ (moment_at self time, self) }

@@ -87,7 +87,7 @@ pub(crate) fn leave(
 {
     let release = records.release(frame);
     let hops = records.hops_of(frame).len();
-    let ports = net.sender_path(release.sender).len();
+    let ports = net.sender_ports(release.sender).len();
     if hops == ports {
         records.close(frame, Ending::Sink(at));
         stages[frame as usize] = Stage::Over;

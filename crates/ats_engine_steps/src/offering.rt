@@ -18,7 +18,7 @@ pub(crate) fn place_of(net: &Network, records: &Records, frame: u32) -> u32
 {
     let hops = records.hops_of(frame).len();
     let release = records.release(frame);
-    net.sender_path(release.sender)[hops - 1]
+    net.sender_ports(release.sender)[hops - 1]
 }
 
 /// The time of a verdict, where the frame is eligible.

@@ -8,20 +8,20 @@ use Rattle.ats_engine.proofs.rooms.count.Goals as goal
 
 pub overflow_cast-hop : goal.overflow_cast-hop
 overflow_cast-hop c =
-    let kept = sender-kept c.args.net.now c.args.sender c.sender_path-path.ensures.rules c.requires.sender in
-    omega (arith, kept.path.most, ap (λ (l : List ℕ). length l) c.sender_path-path.ensures.value)
+    let kept = sender-kept c.args.net.now c.args.sender c.sender_ports-path.ensures.rules c.requires.sender in
+    omega (arith, kept.path.most, ap (λ (l : List ℕ). length l) c.sender_ports-path.ensures.value)
 
 pub index_mut-requires : goal.index_mut-requires
 index_mut-requires c =
-    let at = at-hop c.sender_path-path.ensures.rules c.requires.sender c.sender_path-path.ensures.value
+    let at = at-hop c.sender_ports-path.ensures.rules c.requires.sender c.sender_ports-path.ensures.value
     c.loop-hop-test.true c.sender_class-class.ensures.value in
     omega (arith, at.port, at.low, c.loop-hop.invariant.all, c.requires.below.all)
 
 pub overflow_add-index_mut : goal.overflow_add-index_mut
 overflow_add-index_mut c =
-    let at = at-hop c.sender_path-path.ensures.rules c.requires.sender c.sender_path-path.ensures.value
+    let at = at-hop c.sender_ports-path.ensures.rules c.requires.sender c.sender_ports-path.ensures.value
     c.loop-hop-test.true c.sender_class-class.ensures.value in
-    let port : ℕ = get_or c.sender_path-path.result.now c.loop-hop.hop 0 in
+    let port : ℕ = get_or c.sender_ports-path.result.now c.loop-hop.hop 0 in
     let class : ℕ = c.sender_class-class.result in
     let fits : 8 * port + class < length c.loop-hop.counts.items =
     omega (arith, at.port, at.low, c.loop-hop.invariant.all, c.requires.below.all) in
@@ -31,9 +31,9 @@ overflow_add-index_mut c =
 
 pub loop-hop-preserved : goal.loop-hop-preserved
 loop-hop-preserved c =
-    let at = at-hop c.sender_path-path.ensures.rules c.requires.sender c.sender_path-path.ensures.value
+    let at = at-hop c.sender_ports-path.ensures.rules c.requires.sender c.sender_ports-path.ensures.value
     c.loop-hop-test.true c.sender_class-class.ensures.value in
-    let path : List ℕ = c.sender_path-path.result.now in
+    let path : List ℕ = c.sender_ports-path.result.now in
     let port : ℕ = get_or path c.loop-hop.hop 0 in
     let class : ℕ = c.sender_class-class.result in
     let fits : 8 * port + class < length c.loop-hop.counts.items =
@@ -42,7 +42,7 @@ loop-hop-preserved c =
     ∙ get_or_default c.loop-hop.counts.items (8 * port + class) c.index_mut.result.now 0 fits in
     let here : class ≡ class_at (sender_at c.args.net.now c.args.sender) port = c.sender_class-class.ensures.port
     ∙ ap (λ (l : List ℕ). class_at (sender_at c.args.net.now c.args.sender) (get_or l c.loop-hop.hop 0))
-    (sym c.sender_path-path.ensures.value) in
+    (sym c.sender_ports-path.ensures.value) in
     subst (λ (n : ℕ). CountsOver c.args.net.now c.args.sender (take (c.loop-hop.hop + 1) path)
     c.args.counts.now.items (set c.loop-hop.counts.items (8 * port + class) (n + 1))) (sym read)
     (counts-more at here fits c.loop-hop.invariant)

@@ -2,10 +2,10 @@ use Rattle.std.proofs.Common.{arith}
 use Rattle.ats_engine.proofs.Starting.{path-few}
 use Rattle.ats_engine.proofs.rooms.rooms_of.Goals as goal
 
-pub overflow_cast-sender_path : goal.overflow_cast-sender_path
-overflow_cast-sender_path c =
+pub overflow_cast-sender_ports : goal.overflow_cast-sender_ports
+overflow_cast-sender_ports c =
     omega (
       arith,
-      path-few c.args.net.now c.sender_path.result.now c.sender_path.ensures.rules
-          c.sender_path.ensures.value (c.requires.each c.loop-release.release-index _ c.loop-release-test.true).sender,
+      path-few c.args.net.now c.sender_ports.result.now c.sender_ports.ensures.rules
+          c.sender_ports.ensures.value (c.requires.each c.loop-release.release-index _ c.loop-release-test.true).sender,
     )

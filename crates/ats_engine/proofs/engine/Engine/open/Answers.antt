@@ -1,10 +1,12 @@
+use Rattle.ats_engine.specs.Told.{agenda_told}
 use Rattle.ats_engine.specs.declared.runner.Runner.{Runner}
 use Rattle.ats_engine.proofs.Starting.{ready-first, setting-first}
 use Rattle.ats_engine.proofs.engine.Engine.open.Goals as goal
 
 pub invariant_of-result : goal.invariant_of-result
 invariant_of-result g c =
-    ready-first g.T.Tie.key g.P.Pace.wait c.args.releases.now c.args.order c.args.tie _ c.in_ok-agenda.agenda c.requires
+    ready-first g.T.Tie.key g.P.Pace.wait c.args.releases.now c.args.order c.args.tie _
+    (agenda_told c.in_ok-agenda.agenda) c.requires
     c.in_ok-schedulers.ensures c.in_ok-state.ensures c.in_ok-agenda.ensures
 
 pub returns : goal.returns
@@ -15,5 +17,5 @@ returns g c =
       pace = c.args.pace;
       state = c.in_ok-state.state;
     } in
-    setting-first c.args.releases.now c.args.order c.args.tie runner c.in_ok-agenda.agenda c.requires
+    setting-first c.args.releases.now c.args.order c.args.tie runner (agenda_told c.in_ok-agenda.agenda) c.requires
     c.in_ok-state.ensures c.in_ok-agenda.ensures

@@ -1,18 +1,20 @@
+use Rattle.std.proofs.Common.{ap}
+use Rattle.ats_engine.specs.Told.{told, agenda_told}
 use Rattle.ats_engine.proofs.Concluding.{all-ended, run-by, run-in-time}
 use Rattle.ats_engine.proofs.engine.Engine.run.Goals as goal
 
 pub finish-requires : goal.finish-requires
-finish-requires g c = all-ended c.drive.ensures.holds c.drive.ensures.empty
+finish-requires g c = all-ended c.drive.ensures.holds (ap told c.drive.ensures.empty)
 
 pub returns-clause-by : goal.returns-clause-by
 returns-clause-by g c =
-    (run-by c.args.self c.self.inside.agenda c.self.view_is c.drive.ensures.follows c.drive.ensures.holds
-    c.drive.ensures.empty c.finish.ensures).0
+    (run-by c.args.self (agenda_told c.self.inside.agenda) c.self.view_is c.drive.ensures.follows c.drive.ensures.holds
+    (ap told c.drive.ensures.empty) c.finish.ensures).0
 
 pub returns-clause-releases : goal.returns-clause-releases
 returns-clause-releases g c =
-    (run-by c.args.self c.self.inside.agenda c.self.view_is c.drive.ensures.follows c.drive.ensures.holds
-    c.drive.ensures.empty c.finish.ensures).1
+    (run-by c.args.self (agenda_told c.self.inside.agenda) c.self.view_is c.drive.ensures.follows c.drive.ensures.holds
+    (ap told c.drive.ensures.empty) c.finish.ensures).1
 
 pub returns-clause-in_time : goal.returns-clause-in_time
-returns-clause-in_time g c = run-in-time c.drive.ensures.holds c.drive.ensures.empty c.finish.ensures
+returns-clause-in_time g c = run-in-time c.drive.ensures.holds (ap told c.drive.ensures.empty) c.finish.ensures
