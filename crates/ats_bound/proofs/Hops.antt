@@ -59,31 +59,31 @@ class_first port k (p ∷ path) (class ∷ classes) hop many at =
         let later : k + hop ≡ (k + 1) + f.place = omega (arith, f.is) in
         more f.place (h ∙ ap Some later) ∙ ap (λ (n : ℕ). get_or (class ∷ classes) n 0) (sym next)
 
-pub class_at_hop : (port : ℕ) (path classes : List ℕ) (hop : ℕ) → length classes ≡ length path
+pub class_at_place : (port : ℕ) (path classes : List ℕ) (hop : ℕ) → length classes ≡ length path
     → position_from (λ p. eqb p port) 0 path ≡ Some hop → class_along port path classes ≡ get_or classes hop 0
-class_at_hop port path classes hop many at =
+class_at_place port path classes hop many at =
     let from : hop ≡ 0 + hop = omega arith in class_first port 0 path classes hop many (at ∙ ap Some from)
 
 -- what the place of a port on a sender's path says of the sender there
-pub user_at : (port class : ℕ) (s : Sender) (hop : ℕ) → length s.classes ≡ length s.path
-    → position_from (λ p. eqb p port) 0 s.path ≡ Some hop → is_user port class s ≡ eqb (get_or s.classes hop 0) class
+pub user_at : (port class : ℕ) (s : Sender) (hop : ℕ) → length s.classes ≡ length s.ports
+    → position_from (λ p. eqb p port) 0 s.ports ≡ Some hop → is_user port class s ≡ eqb (get_or s.classes hop 0) class
 user_at port class s hop many at =
-    ap (λ (b : Bool). b && eqb (class_at s port) class) (hop_is port s.path hop at).uses
-    ∙ ap (λ (n : ℕ). eqb n class) (class_at_hop port s.path s.classes hop many at)
+    ap (λ (b : Bool). b && eqb (class_at s port) class) (hop_is port s.ports hop at).uses
+    ∙ ap (λ (n : ℕ). eqb n class) (class_at_place port s.ports s.classes hop many at)
 
-pub no_user : (port class : ℕ) (s : Sender) → position_from (λ p. eqb p port) 0 s.path ≡ None
+pub no_user : (port class : ℕ) (s : Sender) → position_from (λ p. eqb p port) 0 s.ports ≡ None
     → is_user port class s ≡ false
-no_user port class s none = ap (λ (b : Bool). b && eqb (class_at s port) class) (no_hop port s.path none)
+no_user port class s none = ap (λ (b : Bool). b && eqb (class_at s port) class) (no_hop port s.ports none)
 
 pub more_at : (port class : ℕ) (s : Sender) (tally : Tally) (hop : ℕ)
-    → position_from (λ p. eqb p port) 0 s.path ≡ Some hop
-    → with_user port class s tally ≡ tally_with class (seen_at (get_or s.path hop 0) s) tally
+    → position_from (λ p. eqb p port) 0 s.ports ≡ Some hop
+    → with_user port class s tally ≡ tally_with class (seen_at (get_or s.ports hop 0) s) tally
 more_at port class s tally hop at =
-    let h : IsHop port s.path hop = hop_is port s.path hop at in
+    let h : IsHop port s.ports hop = hop_is port s.ports hop at in
     ap (λ (b : Bool). cond b (tally_with class (seen_at port s) tally) tally) h.uses
     ∙ ap (λ (n : ℕ). tally_with class (seen_at n s) tally) (sym h.is)
 
-pub no_more : (port class : ℕ) (s : Sender) (tally : Tally) → position_from (λ p. eqb p port) 0 s.path ≡ None
+pub no_more : (port class : ℕ) (s : Sender) (tally : Tally) → position_from (λ p. eqb p port) 0 s.ports ≡ None
     → with_user port class s tally ≡ tally
 no_more port class s tally none =
-    ap (λ (b : Bool). cond b (tally_with class (seen_at port s) tally) tally) (no_hop port s.path none)
+    ap (λ (b : Bool). cond b (tally_with class (seen_at port s) tally) tally) (no_hop port s.ports none)

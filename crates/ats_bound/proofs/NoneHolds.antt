@@ -137,7 +137,7 @@ in_time_held : (network : DeclaredNetwork) (rows : List Row) (stream : DeclaredS
     → Holds network rows → IsInTime rows stream → IsInTime (least_certificate network) stream
 in_time_held network rows stream is h late =
     let sender : Sender = stream_sender stream in
-    let le = sum_by-le-sum_by (bound_of_hop (least_certificate network) sender) (bound_of_hop rows sender) stream.path
+    let le = sum_by-le-sum_by (bound_of_hop (least_certificate network) sender) (bound_of_hop rows sender) stream.ports
     (λ port. bound_at-le network rows port (class_at sender port) is h) in
     omega (arith, le, late)
 

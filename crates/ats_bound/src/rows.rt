@@ -53,7 +53,7 @@ fn is_used_by(streams: &[Stream], port: u32, class: u8) -> bool
 fn is_user(stream: &Stream, port: u32, class: u8) -> bool
     ensures { result ≡ is_user port class (stream_sender stream.now) }
 {
-    match hop_of(stream.path(), port) {
+    match hop_of(stream.ports(), port) {
         Some(hop) => stream.classes()[hop] == class,
         None => false,
     }
@@ -96,7 +96,7 @@ fn with_user(tally: Tally, network: &Network, sender: u32, port: u32, class: u8)
     requires room { IsWithin MAX_SENDERS tally }
     ensures { result ≡ with_user port class (sender_at network.now sender) tally }
 {
-    match hop_of(network.sender_path(sender), port) {
+    match hop_of(network.sender_ports(sender), port) {
         Some(hop) => tally.with_sender(class, &SeenSender::at(network, sender, hop as u32)),
         None => tally,
     }

@@ -102,7 +102,7 @@ journey_crossed network net frame j is =
     let s : Sender = sender_at network j.release.sender in
     let keeps : IsSender network.topology s = sender_is network net j is in
     crossed_along (length network.topology.ports) frame j.release s is.octets (λ p. class_at-le s p keeps.classes)
-    s.path j.hops j.ending keeps.ports
+    s.ports j.hops j.ending keeps.ports
 
 crossed_from : (network : DeclaredNetwork) → IsNetwork network → (frame : ℕ) (run : List Travel)
     → All (IsJourney network) run → All (IsCrossed (length network.topology.ports)) (crossings_from network frame run)
@@ -119,7 +119,7 @@ few_from network net frame [] all = omega arith
 few_from network net frame (j ∷ run) all =
     let is : IsJourney network j = All-head (IsJourney network) j run all in
     let s : Sender = sender_at network j.release.sender in
-    let here = few_along frame j.release s s.path j.hops j.ending in
+    let here = few_along frame j.release s s.ports j.hops j.ending in
     let short = (sender_is network net j is).path.most in
     let rest = few_from network net (frame + 1) run (All-tail (IsJourney network) j run all) in
     omega (

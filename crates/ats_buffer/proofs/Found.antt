@@ -78,10 +78,10 @@ record IsHeld (network : DeclaredNetwork) (row : Row) : Type 0 where
 used_bound : (rows : List Row) (s : DeclaredStream) (port : ℕ) → uses port (stream_sender s) ≡ true
     → bound_of_hop rows (stream_sender s) port ≤ bound_along rows s
 used_bound rows s port used =
-    any_gives (λ p. p == port) (bound_of_hop rows (stream_sender s) port ≤ bound_along rows s) s.path
+    any_gives (λ p. p == port) (bound_of_hop rows (stream_sender s) port ≤ bound_along rows s) s.ports
     (λ k d h e. (
-    let same = ap (bound_of_hop rows (stream_sender s)) (eqb-true (get_or s.path k d) port e) in
-    omega (arith, same, get_or-le-sum_by (bound_of_hop rows (stream_sender s)) s.path k d h))) used
+    let same = ap (bound_of_hop rows (stream_sender s)) (eqb-true (get_or s.ports k d) port e) in
+    omega (arith, same, get_or-le-sum_by (bound_of_hop rows (stream_sender s)) s.ports k d h))) used
 
 -- a row of a certificate that holds has a bound of at most the greatest deadline
 pub bound-most : (network : DeclaredNetwork) (rows : List Row) → IsNetwork network → Holds network rows

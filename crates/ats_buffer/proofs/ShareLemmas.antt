@@ -155,7 +155,7 @@ shares_more network rows port class number d h =
 -- when the stream is added along its whole path, it is one of those that are added
 pub added_all : (network : DeclaredNetwork) (rows : List Row) (number : ℕ) (d : DeclaredStream) (table : Table ℕ)
     → number < length network.streams
-    → AreAdding network rows number (get_or network.streams number d) (get_or network.streams number d).path table
+    → AreAdding network rows number (get_or network.streams number d) (get_or network.streams number d).ports table
     → AreSums network rows (number + 1) table
 added_all network rows number d table h all = record {
   ports = all.ports;
@@ -170,13 +170,13 @@ added_all network rows number d table h all = record {
     s = get_or network.streams number d
 
     used : (port class : ℕ) → 1 ≤ class
-        → (list_any (λ p. p == port) s.path && has_class port class s) ≡ has_class port class s
+        → (list_any (λ p. p == port) s.ports && has_class port class s) ≡ has_class port class s
     used port class least = elim (cases_Bool (has_class port class s))
-        as (λ _. (list_any (λ p. p == port) s.path && has_class port class s) ≡ has_class port class s) [
-          | inl own ↦ ap (λ (b : Bool). b && has_class port class s) (class_along-has port s.path s.classes
+        as (λ _. (list_any (λ p. p == port) s.ports && has_class port class s) ≡ has_class port class s) [
+          | inl own ↦ ap (λ (b : Bool). b && has_class port class s) (class_along-has port s.ports s.classes
               (omega (arith, least, eqb-true (class_at (stream_sender s) port) class own)))
-          | inr other ↦ ap (λ (c : Bool). list_any (λ p. p == port) s.path && c) other
-              ∙ and_false (list_any (λ p. p == port) s.path) ∙ sym other
+          | inr other ↦ ap (λ (c : Bool). list_any (λ p. p == port) s.ports && c) other
+              ∙ and_false (list_any (λ p. p == port) s.ports) ∙ sym other
         ]
       where
         and_false : (b : Bool) → (b && false) ≡ false

@@ -158,35 +158,35 @@ frame_sender network run frame net legal h =
 -- a frame's next visit, by its records as they are listed
 pub visit_of : (network : DeclaredNetwork) (run : List Travel) (frame k : ℕ) (d : HopRecord) (items : List HopRecord)
     → items ≡ (travel_at run frame).hops → k < length items
-    → IsRest (drop k (sender_at network (travel_at run frame).release.sender).path) (drop k (travel_at run frame).hops)
+    → IsRest (drop k (sender_at network (travel_at run frame).release.sender).ports) (drop k (travel_at run frame).hops)
     (travel_at run frame).ending
     → IsNextVisit frame (travel_at run frame).release (sender_at network (travel_at run frame).release.sender)
-    (sender_at network (travel_at run frame).release.sender).path (travel_at run frame).hops
+    (sender_at network (travel_at run frame).release.sender).ports (travel_at run frame).hops
     (travel_at run frame).ending k (k + 1) d
 visit_of network run frame k d items e h rest =
     let j : Travel = travel_at run frame in
     let s : Sender = sender_at network j.release.sender in
     let long : length items ≡ length j.hops = ap (λ (l : List HopRecord). length l) e in
-    next_is frame j.release s s.path j.hops j.ending k d (omega (arith, h, long)) rest
+    next_is frame j.release s s.ports j.hops j.ending k d (omega (arith, h, long)) rest
 
 -- what the code knows of a visit: the frame's port, class and bits there, and its record
 pub record IsRead (network : DeclaredNetwork) (j : Travel) (k : ℕ) (d : HopRecord) (p c b : ℕ)
     (h : HopRecord) : Type 0 where
-  pub port : p ≡ get_or (sender_at network j.release.sender).path k 0
+  pub port : p ≡ get_or (sender_at network j.release.sender).ports k 0
   pub class : c ≡ class_at (sender_at network j.release.sender)
-      (get_or (sender_at network j.release.sender).path k 0)
+      (get_or (sender_at network j.release.sender).ports k 0)
   pub bits : b ≡ bits_of j.release.octets
   pub hop : h ≡ get_or j.hops k d
 
 pub read_of : (network : DeclaredNetwork) (j : Travel) (k : ℕ) (d : HopRecord) (r : Release) (path : List ℕ)
-    (class bits : ℕ) (items : List HopRecord) → r ≡ j.release → path ≡ (sender_at network r.sender).path
-    → class ≡ class_at (sender_at network r.sender) (get_or (sender_at network r.sender).path k 0)
+    (class bits : ℕ) (items : List HopRecord) → r ≡ j.release → path ≡ (sender_at network r.sender).ports
+    → class ≡ class_at (sender_at network r.sender) (get_or (sender_at network r.sender).ports k 0)
     → bits ≡ bits_of r.octets → items ≡ j.hops
     → IsRead network j k d (get_or path k 0) class bits (get_or items k d)
 read_of network j k d r path class bits items same path_is class_is bits_is items_are = record {
-  port = ap (λ (l : List ℕ). get_or l k 0) (path_is ∙ ap (λ (r : Release). (sender_at network r.sender).path) same);
+  port = ap (λ (l : List ℕ). get_or l k 0) (path_is ∙ ap (λ (r : Release). (sender_at network r.sender).ports) same);
   class = class_is ∙ ap (λ (r : Release). class_at (sender_at network r.sender)
-      (get_or (sender_at network r.sender).path k 0)) same;
+      (get_or (sender_at network r.sender).ports k 0)) same;
   bits = bits_is ∙ ap (λ (r : Release). bits_of r.octets) same;
   hop = ap (λ (l : List HopRecord). get_or l k d) items_are;
 }
@@ -200,20 +200,20 @@ moments_same port class bits p c b hop h pe ce be he =
 -- so the moments so far and those that are left stay those of the frame
 pub told_more : (network : DeclaredNetwork) (frame : ℕ) (j : Travel) (k : ℕ) (d : HopRecord) (port class bits : ℕ)
     (hop : HopRecord) (old new all : List Moment)
-    → IsNextVisit frame j.release (sender_at network j.release.sender) (sender_at network j.release.sender).path j.hops
+    → IsNextVisit frame j.release (sender_at network j.release.sender) (sender_at network j.release.sender).ports j.hops
     j.ending k (k + 1) d
     → IsRead network j k d port class bits hop → new ≡ old ++ moments_at port class bits hop
     → old ++ moments_along frame j.release (sender_at network j.release.sender)
-    (drop k (sender_at network j.release.sender).path) (drop k j.hops) j.ending ≡ all
+    (drop k (sender_at network j.release.sender).ports) (drop k j.hops) j.ending ≡ all
     → new ++ moments_along frame j.release (sender_at network j.release.sender)
-    (drop (k + 1) (sender_at network j.release.sender).path) (drop (k + 1) j.hops) j.ending ≡ all
+    (drop (k + 1) (sender_at network j.release.sender).ports) (drop (k + 1) j.hops) j.ending ≡ all
 told_more network frame j k d port class bits hop old new all v read grown before =
     let s : Sender = sender_at network j.release.sender in
-    let here : List Moment = moments_at (get_or s.path k 0) (class_at s (get_or s.path k 0)) (bits_of j.release.octets)
-    (get_or j.hops k d) in
-    let rest : List Moment = moments_along frame j.release s (drop (k + 1) s.path) (drop (k + 1) j.hops) j.ending in
+    let here : List Moment = moments_at (get_or s.ports k 0) (class_at s (get_or s.ports k 0))
+    (bits_of j.release.octets) (get_or j.hops k d) in
+    let rest : List Moment = moments_along frame j.release s (drop (k + 1) s.ports) (drop (k + 1) j.hops) j.ending in
     let same : moments_at port class bits hop ≡ here =
-    moments_same port class bits (get_or s.path k 0) (class_at s (get_or s.path k 0)) (bits_of j.release.octets) hop
+    moments_same port class bits (get_or s.ports k 0) (class_at s (get_or s.ports k 0)) (bits_of j.release.octets) hop
     (get_or j.hops k d) read.port read.class read.bits read.hop in
     ap (λ (l : List Moment). l ++ rest) (grown ∙ ap (λ (l : List Moment). old ++ l) same)
     ∙ append_assoc old here rest
@@ -223,11 +223,11 @@ told_more network frame j k d port class bits hop old new all v read grown befor
 pub told_all : (network : DeclaredNetwork) (frame : ℕ) (j : Travel) (k : ℕ) (items : List HopRecord)
     (moments all : List Moment) → items ≡ j.hops → length items ≤ k
     → moments ++ moments_along frame j.release (sender_at network j.release.sender)
-    (drop k (sender_at network j.release.sender).path) (drop k j.hops) j.ending ≡ all → moments ≡ all
+    (drop k (sender_at network j.release.sender).ports) (drop k j.hops) j.ending ≡ all → moments ≡ all
 told_all network frame j k items moments all e over told =
     let s : Sender = sender_at network j.release.sender in
     let long : length items ≡ length j.hops = ap (λ (l : List HopRecord). length l) e in
-    let none = all_told frame j.release s s.path j.hops j.ending k (omega (arith, long, over)) in
+    let none = all_told frame j.release s s.ports j.hops j.ending k (omega (arith, long, over)) in
     sym (append-nil moments) ∙ ap (λ (l : List Moment). moments ++ l) (sym none) ∙ told
 
 -- when no frame is left, the moments are those of the run

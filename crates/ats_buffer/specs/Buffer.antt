@@ -32,13 +32,13 @@ way_by network rows port class =
 abbrev pub way_over : DeclaredNetwork → List Row → Sender → ℕ → ℕ
 way_over network rows sender port = way_by network rows port (class_at sender port)
 
--- by how much a sender's ways to a port differ, over the port before it on the path; 0 where the path begins with it
+-- by how much a sender's ways to a port differ, over the port before it; 0 where there is none
 abbrev pub way_to : DeclaredNetwork → List Row → Sender → ℕ → ℕ
 way_to network rows sender port =
     unwrap_or (option_map (way_over network rows sender) (port_before sender port)) 0
 
 -- the frames of a sender that are together at a port, where it has this class, became eligible within this time at the
--- port before; or at this port, where the path begins with it
+-- port before; or at this port, where there is none
 abbrev pub window_at : DeclaredNetwork → List Row → ℕ → ℕ → Sender → ℕ
 window_at network rows port class sender = stay_at network rows port class + way_to network rows sender port
 

@@ -88,7 +88,7 @@ fn push_frame(
         ≡ moments.old.items ++ moments_of_frame network.now frame (travel_at run.now frame)) }
 {
     let release = run.journeys()[frame as usize].release;
-    let path = network.sender_path(release.sender);
+    let path = network.sender_ports(release.sender);
     let bits = wire_bits(release.octets);
     for (hop, visit) in run.hops_of(frame).iter().enumerate() {
         let class = network.sender_class(release.sender, hop as u32);

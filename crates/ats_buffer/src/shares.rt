@@ -59,7 +59,7 @@ fn sums_of(
     Ok(sums)
 }
 
-// Adds what a stream may have at each port of its path, in the class that it has there.
+// Adds what a stream may have at each of its ports, in the class that it has there.
 fn add_shares(sums: &mut PortClassTable<u128>, network: &Network, rows: &RowTable, number: usize)
     requires number { number < length network.now.streams }
     requires ports { rows.now.ports ≡ length network.now.topology.ports }
@@ -70,7 +70,7 @@ fn add_shares(sums: &mut PortClassTable<u128>, network: &Network, rows: &RowTabl
     let stream = &network.streams()[number];
     let classes = stream.classes();
     let mut way = 0;
-    for (hop, port) in stream.path().iter().enumerate() {
+    for (hop, port) in stream.ports().iter().enumerate() {
         let class = classes[hop];
         let window = stay(network, rows, *port, class) + way;
         let sum = sums.get(*port, class) + bits_within(stream, window);

@@ -81,7 +81,7 @@ pub all_own : (network : DeclaredNetwork) (run : List Travel) → Case ats_judge
 all_own network run c =
     run_crossings (IsJourney network) (IsOwnFrame network) network 0 run
     (λ n j is. own_along network n j.release (sender_at network j.release.sender)
-    (sender_at network j.release.sender).path j.hops j.ending
+    (sender_at network j.release.sender).ports j.hops j.ending
     (sender_is network c.net j.release.sender is.sender).bridges is.released)
     c.legal.journeys
 
@@ -91,4 +91,4 @@ pub all_known : (network : DeclaredNetwork) (run : List Travel) → Case ats_jud
 all_known network run c =
     run_were_sent (IsKnown network) network 0 run
     (λ n j. all_were_sent (IsKnown network) n j.release (sender_at network j.release.sender)
-    (sender_at network j.release.sender).path j.hops j.ending) (known network run c)
+    (sender_at network j.release.sender).ports j.hops j.ending) (known network run c)

@@ -48,7 +48,7 @@ run_crossed-le f network n [] = omega arith
 run_crossed-le f network n (j ∷ run) =
     let here : sum_by (λ (c : Crossing). f (hop_of c)) (journey_crossings network n j)
     ≤ sum_by f (journey_hops network n j) = crossed-le f n j.release (sender_at network j.release.sender)
-    (sender_at network j.release.sender).path j.hops j.ending in
+    (sender_at network j.release.sender).ports j.hops j.ending in
     let rest = run_crossed-le f network (n + 1) run in
     let all = sum_by-append (λ (c : Crossing). f (hop_of c)) (journey_crossings network n j)
     (crossings_from network (n + 1) run) in

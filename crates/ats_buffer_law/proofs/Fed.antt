@@ -38,11 +38,11 @@ by_path network run c (p ∷ path) valid meet keeps =
 
 pub fed_along : (network : DeclaredNetwork) (run : List Travel) → Case ats_judge bucket_rule network run → (i : ℕ)
     → i < length network.streams → KeepsBuckets network (releases_of run) (talker_of network i)
-    → All (λ q. IsFed bucket_rule network run q) (sender_at network i).path
+    → All (λ q. IsFed bucket_rule network run q) (sender_at network i).ports
 fed_along network run c i h keeps =
     let is : IsSender network.topology (sender_at network i) =
     sender_is network c.net i (stream_exists network i h) in
-    by_path network run c (sender_at network i).path is.valid is.bridges keeps
+    by_path network run c (sender_at network i).ports is.valid is.bridges keeps
 
 -- the bits of a stream that became eligible at a fed port in a window of time are within its rate and burst
 pub fed_window : (network : DeclaredNetwork) (run : List Travel) (port i : ℕ) (from to : ℕ)

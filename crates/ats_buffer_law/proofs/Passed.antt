@@ -61,7 +61,7 @@ counted_none false n h = omega arith
 
 -- the port before this one on a sender's path
 abbrev pub group_port : DeclaredNetwork → ℕ → ℕ → ℕ
-group_port network port i = port_before port (sender_at network i).path
+group_port network port i = port_before port (sender_at network i).ports
 
 -- a frame's crossings of a port that leaves a bridge weigh no more than what the port before handed on
 soon_behind : (network : DeclaredNetwork) (i port time stay : ℕ)
@@ -99,16 +99,16 @@ journey_soon network run i port time stay c bridge n j is =
     let keeps : IsSender network.topology s = sender_is network c.net r.sender is.sender in
     let f : Crossing → ℕ = soon_weight i port time stay in
     let g : Handed → ℕ = passed_weight i (group_port network port i) time stay in
-    soon_behind network i port time stay bridge n r s s.path j.hops j.ending keeps.valid is.way
-    (neighbours_with (λ p. p < length network.topology.ports) (λ p q. q ≡ port → p ≡ port_before port s.path)
+    soon_behind network i port time stay bridge n r s s.ports j.hops j.ending keeps.valid is.way
+    (neighbours_with (λ p. p < length network.topology.ports) (λ p q. q ≡ port → p ≡ port_before port s.ports)
     (IsCrossedOn f g n r s)
     (λ p q within only e since times earlier came arrival next.
     counted_before (q == port) (r.sender == i) (p == group_port network port i)
     (cond (nat_le arrival time && nat_lt time (e.0 + stay)) (bits_of r.octets) 0)
     (λ there own. eq-eqb p (group_port network port i)
     (only (eqb-true q port there)
-    ∙ ap (λ (k : ℕ). port_before port (sender_at network k).path) (eqb-true r.sender i own))))
-    s.path keeps.ports (port_before-is port s.path keeps.apart))
+    ∙ ap (λ (k : ℕ). port_before port (sender_at network k).ports) (eqb-true r.sender i own))))
+    s.ports keeps.ports (port_before-is port s.ports keeps.apart))
 
 pub run_soon : (network : DeclaredNetwork) (run : List Travel) (i port time stay : ℕ)
     → Case ats_judge bucket_rule network run

@@ -71,7 +71,7 @@ crosses_from network n [] all = refl
 crosses_from network n (j ∷ run) all =
     both_cross (journey_hops network n j) (hops_from network (n + 1) run) (journey_crossings network n j)
     (crossings_from network (n + 1) run)
-    (crosses_along n j.release (sender_at network j.release.sender) (sender_at network j.release.sender).path j.hops
+    (crosses_along n j.release (sender_at network j.release.sender) (sender_at network j.release.sender).ports j.hops
     j.ending (All-head (IsJourney network) j run all).way)
     (crosses_from network (n + 1) run (All-tail (IsJourney network) j run all))
 

@@ -14,7 +14,7 @@ use Rattle.ats_topology.specs.Topology.{IsStationAt}
 use Rattle.ats_network.specs.Sender.{Sender}
 use Rattle.ats_network.specs.Network.{DeclaredNetwork}
 use Rattle.ats_network.specs.Senders.{sender_at, IsSender}
-use Rattle.ats_network.proofs.ClassLemmas.{class_along-has}
+use Rattle.ats_network.proofs.ClassLemmas.{class_along-has, port_before-one}
 use Rattle.ats_certificate.specs.PortSums.{uses, is_used}
 use Rattle.ats_certificate.specs.Certificate.{bound_at, Holds}
 use Rattle.ats_certificate.specs.declared.row.Row.{Row}
@@ -50,7 +50,7 @@ pub record OfStream (network : DeclaredNetwork) (rows : List Row) (run : List Tr
   pub exists : i < length network.streams
   pub some : 1 ≤ class
   pub ranked : class_at (sender_at network i) port ≡ class
-  pub fed : All (λ q. IsFed bucket_rule network run q) (sender_at network i).path
+  pub fed : All (λ q. IsFed bucket_rule network run q) (sender_at network i).ports
 
 -- the bits of a stream's crossing of the port that is there at a time
 abbrev pub held_weight : ℕ → ℕ → ℕ → Crossing → ℕ
@@ -82,7 +82,7 @@ larger false own m n h = omega arith
 module _ (network : DeclaredNetwork) (rows : List Row) (run : List Travel) (i port class : ℕ)
     (o : OfStream network rows run i port class) where
   uses_port : uses port (sender_at network i) ≡ true
-  uses_port = class_along-has port (sender_at network i).path (sender_at network i).classes
+  uses_port = class_along-has port (sender_at network i).ports (sender_at network i).classes
       (omega (arith, o.ranked, o.some))
 
   used_here : is_used network port class ≡ true
@@ -93,7 +93,7 @@ module _ (network : DeclaredNetwork) (rows : List Row) (run : List Travel) (i po
 
   fed_at : (q : ℕ) → uses q (sender_at network i) ≡ true → IsFed bucket_rule network run q
   fed_at q on =
-      let there : IsIn q (sender_at network i).path = in_path q (sender_at network i).path on in
+      let there : IsIn q (sender_at network i).ports = in_path q (sender_at network i).ports on in
       subst (λ (p : ℕ). IsFed bucket_rule network run p) there.is (o.fed there.place 0 there.within)
 
   -- what is there at a time ends within the stay, so it became eligible not long before
@@ -178,11 +178,11 @@ module _ (network : DeclaredNetwork) (rows : List Row) (run : List Travel) (i po
       h.crossing.sent.eligible h.verdict (is_told k d w).bits t.eligible (omega (arith, t.after, t.window)))))) in
       let sent = run_handed-le weight network 0 run
       (λ n j. handed-le weight n j.release (sender_at network j.release.sender)
-      (sender_at network j.release.sender).path j.hops) in
+      (sender_at network j.release.sender).ports j.hops) in
       omega (arith, each, sent)
 
   -- so the bits of the stream that are there are within its rate in the window, and its burst
-  by_window : IsPlaced network.topology (sender_at network i).path port → (time : ℕ)
+  by_window : IsPlaced network.topology (sender_at network i).ports port → (time : ℕ)
       → PS_PER_SECOND * sum_by (held_weight i port time) (crossings_from network 0 run)
       ≤ (sender_at network i).rate * window_at network rows port class (sender_at network i)
       + PS_PER_SECOND * (sender_at network i).burst_bits
@@ -196,8 +196,8 @@ module _ (network : DeclaredNetwork) (rows : List Row) (run : List Travel) (i po
       (omega (arith, soon, sent)) window (omega arith)
   by_window (behind k within before group bridge) time =
       let s : Sender = sender_at network i in
-      let q : ℕ = get_or s.path k 0 in
-      let on : uses q s ≡ true = list_any_at (λ p. p == q) s.path k 0 within (eq-eqb q q refl) in
+      let q : ℕ = get_or s.ports k 0 in
+      let on : uses q s ≡ true = list_any_at (λ p. p == q) s.ports k 0 within (eq-eqb q q refl) in
       let stay : ℕ = stay_at network rows port class in
       let bound : ℕ = bound_at rows q (class_at s q) in
       let way : ℕ = way_by network rows q (class_at s q) in
@@ -211,7 +211,8 @@ module _ (network : DeclaredNetwork) (rows : List Row) (run : List Travel) (i po
       let window = fed_window network run q i (time - (stay + bound)) (time - (bound - way)) (fed_at q on) o.exists
       (omega arith) in
       let way_is : way_to network rows s port ≡ way =
-      ap (λ (b : Option ℕ). unwrap_or (option_map (way_over network rows s) b) 0) before in
+      ap (λ (b : Option ℕ). unwrap_or (option_map (way_over network rows s) b) 0)
+      (port_before-one s port keeps.one_listener ∙ before) in
       in_window (sum_by (held_weight i port time) (crossings_from network 0 run)) _ s.rate
       (time - (bound - way) - (time - (stay + bound))) (window_at network rows port class s) s.burst_bits
       (omega (arith, soon, passed, sent)) window (omega (arith, way_is))
@@ -220,5 +221,5 @@ module _ (network : DeclaredNetwork) (rows : List Row) (run : List Travel) (i po
       ≤ (sender_at network i).rate * window_at network rows port class (sender_at network i)
       + PS_PER_SECOND * (sender_at network i).burst_bits
   within_window time =
-      by_window (placed network.topology port (sender_at network i).path keeps.valid keeps.bridges keeps.apart
+      by_window (placed network.topology port (sender_at network i).ports keeps.valid keeps.bridges keeps.apart
       uses_port) time

@@ -28,9 +28,9 @@ bound_at rows port class = unwrap_or (option_map (λ (row : Row). row.bound) (ro
 abbrev pub bound_of_hop : List Row → Sender → ℕ → ℕ
 bound_of_hop rows sender port = bound_at rows port (class_at sender port)
 
--- the sum of the bounds along a stream's path
+-- the sum of the bounds at a stream's ports
 abbrev pub bound_along : List Row → DeclaredStream → ℕ
-bound_along rows stream = sum_by (bound_of_hop rows (stream_sender stream)) stream.path
+bound_along rows stream = sum_by (bound_of_hop rows (stream_sender stream)) stream.ports
 
 -- the first row comes before the second: its port is lower, or the port is the same and its class is lower
 abbrev pub IsBefore : Row → Row → Type 0

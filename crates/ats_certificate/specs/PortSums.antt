@@ -6,9 +6,9 @@ use Rattle.ats_network.specs.Sender.{Sender, stream_sender}
 use Rattle.ats_network.specs.Class.{PortSender, seen_at}
 use Rattle.ats_network.specs.Network.{DeclaredNetwork, senders_of}
 
--- a sender's path has the port
+-- a sender has the port
 abbrev pub uses : ℕ → Sender → Bool
-uses port s = list_any (λ p. p == port) s.path
+uses port s = list_any (λ p. p == port) s.ports
 
 -- a sender's class is above this one, is this one, or is below it
 abbrev pub is_above : ℕ → PortSender → Bool
@@ -44,7 +44,7 @@ least_of (n ∷ ns) = fold min n ns
 abbrev pub least_where : (PortSender → Bool) → (PortSender → ℕ) → List PortSender → ℕ
 least_where test amount senders = least_of (map amount (filter test senders))
 
--- the senders whose path has the port, as it sees them
+-- the senders that have the port, as it sees them
 abbrev pub senders_at : ℕ → List Sender → List PortSender
 senders_at port senders = map (seen_at port) (filter (uses port) senders)
 

@@ -46,7 +46,7 @@ sound_is_in_time rule judge network rows sound time run legal journey there stre
     let at : ℕ = journey.release.at.0 in
     let served = sound.served run legal journey there (slice_get_within network.streams i stream named) keeps in
     let sum : ArrivesBy (at + bound_along rows stream) journey.ending =
-    subst (λ (s : Sender). ArrivesBy (at + sum_by (bounds_of rows s) s.path) journey.ending)
+    subst (λ (s : Sender). ArrivesBy (at + sum_by (bounds_of rows s) s.ports) journey.ending)
     (sender_of_stream network i stream named) served.arrives in
     let kept = own_time network rows i stream named time in
     record {

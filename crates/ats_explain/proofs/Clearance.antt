@@ -95,15 +95,15 @@ row_stays network port class none used =
     let both = and_parts (uses port (stream_sender stream)) (is_of class (seen_at port (stream_sender stream))) user in
     let class_is : class_at (stream_sender stream) port ≡ class =
     eqb-true (class_at (stream_sender stream) port) class both.1 in
-    let along : All (λ p. is_over (parts_of_hop network stream p).stay ≡ false) stream.path =
-    count_none (λ p. is_over (parts_of_hop network stream p).stay) stream.path
-    (sum_none (λ (s : DeclaredStream). over_among network s s.path) network.streams none k d h) in
-    any_gives (λ p. eqb p port) (overstay network (least_row network (port, class)) ≡ None) stream.path
+    let along : All (λ p. is_over (parts_of_hop network stream p).stay ≡ false) stream.ports =
+    count_none (λ p. is_over (parts_of_hop network stream p).stay) stream.ports
+    (sum_none (λ (s : DeclaredStream). over_among network s s.ports) network.streams none k d h) in
+    any_gives (λ p. eqb p port) (overstay network (least_row network (port, class)) ≡ None) stream.ports
     (λ hop e inside there. stays_from (port_at network.topology.ports port) (least_row network (port, class))
     (residence_after network.topology port)
     (ap (λ (n : ℕ). is_over (parts_at network port n).stay) (sym class_is)
     ∙ ap (λ (n : ℕ). is_over (parts_of_hop network stream n).stay)
-    (sym (eqb-true (get_or stream.path hop e) port there))
+    (sym (eqb-true (get_or stream.ports hop e) port there))
     ∙ along hop e inside)) both.0))
     (sym (used_by network port class) ∙ used)
 
@@ -166,13 +166,13 @@ is_clear network rows is holds =
       in_time = none_counts is_late (map (margin_of network) network.streams)
           (All-map (λ (m : Margin). is_late m ≡ false) (margin_of network) network.streams
           (λ k d h. time_to network (get_or network.streams k d) (times k d h)));
-      stay = none_sums (λ (s : DeclaredStream). over_among network s s.path) network.streams
+      stay = none_sums (λ (s : DeclaredStream). over_among network s s.ports) network.streams
           (λ k d h. (
           let stream : DeclaredStream = get_or network.streams k d in
-          let used : All (HopIsUsed network stream) stream.path = hops_used network k d h in
-          none_counts (λ port. is_over (parts_of_hop network stream port).stay) stream.path
-          (λ hop e inside. hop_stays network (get_or stream.path hop e)
-          (class_at (stream_sender stream) (get_or stream.path hop e)) is second.0 (used hop e inside))));
+          let used : All (HopIsUsed network stream) stream.ports = hops_used network k d h in
+          none_counts (λ port. is_over (parts_of_hop network stream port).stay) stream.ports
+          (λ hop e inside. hop_stays network (get_or stream.ports hop e)
+          (class_at (stream_sender stream) (get_or stream.ports hop e)) is second.0 (used hop e inside))));
     }
 
 pub clear_where_one_holds : ClearWhereOneHolds

@@ -38,13 +38,13 @@ used_by network port class =
 
 -- some stream, itself, is of the class at each hop of a stream
 pub hops_used : (network : DeclaredNetwork)
-    → All (λ (s : DeclaredStream). All (HopIsUsed network s) s.path) network.streams
+    → All (λ (s : DeclaredStream). All (HopIsUsed network s) s.ports) network.streams
 hops_used network k d within hop e inside =
     let stream : DeclaredStream = get_or network.streams k d in
-    let port : ℕ = get_or stream.path hop e in
+    let port : ℕ = get_or stream.ports hop e in
     let class : ℕ = class_at (stream_sender stream) port in
-    let has : list_any (λ p. eqb p port) stream.path ≡ true =
-    list_any_at (λ p. eqb p port) stream.path hop e inside (eq-eqb port port refl) in
+    let has : list_any (λ p. eqb p port) stream.ports ≡ true =
+    list_any_at (λ p. eqb p port) stream.ports hop e inside (eq-eqb port port refl) in
     used_by network port class
     ∙ list_any_at (is_user port class) network.streams k d within
     (and_from (uses port (stream_sender stream)) (is_of class (seen_at port (stream_sender stream))) has

@@ -104,9 +104,9 @@ pub along_none : (network : DeclaredNetwork) (sender : Sender) (table : Table (O
 along_none network sender table = record { count = refl; each = λ port class within least most. refl }
 
 pub along_more : (network : DeclaredNetwork) (sender : Sender) (hop : ℕ) (old new next : Table (Option (List ℕ)))
-    → hop < length sender.path → NamesAlong network sender (take hop sender.path) old new
-    → NamesAt network (get_or sender.path hop 0) (seen_at (get_or sender.path hop 0) sender) sender.name 8 new next
-    → NamesAlong network sender (take (hop + 1) sender.path) old next
+    → hop < length sender.ports → NamesAlong network sender (take hop sender.ports) old new
+    → NamesAt network (get_or sender.ports hop 0) (seen_at (get_or sender.ports hop 0) sender) sender.name 8 new next
+    → NamesAlong network sender (take (hop + 1) sender.ports) old next
 along_more network sender hop old new next inside before adds = record {
   count = adds.count ∙ before.count;
   each = λ port class within least most. ⊎_elim (here port class within least most)
@@ -114,14 +114,14 @@ along_more network sender hop old new next inside before adds = record {
 }
   where
     at : ℕ
-    at = get_or sender.path hop 0
+    at = get_or sender.ports hop 0
 
     due : ℕ → ℕ → Bool
     due port class = is_lower_of class (port_sums network port class).lower (seen_at port sender)
 
-    more : (port : ℕ) → list_any (λ p. eqb p port) (take (hop + 1) sender.path)
-        ≡ (list_any (λ p. eqb p port) (take hop sender.path) || eqb at port)
-    more port = list_any_more (λ p. eqb p port) sender.path hop 0 inside
+    more : (port : ℕ) → list_any (λ p. eqb p port) (take (hop + 1) sender.ports)
+        ≡ (list_any (λ p. eqb p port) (take hop sender.ports) || eqb at port)
+    more port = list_any_more (λ p. eqb p port) sender.ports hop 0 inside
 
     both : (h t : Bool) (x y : Option (Option (List ℕ))) → cond t x (cond (h && t) x y) ≡ cond ((h || true) && t) x y
     both true true x y = refl
@@ -135,36 +135,36 @@ along_more network sender hop old new next inside before adds = record {
 
     here : (port class : ℕ) → port < length network.topology.ports → 1 ≤ class → class ≤ 7
         → port ≡ at → value_at next port class
-        ≡ cond (list_any (λ p. eqb p port) (take (hop + 1) sender.path) && due port class) (Some (Some sender.name))
+        ≡ cond (list_any (λ p. eqb p port) (take (hop + 1) sender.ports) && due port class) (Some (Some sender.name))
         (value_at old port class)
     here port class within least most same =
         ap (λ (n : ℕ). value_at next n class) same
         ∙ adds.named class least (omega arith)
         ∙ ap (λ (n : ℕ). cond (due n class) (Some (Some sender.name)) (value_at new n class)) (sym same)
         ∙ ap (cond (due port class) (Some (Some sender.name))) (before.each port class within least most)
-        ∙ both (list_any (λ p. eqb p port) (take hop sender.path)) (due port class) (Some (Some sender.name))
+        ∙ both (list_any (λ p. eqb p port) (take hop sender.ports)) (due port class) (Some (Some sender.name))
         (value_at old port class)
         ∙ ap (λ (b : Bool). cond (b && due port class) (Some (Some sender.name)) (value_at old port class))
-        (ap (λ (b : Bool). list_any (λ p. eqb p port) (take hop sender.path) || b) (sym (eq-eqb at port (sym same)))
+        (ap (λ (b : Bool). list_any (λ p. eqb p port) (take hop sender.ports) || b) (sym (eq-eqb at port (sym same)))
         ∙ sym (more port))
 
     elsewhere : (port class : ℕ) → port < length network.topology.ports → 1 ≤ class → class ≤ 7
         → (port ≡ at → ⊥) → value_at next port class
-        ≡ cond (list_any (λ p. eqb p port) (take (hop + 1) sender.path) && due port class) (Some (Some sender.name))
+        ≡ cond (list_any (λ p. eqb p port) (take (hop + 1) sender.ports) && due port class) (Some (Some sender.name))
         (value_at old port class)
     elsewhere port class within least most other =
         adds.kept port class (inl other)
         ∙ before.each port class within least most
-        ∙ same_or (list_any (λ p. eqb p port) (take hop sender.path)) (due port class) (Some (Some sender.name))
+        ∙ same_or (list_any (λ p. eqb p port) (take hop sender.ports)) (due port class) (Some (Some sender.name))
         (value_at old port class)
         ∙ ap (λ (b : Bool). cond (b && due port class) (Some (Some sender.name)) (value_at old port class))
-        (ap (λ (b : Bool). list_any (λ p. eqb p port) (take hop sender.path) || b)
+        (ap (λ (b : Bool). list_any (λ p. eqb p port) (take hop sender.ports) || b)
         (sym (ne_eqb at port (λ e. other (sym e)))) ∙ sym (more port))
 
 -- a whole path is named, so the sender stands before the later ones
 pub named_more : (network : DeclaredNetwork) (i : ℕ) (old new : Table (Option (List ℕ)))
     → i < length (senders_of network) → NamesFrom network (i + 1) old
-    → NamesAlong network (sender_at network i) (sender_at network i).path old new → NamesFrom network i new
+    → NamesAlong network (sender_at network i) (sender_at network i).ports old new → NamesFrom network i new
 named_more network i old new within later along = record {
   count = along.count ∙ later.count;
   each = λ port class inside least most.

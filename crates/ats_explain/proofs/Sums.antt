@@ -249,13 +249,13 @@ same_sums f g (x ∷ xs) all =
 pub each_stream_adds_up : EachStreamAddsUp
 each_stream_adds_up network is carries k d within =
     let stream : DeclaredStream = get_or network.streams k d in
-    let used : All (HopIsUsed network stream) stream.path = hops_used network k d within in
+    let used : All (HopIsUsed network stream) stream.ports = hops_used network k d within in
     record {
       parts = λ hop e inside.
-          parts_add network (get_or stream.path hop e) (class_at (stream_sender stream) (get_or stream.path hop e)) is
+          parts_add network (get_or stream.ports hop e) (class_at (stream_sender stream) (get_or stream.ports hop e)) is
           carries (used hop e inside);
       sum = same_sums (λ port. (parts_of_hop network stream port).bound)
-          (bound_of_hop (least_certificate network) (stream_sender stream)) stream.path
-          (λ hop e inside. sym (bound_is network (get_or stream.path hop e)
-          (class_at (stream_sender stream) (get_or stream.path hop e)) is (used hop e inside)));
+          (bound_of_hop (least_certificate network) (stream_sender stream)) stream.ports
+          (λ hop e inside. sym (bound_is network (get_or stream.ports hop e)
+          (class_at (stream_sender stream) (get_or stream.ports hop e)) is (used hop e inside)));
     }

@@ -64,8 +64,8 @@ pub record AreParts (network : DeclaredNetwork) (port class : ℕ) (parts : Part
 -- bound, and the bounds to the stream's sum
 pub record StreamAddsUp (network : DeclaredNetwork) (stream : DeclaredStream) : Type 0 where
   pub parts : All (λ port. AreParts network port (class_at (stream_sender stream) port)
-      (parts_of_hop network stream port)) stream.path
-  pub sum : sum_by (λ port. (parts_of_hop network stream port).bound) stream.path ≡ (margin_of network stream).sum
+      (parts_of_hop network stream port)) stream.ports
+  pub sum : sum_by (λ port. (parts_of_hop network stream port).bound) stream.ports ≡ (margin_of network stream).sum
 
 -- so for each stream of a network without an overload
 abbrev pub EachStreamAddsUp : Type 0

@@ -5,11 +5,11 @@ use Rattle.ats_network.specs.Sender.{Sender, stream_sender}
 use Rattle.ats_network.specs.Network.{DeclaredNetwork}
 use Rattle.ats_certificate.specs.PortSums.{uses}
 
--- a stream's path has the port
+-- a stream has the port
 abbrev pub has_stream : DeclaredNetwork → ℕ → Bool
 has_stream network port = list_any (uses port) (map stream_sender network.streams)
 
--- the rates of the streams whose path has the port, together
+-- the rates of the streams that have the port, together
 abbrev pub rate_at : DeclaredNetwork → ℕ → ℕ
 rate_at network port = sum_by (λ (s : Sender). s.rate) (filter (uses port) (map stream_sender network.streams))
 

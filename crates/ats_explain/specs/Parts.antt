@@ -47,7 +47,7 @@ parts_at network port class =
 abbrev pub parts_of_hop : DeclaredNetwork → DeclaredStream → ℕ → Parts
 parts_of_hop network stream port = parts_at network port (class_at (stream_sender stream) port)
 
--- some stream is of the class at the port that the stream has there, as it is at each port of its path
+-- some stream is of the class at the port that the stream has there, as it is at each of its ports
 abbrev pub HopIsUsed : DeclaredNetwork → DeclaredStream → ℕ → Type 0
 HopIsUsed network stream port = IsTrue (is_used network port (class_at (stream_sender stream) port))
 

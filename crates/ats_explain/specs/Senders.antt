@@ -9,7 +9,7 @@ use Rattle.ats_certificate.specs.PortSums.{is_below, longest, port_sums, uses}
 abbrev pub is_lower_of : ℕ → ℕ → PortSender → Bool
 is_lower_of class bits s = is_below class s && longest s == bits
 
--- a sender's path has the port, it is of a lower class there, and its longest frame has so many wire bits
+-- a sender has the port, it is of a lower class there, and its longest frame has so many wire bits
 abbrev pub sends_lower : ℕ → ℕ → ℕ → Sender → Bool
 sends_lower port class bits s = uses port s && is_lower_of class bits (seen_at port s)
 

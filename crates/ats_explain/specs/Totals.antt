@@ -17,7 +17,7 @@ over_among network stream path = count_by (λ port. is_over (parts_of_hop networ
 
 -- at how many hops of all streams together
 abbrev pub over_count : DeclaredNetwork → ℕ
-over_count network = sum_by (λ (s : DeclaredStream). over_among network s s.path) network.streams
+over_count network = sum_by (λ (s : DeclaredStream). over_among network s s.ports) network.streams
 
 -- a stream with its margin
 abbrev pub tightest_with : DeclaredNetwork → DeclaredStream → Tightest

@@ -1,7 +1,7 @@
 //! An explanation of the least bounds of a network.
 
 ghost use Rattle.std.specs.Prelude.{◌≡◌, ◌<◌, ◌≤◌, length, IfOk, IfErr, OnOk, IsTrue, None};
-ghost use Rattle.std.specs.Prelude.{◌≢◌, All, AllPairs};
+ghost use Rattle.std.specs.Prelude.{◌≢◌, [], All, AllPairs};
 ghost use Rattle.std.specs.Option.{option_map};
 ghost use Rattle.ats_num.specs.Failure.{IsDue};
 ghost use Rattle.ats_network.specs.Network.{IsNetwork};
@@ -120,7 +120,7 @@ impl<'a> Explanation<'a> {
         &self.certificate.rows()[self.places.get(port, class)]
     }
 
-    /// Whether some stream's path has the port.
+    /// Whether some stream has the port.
     pub fn uses(&self, port: u32) -> bool
         requires { port < length self.now.topology.ports }
         ensures { result ≡ has_stream self.now port }
@@ -128,7 +128,7 @@ impl<'a> Explanation<'a> {
         uses(&self.tallies, port)
     }
 
-    /// The picoseconds of each second that the rates of the streams whose path has the port take.
+    /// The picoseconds of each second that the rates of the streams that have the port take.
     pub fn load(&self, port: u32) -> u128
         requires { port < length self.now.topology.ports }
         ensures { result ≡ port_load self.now port }
@@ -161,16 +161,17 @@ impl<'a> Explanation<'a> {
         over
     }
 
-    // At how many hops of a stream.
+    // At how many hops of a stream, which as yet has one listener.
     fn over_along(&self, stream: &Stream) -> usize
-        requires used { All (HopIsUsed self.now stream.now) stream.now.path }
-        requires apart { AllPairs (λ p q. p ≢ q) stream.now.path }
-        ensures value { result ≡ over_among self.now stream.now stream.now.path }
+        requires used { All (HopIsUsed self.now stream.now) stream.now.ports }
+        requires apart { AllPairs (λ p q. p ≢ q) stream.now.ports }
+        requires one_listener { stream.now.branches ≡ [] }
+        ensures value { result ≡ over_among self.now stream.now stream.now.ports }
         ensures most { result ≤ 16 }
     {
         let classes = stream.classes();
         let mut over = 0;
-        for (hop, port) in stream.path().iter().enumerate() {
+        for (hop, port) in stream.ports().iter().enumerate() {
             if self.parts(*port, classes[hop]).is_over() {
                 over += 1;
             }

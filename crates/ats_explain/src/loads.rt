@@ -6,7 +6,7 @@ ghost use Rattle.ats_explain.specs.Loads.{has_stream, port_load, rate_at};
 
 use ats_tally::Tallies;
 
-// Whether some stream's path has the port.
+// Whether some stream has the port.
 pub(crate) fn uses(tallies: &Tallies, port: u32) -> bool
     requires { port < length tallies.now.topology.ports }
     ensures { result ≡ has_stream tallies.now port }
@@ -14,7 +14,7 @@ pub(crate) fn uses(tallies: &Tallies, port: u32) -> bool
     0 < rate(tallies, port)
 }
 
-// The picoseconds of each second that the rates of the streams whose path has the port take.
+// The picoseconds of each second that the rates of the streams that have the port take.
 pub(crate) fn load(tallies: &Tallies, port: u32) -> u128
     requires { port < length tallies.now.topology.ports }
     ensures { result ≡ port_load tallies.now port }

@@ -27,7 +27,7 @@ pub(crate) fn names_of(
     Ok(names)
 }
 
-// Names a sender at each port of its path.
+// Names a sender at each of its ports.
 fn name_sender(names: &mut PortClassTable<Option<Name>>, tallies: &Tallies, sender: u32)
     requires sender { sender < length (senders_of tallies.now) }
     requires before { NamesFrom tallies.now (sender + 1) names.old }
@@ -35,7 +35,7 @@ fn name_sender(names: &mut PortClassTable<Option<Name>>, tallies: &Tallies, send
 {
     let network = tallies.network();
     let name = network.sender_name(sender);
-    for (hop, port) in network.sender_path(sender).iter().enumerate() {
+    for (hop, port) in network.sender_ports(sender).iter().enumerate() {
         let seen = SeenSender::at(network, sender, hop as u32);
         name_at(names, tallies, *port, &seen, name);
     }

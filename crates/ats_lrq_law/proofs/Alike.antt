@@ -136,8 +136,8 @@ module _ (topology : DeclaredTopology) (flows : List DeclaredFlow) (streams othe
       → f (sender_at network n) ≡ f (sender_at other n)
   same_of f h n = by_bare f h (sender_at network n) (sender_at other n) (same_at n)
 
-  same_path : (n : ℕ) → (sender_at network n).path ≡ (sender_at other n).path
-  same_path n = same_of (λ (s : Sender). s.path) (λ (s : Sender). refl) n
+  same_path : (n : ℕ) → (sender_at network n).ports ≡ (sender_at other n).ports
+  same_path n = same_of (λ (s : Sender). s.ports) (λ (s : Sender). refl) n
 
   same_declared : (n : ℕ) → bare_declared (declared_by network n) ≡ bare_declared (declared_by other n)
   same_declared n = ap declared_of (same_at n)
@@ -158,8 +158,8 @@ module _ (topology : DeclaredTopology) (flows : List DeclaredFlow) (streams othe
   same_hops frame [] = refl
   same_hops frame (j ∷ run) =
       let one : journey_hops network frame j ≡ journey_hops other frame j =
-      same_of (λ (s : Sender). hops_along frame j.release s s.path j.hops)
-      (λ (s : Sender). hops_bare frame j.release s s.path j.hops) j.release.sender in
+      same_of (λ (s : Sender). hops_along frame j.release s s.ports j.hops)
+      (λ (s : Sender). hops_bare frame j.release s s.ports j.hops) j.release.sender in
       ap (λ (xs : List Hop). xs ++ hops_from network (frame + 1) run) one
       ∙ ap (λ (xs : List Hop). journey_hops other frame j ++ xs) (same_hops (frame + 1) run)
 
@@ -167,8 +167,8 @@ module _ (topology : DeclaredTopology) (flows : List DeclaredFlow) (streams othe
   same_crossings frame [] = refl
   same_crossings frame (j ∷ run) =
       let one : journey_crossings network frame j ≡ journey_crossings other frame j =
-      same_of (λ (s : Sender). crossings_along frame j.release s s.path j.hops j.ending)
-      (λ (s : Sender). crossings_bare frame j.release s s.path j.hops j.ending) j.release.sender in
+      same_of (λ (s : Sender). crossings_along frame j.release s s.ports j.hops j.ending)
+      (λ (s : Sender). crossings_bare frame j.release s s.ports j.hops j.ending) j.release.sender in
       ap (λ (xs : List Crossing). xs ++ crossings_from network (frame + 1) run) one
       ∙ ap (λ (xs : List Crossing). journey_crossings other frame j ++ xs) (same_crossings (frame + 1) run)
 
@@ -176,8 +176,8 @@ module _ (topology : DeclaredTopology) (flows : List DeclaredFlow) (streams othe
   same_handed frame [] = refl
   same_handed frame (j ∷ run) =
       let one : journey_handed network frame j ≡ journey_handed other frame j =
-      same_of (λ (s : Sender). handed_along frame j.release s s.path j.hops)
-      (λ (s : Sender). handed_bare frame j.release s s.path j.hops) j.release.sender in
+      same_of (λ (s : Sender). handed_along frame j.release s s.ports j.hops)
+      (λ (s : Sender). handed_bare frame j.release s s.ports j.hops) j.release.sender in
       ap (λ (xs : List Handed). xs ++ handed_from network (frame + 1) run) one
       ∙ ap (λ (xs : List Handed). journey_handed other frame j ++ xs) (same_handed (frame + 1) run)
 

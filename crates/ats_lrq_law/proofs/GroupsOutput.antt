@@ -14,7 +14,8 @@ use Rattle.ats_lrq.specs.Judge.{lrq_judge}
 use Rattle.ats_lrq.specs.Laws.{offers_to, verdicts_in}
 use Rattle.ats_lrq.proofs.StepLemmas.{opened_first}
 use Rattle.ats_lrq.proofs.FoldLemmas.{each_group}
-use Rattle.ats_lrq_law.specs.Laws.{GroupsOutputConforms}
+use Rattle.ats_lrq_law.specs.Laws.{GroupsOutputAscends, GroupsOutputConforms}
+use Rattle.ats_lrq_law.proofs.Ascending.{output_ascends}
 use Rattle.ats_lrq_law.proofs.Output.{output_conforms}
 
 groups-opened : (residences_ns : List ℕ) (members : List Member) (offers : List Offer)
@@ -48,3 +49,9 @@ groups_output_conforms residences_ns members offers member u h =
     rw (verdicts-in residences_ns members offers group u)
     (output_conforms (declared_of s) (residence_of s group) (offers_to s group offers) member
     (ruled-in residences_ns members offers member u h))
+
+pub groups_output_ascends : GroupsOutputAscends
+groups_output_ascends residences_ns members offers group u =
+    let s : LrqState = opened residences_ns members in
+    rw (verdicts-in residences_ns members offers group u)
+    (output_ascends (declared_of s) (residence_of s group) (offers_to s group offers))

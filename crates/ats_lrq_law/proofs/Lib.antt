@@ -1,4 +1,5 @@
 pub mod Alike
+pub mod Ascending
 pub mod Conforming
 pub mod Free
 pub mod GroupsOutput

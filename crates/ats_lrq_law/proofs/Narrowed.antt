@@ -1,13 +1,15 @@
-use Rattle.std.proofs.Common.{◌≡◌, ◌<◌, List, [], ◌∷◌, map, length, get_or, All, refl, sym, ap, ◌∙◌, subst, arith}
+use Rattle.std.proofs.Common.{◌≡◌, ℕ, ◌<◌, List, [], ◌∷◌, map, length, get_or, All, refl, sym, ap, ◌∙◌, subst, arith}
 use Rattle.std.proofs.lemmas.List.{length-map}
 use Rattle.std.proofs.lemmas.List as lists
 use Rattle.std.proofs.lemmas.List.Elements.{All-map}
+use Rattle.std.proofs.lemmas.List.Sums.{sum_by-cons}
 use Rattle.ats_streams.specs.Stream.{DeclaredStream, IsStream}
+use Rattle.ats_streams.specs.declared.branch.Branch.{Branch}
 use Rattle.ats_topology.specs.Node.{AreApart}
 use Rattle.ats_topology.specs.Topology.{DeclaredTopology}
 use Rattle.ats_network.specs.Sender.{Sender}
-use Rattle.ats_network.specs.Path.{IsValidPath}
-use Rattle.ats_network.specs.Network.{AreIdentified, senders_of}
+use Rattle.ats_network.specs.Path.{IsTree}
+use Rattle.ats_network.specs.Network.{AreIdentified, ports_together, senders_of}
 use Rattle.ats_network.specs.Senders.{sender_at}
 use Rattle.ats_certificate.specs.declared.row.Row.{Row}
 use Rattle.ats_trace.specs.Journey.{Travel}
@@ -34,21 +36,40 @@ narrowed_is_stream s i =
       classes = i.classes;
       each_port = i.each_port;
       rules = record { rate = i.rules.rate; sizes = i.rules.sizes; covers = omega arith; burst = omega arith };
-      path = i.path;
+      branches = i.branches;
+      routes = i.routes;
       deadline = i.deadline;
       identity = i.identity;
     }
 
--- what holds of the paths holds of them in another list with the same paths
-paths_of : (topology : DeclaredTopology) (senders others : List Sender)
-    → map (λ (s : Sender). s.path) senders ≡ map (λ (s : Sender). s.path) others
-    → All (λ (s : Sender). IsValidPath topology s.path) senders
-    → All (λ (s : Sender). IsValidPath topology s.path) others
-paths_of topology senders others e all i d h =
-    let mapped : All (IsValidPath topology) (map (λ (s : Sender). s.path) others) =
-    subst (All (IsValidPath topology)) e (All-map (IsValidPath topology) (λ (s : Sender). s.path) senders all) in
-    subst (IsValidPath topology) (lists.get_or-map (λ (s : Sender). s.path) others i d d.path h)
-    (mapped i d.path (omega (arith, length-map others (λ (s : Sender). s.path))))
+-- a sender's ports and branches
+abbrev legs : Sender → List ℕ × List Branch
+legs s = (s.ports, s.branches)
+
+abbrev Goes : DeclaredTopology → List ℕ × List Branch → Type 0
+Goes topology legs = IsTree topology legs.0 legs.1
+
+-- what holds of the trees holds of them in another list with the same ports and branches
+trees_of : (topology : DeclaredTopology) (senders others : List Sender) → map legs senders ≡ map legs others
+    → All (λ (s : Sender). IsTree topology s.ports s.branches) senders
+    → All (λ (s : Sender). IsTree topology s.ports s.branches) others
+trees_of topology senders others e all i d h =
+    let mapped : All (Goes topology) (map legs others) =
+    subst (All (Goes topology)) e (All-map (Goes topology) legs senders all) in
+    subst (Goes topology) (lists.get_or-map legs others i d (legs d) h)
+    (mapped i (legs d) (omega (arith, length-map others legs)))
+
+-- narrowed streams have as many ports
+narrowed_ports : (streams : List DeclaredStream) → ports_together (map narrowed_stream streams) ≡ ports_together streams
+narrowed_ports [] = refl
+narrowed_ports (s ∷ ss) =
+    let many : DeclaredStream → ℕ = λ (t : DeclaredStream). length t.ports in
+    omega (
+      arith,
+      sum_by-cons many (narrowed_stream s) (map narrowed_stream ss),
+      sum_by-cons many s ss,
+      narrowed_ports ss,
+    )
 
 identified : (streams : List DeclaredStream) → AreIdentified streams → AreIdentified (map narrowed_stream streams)
 identified streams apart i j d below within identity share =
@@ -68,15 +89,17 @@ narrowed_is_network network n =
       streams = All-map IsStream narrowed_stream network.streams
           (λ i d h. narrowed_is_stream (get_or network.streams i d) (n.streams i d h));
       flows = n.flows;
-      paths = paths_of network.topology (senders_of network) (senders_of (narrowed network))
-          (same_map network.topology network.flows network.streams (map narrowed_stream network.streams) same
-          (λ (s : Sender). s.path) (λ (s : Sender). refl)) n.paths;
+      trees = trees_of network.topology (senders_of network) (senders_of (narrowed network))
+          (same_map network.topology network.flows network.streams (map narrowed_stream network.streams) same legs
+          (λ (s : Sender). refl)) n.trees;
       names = subst AreApart
           (same_map network.topology network.flows network.streams (map narrowed_stream network.streams) same
           (λ (s : Sender). s.name) (λ (s : Sender). refl)) n.names;
       identities = identified network.streams n.identities;
       few_streams = (let few = n.few_streams in omega (arith, length-map network.streams narrowed_stream));
       few_flows = n.few_flows;
+      few_ports = (let few = n.few_ports in omega (arith, narrowed_ports network.streams));
+      one_listener = All-map (λ (s : DeclaredStream). s.branches ≡ []) narrowed_stream network.streams n.one_listener;
     }
 
 pub runs_are_kept : RunsAreKept

@@ -1,11 +1,12 @@
 use Rattle.std.specs.Prelude.{ℕ, ◌<◌, List, length}
+use Rattle.std.specs.List.Sorted.{IsNonDecreasing}
 use Rattle.ats_num.specs.Wire.{bits_of}
-use Rattle.ats_bucket.specs.Conforming.{Frame, Conforms}
+use Rattle.ats_bucket.specs.Conforming.{Frame, times_of, Conforms}
 use Rattle.ats_streams.specs.Traffic.{IsRuled}
 use Rattle.ats_streams.specs.declared.traffic.Declared.{Declared}
 use Rattle.ats_group.specs.declared.member.Member.{Member}
 use Rattle.ats_group.specs.Group.{Offer}
-use Rattle.ats_group_law.specs.Accepted.{accepted_of}
+use Rattle.ats_group_law.specs.Accepted.{accepted, accepted_of}
 use Rattle.ats_group_law.specs.GroupsLaws.{IsUse}
 use Rattle.ats_group_law.specs.Regulator.{IsRegulator, IsRule, passed_by}
 use Rattle.ats_lrq.specs.GroupsState.{declared_of, group_of, opened}
@@ -31,6 +32,22 @@ GroupsOutputConforms = (residences_ns : List ℕ) (members : List Member) (offer
     → IsUse residences_ns members offers → member < length members
     → (let declared = declared_of (opened residences_ns members) member in
     Conforms declared.rate (bits_of declared.max_octets) (passed_of_member residences_ns members offers member))
+
+-- whatever is offered, and whatever is declared, the times of all that a group accepts do not descend
+abbrev pub LrqOutputAscends : Type 0
+LrqOutputAscends = (declared : ℕ → Declared) (residence_ns : ℕ) (offers : List Offer)
+    → IsNonDecreasing (times_of (accepted offers (lrq_judge declared residence_ns offers)))
+
+-- what one of these groups accepted, of all its members
+abbrev pub passed_in : List ℕ → List Member → List Offer → ℕ → List Frame
+passed_in residences_ns members offers group =
+    let groups = opened residences_ns members in
+    accepted (offers_to groups group offers) (verdicts_in groups group offers)
+
+-- its times do not descend
+abbrev pub GroupsOutputAscends : Type 0
+GroupsOutputAscends = (residences_ns : List ℕ) (members : List Member) (offers : List Offer) (group : ℕ)
+    → IsUse residences_ns members offers → IsNonDecreasing (times_of (passed_in residences_ns members offers group))
 
 -- spacing is a rule that talkers may be asked to keep, and length-rate-quotient regulators regulate by it, whatever
 -- bursts are declared

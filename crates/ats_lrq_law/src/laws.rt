@@ -2,6 +2,7 @@
 
 ghost use Rattle.ats_lrq.specs.Judge.{spacing_rule};
 ghost use Rattle.ats_lrq_law.specs.Laws.{LrqOutputConforms, GroupsOutputConforms, LrqIsRegulator};
+ghost use Rattle.ats_lrq_law.specs.Laws.{LrqOutputAscends, GroupsOutputAscends};
 ghost use Rattle.ats_lrq_law.specs.Narrowed.{NarrowedIsNetwork, RunsAreKept, TalkersAreKept, SoundBySpacing};
 ghost use Rattle.ats_lrq_law.specs.Narrowed.{NarrowedIsSound};
 
@@ -24,6 +25,16 @@ pub fn lrq_output_conforms()
 /// member conforms so.
 pub fn groups_output_conforms()
     ensures { GroupsOutputConforms }
+{}
+
+/// Whatever is offered, the eligibility times of all frames that a group accepts do not descend.
+pub fn lrq_output_ascends()
+    ensures { LrqOutputAscends }
+{}
+
+/// The eligibility times of all frames that each group of `LrqGroups` accepts do not descend.
+pub fn groups_output_ascends()
+    ensures { GroupsOutputAscends }
 {}
 
 /// Length-rate-quotient regulators regulate by spacing, whatever their members declare: they let frames through at

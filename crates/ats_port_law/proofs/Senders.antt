@@ -22,7 +22,8 @@ use Rattle.ats_port_law.proofs.Window.{eligible_bits, sender_window}
 pub no_stream : DeclaredStream
 no_stream = record {
   name = [];
-  path = [];
+  ports = [];
+  branches = [];
   classes = [];
   rate = 0;
   burst_bits = 0;

@@ -12,9 +12,9 @@ use Rattle.ats_streams.specs.Stream.{DeclaredStream}
 use Rattle.ats_network.specs.Sender.{Sender, stream_sender, flow_sender}
 use Rattle.ats_network.specs.Class.{PortSender, class_at, seen_at}
 use Rattle.ats_network.specs.Network.{DeclaredNetwork, IsNetwork, senders_of}
-use Rattle.ats_network.specs.Senders.{no_sender}
 use Rattle.ats_network.specs.Path.{IsValidPath}
 use Rattle.ats_network.proofs.ClassLemmas.{class_at-stream}
+use Rattle.ats_network.proofs.SenderLemmas.{sender_keeps}
 use Rattle.ats_certificate.specs.PortSums.{uses, is_of, is_used, senders_at}
 use Rattle.ats_port_law.proofs.Senders.{no_stream, stream_at}
 
@@ -61,15 +61,15 @@ used_by ports port class (s ∷ ss) all used =
 allowed : (network : DeclaredNetwork) (port i : ℕ) → IsNetwork network → i < length network.streams
     → Allows (length network.topology.ports) port (get_or network.streams i no_stream)
 allowed network port i n h =
-    let Valid : Sender → Type 0 = λ (s : Sender). IsValidPath network.topology s.path in
+    let Valid : Sender → Type 0 = λ (s : Sender). IsValidPath network.topology s.ports in
     let streams : List Sender = map stream_sender network.streams in
     let exists : i < length (senders_of network) = omega
     (arith, h, length-append streams (map flow_sender network.flows), length-map network.streams stream_sender) in
-    let valid = subst Valid (stream_at network i h) (n.paths i no_sender exists) in
+    let valid = subst Valid (stream_at network i h) (sender_keeps network i n exists).valid in
     record {
       class = λ used. (class_at-stream (get_or network.streams i no_stream) port (n.streams i no_stream h) used).least;
       within = λ used. on_walk network.topology.ports port valid.talker valid.listener
-          (get_or network.streams i no_stream).path valid.walk used;
+          (get_or network.streams i no_stream).ports valid.walk used;
     }
 
 pub used_place : (network : DeclaredNetwork) (port class : ℕ) → IsNetwork network → is_used network port class ≡ true

@@ -43,7 +43,7 @@ crossed_there network run port k d h =
     let Sent : Hop → Type 0 = λ (g : Hop). g.port == port ≡ true → Contains (sent_by network run port) g.sent in
     let were_sent = run_were_sent Sent network 0 run
     (λ n j. all_were_sent Sent n j.release (sender_at network j.release.sender)
-    (sender_at network j.release.sender).path j.hops j.ending) (sent_there network run port) in
+    (sender_at network j.release.sender).ports j.hops j.ending) (sent_there network run port) in
     All-filter test (λ (c : Crossing). Sent (hop_of c)) crossings were_sent k d h (filter_passes test crossings k d h)
 
 -- and what is handed on is among the crossings of its port
@@ -54,7 +54,7 @@ handed_there network run port =
     let There : Crossing → Type 0 = λ (c : Crossing). c.port == port ≡ true → Contains crossings c in
     run_have_crossed There network 0 run
     (λ n j. all_have_crossed There n j.release (sender_at network j.release.sender)
-    (sender_at network j.release.sender).path j.hops j.ending)
+    (sender_at network j.release.sender).ports j.hops j.ending)
     (All-from_filter (λ (c : Crossing). c.port == port) (Contains crossings) (crossings_from network 0 run)
     (All-contains_itself crossings))
 

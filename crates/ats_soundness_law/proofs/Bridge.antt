@@ -112,10 +112,10 @@ same_release network net n j is all k d h =
     let keeps : IsSender network.topology s = sender_is network net r.sender is.sender in
     let OfRelease : Handed → Type 0 = λ (h : Handed). (h.crossing.sent.sender ≡ r.sender)
     × (h.crossing.octets ≡ r.octets) in
-    let told = all_handed OfRelease n r s s.path j.hops j.ending
+    let told = all_handed OfRelease n r s s.ports j.hops j.ending
     (neighbours_with (λ p. p < length network.topology.ports) (MeetAtBridge network.topology)
     (AtPorts OfRelease n r s)
-    (λ a b within meet came e times arrival verdict. (refl, refl)) s.path keeps.ports keeps.bridges)
+    (λ a b within meet came e times arrival verdict. (refl, refl)) s.ports keeps.ports keeps.bridges)
     is.way in
     let one : Handed = get_or (journey_handed network n j) k d in
     let BySender : ℕ → Type 0 =
@@ -130,7 +130,7 @@ journey_declared : {judge : Judge} {rule : Declared → List Frame → Type 0} (
     → All (IsSized network) (journey_handed network n j) → All (DeclaredAt network port) (journey_hops network n j)
 journey_declared network run port a n j is all =
     let s : Sender = sender_at network j.release.sender in
-    declared_behind network run port a n j.release is.sender s.path j.hops j.ending
+    declared_behind network run port a n j.release is.sender s.ports j.hops j.ending
     (sender_is network a.known.net j.release.sender is.sender).valid (uses_own s) is.way
     (same_release network a.known.net n j is all)
 
@@ -154,7 +154,7 @@ weight_behind network run i port weight g a n r s (p ∷ path) (hop ∷ hops) en
 
 -- the port before this one on a stream's path, and the stream's class there
 abbrev group_port : DeclaredNetwork → ℕ → ℕ → ℕ
-group_port network port i = port_before port (sender_at network i).path
+group_port network port i = port_before port (sender_at network i).ports
 
 abbrev group_class : DeclaredNetwork → ℕ → ℕ → ℕ
 group_class network port i = class_at (sender_at network i) (group_port network port i)
@@ -170,8 +170,8 @@ journey_weight network run i port weight a n j is =
     let keeps : IsSender network.topology s = sender_is network a.known.net r.sender is.sender in
     let f : Hop → ℕ = hop_weight i port weight in
     let g : Handed → ℕ = handed_weight i (group_port network port i) (group_class network port i) weight in
-    weight_behind network run i port weight g a n r s s.path j.hops j.ending keeps.valid is.way is.released
-    (neighbours_with (λ p. p < length network.topology.ports) (λ p q. q ≡ port → p ≡ port_before port s.path)
+    weight_behind network run i port weight g a n r s s.ports j.hops j.ending keeps.valid is.way is.released
+    (neighbours_with (λ p. p < length network.topology.ports) (λ p q. q ≡ port → p ≡ port_before port s.ports)
     (IsPassedOn f g n r s)
     (λ p q within only e since times earlier came arrival.
     counted_on (q == port) (r.sender == i) (p == group_port network port i) (class_at s p == group_class network port i)
@@ -179,12 +179,12 @@ journey_weight network run i port weight a n j is =
     (λ there own. (
     let same = eqb-true r.sender i own in
     let before : p ≡ group_port network port i =
-    only (eqb-true q port there) ∙ ap (λ (k : ℕ). port_before port (sender_at network k).path) same in (
+    only (eqb-true q port there) ∙ ap (λ (k : ℕ). port_before port (sender_at network k).ports) same in (
       eq-eqb p (group_port network port i) before,
       eq-eqb (class_at s p) (group_class network port i)
           (ap (λ (k : ℕ). class_at (sender_at network k) p) same ∙ ap (class_at (sender_at network i)) before),
     ))))
-    s.path keeps.ports (port_before-is port s.path keeps.apart))
+    s.ports keeps.ports (port_before-is port s.ports keeps.apart))
 
 -- a stream's frames at the port are no more than what its group let through
 stream_kept : {judge : Judge} {rule : Declared → List Frame → Type 0} (network : DeclaredNetwork) (run : List Travel)
@@ -194,11 +194,11 @@ stream_kept {judge} {rule} network run port a i h =
     let s : Sender = sender_at network i in
     let keeps : IsSender network.topology s = sender_is network a.known.net i (stream_exists network i h) in
     let ruled : IsRuled (declared_by network i) = stream_ruled network a.known.net i h in
-    let q : ℕ = port_before port s.path in
+    let q : ℕ = port_before port s.ports in
     let within : q < length network.topology.ports =
-    port_before-within (λ p. p < length network.topology.ports) port s.path keeps.path.least keeps.ports in
+    port_before-within (λ p. p < length network.topology.ports) port s.ports keeps.path.least keeps.ports in
     let shaped : 1 ≤ class_at s q = stream_class network a.known.net q i h
-    (port_before-within (λ p. uses p s ≡ true) port s.path keeps.path.least (uses_own s)) in
+    (port_before-within (λ p. uses p s ≡ true) port s.ports keeps.path.least (uses_own s)) in
     let j : IsJudged judge network (residence_of_groups network q) (handed_by network run q (class_at s q)) =
     a.known.legal.groups q (class_at s q) within shaped in
     let offers : List Offer = map offer_of j.arrivals in

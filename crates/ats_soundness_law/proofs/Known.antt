@@ -48,7 +48,7 @@ journey_known : (network : DeclaredNetwork) → IsNetwork network → (n : ℕ) 
 journey_known network net n j is =
     let s : Sender = sender_at network j.release.sender in
     let keeps : IsSender network.topology s = sender_is network net j.release.sender is.sender in
-    all_hops (IsKnown network) n j.release s s.path j.hops
+    all_hops (IsKnown network) n j.release s s.ports j.hops
     (λ k d h e times. record { exists = is.sender; within = keeps.ports k d h; used = uses_own s k d h; ranked = refl })
 
 pub known : {judge : Judge} {rule : Declared → List Frame → Type 0} (network : DeclaredNetwork) (run : List Travel)
@@ -70,12 +70,12 @@ journey_told : (network : DeclaredNetwork) → IsNetwork network → (n : ℕ) (
 journey_told network net n j is =
     let s : Sender = sender_at network j.release.sender in
     let keeps : IsSender network.topology s = sender_is network net j.release.sender is.sender in
-    all_handed (IsTold network) n j.release s s.path j.hops j.ending
+    all_handed (IsTold network) n j.release s s.ports j.hops j.ending
     (neighbours_with (λ p. p < length network.topology.ports) (MeetAtBridge network.topology)
     (AtPorts (IsTold network) n j.release s)
     (λ a b within meet came e times arrival verdict.
     record { exists = is.sender; within = within; ranked = refl; bits = refl; bridge = meet.bridge })
-    s.path keeps.ports keeps.bridges)
+    s.ports keeps.ports keeps.bridges)
     is.way
 
 pub told : {judge : Judge} {rule : Declared → List Frame → Type 0} (network : DeclaredNetwork) (run : List Travel)

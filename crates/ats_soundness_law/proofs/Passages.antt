@@ -78,7 +78,7 @@ passages-le network run port class c arrivals same i weight =
     (λ k d h. passage_hop network i port class weight (get_or handed k d) (told k d h)) in
     let sent = run_handed-le (hop_weight i port weight) network 0 run
     (λ n j. handed-le (hop_weight i port weight) n j.release (sender_at network j.release.sender)
-    (sender_at network j.release.sender).path j.hops) in
+    (sender_at network j.release.sender).ports j.hops) in
     omega (arith, before, moved, chosen, le, sent, frames_weight network run i port weight)
 
 no_passage : Passage

@@ -39,10 +39,10 @@ later_bridges topology p (q ∷ path) each =
     (subst (IsBridgeAt topology) (sym each.0.next) each.0.bridge) (later_bridges topology q path each.1)
 
 -- a sender uses the ports of its path
-pub uses_own : (s : Sender) → All (λ (p : ℕ). uses p s ≡ true) s.path
+pub uses_own : (s : Sender) → All (λ (p : ℕ). uses p s ≡ true) s.ports
 uses_own s k d h =
-    let p : ℕ = get_or s.path k d in
-    list_any_at (λ (q : ℕ). q == p) s.path k d h (eq-eqb p p refl)
+    let p : ℕ = get_or s.ports k d in
+    list_any_at (λ (q : ℕ). q == p) s.ports k d h (eq-eqb p p refl)
 
 -- what holds of ports, and of neighbours, gives another relation of neighbours
 pub neighbours_with : (P : ℕ → Type 0) (R S : ℕ → ℕ → Type 0) → ((a b : ℕ) → P a → R a b → S a b) → (path : List ℕ)

@@ -204,14 +204,14 @@ served {judge} {rule} network rows run c holds j there stream keeps =
     let r : Release = j.release in
     let s : Sender = sender_at network r.sender in
     let n : ℕ = o.numbered.number in
-    let serve = all_serve network run rows j o s.path (uses_own s) o.keeps.ports
-    (all_offered network run c s.path o.keeps.valid o.keeps.bridges keeps) in
-    let is_prompt : IsPrompt (bounds_of rows s) r.at.0 s.path j.hops j.ending =
-    prompt (bounds_of rows s) n r s s.path j.hops j.ending r.at.0 o.is.way
-    (arrive_within network run rows n r s s.path j.hops j.ending serve o.numbered.crossings)
-    (eligible_within network run rows n r s s.path j.hops j.ending serve o.numbered.handed)
-    (comes_first r s.path j.hops j.ending o.keeps.path.least o.is.released) in
-    record { prompt = is_prompt; arrives = within_sum (bounds_of rows s) s.path j.hops j.ending r.at.0 is_prompt }
+    let serve = all_serve network run rows j o s.ports (uses_own s) o.keeps.ports
+    (all_offered network run c s.ports o.keeps.valid o.keeps.bridges keeps) in
+    let is_prompt : IsPrompt (bounds_of rows s) r.at.0 s.ports j.hops j.ending =
+    prompt (bounds_of rows s) n r s s.ports j.hops j.ending r.at.0 o.is.way
+    (arrive_within network run rows n r s s.ports j.hops j.ending serve o.numbered.crossings)
+    (eligible_within network run rows n r s s.ports j.hops j.ending serve o.numbered.handed)
+    (comes_first r s.ports j.hops j.ending o.keeps.path.least o.is.released) in
+    record { prompt = is_prompt; arrives = within_sum (bounds_of rows s) s.ports j.hops j.ending r.at.0 is_prompt }
 
 none_once : (bound : ℕ → ℕ) (path : List ℕ) (ending : Ending) → IsPromptIfEligible bound path [] ending
 none_once bound [] ending = tt
@@ -256,8 +256,8 @@ contained : {judge : Judge} {rule : Declared → List Frame → Type 0} (network
 contained {judge} {rule} network rows run c holds j there stream =
     let o : OfStream judge rule network run rows j = of_stream network run rows j c holds there stream in
     let s : Sender = sender_at network j.release.sender in
-    contained_behind network run rows j o o.numbered.number s.path j.hops j.ending o.is.way o.keeps.bridges (uses_own s)
-    o.keeps.ports o.numbered.crossings o.numbered.handed
+    contained_behind network run rows j o o.numbered.number s.ports j.hops j.ending o.is.way o.keeps.bridges
+    (uses_own s) o.keeps.ports o.numbered.crossings o.numbered.handed
 
 -- what the rules say of the rows
 rows_hold : (network : DeclaredNetwork) (rows : List Row) → ((rule : Rule) → Keeps rule network rows)

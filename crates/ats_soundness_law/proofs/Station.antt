@@ -100,8 +100,8 @@ journey_declared : {judge : Judge} {rule : Declared → List Frame → Type 0} (
 journey_declared network run port a n j paced =
     let s : Sender = sender_at network j.release.sender in
     let keeps : IsSender network.topology s = sender_is network a.known.net j.release.sender paced.is.sender in
-    all_hops (DeclaredAt network port) n j.release s s.path j.hops
-    (declared_along network run port a n j.release paced.is.sender s.path keeps.bridges (uses_own s) paced.size)
+    all_hops (DeclaredAt network port) n j.release s s.ports j.hops
+    (declared_along network run port a n j.release paced.is.sender s.ports keeps.bridges (uses_own s) paced.size)
 
 -- a frame's weight at the port is that of its release, at the first port of its path
 weight_along : {judge : Judge} {rule : Declared → List Frame → Type 0} (network : DeclaredNetwork) (run : List Travel)
@@ -134,7 +134,7 @@ own_weight : {judge : Judge} {rule : Declared → List Frame → Type 0} (networ
 own_weight network run i port weight a =
     let each = run_travels-le (IsJourney network) (hop_weight i port weight) (release_weight i weight) network 0 run
     (λ n j is. weight_along network run i port weight (release_weight i weight j) a n j.release
-    (sender_at network j.release.sender) (sender_at network j.release.sender).path j.hops
+    (sender_at network j.release.sender) (sender_at network j.release.sender).ports j.hops
     (sender_is network a.known.net j.release.sender is.sender).bridges is.released
     (λ p times start. counted-le (p == port) (release_weight i weight j)))
     a.known.legal.journeys in
@@ -148,7 +148,7 @@ other_weight : {judge : Judge} {rule : Declared → List Frame → Type 0} (netw
 other_weight network run i port weight a other =
     let each = run_travels-le (IsJourney network) (hop_weight i port weight) (λ (j : Travel). 0) network 0 run
     (λ n j is. weight_along network run i port weight 0 a n j.release (sender_at network j.release.sender)
-    (sender_at network j.release.sender).path j.hops
+    (sender_at network j.release.sender).ports j.hops
     (sender_is network a.known.net j.release.sender is.sender).bridges is.released
     (λ p times start. counted-neither (p == port) (j.release.sender == i) _ (λ there own.
     other (ap (talker_of network) (sym (eqb-true j.release.sender i own)) ∙ start

@@ -31,7 +31,7 @@ stream_exists network i h = omega (
   length-map network.streams stream_sender,
 )
 
--- a stream's class is 1 or more at each port of its path
+-- a stream's class is 1 or more at each of its ports
 pub stream_class : (network : DeclaredNetwork) → IsNetwork network → (port i : ℕ) → i < length network.streams
     → uses port (sender_at network i) ≡ true → 1 ≤ class_at (sender_at network i) port
 stream_class network net port i h used =

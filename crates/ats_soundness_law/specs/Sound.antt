@@ -44,8 +44,8 @@ bounds_of rows sender port = bound_of_hop rows sender port
 -- a frame is never discarded, is eligible at each next hop within the bound of the hop before, and arrives within the
 -- sum
 pub record IsServed (rows : List Row) (sender : Sender) (journey : Travel) : Type 0 where
-  pub prompt : IsPrompt (bounds_of rows sender) journey.release.at.0 sender.path journey.hops journey.ending
-  pub arrives : ArrivesBy (journey.release.at.0 + sum_by (bounds_of rows sender) sender.path) journey.ending
+  pub prompt : IsPrompt (bounds_of rows sender) journey.release.at.0 sender.ports journey.hops journey.ending
+  pub arrives : ArrivesBy (journey.release.at.0 + sum_by (bounds_of rows sender) sender.ports) journey.ending
 
 -- if a frame is eligible at the first of these ports, it is prompt behind it
 abbrev pub IsPromptIfEligible : (ℕ → ℕ) → List ℕ → List HopRecord → Ending → Type 0
@@ -62,7 +62,7 @@ all_but_first (x ∷ xs) = xs
 -- whatever its own talker does, a frame that the first bridge lets through is prompt from there on
 abbrev pub IsContained : List Row → Sender → Travel → Type 0
 IsContained rows sender journey =
-    IsPromptIfEligible (bounds_of rows sender) (all_but_first sender.path) (all_but_first journey.hops) journey.ending
+    IsPromptIfEligible (bounds_of rows sender) (all_but_first sender.ports) (all_but_first journey.hops) journey.ending
 
 -- in each legal run, where groups judge so, each frame of a stream whose talker keeps this rule is served
 abbrev pub AreServed : Judge → (Declared → List Frame → Type 0) → DeclaredNetwork → List Row → Type 0

@@ -48,27 +48,27 @@ not_before path i apart h =
 
 module _ (given : ℕ → ℕ → Option Share) (s : Sender) (old now : Table Share) (hop port class : ℕ) where
   -- until its own hop, the share of a port on the path is as it was
-  pub changes_not : hop < length s.path → AllPairs (λ p q. p ≢ q) s.path → port ≡ get_or s.path hop 0
-      → ChangesAlong given s (take hop s.path) old now → value_at now port class ≡ value_at old port class
+  pub changes_not : hop < length s.ports → AllPairs (λ p q. p ≢ q) s.ports → port ≡ get_or s.ports hop 0
+      → ChangesAlong given s (take hop s.ports) old now → value_at now port class ≡ value_at old port class
   changes_not within apart at before =
       before.each port class
       ∙ ap (λ (b : Bool). cond (b && eqb (class_at s port) class) (given port class) (value_at old port class))
-      (ap (λ (p : ℕ). list_any (λ q. eqb q p) (take hop s.path)) at ∙ not_before s.path hop apart within)
+      (ap (λ (p : ℕ). list_any (λ q. eqb q p) (take hop s.ports)) at ∙ not_before s.ports hop apart within)
 
   -- then it changes, and the others stay
-  pub changes_more : (next : Table Share) (value : Share) → hop < length s.path → port ≡ get_or s.path hop 0
+  pub changes_more : (next : Table Share) (value : Share) → hop < length s.ports → port ≡ get_or s.ports hop 0
       → class ≡ class_at s port → given port class ≡ Some value → Sets port class value now next
-      → ChangesAlong given s (take hop s.path) old now → ChangesAlong given s (take (hop + 1) s.path) old next
+      → ChangesAlong given s (take hop s.ports) old now → ChangesAlong given s (take (hop + 1) s.ports) old next
   changes_more next value within at is has sets before = record {
     count = sets.count ∙ before.count;
     each = λ p c. by p c (cases_eq p port) (cases_eq c class);
   }
     where
       earlier : ℕ → Bool
-      earlier p = list_any (λ q. eqb q p) (take hop s.path)
+      earlier p = list_any (λ q. eqb q p) (take hop s.ports)
 
-      more : (p : ℕ) → list_any (λ q. eqb q p) (take (hop + 1) s.path) ≡ (earlier p || eqb port p)
-      more p = list_any_more (λ q. eqb q p) s.path hop 0 within ∙ ap (λ (q : ℕ). earlier p || eqb q p) (sym at)
+      more : (p : ℕ) → list_any (λ q. eqb q p) (take (hop + 1) s.ports) ≡ (earlier p || eqb port p)
+      more p = list_any_more (λ q. eqb q p) s.ports hop 0 within ∙ ap (λ (q : ℕ). earlier p || eqb q p) (sym at)
 
       chosen : ℕ → ℕ → Bool → Option Share
       chosen p c b = cond (b && eqb (class_at s p) c) (given p c) (value_at old p c)
@@ -81,19 +81,19 @@ module _ (given : ℕ → ℕ → Option Share) (s : Sender) (old now : Table Sh
           ∙ ap (λ (t : Bool). cond t (given p c) (value_at old p c)) (and-false b)
 
       by : (p c : ℕ) → (p ≡ port) ⊎ (p ≡ port → ⊥) → (c ≡ class) ⊎ (c ≡ class → ⊥)
-          → value_at next p c ≡ chosen p c (list_any (λ q. eqb q p) (take (hop + 1) s.path))
+          → value_at next p c ≡ chosen p c (list_any (λ q. eqb q p) (take (hop + 1) s.ports))
       by p c (inl same) (inl own) =
-          let on : list_any (λ q. eqb q p) (take (hop + 1) s.path) ≡ true =
+          let on : list_any (λ q. eqb q p) (take (hop + 1) s.ports) ≡ true =
           more p ∙ or_right (earlier p) (eqb port p) (eq-eqb port p (sym same)) in
           let of : eqb (class_at s p) c ≡ true =
           eq-eqb (class_at s p) c (ap (λ (q : ℕ). class_at s q) same ∙ sym is ∙ sym own) in
           ap (λ (q : ℕ). value_at next q c) same ∙ ap (value_at next port) own ∙ sets.here ∙ sym has
           ∙ sym (ap (λ (q : ℕ). given q c) same ∙ ap (given port) own)
           ∙ sym (ap (λ (b : Bool). cond b (given p c) (value_at old p c))
-          (and_from (list_any (λ q. eqb q p) (take (hop + 1) s.path)) (eqb (class_at s p) c) on of))
+          (and_from (list_any (λ q. eqb q p) (take (hop + 1) s.ports)) (eqb (class_at s p) c) on of))
       by p c (inl same) (inr other) =
           sets.others p c (inr other) ∙ before.each p c ∙ other_class p c (earlier p) same other
-          ∙ sym (other_class p c (list_any (λ q. eqb q p) (take (hop + 1) s.path)) same other)
+          ∙ sym (other_class p c (list_any (λ q. eqb q p) (take (hop + 1) s.ports)) same other)
       by p c (inr away) own =
           sets.others p c (inl away) ∙ before.each p c
           ∙ sym (ap (chosen p c) (more p ∙ ap (λ (b : Bool). earlier p || b) (ne_eqb port p (λ e. away (sym e)))
@@ -157,7 +157,7 @@ module _ (ports : ℕ) (front : List Sender) (s : Sender) (back : List Sender) (
 
   -- and those without one that leaves
   pub left_are : AreSharesAt ports (front ++ s ∷ back) old
-      → ChangesAlong (λ port class. Some (share_of class (senders_at port (front ++ back)))) s s.path old now
+      → ChangesAlong (λ port class. Some (share_of class (senders_at port (front ++ back)))) s s.ports old now
       → AreSharesAt ports (front ++ back) now
   left_are before changes = record {
     count = changes.count ∙ before.count;

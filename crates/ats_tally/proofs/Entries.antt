@@ -16,25 +16,25 @@ use Rattle.ats_tally.proofs.Changed.{ChangesAlong, changes_more, changes_not}
 -- what is so of a hop of a sender's path, and of what the port there sees
 pub record IsEntry (network : DeclaredNetwork) (s : Sender) (port hop : ℕ) (seen : PortSender) : Type 0 where
   pub keeps : IsSender network.topology s
-  pub within : hop < length s.path
-  pub at : port ≡ get_or s.path hop 0
+  pub within : hop < length s.ports
+  pub at : port ≡ get_or s.ports hop 0
   pub inside : port < length network.topology.ports
   pub is : seen ≡ seen_at port s
   pub most : seen.class ≤ 7
 
 pub entry_is : (network : DeclaredNetwork) (s : Sender) (listed : List ℕ) (hop : ℕ) (seen : PortSender)
-    → IsSender network.topology s → listed ≡ s.path → hop < length listed → seen ≡ seen_at (get_or s.path hop 0) s
+    → IsSender network.topology s → listed ≡ s.ports → hop < length listed → seen ≡ seen_at (get_or s.ports hop 0) s
     → IsEntry network s (get_or listed hop 0) hop seen
 entry_is network s listed hop seen keeps same within is =
-    let inside : hop < length s.path = subst (λ (l : List ℕ). hop < length l) same within in
-    let at : get_or listed hop 0 ≡ get_or s.path hop 0 = ap (λ (l : List ℕ). get_or l hop 0) same in
+    let inside : hop < length s.ports = subst (λ (l : List ℕ). hop < length l) same within in
+    let at : get_or listed hop 0 ≡ get_or s.ports hop 0 = ap (λ (l : List ℕ). get_or l hop 0) same in
     record {
       keeps = keeps;
       within = inside;
       at = at;
       inside = omega (arith, at, keeps.ports hop 0 inside);
       is = is ∙ ap (λ (p : ℕ). seen_at p s) (sym at);
-      most = omega (arith, ap (λ (t : PortSender). t.class) is, class_at-le s (get_or s.path hop 0) keeps.classes);
+      most = omega (arith, ap (λ (t : PortSender). t.class) is, class_at-le s (get_or s.ports hop 0) keeps.classes);
     }
 
 -- what is given where a sender is counted
@@ -44,30 +44,30 @@ counted s old port class = option_map (share_with (seen_at port s)) (value_at ol
 module _ (network : DeclaredNetwork) (s : Sender) (port hop : ℕ) (seen : PortSender) (old now : Table Share) where
   -- its share is as it was until then, and has room
   pub same_until : (given : ℕ → ℕ → Option Share) → IsEntry network s port hop seen
-      → ChangesAlong given s (take hop s.path) old now → value_at now port seen.class ≡ value_at old port seen.class
+      → ChangesAlong given s (take hop s.ports) old now → value_at now port seen.class ≡ value_at old port seen.class
   same_until given entry before =
       changes_not given s old now hop port seen.class entry.within entry.keeps.apart entry.at before
 
   pub entry_room : (given : ℕ → ℕ → Option Share) (share : Share) → IsEntry network s port hop seen
-      → ChangesAlong given s (take hop s.path) old now → HaveRoom old → value_at now port seen.class ≡ Some share
+      → ChangesAlong given s (take hop s.ports) old now → HaveRoom old → value_at now port seen.class ≡ Some share
       → IsLimited MAX_SENDERS share
   entry_room given share entry before room there =
       room port seen.class share (sym (same_until given entry before) ∙ there)
 
   -- its share changes
   pub entry_changed : (given : ℕ → ℕ → Option Share) (next : Table Share) (value : Share)
-      → IsEntry network s port hop seen → ChangesAlong given s (take hop s.path) old now
+      → IsEntry network s port hop seen → ChangesAlong given s (take hop s.ports) old now
       → given port seen.class ≡ Some value → Sets port seen.class value now next
-      → ChangesAlong given s (take (hop + 1) s.path) old next
+      → ChangesAlong given s (take (hop + 1) s.ports) old next
   entry_changed given next value entry before has sets =
       changes_more given s old now hop port seen.class next value entry.within entry.at
       (ap (λ (t : PortSender). t.class) entry.is) has sets before
 
   -- so it is where the sender is counted there
   pub entry_counted : (next : Table Share) (share value : Share) → IsEntry network s port hop seen
-      → ChangesAlong (counted s old) s (take hop s.path) old now → value_at now port seen.class ≡ Some share
+      → ChangesAlong (counted s old) s (take hop s.ports) old now → value_at now port seen.class ≡ Some share
       → value ≡ share_with seen share → Sets port seen.class value now next
-      → ChangesAlong (counted s old) s (take (hop + 1) s.path) old next
+      → ChangesAlong (counted s old) s (take (hop + 1) s.ports) old next
   entry_counted next share value entry before there is sets =
       entry_changed (counted s old) next value entry before
       (ap (option_map (share_with (seen_at port s))) (sym (same_until (counted s old) entry before) ∙ there)
@@ -75,6 +75,6 @@ module _ (network : DeclaredNetwork) (s : Sender) (port hop : ℕ) (seen : PortS
       sets
 
 -- a whole path is walked
-pub entered_all : (s : Sender) (old now : Table Share) → ChangesAlong (counted s old) s s.path old now
+pub entered_all : (s : Sender) (old now : Table Share) → ChangesAlong (counted s old) s s.ports old now
     → Enters s old now
 entered_all s old now changes = record { count = changes.count; each = changes.each }

@@ -142,8 +142,8 @@ has_from network k (one ∷ ports) port class from below least most used =
 port_used : (network : DeclaredNetwork) (port : ℕ) (s : Sender) → IsSender network.topology s → uses port s ≡ true
     → port < length network.topology.ports
 port_used network port s is used =
-    any_gives (λ p. eqb p port) (port < length network.topology.ports) s.path
-    (λ k d h e. (let within = is.ports k d h in omega (arith, within, eqb-true (get_or s.path k d) port e)))
+    any_gives (λ p. eqb p port) (port < length network.topology.ports) s.ports
+    (λ k d h e. (let within = is.ports k d h in omega (arith, within, eqb-true (get_or s.ports k d) port e)))
     used
 
 ports_used : (network : DeclaredNetwork) (port : ℕ) (senders : List Sender) → All (IsSender network.topology) senders

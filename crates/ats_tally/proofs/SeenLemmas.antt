@@ -92,7 +92,7 @@ few_at port senders = omega (
   count_by-le-length (uses port) senders,
 )
 
--- a stream is of a class from 1 on at each port of its path
+-- a stream is of a class from 1 on at each of its ports
 pub streams_class : (port : ℕ) (streams : List DeclaredStream) → All IsStream streams
     → All (λ (s : PortSender). 1 ≤ s.class) (senders_at port (map stream_sender streams))
 streams_class port streams all =

@@ -1,6 +1,6 @@
 //! The bounds of a certificate, by port and class.
 
-ghost use Rattle.std.specs.Prelude.{◌≡◌, ◌≢◌, ◌<◌, ◌≤◌, length, All, AllPairs, IfOk};
+ghost use Rattle.std.specs.Prelude.{◌≡◌, ◌≢◌, ◌<◌, ◌≤◌, [], length, All, AllPairs, IfOk};
 ghost use Rattle.ats_certificate.specs.Certificate.{bound_along};
 ghost use Rattle.ats_certificate.specs.Form.{AreRows};
 ghost use Rattle.ats_tally.specs.Bounds.{AreBounds, bound_given, rows_at};
@@ -68,16 +68,17 @@ impl<'a> Bounds<'a> {
         self.table.get(port, class)
     }
 
-    /// The sum, in picoseconds, of the bounds along a stream's path, which has no port twice: at each port that of the
-    /// stream's class there. A port without a row adds nothing.
+    /// The sum, in picoseconds, of the bounds at a stream's ports, none of which is there twice: at each that of the
+    /// stream's class there. A port without a row adds nothing. As yet the stream has one listener.
     pub fn along(&self, stream: &Stream) -> u128
-        requires ports { All (λ p. p < self.now.ports) stream.now.path }
-        requires apart { AllPairs (λ p q. p ≢ q) stream.now.path }
+        requires ports { All (λ p. p < self.now.ports) stream.now.ports }
+        requires apart { AllPairs (λ p q. p ≢ q) stream.now.ports }
+        requires one_listener { stream.now.branches ≡ [] }
         ensures { result ≡ bound_along self.now.rows stream.now }
     {
         let classes = stream.classes();
         let mut sum = 0;
-        for (hop, port) in stream.path().iter().enumerate() {
+        for (hop, port) in stream.ports().iter().enumerate() {
             sum += self.given(*port, classes[hop]).unwrap_or(0);
         }
         sum

@@ -24,7 +24,7 @@ pub enum Reason {
         /// The wait plus the spread, in picoseconds.
         need: u128,
     },
-    /// The bounds along a stream's path are together over its deadline.
+    /// The bounds at a stream's ports are together over its deadline.
     Deadline {
         /// The stream's name.
         stream: Name,

@@ -26,12 +26,12 @@ pub struct SeenSender {
 }
 
 impl SeenSender {
-    /// A sender of a network as the port at this hop of its path sees it. Hops are counted from 0.
+    /// A sender of a network as the port at this place of its ports sees it. Places are counted from 0.
     pub fn at(network: &Network, sender: u32, hop: u32) -> Self
         requires sender { sender < length (senders_of network.now) }
-        requires hop { hop < length (sender_at network.now sender).path }
+        requires hop { hop < length (sender_at network.now sender).ports }
         ensures seen { port_sender result
-            ≡ seen_at (slice_index_or (sender_at network.now sender).path hop 0) (sender_at network.now sender) }
+            ≡ seen_at (slice_index_or (sender_at network.now sender).ports hop 0) (sender_at network.now sender) }
         ensures limits { KeepsLimits result }
     {
         match network.sender(sender) {

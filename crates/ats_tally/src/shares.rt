@@ -23,14 +23,14 @@ pub fn shares_of(alloc: Global, network: &Network) -> Result<PortClassTable<Shar
     Ok(shares)
 }
 
-/// Counts the sender with this number at each port of its path, in its class there.
+/// Counts the sender with this number at each of its ports, in its class there.
 pub fn enter_along(shares: &mut PortClassTable<Share>, network: &Network, sender: u32)
     requires sender { sender < length (senders_of network.now) }
     requires count { shares.old.ports ≡ length network.now.topology.ports }
     requires room { HaveRoom shares.old }
     ensures { Enters (sender_at network.now sender) shares.old shares.new }
 {
-    for (hop, port) in network.sender_path(sender).iter().enumerate() {
+    for (hop, port) in network.sender_ports(sender).iter().enumerate() {
         let seen = SeenSender::at(network, sender, hop as u32);
         let share = shares.get(*port, seen.class);
         shares.set(*port, seen.class, share.with_sender(&seen));

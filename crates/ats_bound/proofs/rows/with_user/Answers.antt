@@ -10,15 +10,15 @@ use Rattle.ats_bound.proofs.rows.with_user.Goals as goal
 pub overflow_cast-hop : goal.overflow_cast-hop
 overflow_cast-hop c =
     let is : IsSender c.args.network.now.topology (sender_at c.args.network.now c.args.sender) =
-    sender_keeps c.args.network.now c.args.sender c.sender_path.ensures.rules c.requires.sender in
-    let long : length c.sender_path.result.now ≡ length (sender_at c.args.network.now c.args.sender).path =
-    ap (λ (ports : List ℕ). length ports) c.sender_path.ensures.value in
+    sender_keeps c.args.network.now c.args.sender c.sender_ports.ensures.rules c.requires.sender in
+    let long : length c.sender_ports.result.now ≡ length (sender_at c.args.network.now c.args.sender).ports =
+    ap (λ (ports : List ℕ). length ports) c.sender_ports.ensures.value in
     omega (arith, long, is.path.most, c.in-Some.ensures.within)
 
 pub returns-in-Some : goal.returns-in-Some
 returns-in-Some c =
-    let at : position_from (λ p. eqb p c.args.port) 0 (sender_at c.args.network.now c.args.sender).path
-    ≡ Some c.in-Some.hop = ap (position_from (λ p. eqb p c.args.port) 0) (sym c.sender_path.ensures.value)
+    let at : position_from (λ p. eqb p c.args.port) 0 (sender_at c.args.network.now c.args.sender).ports
+    ≡ Some c.in-Some.hop = ap (position_from (λ p. eqb p c.args.port) 0) (sym c.sender_ports.ensures.value)
     ∙ sym c.hop_of.ensures.place ∙ c.in-Some.is in
     c.with_sender.ensures
     ∙ ap (λ (s : PortSender). tally_with c.args.class s c.args.tally) c.at.ensures.seen
@@ -26,7 +26,7 @@ returns-in-Some c =
 
 pub returns-in-None : goal.returns-in-None
 returns-in-None c =
-    let at : position_from (λ p. eqb p c.args.port) 0 (sender_at c.args.network.now c.args.sender).path ≡ None =
-    ap (position_from (λ p. eqb p c.args.port) 0) (sym c.sender_path.ensures.value)
+    let at : position_from (λ p. eqb p c.args.port) 0 (sender_at c.args.network.now c.args.sender).ports ≡ None =
+    ap (position_from (λ p. eqb p c.args.port) 0) (sym c.sender_ports.ensures.value)
     ∙ sym c.hop_of.ensures.place ∙ c.in-None.is in
     sym (no_more c.args.port c.args.class (sender_at c.args.network.now c.args.sender) c.args.tally at)

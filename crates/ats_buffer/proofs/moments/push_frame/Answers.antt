@@ -9,8 +9,8 @@ use Rattle.ats_buffer.proofs.Visits.{no_journey, no_hop, release_is, frame_sende
 use Rattle.ats_buffer.proofs.Visits.{told_all}
 use Rattle.ats_buffer.proofs.moments.push_frame.Goals as goal
 
-pub sender_path-path-requires : goal.sender_path-path-requires
-sender_path-path-requires c =
+pub sender_ports-path-requires : goal.sender_ports-path-requires
+sender_ports-path-requires c =
     let is = release_is c.args.run.now c.journeys.result.now c.args.frame c.journeys.ensures c.requires.frame in
     let journey : IsJourney c.args.network.now (travel_at c.args.run.now c.args.frame) =
     c.requires.legal.journeys c.args.frame no_travel c.requires.frame in
@@ -25,7 +25,7 @@ wire_bits-bits-requires c =
 
 pub overflow_cast-hop : goal.overflow_cast-hop
 overflow_cast-hop c =
-    let sender = frame_sender c.args.network.now c.args.run.now c.args.frame c.sender_path-path.ensures.rules
+    let sender = frame_sender c.args.network.now c.args.run.now c.args.frame c.sender_ports-path.ensures.rules
     c.requires.legal c.requires.frame in
     let visit = visit_of c.args.network.now c.args.run.now c.args.frame c.loop-hop.hop no_hop
     c.hops_of-visit-items.result.now c.hops_of-visit-items.ensures c.loop-hop-test.true c.loop-hop.invariant.rest in
@@ -39,7 +39,7 @@ sender_class-class-requires c =
     let visit = visit_of c.args.network.now c.args.run.now c.args.frame c.loop-hop.hop no_hop
     c.hops_of-visit-items.result.now c.hops_of-visit-items.ensures c.loop-hop-test.true c.loop-hop.invariant.rest in (
       subst (λ (r : Release). r.sender < length (senders_of c.args.network.now)) (sym is) journey.sender,
-      subst (λ (r : Release). c.loop-hop.hop < length (sender_at c.args.network.now r.sender).path) (sym is)
+      subst (λ (r : Release). c.loop-hop.hop < length (sender_at c.args.network.now r.sender).ports) (sym is)
           visit.within,
     )
 
@@ -48,11 +48,11 @@ bounds-path-hop c =
     let is = release_is c.args.run.now c.journeys.result.now c.args.frame c.journeys.ensures c.requires.frame in
     let visit = visit_of c.args.network.now c.args.run.now c.args.frame c.loop-hop.hop no_hop
     c.hops_of-visit-items.result.now c.hops_of-visit-items.ensures c.loop-hop-test.true c.loop-hop.invariant.rest in
-    let path : c.sender_path-path.result.now ≡ (sender_at c.args.network.now
-    (travel_at c.args.run.now c.args.frame).release.sender).path =
-    c.sender_path-path.ensures.value ∙ ap (λ (r : Release). (sender_at c.args.network.now r.sender).path) is in
-    let long : length c.sender_path-path.result.now ≡ length (sender_at c.args.network.now
-    (travel_at c.args.run.now c.args.frame).release.sender).path = ap (λ (l : List ℕ). length l) path in
+    let path : c.sender_ports-path.result.now ≡ (sender_at c.args.network.now
+    (travel_at c.args.run.now c.args.frame).release.sender).ports =
+    c.sender_ports-path.ensures.value ∙ ap (λ (r : Release). (sender_at c.args.network.now r.sender).ports) is in
+    let long : length c.sender_ports-path.result.now ≡ length (sender_at c.args.network.now
+    (travel_at c.args.run.now c.args.frame).release.sender).ports = ap (λ (l : List ℕ). length l) path in
     omega (arith, visit.within, long)
 
 pub loop-hop-preserved : goal.loop-hop-preserved
@@ -64,12 +64,12 @@ loop-hop-preserved c =
     let visit = visit_of network c.args.run.now c.args.frame k no_hop
     c.hops_of-visit-items.result.now c.hops_of-visit-items.ensures c.loop-hop-test.true c.loop-hop.invariant.rest in
     let read = read_of network j k no_hop (slice_index_or c.journeys.result.now c.args.frame no_journey).release
-    c.sender_path-path.result.now c.sender_class-class.result c.wire_bits-bits.result c.hops_of-visit-items.result.now
-    is c.sender_path-path.ensures.value c.sender_class-class.ensures.port c.wire_bits-bits.ensures.bits
+    c.sender_ports-path.result.now c.sender_class-class.result c.wire_bits-bits.result c.hops_of-visit-items.result.now
+    is c.sender_ports-path.ensures.value c.sender_class-class.ensures.port c.wire_bits-bits.ensures.bits
     c.hops_of-visit-items.ensures in
     record {
       rest = visit.rest;
-      told = told_more network c.args.frame j k no_hop (slice_index_or c.sender_path-path.result.now k 0)
+      told = told_more network c.args.frame j k no_hop (slice_index_or c.sender_ports-path.result.now k 0)
           c.sender_class-class.result c.wire_bits-bits.result (slice_index_or c.hops_of-visit-items.result.now k no_hop)
           c.loop-hop.moments.items c.push_visit.new.moments.items _ visit read c.in_ok-push_visit.ensures
           c.loop-hop.invariant.told;

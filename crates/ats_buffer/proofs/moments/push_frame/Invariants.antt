@@ -11,7 +11,7 @@ invariant-loop-hop l =
     let j = travel_at l.run l.frame in
     let s = sender_at l.network j.release.sender in
     record {
-      rest : IsRest (drop l.hop s.path) (drop l.hop j.hops) j.ending;
-      told : l.moments.items ++ moments_along l.frame j.release s (drop l.hop s.path) (drop l.hop j.hops) j.ending
+      rest : IsRest (drop l.hop s.ports) (drop l.hop j.hops) j.ending;
+      told : l.moments.items ++ moments_along l.frame j.release s (drop l.hop s.ports) (drop l.hop j.hops) j.ending
           ≡ l.fn.moments.items ++ moments_of_frame l.network l.frame j;
     }

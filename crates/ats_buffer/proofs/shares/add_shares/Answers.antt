@@ -31,16 +31,16 @@ pub stay-requires-clause-port : goal.stay-requires-clause-port
 stay-requires-clause-port c =
     let stream = same_stream c.args.network.now c.streams.result.now c.args.number c.index-streams-number.result
     c.streams.ensures.value c.requires.number c.index-streams-number.is in
-    let at = hop_is c.args.network.now c.args.number c.path-port-items.result.now c.classes-classes.result.now
+    let at = hop_is c.args.network.now c.args.number c.ports-port-items.result.now c.classes-classes.result.now
     c.loop-hop.hop c.streams.ensures.rules c.requires.number
-    (c.path-port-items.ensures.value ∙ ap (λ (s : DeclaredStream). s.path) stream)
+    (c.ports-port-items.ensures.value ∙ ap (λ (s : DeclaredStream). s.ports) stream)
     (c.classes-classes.ensures.value ∙ ap (λ (s : DeclaredStream). s.classes) stream) c.loop-hop-test.true in
     at.inside
 
 pub overflow_add-window : goal.overflow_add-window
 overflow_add-window c =
     let stay = stay-most c.args.network.now c.args.rows.now.rows c.streams.ensures.rules c.requires.holds
-    (slice_index_or c.path-port-items.result.now c.loop-hop.hop 0)
+    (slice_index_or c.ports-port-items.result.now c.loop-hop.hop 0)
     (slice_index_or c.classes-classes.result.now c.loop-hop.hop 0) in
     omega (arith, stay, c.stay.ensures, c.loop-hop.invariant.short)
 
@@ -48,16 +48,16 @@ pub get-requires-clause-port : goal.get-requires-clause-port
 get-requires-clause-port c =
     let stream = same_stream c.args.network.now c.streams.result.now c.args.number c.index-streams-number.result
     c.streams.ensures.value c.requires.number c.index-streams-number.is in
-    let at = hop_is c.args.network.now c.args.number c.path-port-items.result.now c.classes-classes.result.now
+    let at = hop_is c.args.network.now c.args.number c.ports-port-items.result.now c.classes-classes.result.now
     c.loop-hop.hop c.streams.ensures.rules c.requires.number
-    (c.path-port-items.ensures.value ∙ ap (λ (s : DeclaredStream). s.path) stream)
+    (c.ports-port-items.ensures.value ∙ ap (λ (s : DeclaredStream). s.ports) stream)
     (c.classes-classes.ensures.value ∙ ap (λ (s : DeclaredStream). s.classes) stream) c.loop-hop-test.true in
     omega (arith, at.inside, c.loop-hop.invariant.added.ports)
 
 pub bits_within-requires : goal.bits_within-requires
 bits_within-requires c =
     let stay = stay-most c.args.network.now c.args.rows.now.rows c.streams.ensures.rules c.requires.holds
-    (slice_index_or c.path-port-items.result.now c.loop-hop.hop 0)
+    (slice_index_or c.ports-port-items.result.now c.loop-hop.hop 0)
     (slice_index_or c.classes-classes.result.now c.loop-hop.hop 0) in
     omega (arith, stay, c.stay.ensures, c.loop-hop.invariant.short)
 
@@ -68,16 +68,16 @@ overflow_add-sum c =
     let hop : ℕ = c.loop-hop.hop in
     let stream = same_stream network c.streams.result.now c.args.number c.index-streams-number.result
     c.streams.ensures.value c.requires.number c.index-streams-number.is in
-    let at = hop_is network c.args.number c.path-port-items.result.now c.classes-classes.result.now hop
+    let at = hop_is network c.args.number c.ports-port-items.result.now c.classes-classes.result.now hop
     c.streams.ensures.rules c.requires.number
-    (c.path-port-items.ensures.value ∙ ap (λ (s : DeclaredStream). s.path) stream)
+    (c.ports-port-items.ensures.value ∙ ap (λ (s : DeclaredStream). s.ports) stream)
     (c.classes-classes.ensures.value ∙ ap (λ (s : DeclaredStream). s.classes) stream) c.loop-hop-test.true in
     let s : DeclaredStream = stream_at network c.args.number in
-    let port : ℕ = slice_index_or s.path hop 0 in
-    let sum = sum_is network rows c.args.number hop c.path-port-items.result.now c.classes-classes.result.now
+    let port : ℕ = slice_index_or s.ports hop 0 in
+    let sum = sum_is network rows c.args.number hop c.ports-port-items.result.now c.classes-classes.result.now
     c.loop-hop.sums c.get.result c.streams.ensures.rules c.requires.number at c.loop-hop.invariant.added
     c.get.ensures in
-    let share = share_is network rows c.args.number hop c.path-port-items.result.now c.classes-classes.result.now
+    let share = share_is network rows c.args.number hop c.ports-port-items.result.now c.classes-classes.result.now
     c.index-streams-number.result c.stay.result c.loop-hop.way c.bits_within.result at stream c.stay.ensures
     (c.loop-hop.invariant.way at.short) c.bits_within.ensures in
     omega (
@@ -94,9 +94,9 @@ pub set-requires-clause-port : goal.set-requires-clause-port
 set-requires-clause-port c =
     let stream = same_stream c.args.network.now c.streams.result.now c.args.number c.index-streams-number.result
     c.streams.ensures.value c.requires.number c.index-streams-number.is in
-    let at = hop_is c.args.network.now c.args.number c.path-port-items.result.now c.classes-classes.result.now
+    let at = hop_is c.args.network.now c.args.number c.ports-port-items.result.now c.classes-classes.result.now
     c.loop-hop.hop c.streams.ensures.rules c.requires.number
-    (c.path-port-items.ensures.value ∙ ap (λ (s : DeclaredStream). s.path) stream)
+    (c.ports-port-items.ensures.value ∙ ap (λ (s : DeclaredStream). s.ports) stream)
     (c.classes-classes.ensures.value ∙ ap (λ (s : DeclaredStream). s.classes) stream) c.loop-hop-test.true in
     omega (arith, at.inside, c.loop-hop.invariant.added.ports)
 
@@ -104,9 +104,9 @@ pub way_over-way-requires-clause-port : goal.way_over-way-requires-clause-port
 way_over-way-requires-clause-port c =
     let stream = same_stream c.args.network.now c.streams.result.now c.args.number c.index-streams-number.result
     c.streams.ensures.value c.requires.number c.index-streams-number.is in
-    let at = hop_is c.args.network.now c.args.number c.path-port-items.result.now c.classes-classes.result.now
+    let at = hop_is c.args.network.now c.args.number c.ports-port-items.result.now c.classes-classes.result.now
     c.loop-hop.hop c.streams.ensures.rules c.requires.number
-    (c.path-port-items.ensures.value ∙ ap (λ (s : DeclaredStream). s.path) stream)
+    (c.ports-port-items.ensures.value ∙ ap (λ (s : DeclaredStream). s.ports) stream)
     (c.classes-classes.ensures.value ∙ ap (λ (s : DeclaredStream). s.classes) stream) c.loop-hop-test.true in
     at.inside
 
@@ -117,27 +117,27 @@ loop-hop-preserved c =
     let hop : ℕ = c.loop-hop.hop in
     let stream = same_stream network c.streams.result.now c.args.number c.index-streams-number.result
     c.streams.ensures.value c.requires.number c.index-streams-number.is in
-    let at = hop_is network c.args.number c.path-port-items.result.now c.classes-classes.result.now hop
+    let at = hop_is network c.args.number c.ports-port-items.result.now c.classes-classes.result.now hop
     c.streams.ensures.rules c.requires.number
-    (c.path-port-items.ensures.value ∙ ap (λ (s : DeclaredStream). s.path) stream)
+    (c.ports-port-items.ensures.value ∙ ap (λ (s : DeclaredStream). s.ports) stream)
     (c.classes-classes.ensures.value ∙ ap (λ (s : DeclaredStream). s.classes) stream) c.loop-hop-test.true in
-    let sum = sum_is network rows c.args.number hop c.path-port-items.result.now c.classes-classes.result.now
+    let sum = sum_is network rows c.args.number hop c.ports-port-items.result.now c.classes-classes.result.now
     c.loop-hop.sums c.get.result c.streams.ensures.rules c.requires.number at c.loop-hop.invariant.added
     c.get.ensures in
-    let share = share_is network rows c.args.number hop c.path-port-items.result.now c.classes-classes.result.now
+    let share = share_is network rows c.args.number hop c.ports-port-items.result.now c.classes-classes.result.now
     c.index-streams-number.result c.stay.result c.loop-hop.way c.bits_within.result at stream c.stay.ensures
     (c.loop-hop.invariant.way at.short) c.bits_within.ensures in
     record {
-      added = added_hop network rows c.args.number hop c.path-port-items.result.now c.classes-classes.result.now
+      added = added_hop network rows c.args.number hop c.ports-port-items.result.now c.classes-classes.result.now
           c.loop-hop.sums c.set.new.self c.get.result c.bits_within.result c.streams.ensures.rules c.requires.number at
           c.loop-hop.invariant.added sum share c.set.ensures;
-      way = way_next network rows c.args.number hop c.path-port-items.result.now c.classes-classes.result.now
+      way = way_next network rows c.args.number hop c.ports-port-items.result.now c.classes-classes.result.now
           c.way_over-way.result c.streams.ensures.rules c.requires.number at c.way_over-way.ensures;
       short = omega (
         arith,
         c.way_over-way.ensures,
         way-most network rows c.streams.ensures.rules c.requires.holds
-            (slice_index_or c.path-port-items.result.now hop 0) (slice_index_or c.classes-classes.result.now hop 0),
+            (slice_index_or c.ports-port-items.result.now hop 0) (slice_index_or c.classes-classes.result.now hop 0),
       );
     }
 
@@ -147,8 +147,8 @@ returns c =
     let s : DeclaredStream = stream_at network c.args.number in
     let stream = same_stream network c.streams.result.now c.args.number c.index-streams-number.result
     c.streams.ensures.value c.requires.number c.index-streams-number.is in
-    let long : length c.path-port-items.result.now ≡ length s.path =
-    ap (λ (l : List ℕ). length l) (c.path-port-items.ensures.value ∙ ap (λ (s : DeclaredStream). s.path) stream) in
+    let long : length c.ports-port-items.result.now ≡ length s.ports =
+    ap (λ (l : List ℕ). length l) (c.ports-port-items.ensures.value ∙ ap (λ (s : DeclaredStream). s.ports) stream) in
     added_all network c.args.rows.now.rows c.args.number no_stream c.loop-hop.sums c.requires.number
     (subst (λ (l : List ℕ). AreAdding network c.args.rows.now.rows c.args.number s l c.loop-hop.sums)
-    (take_all c.loop-hop.hop s.path (omega (arith, long))) c.loop-hop.invariant.added)
+    (take_all c.loop-hop.hop s.ports (omega (arith, long))) c.loop-hop.invariant.added)

@@ -11,8 +11,8 @@ abbrev pub invariant-loop-hop : goal.invariant-loop-hop
 invariant-loop-hop l =
     let s = slice_index_or l.network.streams l.number no_stream in
     record {
-      added : AreAdding l.network l.rows.rows l.number s (take l.hop s.path) l.sums;
-      way : l.hop < length s.path
-          → l.way ≡ way_to l.network l.rows.rows (stream_sender s) (slice_index_or s.path l.hop 0);
+      added : AreAdding l.network l.rows.rows l.number s (take l.hop s.ports) l.sums;
+      way : l.hop < length s.ports
+          → l.way ≡ way_to l.network l.rows.rows (stream_sender s) (slice_index_or s.ports l.hop 0);
       short : l.way ≤ 2 * PS_PER_SECOND;
     }

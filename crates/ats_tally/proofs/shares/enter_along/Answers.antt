@@ -11,35 +11,35 @@ use Rattle.ats_tally.proofs.shares.enter_along.Goals as goal
 pub overflow_cast-hop : goal.overflow_cast-hop
 overflow_cast-hop c =
     let keeps : IsSender c.args.network.now.topology (sender_at c.args.network.now c.args.sender) =
-    sender_keeps c.args.network.now c.args.sender c.sender_path-port-items.ensures.rules c.requires.sender in
-    omega (arith, keeps.path.most, c.loop-hop-test.true, ap length c.sender_path-port-items.ensures.value)
+    sender_keeps c.args.network.now c.args.sender c.sender_ports-port-items.ensures.rules c.requires.sender in
+    omega (arith, keeps.path.most, c.loop-hop-test.true, ap length c.sender_ports-port-items.ensures.value)
 
 pub get-share-requires-clause-port : goal.get-share-requires-clause-port
 get-share-requires-clause-port c =
     let network = c.args.network.now in
     let s : Sender = sender_at network c.args.sender in
-    let entry = entry_is network s c.sender_path-port-items.result.now c.loop-hop.hop (port_sender c.at-seen.result)
-    (sender_keeps network c.args.sender c.sender_path-port-items.ensures.rules c.requires.sender)
-    c.sender_path-port-items.ensures.value c.loop-hop-test.true c.at-seen.ensures.seen in
+    let entry = entry_is network s c.sender_ports-port-items.result.now c.loop-hop.hop (port_sender c.at-seen.result)
+    (sender_keeps network c.args.sender c.sender_ports-port-items.ensures.rules c.requires.sender)
+    c.sender_ports-port-items.ensures.value c.loop-hop-test.true c.at-seen.ensures.seen in
     omega (arith, entry.inside, c.loop-hop.invariant.count, c.requires.count)
 
 pub get-share-requires-clause-class : goal.get-share-requires-clause-class
 get-share-requires-clause-class c =
     let network = c.args.network.now in
     let s : Sender = sender_at network c.args.sender in
-    let entry = entry_is network s c.sender_path-port-items.result.now c.loop-hop.hop (port_sender c.at-seen.result)
-    (sender_keeps network c.args.sender c.sender_path-port-items.ensures.rules c.requires.sender)
-    c.sender_path-port-items.ensures.value c.loop-hop-test.true c.at-seen.ensures.seen in
+    let entry = entry_is network s c.sender_ports-port-items.result.now c.loop-hop.hop (port_sender c.at-seen.result)
+    (sender_keeps network c.args.sender c.sender_ports-port-items.ensures.rules c.requires.sender)
+    c.sender_ports-port-items.ensures.value c.loop-hop-test.true c.at-seen.ensures.seen in
     entry.most
 
 pub with_sender-requires-clause-room : goal.with_sender-requires-clause-room
 with_sender-requires-clause-room c =
     let network = c.args.network.now in
     let s : Sender = sender_at network c.args.sender in
-    let entry = entry_is network s c.sender_path-port-items.result.now c.loop-hop.hop (port_sender c.at-seen.result)
-    (sender_keeps network c.args.sender c.sender_path-port-items.ensures.rules c.requires.sender)
-    c.sender_path-port-items.ensures.value c.loop-hop-test.true c.at-seen.ensures.seen in
-    entry_room network s (get_or c.sender_path-port-items.result.now c.loop-hop.hop 0) c.loop-hop.hop
+    let entry = entry_is network s c.sender_ports-port-items.result.now c.loop-hop.hop (port_sender c.at-seen.result)
+    (sender_keeps network c.args.sender c.sender_ports-port-items.ensures.rules c.requires.sender)
+    c.sender_ports-port-items.ensures.value c.loop-hop-test.true c.at-seen.ensures.seen in
+    entry_room network s (get_or c.sender_ports-port-items.result.now c.loop-hop.hop 0) c.loop-hop.hop
     (port_sender c.at-seen.result) c.args.shares.now c.loop-hop.shares (counted s c.args.shares.now)
     c.get-share.result entry c.loop-hop.invariant c.requires.room c.get-share.ensures
 
@@ -47,36 +47,36 @@ pub set-requires-clause-port : goal.set-requires-clause-port
 set-requires-clause-port c =
     let network = c.args.network.now in
     let s : Sender = sender_at network c.args.sender in
-    let entry = entry_is network s c.sender_path-port-items.result.now c.loop-hop.hop (port_sender c.at-seen.result)
-    (sender_keeps network c.args.sender c.sender_path-port-items.ensures.rules c.requires.sender)
-    c.sender_path-port-items.ensures.value c.loop-hop-test.true c.at-seen.ensures.seen in
+    let entry = entry_is network s c.sender_ports-port-items.result.now c.loop-hop.hop (port_sender c.at-seen.result)
+    (sender_keeps network c.args.sender c.sender_ports-port-items.ensures.rules c.requires.sender)
+    c.sender_ports-port-items.ensures.value c.loop-hop-test.true c.at-seen.ensures.seen in
     omega (arith, entry.inside, c.loop-hop.invariant.count, c.requires.count)
 
 pub set-requires-clause-class : goal.set-requires-clause-class
 set-requires-clause-class c =
     let network = c.args.network.now in
     let s : Sender = sender_at network c.args.sender in
-    let entry = entry_is network s c.sender_path-port-items.result.now c.loop-hop.hop (port_sender c.at-seen.result)
-    (sender_keeps network c.args.sender c.sender_path-port-items.ensures.rules c.requires.sender)
-    c.sender_path-port-items.ensures.value c.loop-hop-test.true c.at-seen.ensures.seen in
+    let entry = entry_is network s c.sender_ports-port-items.result.now c.loop-hop.hop (port_sender c.at-seen.result)
+    (sender_keeps network c.args.sender c.sender_ports-port-items.ensures.rules c.requires.sender)
+    c.sender_ports-port-items.ensures.value c.loop-hop-test.true c.at-seen.ensures.seen in
     entry.most
 
 pub loop-hop-preserved : goal.loop-hop-preserved
 loop-hop-preserved c =
     let network = c.args.network.now in
     let s : Sender = sender_at network c.args.sender in
-    let entry = entry_is network s c.sender_path-port-items.result.now c.loop-hop.hop (port_sender c.at-seen.result)
-    (sender_keeps network c.args.sender c.sender_path-port-items.ensures.rules c.requires.sender)
-    c.sender_path-port-items.ensures.value c.loop-hop-test.true c.at-seen.ensures.seen in
-    entry_counted network s (get_or c.sender_path-port-items.result.now c.loop-hop.hop 0) c.loop-hop.hop
+    let entry = entry_is network s c.sender_ports-port-items.result.now c.loop-hop.hop (port_sender c.at-seen.result)
+    (sender_keeps network c.args.sender c.sender_ports-port-items.ensures.rules c.requires.sender)
+    c.sender_ports-port-items.ensures.value c.loop-hop-test.true c.at-seen.ensures.seen in
+    entry_counted network s (get_or c.sender_ports-port-items.result.now c.loop-hop.hop 0) c.loop-hop.hop
     (port_sender c.at-seen.result) c.args.shares.now c.loop-hop.shares c.set.new.self c.get-share.result
     c.with_sender.result entry c.loop-hop.invariant c.get-share.ensures c.with_sender.ensures c.set.ensures
 
 pub returns : goal.returns
 returns c =
     let s : Sender = sender_at c.args.network.now c.args.sender in
-    let end : length s.path ≤ c.loop-hop.hop =
-    omega (arith, c.loop-hop-test.false, ap length c.sender_path-port-items.ensures.value) in
+    let end : length s.ports ≤ c.loop-hop.hop =
+    omega (arith, c.loop-hop-test.false, ap length c.sender_ports-port-items.ensures.value) in
     entered_all s c.args.shares.now c.loop-hop.shares
     (subst (λ (path : List ℕ). ChangesAlong (counted s c.args.shares.now) s path c.args.shares.now c.loop-hop.shares)
-    (take_all c.loop-hop.hop s.path end) c.loop-hop.invariant)
+    (take_all c.loop-hop.hop s.ports end) c.loop-hop.invariant)

@@ -6,6 +6,6 @@ use Rattle.ats_explain.proofs.explanation.Explanation.over.Given as goal
 -- those of the streams so far, 16 at most of each
 abbrev pub invariant-loop-stream : goal.invariant-loop-stream
 invariant-loop-stream l = record {
-  sum : l.over ≡ sum_by (λ (s : DeclaredStream). over_among l.self s s.path) (take l.stream-index l.self.streams);
+  sum : l.over ≡ sum_by (λ (s : DeclaredStream). over_among l.self s s.ports) (take l.stream-index l.self.streams);
   most : l.over ≤ 16 * l.stream-index;
 }

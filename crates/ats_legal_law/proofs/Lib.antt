@@ -1,0 +1,13 @@
+pub mod CrowdRuns
+pub mod InTurn
+pub mod Kept
+pub mod LaterFold
+pub mod LaterParts
+pub mod LaterRules
+pub mod LineRuns
+pub mod ListFacts
+pub mod OnceOver
+pub mod OverParts
+pub mod Repeated
+pub mod RestedFold
+pub mod Rows

@@ -1,0 +1,5 @@
+pub mod Crowd
+pub mod InTurn
+pub mod Later
+pub mod Line
+pub mod Rest

@@ -1,0 +1,34 @@
+//! Legal runs, one behind another.
+
+ghost use Rattle.ats_legal_law.specs.Crowd.{CrowdsAreLegal};
+ghost use Rattle.ats_legal_law.specs.InTurn.{IsOnceOver, KeptInTurn, KeptWhenRepeated, LegalInTurn};
+ghost use Rattle.ats_legal_law.specs.InTurn.{LegalWhenRepeated, LongWhenRepeated};
+ghost use Rattle.ats_legal_law.specs.Line.{RunsAreOfAnyLength};
+
+/// A law: where a legal run is over, and the network has rested until each bucket is full again, another legal run may
+/// begin, and the two are one legal run; a station that keeps its buckets in both keeps them in the whole. Each run is
+/// over at some time.
+pub fn runs_go_in_turn()
+    ensures legal { LegalInTurn }
+    ensures kept { KeptInTurn }
+    ensures once_over { IsOnceOver }
+{}
+
+/// A law: so a legal run may happen any number of times, and a station that keeps its buckets in it keeps them.
+pub fn runs_repeat()
+    ensures legal { LegalWhenRepeated }
+    ensures kept { KeptWhenRepeated }
+    ensures long { LongWhenRepeated }
+{}
+
+/// For each number there is a legal run of the line with exactly so many frames, by whose releases the talker keeps its
+/// bucket: a legal run may have more frames than may be run.
+pub fn runs_are_of_any_length()
+    ensures { RunsAreOfAnyLength }
+{}
+
+/// For each number there is a legal run of the line with exactly so many frames that are released at once, and wait at
+/// their station: a legal run may have any number of frames at one port.
+pub fn crowds_are_legal()
+    ensures { CrowdsAreLegal }
+{}

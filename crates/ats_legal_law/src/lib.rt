@@ -1,0 +1,4 @@
+//! Legal runs, one behind another.
+#![tactic(auto)]
+
+pub mod laws;
