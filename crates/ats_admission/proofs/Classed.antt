@@ -20,7 +20,7 @@ abbrev name : DeclaredStream → List ℕ
 name s = s.name
 
 abbrev pub path : DeclaredStream → List ℕ
-path s = s.path
+path s = s.ports
 
 -- a network with other streams
 abbrev pub over : DeclaredNetwork → List DeclaredStream → DeclaredNetwork

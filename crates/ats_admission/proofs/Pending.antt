@@ -44,8 +44,8 @@ entered_waits network stream kept is =
       last = sym (length-append network.streams (stream ∷ []));
       free = ap reason_of less ∙ is.certified.free;
       beside = subst (λ (t : DeclaredNetwork).
-          IsKeptBeside t (stream_at (with_stream network stream) (length network.streams)).path kept) (sym less)
-          (all_beside network (stream_at (with_stream network stream) (length network.streams)).path kept is.kept);
+          IsKeptBeside t (stream_at (with_stream network stream) (length network.streams)).ports kept) (sym less)
+          (all_beside network (stream_at (with_stream network stream) (length network.streams)).ports kept is.kept);
     }
 
 -- so it does as it is read
@@ -70,9 +70,9 @@ classed_waits network n class kept is =
     record {
       last = is.last ∙ sym (length-set network.streams n (with_class old class));
       free = ap reason_of less ∙ is.free;
-      beside = subst (λ (t : DeclaredNetwork). IsKeptBeside t (stream_at (with_class_at network n class) n).path kept)
+      beside = subst (λ (t : DeclaredNetwork). IsKeptBeside t (stream_at (with_class_at network n class) n).ports kept)
           (sym less)
-          (subst (λ (s : DeclaredStream). IsKeptBeside (without_at network n) s.path kept) (sym now) is.beside);
+          (subst (λ (s : DeclaredStream). IsKeptBeside (without_at network n) s.ports kept) (sym now) is.beside);
     }
 
 pub set_waits : (n class : ℕ) (between new : DeclaredNetwork) (kept : KeptState) → IsPending between n kept
@@ -82,7 +82,7 @@ set_waits n class between new kept is set_is =
 
 -- where the others are the same, a stream of the same path waits
 pub still_waits : (n : ℕ) (network : DeclaredNetwork) (old new : KeptState) → IsPending network n old
-    → IsKeptBeside (without_at network n) (stream_at network n).path new → IsPending network n new
+    → IsKeptBeside (without_at network n) (stream_at network n).ports new → IsPending network n new
 still_waits n network old new is beside = record { last = is.last; free = is.free; beside = beside }
 
 -- the number of a name is that of a stream
@@ -106,9 +106,9 @@ pub was_kept : (network new : DeclaredNetwork) (name : List ℕ) (n : ℕ) (x : 
     → new ≡ without_at network n → WasKept new n x kept
 was_kept network new name n x kept is found stream without =
     let within : n < length network.streams = named_within network name n found in
-    let beside : AreLeastBeside (without_at network n) (stream_at network n).path kept.bounds =
+    let beside : AreLeastBeside (without_at network n) (stream_at network n).ports kept.bounds =
     (bounds_stay_beside network (without_at network n) (stream_at network n) kept.bounds
-    (less_by network n within)).left (all_beside network (stream_at network n).path kept is.kept).bounds in
+    (less_by network n within)).left (all_beside network (stream_at network n).ports kept is.kept).bounds in
     record {
       keeps = record {
         old = network;
@@ -118,8 +118,8 @@ was_kept network new name n x kept is found stream without =
         without = without;
         keeps = is.kept.keeps;
       };
-      bounds = subst (λ (t : DeclaredNetwork). AreLeastBeside t x.path kept.bounds) (sym without)
-          (subst (λ (s : DeclaredStream). AreLeastBeside (without_at network n) s.path kept.bounds) (sym stream)
+      bounds = subst (λ (t : DeclaredNetwork). AreLeastBeside t x.ports kept.bounds) (sym without)
+          (subst (λ (s : DeclaredStream). AreLeastBeside (without_at network n) s.ports kept.bounds) (sym stream)
           beside);
     }
 

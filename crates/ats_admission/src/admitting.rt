@@ -46,7 +46,7 @@ pub(crate) fn admit_stream(
     }
 }
 
-/// Adds a stream as the last one with the lowest class at each port of its path for which a certificate holds. That
+/// Adds a stream as the last one with the lowest class at each of its ports for which a certificate holds. That
 /// class, and the sum of the stream's least bounds.
 ///
 /// # Errors

@@ -48,7 +48,7 @@ pub(crate) fn leave(network: &mut Network, kept: &mut Kept, number: u32, name: &
     ensures session { IsSession network.new kept.new }
 {
     if let Some(stream) = network.take_stream(name) {
-        kept.renew(network, stream.path());
+        kept.renew(network, stream.ports());
     }
 }
 

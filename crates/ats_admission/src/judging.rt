@@ -14,7 +14,7 @@ use ats_num::Failure;
 use ats_requests::Denied;
 use ats_tally::Reason;
 
-/// Gives the stream with this number, at each port of its path, the first of the classes 1 to 7 with which no reason
+/// Gives the stream with this number, at each of its ports, the first of the classes 1 to 7 with which no reason
 /// comes. The class, and the sum of the stream's least bounds.
 ///
 /// # Errors

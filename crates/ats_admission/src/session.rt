@@ -29,7 +29,7 @@ use std::alloc::{AllocError, Global};
 use std::marker::Model;
 
 /// A network for which a certificate holds, that streams enter and leave so that one holds still. Contracts see the
-/// network. Beside it stands what a request needs of it, so that a request is judged along the path of its stream.
+/// network. Beside it stands what a request needs of it, so that a request is judged along the ports of its stream.
 #[derive(Drop)]
 pub struct Session {
     network: Network,
@@ -74,14 +74,15 @@ impl Session {
         &self.network
     }
 
-    /// Adds a stream, which has a valid path and declares no identity, as the last of the streams. The sum of its least
-    /// bounds, in picoseconds.
+    /// Adds a stream, which has one listener, a valid path and no identity, as the last of the streams. The sum of its
+    /// least bounds, in picoseconds.
     ///
     /// # Errors
     ///
     /// The session stays as it was. The first of these, in this order: `NameTaken` exactly where a stream or a flow has
-    /// the name; `Limit` exactly where 4096 streams are there; `Because` with the reason against the network with the
-    /// stream added last exactly where there is one; `Failure::NoMemory` where memory runs out.
+    /// the name; `Limit` exactly where 4096 streams are there, or where their ports and those of the new one are more
+    /// than 65,536; `Because` with the reason against the network with the stream added last exactly where there is
+    /// one; `Failure::NoMemory` where memory runs out.
     pub fn admit(&mut self, stream: Stream) -> Result<u128, Failure<Denied>>
         requires { MayEnter self.old.topology stream }
         ensures answer { Gives result (admit self.old stream) }
@@ -91,8 +92,8 @@ impl Session {
         admit_stream(&mut self.network, &mut self.kept, stream)
     }
 
-    /// Adds a stream, which has a valid path and declares no identity, as the last of the streams, and gives it the
-    /// first of the classes 1 to 7 at each port of its path with which it is admitted, whichever classes it has. That
+    /// Adds a stream, which has one listener, a valid path and no identity, as the last of the streams, and gives it
+    /// the first of the classes 1 to 7 at each of its ports with which it is admitted, whichever classes it has. That
     /// class, and the sum of its least bounds, in picoseconds.
     ///
     /// # Errors
@@ -127,8 +128,8 @@ impl Session {
         }
     }
 
-    /// Answers a request, whose stream, where it has one, has a valid path and declares no identity. `AllocError` where
-    /// memory runs out; the session then stays as it was.
+    /// Answers a request, whose stream, where it has one, has one listener, a valid path and no identity. `AllocError`
+    /// where memory runs out; the session then stays as it was.
     pub fn ask(&mut self, request: Request) -> Result<Answer, AllocError>
         requires { MayAsk self.old.topology request }
         ensures answer { IfOk result (λ given. given ≡ answer self.old request) }
@@ -185,7 +186,7 @@ impl Session {
     }
 
     /// The certificate of the network with the least waits, which holds. It takes time and memory linear in the number
-    /// of ports and the sum of the paths' lengths. `AllocError` where there is no memory for it.
+    /// of ports and the number of the streams' ports. `AllocError` where there is no memory for it.
     pub fn certificate(&self, alloc: Global) -> Result<Certificate, AllocError>
         ensures value { IfOk result (λ certificate. certificate ≡ least_certificate self.now) }
         ensures holds { OnOk result (Holds self.now (least_certificate self.now)) }

@@ -1,4 +1,4 @@
--- Where there was no reason, the first that a stream more brings is the first along its path.
+-- Where there was no reason, the first that a stream more brings is the first along its ports.
 use Rattle.std.proofs.Common.{◌≡◌, ℕ, ◌<◌, ◌≤◌, Bool, true, false, cond, List, [], ◌∷◌, ◌++◌, length, map, filter}
 use Rattle.std.proofs.Common.{get_or}
 use Rattle.std.proofs.Common.{Option, None, refl, sym, ap, ◌∙◌, eqb, arith}
@@ -9,7 +9,9 @@ use Rattle.std.proofs.lemmas.Bool.{true≢false, eq-eqb}
 use Rattle.std.proofs.lemmas.List.Elements.{All-cons, All-append, All-head, All-tail}
 use Rattle.ats_facts.proofs.Lists.{all_left, all_right}
 use Rattle.ats_facts.proofs.Options.{option_or-none}
+use Rattle.ats_streams.specs.Path.{IsPath}
 use Rattle.ats_streams.specs.Stream.{DeclaredStream, IsStream}
+use Rattle.ats_streams.proofs.OneListener.{alone_path}
 use Rattle.ats_network.specs.Network.{DeclaredNetwork, IsNetwork}
 use Rattle.ats_network.specs.Residence.{residence_after}
 use Rattle.ats_certificate.specs.PortSums.{PortSums, is_used}
@@ -57,7 +59,7 @@ first_mapped given f [] = refl
 first_mapped {A} {B} {C} given f (x ∷ xs) =
     ap (λ (o : Option C). option_or (given (f x)) o) (first_mapped given f xs)
 
--- a path of some ports has a port of its own
+-- some ports have a port of their own
 own_port : (path : List ℕ) → 1 ≤ length path → list_any (λ port. list_any (λ q. eqb q port) path) path ≡ true
 own_port [] some = absurd (omega arith)
 own_port (port ∷ path) some =
@@ -84,8 +86,8 @@ module _ (p : Parts) (x : DeclaredStream) (is : IsNetwork (more p x)) (none : re
       (option_or-none (first_some (overstay (less p)) (least_certificate (less p))) _ first.1).1
 
   loads_along : first_some (overload (more p x)) (places_of (more p x))
-      ≡ first_found (overload (more p x)) (more p x) x.path
-  loads_along = first_among (overload (more p x)) (at_port_of x.path) (places_of (more p x)) (λ k d h off. (
+      ≡ first_found (overload (more p x)) (more p x) x.ports
+  loads_along = first_among (overload (more p x)) (at_port_of x.ports) (places_of (more p x)) (λ k d h off. (
       let at = get_or (places_of (more p x)) k d in
       let s : StaysSame (more p x) (less p) (at.0, at.1) = stays_same p x at.0 at.1 off in
       let used : is_used (less p) at.0 at.1 ≡ true = s.used ∙ places_used (more p x) k d h in
@@ -95,10 +97,10 @@ module _ (p : Parts) (x : DeclaredStream) (is : IsNetwork (more p x)) (none : re
       overload-none (more p x) at.0 at.1 (omega (arith, fits, higher, equal))))
 
   stays_along : first_some (overstay (more p x)) (least_certificate (more p x))
-      ≡ first_found (overstay_at (more p x)) (more p x) x.path
+      ≡ first_found (overstay_at (more p x)) (more p x) x.ports
   stays_along =
       first_mapped (overstay (more p x)) (least_row (more p x)) (places_of (more p x))
-      ∙ first_among (overstay_at (more p x)) (at_port_of x.path) (places_of (more p x))
+      ∙ first_among (overstay_at (more p x)) (at_port_of x.ports) (places_of (more p x))
       (λ k d h off. (
       let at = get_or (places_of (more p x)) k d in
       let s : StaysSame (more p x) (less p) (at.0, at.1) = stays_same p x at.0 at.1 off in
@@ -116,9 +118,11 @@ module _ (p : Parts) (x : DeclaredStream) (is : IsNetwork (more p x)) (none : re
       let rows : List Row = least_certificate (more p x) in
       let Quiet : DeclaredStream → Type 0 = λ (s : DeclaredStream). shares x s ≡ false → late rows s ≡ None in
       let rules : IsStream x = all_one IsStream p.front x p.back is.streams in
+      let path : IsPath x.ports = alone_path x.ports x.branches
+      (all_one (λ (s : DeclaredStream). s.branches ≡ []) p.front x p.back is.one_listener) rules.routes in
       first_among (late rows) (shares x) (more p x).streams
       (all_more Quiet p.front x p.back
-      (λ apart. absurd (true≢false (sym (own_port x.path rules.path.least) ∙ apart)))
+      (λ apart. absurd (true≢false (sym (own_port x.ports path.least) ∙ apart)))
       (λ k d h apart. (
       let s : DeclaredStream = get_or (less p).streams k d in
       let time : IsInTime (least_certificate (less p)) s =
@@ -130,8 +134,8 @@ module _ (p : Parts) (x : DeclaredStream) (is : IsNetwork (more p x)) (none : re
   reason_is =
       let stay : Option Reason = first_some (overstay (more p x)) (least_certificate (more p x)) in
       let time : Option Reason = first_some (late (least_certificate (more p x))) (more p x).streams in
-      let load : Option Reason = first_found (overload (more p x)) (more p x) x.path in
-      let row : Option Reason = first_found (overstay_at (more p x)) (more p x) x.path in
+      let load : Option Reason = first_found (overload (more p x)) (more p x) x.ports in
+      let row : Option Reason = first_found (overstay_at (more p x)) (more p x) x.ports in
       ap (λ (o : Option Reason). option_or o (option_or stay time)) loads_along
       ∙ ap (λ (o : Option Reason). option_or load (option_or o time)) stays_along
       ∙ ap (λ (o : Option Reason). option_or load (option_or row o)) times_along
@@ -141,10 +145,10 @@ reason_is_along old new x is =
     by_parts (λ (o n : DeclaredNetwork). IsNetwork o → reason_of n ≡ None → reason_of o ≡ reason_along o x) old new x
     is (λ rules none. reason_is (parts_of old new x is) x rules none)
 
--- the ports of one stream's path are ports of the network
+-- the ports of one stream are ports of the network
 path_inside : (p : Parts) (x : DeclaredStream) → IsNetwork (more p x)
-    → All (λ port. port < length p.topology.ports) x.path
-path_inside p x is = all_one (λ (s : DeclaredStream). All (λ port. port < length p.topology.ports) s.path) p.front x
+    → All (λ port. port < length p.topology.ports) x.ports
+path_inside p x is = all_one (λ (s : DeclaredStream). All (λ port. port < length p.topology.ports) s.ports) p.front x
     p.back (paths_inside (more p x) is)
 
 pub reason_is_judged : ReasonIsJudged
@@ -157,10 +161,10 @@ reason_is_judged old new x is =
     judged p rules none =
         let network : DeclaredNetwork = more p x in
         let inside = path_inside p x rules in
-        let stays : Option Reason = first_found (overstay_at network) network x.path in
-        let loads : Option Reason = found_there (lowest_found (overload network) network x.path) in
+        let stays : Option Reason = first_found (overstay_at network) network x.ports in
+        let loads : Option Reason = found_there (lowest_found (overload network) network x.ports) in
         reason_is p x rules none
         ∙ ap (λ (o : Option Reason). option_or o (option_or stays (late_near network x)))
-        (path_finds_first (overload network) network x.path inside)
+        (path_finds_first (overload network) network x.ports inside)
         ∙ ap (λ (o : Option Reason). option_or loads (option_or o (late_near network x)))
-        (path_finds_first (overstay_at network) network x.path inside)
+        (path_finds_first (overstay_at network) network x.ports inside)

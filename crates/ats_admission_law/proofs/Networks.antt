@@ -1,14 +1,15 @@
 -- A network less one stream is a network.
-use Rattle.std.proofs.Common.{◌≡◌, ◌≢◌, ℕ, List, ◌∷◌, ◌++◌, map, sym, ap, ◌∙◌, subst, arith}
+use Rattle.std.proofs.Common.{◌≡◌, ◌≢◌, ℕ, List, [], ◌∷◌, ◌++◌, map, length, sym, ap, ◌∙◌, subst, arith}
 use Rattle.std.proofs.Common.{append_assoc, length-append}
 use Rattle.std.specs.List.{All}
 use Rattle.std.proofs.lemmas.List.{map-append}
+use Rattle.std.proofs.lemmas.List.Sums.{sum_by-append, sum_by-cons}
 use Rattle.ats_topology.specs.Node.{AreApart}
 use Rattle.ats_topology.specs.Topology.{DeclaredTopology}
 use Rattle.ats_streams.specs.Stream.{DeclaredStream, IsStream}
 use Rattle.ats_streams.specs.Flow.{DeclaredFlow}
 use Rattle.ats_network.specs.Sender.{Sender, stream_sender, flow_sender}
-use Rattle.ats_network.specs.Path.{IsValidPath}
+use Rattle.ats_network.specs.Path.{IsTree}
 use Rattle.ats_network.specs.Network.{DeclaredNetwork, declared_network, IsNetwork, Share, senders_of, names_of}
 use Rattle.ats_network.proofs.NameLemmas.{pairs_from_apart, apart_from_pairs}
 use Rattle.ats_admission_law.specs.Less.{IsLessBy}
@@ -95,13 +96,24 @@ less_is p x is = record {
   topology = is.topology;
   streams = all_less IsStream p.front x p.back is.streams;
   flows = is.flows;
-  paths = all_senders_less (λ (s : Sender). IsValidPath p.topology s.path) p x is.paths;
+  trees = all_senders_less (λ (s : Sender). IsTree p.topology s.ports s.branches) p x is.trees;
   names = names_less p x is.names;
   identities = pairs_less (λ (s t : DeclaredStream). (identity : ℕ × ℕ) → ¬ Share s t identity) p.front x p.back
       is.identities;
   few_streams = omega (arith, is.few_streams, length-append p.front (x ∷ p.back), length-append p.front p.back);
   few_flows = is.few_flows;
+  few_ports = omega (
+    arith,
+    is.few_ports,
+    sum_by-append many p.front (x ∷ p.back),
+    sum_by-cons many x p.back,
+    sum_by-append many p.front p.back,
+  );
+  one_listener = all_less (λ (s : DeclaredStream). s.branches ≡ []) p.front x p.back is.one_listener;
 }
+  where
+    many : DeclaredStream → ℕ
+    many s = length s.ports
 
 pub less_is_network : (old new : DeclaredNetwork) (x : DeclaredStream) → IsLessBy old new x → IsNetwork old
     → IsNetwork new

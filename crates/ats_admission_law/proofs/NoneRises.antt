@@ -93,7 +93,7 @@ module _ (p : Parts) (x : DeclaredStream) (is : IsNetwork (more p x)) where
   sum_falls none s =
       let sender : Sender = stream_sender s in
       sum_by-le-sum_by (bound_of_hop (least_certificate (less p)) sender)
-      (bound_of_hop (least_certificate (more p x)) sender) s.path
+      (bound_of_hop (least_certificate (more p x)) sender) s.ports
       (λ port. bound_falls none port (class_at sender port))
 
   -- the searches over the others find nothing

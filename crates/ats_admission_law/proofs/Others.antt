@@ -83,10 +83,10 @@ module _ (p : Parts) (x : DeclaredStream) where
       → bound_along (least_certificate (less p)) s ≡ bound_along (least_certificate (more p x)) s
   sum_stays is s apart =
       let sender : Sender = stream_sender s in
-      let off = none_pass (λ port. uses port (stream_sender x)) s.path apart in
+      let off = none_pass (λ port. uses port (stream_sender x)) s.ports apart in
       sum_same (bound_of_hop (least_certificate (less p)) sender) (bound_of_hop (least_certificate (more p x)) sender)
-      s.path
-      (λ k d h. bound_same is (get_or s.path k d) (class_at sender (get_or s.path k d)) (off k d h))
+      s.ports
+      (λ k d h. bound_same is (get_or s.ports k d) (class_at sender (get_or s.ports k d)) (off k d h))
 
 -- the laws
 pub other_ports_stay : OtherPortsStay

@@ -68,7 +68,7 @@ OtherSumsStay =
     → bound_along (least_certificate new) s ≡ bound_along (least_certificate old) s
 
 -- where a network has no reason against it, the reason against the network with one stream more is the first along that
--- stream's path
+-- stream's ports
 abbrev pub ReasonIsAlong : Type 0
 ReasonIsAlong =
     (old new : DeclaredNetwork) (x : DeclaredStream) → IsLessBy old new x → IsNetwork old → reason_of new ≡ None
@@ -82,7 +82,7 @@ PathFindsFirst =
     → All (λ port. port < length network.topology.ports) path
     → first_found given network path ≡ found_there (lowest_found given network path)
 
--- so the reason against a network with one stream more is found port by port along that stream's path
+-- so the reason against a network with one stream more is found port by port along that stream's ports
 abbrev pub ReasonIsJudged : Type 0
 ReasonIsJudged =
     (old new : DeclaredNetwork) (x : DeclaredStream) → IsLessBy old new x → IsNetwork old → reason_of new ≡ None

@@ -14,9 +14,9 @@ use Rattle.ats_admission_law.specs.Lowest.{first_found, lower_of, lowest_found}
 
 -- both streams use some port
 abbrev pub shares : DeclaredStream → DeclaredStream → Bool
-shares x s = list_any (λ port. uses port (stream_sender x)) s.path
+shares x s = list_any (λ port. uses port (stream_sender x)) s.ports
 
--- the streams that use a port of a stream's path, itself among them, in their order
+-- the streams that use one of a stream's ports, itself among them, in their order
 abbrev pub streams_on : DeclaredNetwork → DeclaredStream → List DeclaredStream
 streams_on network x = filter (shares x) network.streams
 
@@ -24,28 +24,28 @@ streams_on network x = filter (shares x) network.streams
 abbrev pub overstay_at : DeclaredNetwork → ℕ × ℕ → Option Reason
 overstay_at network place = overstay network (least_row network place)
 
--- the first stream that is late by the least bounds, of those that use a port of a stream's path
+-- the first stream that is late by the least bounds, of those that use one of a stream's ports
 abbrev pub late_near : DeclaredNetwork → DeclaredStream → Option Reason
 late_near network x = first_some (late (least_certificate network)) (streams_on network x)
 
--- the first reason that is found along a stream's path: an overload at one of its ports; where there is none, a need of
+-- the first reason that is found along a stream's ports: an overload at one of them; where there is none, a need of
 -- residence there; where there is none either, a stream that uses one of its ports and is late
 abbrev pub reason_along : DeclaredNetwork → DeclaredStream → Option Reason
 reason_along network x =
-    option_or (first_found (overload network) network x.path)
-    (option_or (first_found (overstay_at network) network x.path) (late_near network x))
+    option_or (first_found (overload network) network x.ports)
+    (option_or (first_found (overstay_at network) network x.ports) (late_near network x))
 
 -- what is found at a port
 abbrev pub found_there : Option (ℕ × Reason) → Option Reason
 found_there found = option_map (λ best. best.1) found
 
--- the same reason, where the ports are searched in the order of the path
+-- the same reason, where the ports are searched in the stream's own order
 abbrev pub reason_judged : DeclaredNetwork → DeclaredStream → Option Reason
 reason_judged network x =
-    option_or (found_there (lowest_found (overload network) network x.path))
-    (option_or (found_there (lowest_found (overstay_at network) network x.path)) (late_near network x))
+    option_or (found_there (lowest_found (overload network) network x.ports))
+    (option_or (found_there (lowest_found (overstay_at network) network x.ports)) (late_near network x))
 
--- the number is that of a stream that uses a port of a stream's path
+-- the number is that of a stream that uses one of a stream's ports
 pub record IsNear (network : DeclaredNetwork) (x : DeclaredStream) (n : ℕ) : Type 0 where
   pub within : n < length network.streams
   pub shares : IsTrue (shares x (slice_index_or network.streams n no_stream))

@@ -15,7 +15,7 @@ pub fn nothing_rises()
     ensures { NothingRises }
 {}
 
-/// A law: nor does the sum of the least bounds along any path, where there was no reason against the network.
+/// A law: nor does the sum of the least bounds along any stream, where there was no reason against the network.
 pub fn no_sum_rises()
     ensures { NoSumRises }
 {}
@@ -41,7 +41,7 @@ pub fn other_sums_stay()
 {}
 
 /// A law: where there is no reason against a network, the reason against it with one stream more, wherever that stands,
-/// is the first along that stream's path: a load or a need of residence at one of its ports, or the sum of a stream
+/// is the first along that stream's ports: a load or a need of residence at one of them, or the sum of a stream
 /// that uses one of them.
 pub fn reason_is_along()
     ensures { ReasonIsAlong }

@@ -68,14 +68,14 @@ module _ (old new : DeclaredNetwork) (x : DeclaredStream) (is : IsLessBy old new
 
   -- and without one that leaves
   pub shares_left : AreSharesOf old before
-      → ChangesAlong (λ port class. Some (share_of class (senders_at port (senders_of new)))) (stream_sender x) x.path
+      → ChangesAlong (λ port class. Some (share_of class (senders_at port (senders_of new)))) (stream_sender x) x.ports
       before now → AreSharesOf new now
   shares_left = by_parts Goes old new x is (λ are changes.
       subst (λ (ss : List Sender). AreSharesAt ports ss now) (sym (senders_less parts))
       (left_are ports (map stream_sender parts.front) (stream_sender x) (behind parts) before now
       (subst (λ (ss : List Sender). AreSharesAt ports ss before) (senders_more parts x) are)
       (subst (λ (ss : List Sender). ChangesAlong (λ port class. Some (share_of class (senders_at port ss)))
-      (stream_sender x) x.path before now) (senders_less parts) changes)))
+      (stream_sender x) x.ports before now) (senders_less parts) changes)))
     where
       parts : Parts
       parts = parts_of old new x is
@@ -85,8 +85,8 @@ module _ (old new : DeclaredNetwork) (x : DeclaredStream) (is : IsLessBy old new
 
       Goes : DeclaredNetwork → DeclaredNetwork → Type 0
       Goes o n = AreSharesOf o before
-          → ChangesAlong (λ port class. Some (share_of class (senders_at port (senders_of n)))) (stream_sender x) x.path
-          before now → AreSharesOf n now
+          → ChangesAlong (λ port class. Some (share_of class (senders_at port (senders_of n)))) (stream_sender x)
+          x.ports before now → AreSharesOf n now
 
   -- what the share of a class at a port of the path of one that leaves is made of
   pub share_left : AreSharesOf old before → (port class : ℕ) → port < length old.topology.ports → class ≤ 7
@@ -175,12 +175,12 @@ on_path (p ∷ path) (suc hop) within =
 pub entry_used : (network : DeclaredNetwork) (s : Sender) (port hop : ℕ) (seen : PortSender)
     → IsEntry network s port hop seen → uses port s ≡ true
 entry_used network s port hop seen entry =
-    ap (λ (p : ℕ). uses p s) entry.at ∙ on_path s.path hop entry.within
+    ap (λ (p : ℕ). uses p s) entry.at ∙ on_path s.ports hop entry.within
 
 -- a stream of a network at a hop of its path
 pub entering : (network : DeclaredNetwork) (n hop : ℕ) (listed : List ℕ) (seen : PortSender) → IsNetwork network
-    → n < length network.streams → hop < length (stream_at network n).path → listed ≡ (sender_at network n).path
-    → seen ≡ seen_at (get_or (sender_at network n).path hop 0) (sender_at network n)
+    → n < length network.streams → hop < length (stream_at network n).ports → listed ≡ (sender_at network n).ports
+    → seen ≡ seen_at (get_or (sender_at network n).ports hop 0) (sender_at network n)
     → IsEntry network (stream_sender (stream_at network n)) (get_or listed hop 0) hop seen
 entering network n hop listed seen rules within inside path_is is =
     let same = stream_is network n within in
@@ -191,7 +191,7 @@ entering network n hop listed seen rules within inside path_is is =
       length-append (map stream_sender network.streams) (map flow_sender network.flows),
       length-map network.streams stream_sender,
     ) in
-    let path_same : listed ≡ (stream_at network n).path = path_is ∙ ap (λ (s : Sender). s.path) same in
+    let path_same : listed ≡ (stream_at network n).ports = path_is ∙ ap (λ (s : Sender). s.ports) same in
     subst (λ (s : Sender). IsEntry network s (get_or listed hop 0) hop seen) same
     (entry_is network (sender_at network n) listed hop seen (sender_keeps network n rules many) path_is
     (subst (λ (l : List ℕ). hop < length l) (sym path_same) inside) is)

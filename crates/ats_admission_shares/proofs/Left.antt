@@ -34,8 +34,8 @@ module _ (network : DeclaredNetwork) (x : DeclaredStream) (shares : Table Share)
       parts : Parts
       parts = parts_of b.old network x b.is_less
 
-  pub leaving_entry : (listed : List ℕ) (hop : ℕ) (seen : PortSender) → listed ≡ x.path → hop < length listed
-      → seen ≡ seen_at (get_or x.path hop 0) (stream_sender x)
+  pub leaving_entry : (listed : List ℕ) (hop : ℕ) (seen : PortSender) → listed ≡ x.ports → hop < length listed
+      → seen ≡ seen_at (get_or x.ports hop 0) (stream_sender x)
       → IsEntry b.old (stream_sender x) (get_or listed hop 0) hop seen
   leaving_entry listed hop seen same within is =
       entry_is b.old (stream_sender x) listed hop seen left_keeps same within is
@@ -57,7 +57,7 @@ module _ (network : DeclaredNetwork) (x : DeclaredStream) (shares : Table Share)
   -- until its hop, its share is that without it and it
   pub leaving_share : (given : ℕ → ℕ → Option Share) (now : Table Share) (port hop : ℕ) (seen : PortSender)
       (share : Share) → IsEntry b.old (stream_sender x) port hop seen
-      → ChangesAlong given (stream_sender x) (take hop x.path) shares now → value_at now port seen.class ≡ Some share
+      → ChangesAlong given (stream_sender x) (take hop x.ports) shares now → value_at now port seen.class ≡ Some share
       → share ≡ share_with seen (share_of seen.class (senders_at port (senders_of network)))
   leaving_share given now port hop seen share entry before there =
       same_Some share (share_with seen (share_of seen.class (senders_at port (senders_of network)))) (sym there

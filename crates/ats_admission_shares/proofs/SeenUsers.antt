@@ -19,14 +19,14 @@ use Rattle.ats_admission_shares.proofs.Entered.{stream_is}
 -- the streams at a port are those with the numbers of its users
 pub seen_users : (port : ℕ) (streams : List DeclaredStream) → senders_at port (map stream_sender streams)
     ≡ map (λ n. seen_at port (stream_sender (get_or streams n no_stream)))
-    (users_of (map (λ (s : DeclaredStream). s.path) streams) port)
+    (users_of (map (λ (s : DeclaredStream). s.ports) streams) port)
 seen_users port [] = refl
 seen_users port (s ∷ streams) =
-    by (has_port port s.path) (seen_users port streams
+    by (has_port port s.ports) (seen_users port streams
     ∙ sym (ap (map seen) (users_from-later 0 port paths) ∙ mapped (λ m. suc m) seen (users_of paths port)))
   where
     paths : List (List ℕ)
-    paths = map (λ (t : DeclaredStream). t.path) streams
+    paths = map (λ (t : DeclaredStream). t.ports) streams
 
     seen : ℕ → PortSender
     seen n = seen_at port (stream_sender (get_or (s ∷ streams) n no_stream))
@@ -49,10 +49,10 @@ many_users network port =
 -- what is so of a user of a port, with its number among the streams and its hop
 pub record IsUserOf (network : DeclaredNetwork) (port place user hop : ℕ) : Type 0 where
   pub sender : user < length (senders_of network)
-  pub within : hop < length (sender_at network user).path
+  pub within : hop < length (sender_at network user).ports
   pub few : hop < 16
   pub seen : (d : PortSender) → get_or (senders_at port (map stream_sender network.streams)) place d
-      ≡ seen_at (get_or (sender_at network user).path hop 0) (sender_at network user)
+      ≡ seen_at (get_or (sender_at network user).ports hop 0) (sender_at network user)
 
 pub user_is : (network : DeclaredNetwork) (port place user hop : ℕ) → IsNetwork network
     → place < length (users_of (stream_paths network) port)
@@ -65,7 +65,7 @@ user_is network port place user hop rules inside same h =
     let below : n < length network.streams = omega (
       arith,
       users_within port (stream_paths network) place 0 inside,
-      length-map network.streams (λ (s : DeclaredStream). s.path),
+      length-map network.streams (λ (s : DeclaredStream). s.ports),
     ) in
     let one : sender_at network user ≡ stream_sender (stream_at network n) =
     ap (sender_at network) same ∙ stream_is network n below in
@@ -77,11 +77,11 @@ user_is network port place user hop rules inside same h =
       length-map network.streams stream_sender,
     ) in
     let keeps : IsSender network.topology (sender_at network user) = sender_keeps network user rules sender in
-    let path : get_or (stream_paths network) n [] ≡ (sender_at network user).path =
-    get_or-map (λ (s : DeclaredStream). s.path) network.streams n no_stream [] below
-    ∙ sym (ap (λ (s : Sender). s.path) one) in
-    let within : hop < length (sender_at network user).path = subst (λ (p : List ℕ). hop < length p) path h.within in
-    let stands : get_or (sender_at network user).path hop 0 ≡ port =
+    let path : get_or (stream_paths network) n [] ≡ (sender_at network user).ports =
+    get_or-map (λ (s : DeclaredStream). s.ports) network.streams n no_stream [] below
+    ∙ sym (ap (λ (s : Sender). s.ports) one) in
+    let within : hop < length (sender_at network user).ports = subst (λ (p : List ℕ). hop < length p) path h.within in
+    let stands : get_or (sender_at network user).ports hop 0 ≡ port =
     sym (ap (λ (p : List ℕ). get_or p hop 0) path) ∙ h.stands in
     record {
       sender = sender;

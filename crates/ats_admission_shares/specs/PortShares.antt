@@ -15,9 +15,9 @@ stream_at network n = slice_index_or network.streams n no_stream
 abbrev pub without_at : DeclaredNetwork → ℕ → DeclaredNetwork
 without_at network n = record network { streams = remove network.streams n }
 
--- the paths of a network's streams
+-- the ports of a network's streams, stream by stream
 abbrev pub stream_paths : DeclaredNetwork → List (List ℕ)
-stream_paths network = map (λ (s : DeclaredStream). s.path) network.streams
+stream_paths network = map (λ (s : DeclaredStream). s.ports) network.streams
 
 -- the shares are those of a network that is this one with a stream more
 pub record AreSharesBefore (network : DeclaredNetwork) (x : DeclaredStream) (shares : Table Share) : Type 0 where

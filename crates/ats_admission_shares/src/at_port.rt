@@ -12,7 +12,7 @@ use ats_class_table::{CLASSES, PortClassTable};
 use ats_network::Network;
 use ats_tally::{SeenSender, Share, Tally, tallies_of};
 
-/// What the senders make of each class from 1 to 7 at the port at a hop of a stream's path, at the class, where that
+/// What the senders make of each class from 1 to 7 at the port at a hop of a stream, at the class, where that
 /// stream is not counted in the shares.
 pub(crate) fn tallies_entered(
     shares: &PortClassTable<Share>,
@@ -21,14 +21,14 @@ pub(crate) fn tallies_entered(
     hop: u32,
 ) -> [Tally; CLASSES]
     requires stream { stream < length network.now.streams }
-    requires hop { hop < length (stream_at network.now stream).path }
+    requires hop { hop < length (stream_at network.now stream).ports }
     requires shares { AreSharesOf (without_at network.now stream) shares.now }
     ensures { AreClassTallies
-        (senders_at (slice_index_or (stream_at network.now stream).path hop 0) (senders_of network.now)) result }
+        (senders_at (slice_index_or (stream_at network.now stream).ports hop 0) (senders_of network.now)) result }
 {
     let sender = SeenSender::at(network, stream, hop);
     let class = sender.class as usize;
-    let mut own = eight_at(shares, network.sender_path(stream)[hop as usize]);
+    let mut own = eight_at(shares, network.sender_ports(stream)[hop as usize]);
     own[class] = own[class].with_sender(&sender);
     tallies_of(&own)
 }

@@ -17,7 +17,7 @@ use ats_network::Network;
 use ats_streams::Stream;
 use ats_tally::{SeenSender, Share};
 
-/// Takes a stream that has left a network out of the share of its class at each port of its path.
+/// Takes a stream that has left a network out of the share of its class at each of its ports.
 pub(crate) fn leave_along(
     shares: &mut PortClassTable<Share>,
     network: &Network,
@@ -28,7 +28,7 @@ pub(crate) fn leave_along(
     requires before { AreSharesBefore network.now stream.now shares.old }
     ensures { AreSharesOf network.now shares.new }
 {
-    for (hop, port) in stream.path().iter().enumerate() {
+    for (hop, port) in stream.ports().iter().enumerate() {
         let seen = seen_stream(stream, hop);
         let share = shares.get(*port, seen.class);
         let left = share_left(share, network, streams, *port, &seen);
@@ -65,11 +65,11 @@ fn share_left(
     }
 }
 
-// A stream as the port at this hop of its path sees it.
+// A stream as the port at this hop sees it.
 fn seen_stream(stream: &Stream, hop: usize) -> SeenSender
-    requires hop { hop < length stream.now.path }
-    requires apart { AllPairs (λ p q. p ≢ q) stream.now.path }
-    ensures seen { port_sender result ≡ seen_at (slice_index_or stream.now.path hop 0) (stream_sender stream.now) }
+    requires hop { hop < length stream.now.ports }
+    requires apart { AllPairs (λ p q. p ≢ q) stream.now.ports }
+    ensures seen { port_sender result ≡ seen_at (slice_index_or stream.now.ports hop 0) (stream_sender stream.now) }
     ensures limits { KeepsLimits result }
 {
     SeenSender::of_stream(stream, stream.classes()[hop])

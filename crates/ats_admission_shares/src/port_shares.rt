@@ -35,8 +35,8 @@ impl Model for PortShares {
 }
 
 impl PortShares {
-    /// The shares of a network. It takes time and memory linear in the number of ports and the sum of the paths'
-    /// lengths. `AllocError` where memory runs out.
+    /// The shares of a network. It takes time and memory linear in the number of ports and the number of
+    /// the streams' ports. `AllocError` where memory runs out.
     pub fn new(alloc: Global, network: &Network) -> Result<Self, AllocError>
         ensures { IfOk result (AreSharesOf network.now) }
     {
@@ -53,14 +53,14 @@ impl PortShares {
         tallies_at(&self.shares, network, port)
     }
 
-    /// What the senders make of each class from 1 to 7 at the port at one hop of a stream's path, counted from 0, where
+    /// What the senders make of each class from 1 to 7 at the port at one hop of a stream, counted from 0, where
     /// the shares are those of the network without this stream.
     pub fn tallies_with(&self, network: &Network, stream: u32, hop: u32) -> [Tally; CLASSES]
         requires stream { stream < length network.now.streams }
-        requires hop { hop < length (stream_at network.now stream).path }
+        requires hop { hop < length (stream_at network.now stream).ports }
         requires shares { AreSharesOf (without_at network.now stream) self.now }
         ensures { AreClassTallies
-            (senders_at (slice_index_or (stream_at network.now stream).path hop 0) (senders_of network.now)) result }
+            (senders_at (slice_index_or (stream_at network.now stream).ports hop 0) (senders_of network.now)) result }
     {
         tallies_entered(&self.shares, network, stream, hop)
     }
@@ -74,10 +74,10 @@ impl PortShares {
         enter_stream(&mut self.shares, network, stream);
     }
 
-    /// Takes out a stream that has left the network; `streams` lists the users of the network's ports by the paths of
+    /// Takes out a stream that has left the network; `streams` lists the users of the network's ports by the ports of
     /// its streams since. It takes no memory.
     ///
-    /// At each port of the path only the share of the stream's class there changes. Its frames are counted anew, over
+    /// At each of its ports only the share of the stream's class there changes. Its frames are counted anew, over
     /// the users of the port, only where the stream had the longest or the shortest of them.
     pub fn leave(&mut self, network: &Network, stream: &Stream, streams: &PortUsers)
         requires users { ListsPaths (length network.now.topology.ports) (stream_paths network.now) streams.now }

@@ -14,7 +14,7 @@ use Rattle.ats_admission_state.specs.Kept.{least_bound}
 use Rattle.ats_admission_state.specs.Laws.{BoundsStayBeside}
 
 same_beside : (old new : DeclaredNetwork) (x : DeclaredStream) (port class : ℕ) → IsLessBy old new x
-    → has_port port x.path ≡ false → least_bound new port class ≡ least_bound old port class
+    → has_port port x.ports ≡ false → least_bound new port class ≡ least_bound old port class
 same_beside old new x port class is off =
     let s : StaysSame old new (port, class) = other_ports_stay old new x port class is off in
     ap (λ (b : Bool). cond b (least_row new (port, class)).bound 0) s.used

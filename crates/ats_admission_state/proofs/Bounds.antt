@@ -53,8 +53,8 @@ least_is network port class is =
 
 -- at a hop of a stream's path, whose port and class stand at the same place of the path and of the classes
 pub hop_is : (network : DeclaredNetwork) (stream : DeclaredStream) (bounds : Table ℕ) (hop port class : ℕ)
-    → IsNetwork network → IsStream stream → All (λ p. p < length network.topology.ports) stream.path
-    → AreLeast network bounds → hop < length stream.path → port ≡ get_or stream.path hop 0
+    → IsNetwork network → IsStream stream → All (λ p. p < length network.topology.ports) stream.ports
+    → AreLeast network bounds → hop < length stream.ports → port ≡ get_or stream.ports hop 0
     → class ≡ get_or stream.classes hop 0
     → value_at bounds port class ≡ Some (bound_at (least_certificate network) port class)
 hop_is network stream bounds hop port class rules is inside least within port_is class_is =
@@ -148,43 +148,43 @@ bound_at_place bounds port class most =
     ∙ ap (λ (c : ℕ). unwrap_or (value_at bounds port c) 0) class_is
 
 module _ (network : DeclaredNetwork) (stream : DeclaredStream) (bounds : Table ℕ) (rules : IsNetwork network)
-    (is : IsStream stream) (inside : All (λ p. p < length network.topology.ports) stream.path)
+    (is : IsStream stream) (inside : All (λ p. p < length network.topology.ports) stream.ports)
     (least : AreLeast network bounds) where
-  place_is : (hop : ℕ) → hop < length stream.path
-      → bound_of bounds (get_or (places_along stream.path stream.classes) hop 0)
-      ≡ bound_at (least_certificate network) (get_or stream.path hop 0) (get_or stream.classes hop 0)
+  place_is : (hop : ℕ) → hop < length stream.ports
+      → bound_of bounds (get_or (places_along stream.ports stream.classes) hop 0)
+      ≡ bound_at (least_certificate network) (get_or stream.ports hop 0) (get_or stream.classes hop 0)
   place_is hop within =
       let class : IsClass (get_or stream.classes hop 0) = is.classes hop 0 (omega (arith, is.each_port, within)) in
-      ap (bound_of bounds) (places_at stream.path stream.classes hop 0 is.each_port within)
-      ∙ bound_at_place bounds (get_or stream.path hop 0) (get_or stream.classes hop 0) class.most
+      ap (bound_of bounds) (places_at stream.ports stream.classes hop 0 is.each_port within)
+      ∙ bound_at_place bounds (get_or stream.ports hop 0) (get_or stream.classes hop 0) class.most
       ∙ ap (λ (o : Option ℕ). unwrap_or o 0)
-      (hop_is network stream bounds hop (get_or stream.path hop 0) (get_or stream.classes hop 0) rules is inside
+      (hop_is network stream bounds hop (get_or stream.ports hop 0) (get_or stream.classes hop 0) rules is inside
       least within refl refl)
 
   -- the sum along a stream's route is the sum of its bounds
-  pub route_sum : AllPairs (λ p q. p ≢ q) stream.path
+  pub route_sum : AllPairs (λ p q. p ≢ q) stream.ports
       → sum_along bounds (route_of stream) ≡ bound_along (least_certificate network) stream
   route_sum apart =
       sum_same (bound_of bounds) (bound_of_hop (least_certificate network) (stream_sender stream))
-      (places_along stream.path stream.classes) stream.path (places-length stream.path stream.classes is.each_port)
+      (places_along stream.ports stream.classes) stream.ports (places-length stream.ports stream.classes is.each_port)
       (λ hop within. place_is hop within
-      ∙ hop_bound (least_certificate network) stream hop (get_or stream.path hop 0) (get_or stream.classes hop 0) is
+      ∙ hop_bound (least_certificate network) stream hop (get_or stream.ports hop 0) (get_or stream.classes hop 0) is
       apart within refl refl)
 
   -- its places have bounds of few digits
   pub route_bounded : AreBounded bounds (route_of stream)
   route_bounded k d h =
-      let places : List ℕ = places_along stream.path stream.classes in
-      let within : k < length stream.path =
-      omega (arith, h, places-length stream.path stream.classes is.each_port) in
-      let at = places_at stream.path stream.classes k 0 is.each_port within in
+      let places : List ℕ = places_along stream.ports stream.classes in
+      let within : k < length stream.ports =
+      omega (arith, h, places-length stream.ports stream.classes is.each_port) in
+      let at = places_at stream.ports stream.classes k 0 is.each_port within in
       let class : IsClass (get_or stream.classes k 0) = is.classes k 0 (omega (arith, is.each_port, within)) in
       subst (IsBounded bounds) (get_or_default places k 0 d h) (record {
         within = omega (arith, at, least.count, inside k 0 within, class.most);
         small = omega (
           arith,
           place_is k within,
-          bound_small network (get_or stream.path k 0) (get_or stream.classes k 0) rules,
+          bound_small network (get_or stream.ports k 0) (get_or stream.classes k 0) rules,
         );
       })
 
@@ -201,14 +201,14 @@ ports_are (port ∷ path) (class ∷ classes) same all =
     ∙ ap (λ (ports : List ℕ). port ∷ ports)
     (ports_are path classes (omega arith) (All-tail IsClass class classes all))
 
-pub route_ports : (stream : DeclaredStream) → IsStream stream → ports_along (route_of stream) ≡ stream.path
-route_ports stream is = ports_are stream.path stream.classes is.each_port is.classes
+pub route_ports : (stream : DeclaredStream) → IsStream stream → ports_along (route_of stream) ≡ stream.ports
+route_ports stream is = ports_are stream.ports stream.classes is.each_port is.classes
 
 pub all_route_paths : (streams : List DeclaredStream) → All IsStream streams
-    → route_paths (map route_of streams) ≡ map (λ (s : DeclaredStream). s.path) streams
+    → route_paths (map route_of streams) ≡ map (λ (s : DeclaredStream). s.ports) streams
 all_route_paths [] all = refl
 all_route_paths (s ∷ streams) all =
     ap (λ (path : List ℕ). path ∷ route_paths (map route_of streams))
     (route_ports s (All-head IsStream s streams all))
-    ∙ ap (λ (paths : List (List ℕ)). s.path ∷ paths)
+    ∙ ap (λ (paths : List (List ℕ)). s.ports ∷ paths)
     (all_route_paths streams (All-tail IsStream s streams all))

@@ -20,22 +20,22 @@ module _ (network : DeclaredNetwork) (n : ℕ) (last : n + 1 ≡ length network.
   abbrev x : DeclaredStream
   x = stream_at network n
 
-  reason_is : reason_of network ≡ option_or (found_on network x.path) (late_near network x)
+  reason_is : reason_of network ≡ option_or (found_on network x.ports) (late_near network x)
   reason_is =
-      let loads : Option Reason = found_there (lowest_found (overload network) network x.path) in
-      let stays : Option Reason = found_there (lowest_found (overstay_at network) network x.path) in
+      let loads : Option Reason = found_there (lowest_found (overload network) network x.ports) in
+      let stays : Option Reason = found_there (lowest_found (overstay_at network) network x.ports) in
       reason_is_judged network (without_at network n) x (less_by network n (omega (arith, last))) rules free
       ∙ sym (or_assoc loads stays (late_near network x))
 
   abbrev by_reason : Option Reason → Result ℕ Reason
   by_reason o = unless (λ (reason : Reason). reason) o (sum_at network n)
 
-  pub found_err : (reason : Reason) → Some reason ≡ found_on network x.path → Err reason ≡ judged network n
+  pub found_err : (reason : Reason) → Some reason ≡ found_on network x.ports → Err reason ≡ judged network n
   found_err reason found =
       ap (λ (o : Option Reason). by_reason (option_or o (late_near network x))) found ∙ sym (ap by_reason reason_is)
 
   -- where nothing is found along the path, the sums are left to judge
-  pub sums_left : None ≡ found_on network x.path
+  pub sums_left : None ≡ found_on network x.ports
       → unless (λ (reason : Reason). reason) (late_near network x) (sum_at network n) ≡ judged network n
   sums_left none =
       ap (λ (o : Option Reason). by_reason (option_or o (late_near network x))) none ∙ sym (ap by_reason reason_is)

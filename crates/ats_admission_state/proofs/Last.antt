@@ -1,5 +1,5 @@
 -- A network and the same without its last stream.
-use Rattle.std.proofs.Common.{◌≡◌, ℕ, suc, ◌+◌, ◌<◌, List, [], ◌∷◌, ◌++◌, length, get_or, map, take, drop}
+use Rattle.std.proofs.Common.{◌≡◌, ℕ, suc, ◌+◌, ◌<◌, ◌≤◌, List, [], ◌∷◌, ◌++◌, length, get_or, map, take, drop}
 use Rattle.std.proofs.Common.{refl, sym, ap, ◌∙◌, arith, length-append}
 use Rattle.std.specs.List.{All}
 use Rattle.std.proofs.Math.Seq.{split_at}
@@ -7,6 +7,8 @@ use Rattle.std.proofs.lemmas.List.{append-nil, drop_all, get_or_append_left, get
 use Rattle.std.proofs.lemmas.List.Elements.{All-weaker}
 use Rattle.ats_topology.proofs.Rules.{ports_are_lawful}
 use Rattle.ats_topology.specs.Topology.{HasLawfulPorts}
+use Rattle.ats_streams.proofs.OneListener.{alone_path}
+use Rattle.ats_streams.specs.Path.{IsPath}
 use Rattle.ats_streams.specs.Stream.{DeclaredStream}
 use Rattle.ats_network.specs.Edits.{no_stream}
 use Rattle.ats_network.specs.Network.{DeclaredNetwork, IsNetwork}
@@ -55,10 +57,10 @@ module _ (network : DeclaredNetwork) (n : ℕ) (last : n + 1 ≡ length network.
     length-append others (stream_at network n ∷ []),
   )
 
-  pub paths_are : stream_paths network ≡ stream_paths (without_at network n) ++ (stream_at network n).path ∷ []
+  pub paths_are : stream_paths network ≡ stream_paths (without_at network n) ++ (stream_at network n).ports ∷ []
   paths_are =
-      ap (λ (streams : List DeclaredStream). map (λ (s : DeclaredStream). s.path) streams) streams_are
-      ∙ map-append (λ (s : DeclaredStream). s.path) others (stream_at network n ∷ [])
+      ap (λ (streams : List DeclaredStream). map (λ (s : DeclaredStream). s.ports) streams) streams_are
+      ∙ map-append (λ (s : DeclaredStream). s.ports) others (stream_at network n ∷ [])
 
   pub routes_more : routes_of network ≡ routes_of (without_at network n) ++ route_of (stream_at network n) ∷ []
   routes_more =
@@ -78,18 +80,30 @@ stream_is network listed n s within same is =
     is ∙ ap (λ (streams : List DeclaredStream). get_or streams n s) same
     ∙ get_or_default network.streams n s no_stream within
 
--- so is its path, as it is read
+-- so are its ports, as they are read
 pub path_is : (network : DeclaredNetwork) (listed : List DeclaredStream) (n : ℕ) (s : DeclaredStream) (path : List ℕ)
-    → n < length network.streams → listed ≡ network.streams → s ≡ get_or listed n s → path ≡ s.path
-    → path ≡ (stream_at network n).path
+    → n < length network.streams → listed ≡ network.streams → s ≡ get_or listed n s → path ≡ s.ports
+    → path ≡ (stream_at network n).ports
 path_is network listed n s path within same is read =
-    read ∙ ap (λ (t : DeclaredStream). t.path) (stream_is network listed n s within same is)
+    read ∙ ap (λ (t : DeclaredStream). t.ports) (stream_is network listed n s within same is)
 
 -- the ports of a stream are below 4,096
 pub few_ports : (network : DeclaredNetwork) (n : ℕ) → IsNetwork network → n < length network.streams
-    → All (λ p. p < 4096) (stream_at network n).path
+    → All (λ p. p < 4096) (stream_at network n).ports
 few_ports network n rules within =
     let kept : HasLawfulPorts network.topology = ports_are_lawful network.topology rules.topology in
     All-weaker (λ p. p < length network.topology.ports) (λ p. p < 4096)
-    (λ p inside. omega (arith, inside, kept.two_each, rules.topology.few_links)) (stream_at network n).path
+    (λ p inside. omega (arith, inside, kept.two_each, rules.topology.few_links)) (stream_at network n).ports
     (paths_inside network rules n no_stream within)
+
+-- and make a path, since it has one listener
+pub one_path : (network : DeclaredNetwork) (n : ℕ) → IsNetwork network → n < length network.streams
+    → IsPath (stream_at network n).ports
+one_path network n rules within =
+    let s : DeclaredStream = stream_at network n in
+    alone_path s.ports s.branches (rules.one_listener n no_stream within) (rules.streams n no_stream within).routes
+
+pub few_hops : (network : DeclaredNetwork) (n : ℕ) → IsNetwork network → n < length network.streams
+    → length (stream_at network n).ports ≤ 16
+few_hops network n rules within = let path : IsPath (stream_at network n).ports = one_path network n rules within in
+    omega (arith, path.most)

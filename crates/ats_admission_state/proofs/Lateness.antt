@@ -73,7 +73,7 @@ module _ (network : DeclaredNetwork) (n : ℕ) (last : n + 1 ≡ length network.
   routes = routes_of (without_at network n)
 
   abbrev numbers : List ℕ
-  numbers = along (stream_paths (without_at network n)) (stream_at network n).path
+  numbers = along (stream_paths (without_at network n)) (stream_at network n).ports
 
   -- the sum along the route of a stream is that of its bounds, and the places have bounds of few digits
   pub sum_is : (m : ℕ) → m < length network.streams
@@ -109,15 +109,15 @@ module _ (network : DeclaredNetwork) (n : ℕ) (last : n + 1 ≡ length network.
   best_is = best_along (late_at network) None [] numbers (All-nil (λ m. late_at network m ≡ None))
 
   -- a stream that is near the last one has a route that meets its path
-  met_is : (m : ℕ) → m < n → shares x (stream_at network m) ≡ true → meets x.path (get_or routes m no_route) ≡ true
+  met_is : (m : ℕ) → m < n → shares x (stream_at network m) ≡ true → meets x.ports (get_or routes m no_route) ≡ true
   met_is m within shared =
-      ap (λ (r : RouteState). meets x.path r) (route_is network n last rules m within)
-      ∙ ap (λ (ports : List ℕ). list_any (λ port. has_port port x.path) ports)
+      ap (λ (r : RouteState). meets x.ports r) (route_is network n last rules m within)
+      ∙ ap (λ (ports : List ℕ). list_any (λ port. has_port port x.ports) ports)
       (route_ports (stream_at network m) (rules.streams m no_stream (omega (arith, within, last))))
       ∙ shared
 
   -- so has each that may be found
-  found_met : (m : ℕ) → m < n → list_any (λ q. eqb q m) numbers ≡ true → meets x.path (get_or routes m no_route) ≡ true
+  found_met : (m : ℕ) → m < n → list_any (λ q. eqb q m) numbers ≡ true → meets x.ports (get_or routes m no_route) ≡ true
   found_met m within listed =
       met_is m within (of_one (λ k. IsNear network x k) numbers m (all_near network n last rules) listed).shares
 
@@ -150,7 +150,7 @@ module _ (network : DeclaredNetwork) (n : ℕ) (last : n + 1 ≡ length network.
         ∙ ap (late (least_certificate less)) (other_at network n last m within) ∙ early
 
     -- so a first late one is the lowest late one near it
-    is_found_best : (m : ℕ) → FindsFirstLate bounds routes x.path (Some m) → number_of best ≡ Some m
+    is_found_best : (m : ℕ) → FindsFirstLate bounds routes x.ports (Some m) → number_of best ≡ Some m
     is_found_best m first = by best best_is
       where
         within : m < n
@@ -185,7 +185,7 @@ module _ (network : DeclaredNetwork) (n : ℕ) (last : n + 1 ≡ length network.
               ]
             ]
 
-    none_best : FindsFirstLate bounds routes x.path None → number_of best ≡ None
+    none_best : FindsFirstLate bounds routes x.ports None → number_of best ≡ None
     none_best first = by best best_is
       where
         by : (o : Option (ℕ × Reason)) → IsBest (late_at network) numbers o → number_of o ≡ None
@@ -197,12 +197,12 @@ module _ (network : DeclaredNetwork) (n : ℕ) (last : n + 1 ≡ length network.
             (first.none_before found.0 (omega (arith, lower, routes-length network n last rules)) refl
             (found_met found.0 lower is.inside))) ∙ is.is))
 
-    first_is : (o : Option ℕ) → FindsFirstLate bounds routes x.path o → o ≡ number_of best
+    first_is : (o : Option ℕ) → FindsFirstLate bounds routes x.ports o → o ≡ number_of best
     first_is None none = sym (none_best none)
     first_is (Some m) first = sym (is_found_best m first)
 
     -- what is found, as it is read
-    read : (rs : List RouteState) (path : List ℕ) (o : Option ℕ) → rs ≡ routes → path ≡ x.path
+    read : (rs : List RouteState) (path : List ℕ) (o : Option ℕ) → rs ≡ routes → path ≡ x.ports
         → FindsFirstLate bounds rs path o → o ≡ number_of best
     read rs path o routes_are path_are is =
         first_is o (subst (λ (p : List ℕ). FindsFirstLate bounds routes p o) path_are
@@ -221,7 +221,7 @@ module _ (network : DeclaredNetwork) (n : ℕ) (last : n + 1 ≡ length network.
     pub near : late_near network x ≡ Some reason
 
   pub is_found : (m : ℕ) (rs : List RouteState) (path : List ℕ) (o : Option ℕ) → reason_of less ≡ None
-      → rs ≡ routes → path ≡ x.path → FindsFirstLate bounds rs path o → o ≡ Some m → IsLate m
+      → rs ≡ routes → path ≡ x.ports → FindsFirstLate bounds rs path o → o ≡ Some m → IsLate m
   is_found m rs path o free routes_are path_are is some =
       by best best_is refl (sym (read free rs path o routes_are path_are is) ∙ some)
     where
@@ -242,7 +242,7 @@ module _ (network : DeclaredNetwork) (n : ℕ) (last : n + 1 ≡ length network.
 
   -- none was
   pub none_found : (rs : List RouteState) (path : List ℕ) (o : Option ℕ) → reason_of less ≡ None → rs ≡ routes
-      → path ≡ x.path → FindsFirstLate bounds rs path o → o ≡ None → late_near network x ≡ late_at network n
+      → path ≡ x.ports → FindsFirstLate bounds rs path o → o ≡ None → late_near network x ≡ late_at network n
   none_found rs path o free routes_are path_are is none =
       by best refl (sym (read free rs path o routes_are path_are is) ∙ none)
     where

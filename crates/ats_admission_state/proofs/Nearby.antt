@@ -9,6 +9,7 @@ use Rattle.std.proofs.lemmas.List.{get_or-map, get_or_default, length-map}
 use Rattle.std.proofs.lemmas.List.Elements.{All-append, All-cons, All-nil, All-weaker}
 use Rattle.std.proofs.lemmas.List.Folds.{list_any-append}
 use Rattle.ats_facts.proofs.Lists.{all_left}
+use Rattle.ats_streams.specs.Path.{IsPath}
 use Rattle.ats_streams.specs.Stream.{DeclaredStream, IsStream}
 use Rattle.ats_network.specs.Edits.{no_stream}
 use Rattle.ats_network.specs.Network.{DeclaredNetwork, IsNetwork}
@@ -16,7 +17,7 @@ use Rattle.ats_admission_law.specs.Near.{AreNear, IsNear}
 use Rattle.ats_admission_shares.specs.PortShares.{stream_at, stream_paths, without_at}
 use Rattle.ats_admission_state.specs.Routes.{RouteState, no_route, route_of, route_paths}
 use Rattle.ats_admission_state.specs.Routes.{routes_of}
-use Rattle.ats_admission_state.proofs.Last.{other_at, others-length, streams_are}
+use Rattle.ats_admission_state.proofs.Last.{one_path, other_at, others-length, streams_are}
 use Rattle.ats_admission_state.proofs.Near.{IsNearPath, along, are_near, near_listed}
 use Rattle.ats_admission_state.proofs.Bounds.{all_route_paths}
 
@@ -41,13 +42,13 @@ module _ (network : DeclaredNetwork) (n : ℕ) (last : n + 1 ≡ length network.
 
   within_of : (m : ℕ) → m < length paths → m < n
   within_of m within =
-      omega (arith, within, length-map less.streams (λ (s : DeclaredStream). s.path), others-length network n last)
+      omega (arith, within, length-map less.streams (λ (s : DeclaredStream). s.ports), others-length network n last)
 
-  path_is : (m : ℕ) → m < n → get_or paths m [] ≡ (stream_at network m).path
+  path_is : (m : ℕ) → m < n → get_or paths m [] ≡ (stream_at network m).ports
   path_is m within =
-      get_or-map (λ (s : DeclaredStream). s.path) less.streams m no_stream []
+      get_or-map (λ (s : DeclaredStream). s.ports) less.streams m no_stream []
       (omega (arith, within, others-length network n last))
-      ∙ ap (λ (s : DeclaredStream). s.path) (sym (other_at network n last m within))
+      ∙ ap (λ (s : DeclaredStream). s.ports) (sym (other_at network n last m within))
 
   -- the route with a number is that of the stream
   pub route_is : (m : ℕ) → m < n → get_or routes m no_route ≡ route_of (stream_at network m)
@@ -68,19 +69,19 @@ module _ (network : DeclaredNetwork) (n : ℕ) (last : n + 1 ≡ length network.
       subst P (sym (get_or_default routes k d no_route h ∙ route_is k within)) (each k (omega (arith, within, last)))
 
   abbrev pub numbers : List ℕ
-  numbers = along paths x.path
+  numbers = along paths x.ports
 
   pub all_lower : All (λ m. m < n) numbers
-  all_lower = All-weaker (IsNearPath x.path paths) (λ m. m < n) (λ m near. within_of m near.within) numbers
-      (are_near paths x.path)
+  all_lower = All-weaker (IsNearPath x.ports paths) (λ m. m < n) (λ m near. within_of m near.within) numbers
+      (are_near paths x.ports)
 
   -- a stream of a path near it is near it
-  is_near : (m : ℕ) → IsNearPath x.path paths m → IsNear network x m
+  is_near : (m : ℕ) → IsNearPath x.ports paths m → IsNear network x m
   is_near m near =
       let within : m < n = within_of m near.within in
       record {
         within = omega (arith, within, last);
-        shares = sym (ap (λ (path : List ℕ). list_any (λ port. list_any (λ p. eqb p port) x.path) path)
+        shares = sym (ap (λ (path : List ℕ). list_any (λ port. list_any (λ p. eqb p port) x.ports) path)
             (path_is m within)) ∙ near.shares;
       }
 
@@ -93,19 +94,19 @@ module _ (network : DeclaredNetwork) (n : ℕ) (last : n + 1 ≡ length network.
 
   own_near : IsNear network x n
   own_near =
-      let is : IsStream x = rules.streams n no_stream (omega (arith, last)) in
-      record { within = omega (arith, last); shares = own_shares x.path is.path.least }
+      let path : IsPath x.ports = one_path network n rules (omega (arith, last)) in
+      record { within = omega (arith, last); shares = own_shares x.ports path.least }
 
   pub in_numbers : (m : ℕ) → m < n → IsNear network x m → list_any (λ q. eqb q m) numbers ≡ true
   in_numbers m within near =
-      near_listed paths x.path m (record {
+      near_listed paths x.ports m (record {
         within = omega (
           arith,
           within,
-          length-map less.streams (λ (s : DeclaredStream). s.path),
+          length-map less.streams (λ (s : DeclaredStream). s.ports),
           others-length network n last,
         );
-        shares = ap (λ (path : List ℕ). list_any (λ port. list_any (λ p. eqb p port) x.path) path) (path_is m within)
+        shares = ap (λ (path : List ℕ). list_any (λ port. list_any (λ p. eqb p port) x.ports) path) (path_is m within)
             ∙ near.shares;
       })
 
@@ -124,7 +125,7 @@ module _ (network : DeclaredNetwork) (n : ℕ) (last : n + 1 ≡ length network.
 
   -- the numbers are of streams near it
   pub all_near : All (IsNear network x) numbers
-  all_near = All-weaker (IsNearPath x.path paths) (IsNear network x) is_near numbers (are_near paths x.path)
+  all_near = All-weaker (IsNearPath x.ports paths) (IsNear network x) is_near numbers (are_near paths x.ports)
 
   pub near_are : AreNear network x (numbers ++ n ∷ [])
   near_are = record {

@@ -13,7 +13,7 @@ pub record IsOver (ports : ℕ) (path : List ℕ) : Type 0 where
   pub apart : AllPairs (λ p q. p ≢ q) path
 
 pub streams_over : (network : DeclaredNetwork) → IsNetwork network
-    → All (λ (s : DeclaredStream). IsOver (length network.topology.ports) s.path) network.streams
+    → All (λ (s : DeclaredStream). IsOver (length network.topology.ports) s.ports) network.streams
 streams_over network is k d h =
     record { inside = paths_inside network is k d h; apart = paths_apart network is k d h }
 

@@ -23,7 +23,7 @@ abbrev pub kept_state : UsersState → Table Share → Table ℕ → List RouteS
 kept_state streams shares bounds routes =
     record { streams = streams; shares = shares; bounds = bounds; routes = routes }
 
--- the users of a network's ports, by the paths of its streams, the shares of its senders, and its streams' routes
+-- the users of a network's ports, by the ports of its streams, the shares of its senders, and its streams' routes
 pub record KeepsStreams (network : DeclaredNetwork) (streams : UsersState) (shares : Table Share)
     (routes : List RouteState) : Type 0 where
   pub users : ListsPaths (length network.topology.ports) (stream_paths network) streams
@@ -70,4 +70,4 @@ pub record IsKeptBeside (network : DeclaredNetwork) (path : List ℕ) (kept : Ke
 -- its path
 pub record WasKept (network : DeclaredNetwork) (number : ℕ) (x : DeclaredStream) (kept : KeptState) : Type 0 where
   pub keeps : KeepsBefore network number x kept.streams kept.shares kept.routes
-  pub bounds : AreLeastBeside network x.path kept.bounds
+  pub bounds : AreLeastBeside network x.ports kept.bounds

@@ -4,7 +4,7 @@ use Rattle.ats_class_table.specs.Table.{Table, value_at}
 use Rattle.ats_streams.specs.Stream.{DeclaredStream}
 use Rattle.ats_network.specs.Network.{DeclaredNetwork}
 
--- where the bounds of a stream stand, in the order of its path, and its deadline in picoseconds
+-- where the bounds of a stream stand, in the order of its ports, and its deadline in picoseconds
 pub record RouteState : Type 0 where
   pub places : List ℕ
   pub deadline : ℕ
@@ -21,7 +21,7 @@ places_along (port ∷ path) (class ∷ classes) = (8 * port + class) ∷ places
 
 -- the route of a stream, and those of a network's streams
 abbrev pub route_of : DeclaredStream → RouteState
-route_of s = record { places = places_along s.path s.classes; deadline = PS_PER_NS * s.deadline_ns }
+route_of s = record { places = places_along s.ports s.classes; deadline = PS_PER_NS * s.deadline_ns }
 
 abbrev pub routes_of : DeclaredNetwork → List RouteState
 routes_of network = map route_of network.streams

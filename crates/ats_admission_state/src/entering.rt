@@ -26,7 +26,7 @@ pub(crate) fn enter(
 {
     let declared = &network.streams()[stream as usize];
     routes.reserve(1)?;
-    streams.push(declared.path())?;
+    streams.push(declared.ports())?;
     routes.push_reserved(Route::of(declared));
     shares.enter(network, stream);
     Ok(())
@@ -44,7 +44,7 @@ pub(crate) fn leave(
     requires { KeepsBefore network.now number stream.now streams.old shares.old routes.old.items }
     ensures { KeepsStreams network.now streams.new shares.new routes.new.items }
 {
-    streams.take(number, stream.path());
+    streams.take(number, stream.ports());
     routes.remove(number as usize);
     shares.leave(network, stream, streams);
 }

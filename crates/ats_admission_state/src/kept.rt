@@ -44,7 +44,7 @@ impl Model for Kept {
 
 impl Kept {
     /// What is kept of a network with this least certificate. It takes time and memory linear in the number of ports
-    /// and the sum of the paths' lengths. `AllocError` where memory runs out.
+    /// and the number of the streams' ports. `AllocError` where memory runs out.
     pub fn new(
         alloc: Global,
         network: &Network,
@@ -66,21 +66,21 @@ impl Kept {
     }
 
     /// Judges a network by its last stream, of which nothing is kept yet, and without which a certificate holds: only
-    /// the ports of the stream's path are judged anew, and only the deadlines of streams that use one of these. Where
+    /// the stream's own ports are judged anew, and only the deadlines of streams that use one of these. Where
     /// nothing stands against the network, the stream is kept from now on. The sum of its least bounds, in picoseconds.
     ///
     /// # Errors
     ///
     /// The reason against the network exactly where there is one, or `Failure::NoMemory` where memory runs out. The
-    /// bounds along the path then are any; all else is still that of the network without the stream.
+    /// bounds along its ports then are any; all else is still that of the network without the stream.
     pub fn judge(&mut self, network: &Network, stream: u32) -> Result<u128, Failure<Reason>>
         requires last { stream + 1 ≡ length network.now.streams }
         requires free { reason_of (without_at network.now stream) ≡ None }
-        requires beside { IsKeptBeside (without_at network.now stream) (stream_at network.now stream).path self.old }
+        requires beside { IsKeptBeside (without_at network.now stream) (stream_at network.now stream).ports self.old }
         ensures answer { Gives result (judged network.now stream) }
         ensures ok { OnOk result (IsKept network.now self.new) }
         ensures err { OnErr result (IsKeptBeside (without_at network.now stream)
-            (stream_at network.now stream).path self.new) }
+            (stream_at network.now stream).ports self.new) }
     {
         let sum = judge_stream(
             &mut self.bounds,
@@ -101,7 +101,7 @@ impl Kept {
     }
 
     /// Keeps this stream no longer, which was taken out of the network where it had this number, and makes the bounds
-    /// along its path anew. It takes no memory.
+    /// along its ports anew. It takes no memory.
     pub fn take(&mut self, network: &Network, number: u32, stream: &Stream)
         requires free { reason_of network.now ≡ None }
         requires was { WasKept network.now number stream.now self.old }
@@ -115,7 +115,7 @@ impl Kept {
             number,
             stream,
         );
-        renew_path(&mut self.bounds, network, &self.shares, stream.path());
+        renew_path(&mut self.bounds, network, &self.shares, stream.ports());
     }
 
     /// Makes the bounds along a path anew, where no certificate is refused for the network. It takes no memory.

@@ -2,7 +2,7 @@
 
 ghost use Rattle.ats_admission_state.specs.Laws.{BoundsStayBeside};
 
-/// A law: beside the path of a stream, the least bounds of a network are the same with the stream and without it.
+/// A law: beside the ports of a stream, the least bounds of a network are the same with the stream and without it.
 pub fn bounds_stay_beside()
     ensures { BoundsStayBeside }
 {}

@@ -1,4 +1,4 @@
-//! What is kept of a network that streams enter and leave, so that each is judged along its own path.
+//! What is kept of a network that streams enter and leave, so that each is judged along its own ports.
 #![tactic(auto)]
 
 mod entering;

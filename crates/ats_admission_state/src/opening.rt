@@ -20,7 +20,7 @@ pub(crate) fn stream_users(alloc: Global, network: &Network) -> Result<PortUsers
 {
     let mut users = PortUsers::new(alloc, network.topology().ports().len())?;
     for stream in network.streams() {
-        users.push(stream.path())?;
+        users.push(stream.ports())?;
     }
     Ok(users)
 }

@@ -1,8 +1,8 @@
 //! Routes: of a stream, where its bounds stand, and its deadline.
 
-ghost use Rattle.std.specs.Prelude.{◌≡◌, ◌-◌, ◌/◌, ◌<◌, ◌≤◌, ◌==◌, ◌&&◌, not, length, take, sum_by, All};
+ghost use Rattle.std.specs.Prelude.{◌≡◌, ◌-◌, ◌/◌, ◌<◌, ◌≤◌, ◌==◌, ◌&&◌, not, [], length, take, sum_by, All};
 ghost use Rattle.std.specs.Prelude.{slice_index_or};
-ghost use Rattle.ats_streams.specs.Stream.{IsClass};
+ghost use Rattle.ats_streams.specs.Stream.{IsClass, IsStream};
 ghost use Rattle.ats_admission_state.specs.Routes.{AreBounded, IsBounded, bound_of, is_late, places_along, route_of};
 ghost use Rattle.ats_admission_state.specs.Routes.{sum_along};
 
@@ -11,7 +11,7 @@ use ats_num::Ps;
 use ats_streams::Stream;
 use std::marker::Model;
 
-/// Where the bounds of a stream stand, in the order of its path, and its deadline, so that their sum is found without
+/// Where the bounds of a stream stand, in the order of its ports, and its deadline, so that their sum is found without
 /// its stream. Contracts see these two.
 #[derive(Drop)]
 pub struct Route {
@@ -32,15 +32,17 @@ impl Model for Route {
 }
 
 impl Route {
-    /// The route of a stream whose ports are below 4096.
+    /// The route of a stream with one listener, whose ports are below 4096.
     pub(crate) fn of(stream: &Stream) -> Self
-        requires { All (λ p. p < 4096) stream.now.path }
+        requires one_listener { stream.now.branches ≡ [] }
+        requires ports { All (λ p. p < 4096) stream.now.ports }
         ensures { result ≡ route_of stream.now }
     {
+        let path = path_of(stream);
         Route {
             deadline: stream.deadline(),
-            places: places_along(stream.path(), stream.classes()),
-            count: stream.path().len() as u8,
+            places: places_along(path, stream.classes()),
+            count: path.len() as u8,
         }
     }
 
@@ -71,6 +73,16 @@ impl Route {
         let places = &self.places[..self.count as usize];
         u32::from(places[hop - 1]) / 8 == port
     }
+}
+
+// The ports of a stream with one listener: at most 16.
+fn path_of(stream: &Stream) -> &[u32]
+    requires { stream.now.branches ≡ [] }
+    ensures value { result.now ≡ stream.now.ports }
+    ensures few { length result.now ≤ 16 }
+    ensures rules { IsStream stream.now }
+{
+    stream.ports()
 }
 
 // The places of the ports of a path, with the class at each; 0 behind them.

@@ -1,4 +1,4 @@
-//! Sums of the least bounds along streams' paths, and their deadlines.
+//! Sums of the least bounds along streams' ports, and their deadlines.
 
 ghost use Rattle.std.specs.Prelude.{◌≡◌, ◌+◌, length, None};
 ghost use Rattle.ats_num.specs.Failure.{unless};
@@ -20,7 +20,7 @@ use ats_streams::Stream;
 use ats_tally::Reason;
 
 /// The sum of the bounds of a network's last stream, without which a certificate holds. As the error, the stream with
-/// the lowest number that uses a port of its path and whose sum is over its deadline. The users and the routes are
+/// the lowest number that uses a port of its own and whose sum is over its deadline. The users and the routes are
 /// those of the other streams.
 pub(crate) fn judge_sums(
     bounds: &PortClassTable<u128>,
@@ -39,7 +39,7 @@ pub(crate) fn judge_sums(
         (sum_at network.now stream) }
 {
     let declared = &network.streams()[stream as usize];
-    if let Some(number) = find_late(bounds, routes, users, declared.path()) {
+    if let Some(number) = find_late(bounds, routes, users, declared.ports()) {
         let sum = routes[number as usize].sum(bounds);
         return within_deadline(&network.streams()[number as usize], sum);
     }

@@ -62,19 +62,19 @@ pub(crate) fn judge_stream(
     requires last { stream + 1 ≡ length network.now.streams }
     requires free { reason_of (without_at network.now stream) ≡ None }
     requires keeps { KeepsStreams (without_at network.now stream) streams.now shares.now routes.now }
-    requires beside { AreLeastBeside network.now (stream_at network.now stream).path bounds.old }
+    requires beside { AreLeastBeside network.now (stream_at network.now stream).ports bounds.old }
     ensures answer { result ≡ judged network.now stream }
     ensures ok { OnOk result (AreLeast network.now bounds.new) }
-    ensures beside { AreLeastBeside network.now (stream_at network.now stream).path bounds.new }
+    ensures beside { AreLeastBeside network.now (stream_at network.now stream).ports bounds.new }
 {
-    let path = network.streams()[stream as usize].path();
+    let path = network.streams()[stream as usize].ports();
     if let Some(reason) = judge_path(bounds, network, shares, stream, path) {
         return Err(reason);
     }
     judge_sums(bounds, network, streams, routes, stream)
 }
 
-// Makes the bounds along the path of the stream with this number anew, unless a class is overloaded there. What is
+// Makes the bounds along the ports of the stream with this number anew, unless a class is overloaded there. What is
 // found first at the lowest port: an overload, or else a need of residence over the residence time behind the port.
 fn judge_path(
     bounds: &mut PortClassTable<u128>,
@@ -84,7 +84,7 @@ fn judge_path(
     path: &[u32],
 ) -> Option<Reason>
     requires number { stream < length network.now.streams }
-    requires path { path.now ≡ (stream_at network.now stream).path }
+    requires path { path.now ≡ (stream_at network.now stream).ports }
     requires few { length path.now ≤ 16 }
     requires ports { All (λ p. p < length network.now.topology.ports) path.now }
     requires shares { AreSharesOf (without_at network.now stream) shares.now }

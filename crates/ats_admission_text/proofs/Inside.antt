@@ -1,6 +1,6 @@
 -- The ports that answers name are ports of the network.
-use Rattle.std.proofs.Common.{◌≡◌, ℕ, Bool, true, false, cond, List, [], ◌∷◌, length, Option, Some, None, refl, subst}
-use Rattle.std.specs.Prelude.{IfErr, IfSome, Result, Ok, Err, is_some, nat_le}
+use Rattle.std.proofs.Common.{◌≡◌, ℕ, Bool, true, false, cond, List, [], ◌∷◌, Option, Some, None, refl, subst}
+use Rattle.std.specs.Prelude.{IfErr, IfSome, Result, Ok, Err, is_some}
 use Rattle.std.specs.List.{All}
 use Rattle.std.specs.Option.{option_or, option_map}
 use Rattle.std.proofs.lemmas.List.Elements.{All-nil, All-cons, All-head, All-tail}
@@ -8,8 +8,7 @@ use Rattle.ats_num.specs.Failure.{unless}
 use Rattle.ats_streams.specs.Stream.{DeclaredStream, IsClass, with_class}
 use Rattle.ats_network.specs.Edits.{stream_named}
 use Rattle.ats_network.specs.Network.{DeclaredNetwork}
-use Rattle.ats_network.specs.Pushes.{with_stream, is_name_taken}
-use Rattle.ats_network.specs.declared.network.TheConstants.{MAX_STREAMS}
+use Rattle.ats_network.specs.Pushes.{with_stream, is_full, is_name_taken}
 use Rattle.ats_certificate.specs.Used.{stream_classes}
 use Rattle.ats_tally.specs.Reason.{ReasonInside}
 use Rattle.ats_tally.specs.declared.reason.Reason.{Reason}
@@ -31,7 +30,7 @@ use Rattle.ats_admission_text.specs.Inside.{AnswerInside, DeniedInside}
 entry_inside : (network : DeclaredNetwork) (stream : DeclaredStream)
     → IfSome (entry_fault network stream) (DeniedInside network.topology)
 entry_inside network stream =
-    by (is_name_taken network stream.name) (nat_le MAX_STREAMS (length network.streams))
+    by (is_name_taken network stream.name) (is_full network.streams stream.ports)
   where
     by : (a b : Bool)
         → IfSome (cond a (Some NameTaken) (cond b (Some Limit) None)) (DeniedInside network.topology)

@@ -1,6 +1,6 @@
 //! What one line of a request file asks.
 
-ghost use Rattle.std.specs.Prelude.{◌≡◌, ◌<◌, ℕ, IfOk, IfSome, OnOk, None};
+ghost use Rattle.std.specs.Prelude.{◌≡◌, ◌<◌, ℕ, [], IfOk, IfSome, OnOk, None};
 ghost use Rattle.std.specs.Global.{Vec};
 ghost use Rattle.std.specs.Option.{option_map};
 ghost use Rattle.ats_num.specs.Failure.{Gives, GivesSeen};
@@ -108,7 +108,7 @@ fn admit_line(
 {
     let said = admit_in(n, line)?;
     let path = path_in(alloc, topology, walks, n, line)?;
-    let stream = stream_over(path, n, &said)?;
+    let stream = stream_over(alloc, path, n, &said)?;
     match said.class {
         None => Ok(Request::Lowest(stream)),
         Some(_) => Ok(Request::Admit(stream)),
@@ -194,13 +194,21 @@ fn path_between(
 }
 
 // The stream that an `admit` line declares over a path.
-fn stream_over(path: Vec<u32>, n: u32, said: &AdmitWords) -> Result<Stream, RequestFault>
-    ensures value { result ≡ stream_made n said.now (stream_over path.items said.now) }
-    ensures rules { IfOk result (λ stream. IsStream stream × (stream.path ≡ path.items) × (stream.identity ≡ None)) }
+fn stream_over(
+    alloc: Global,
+    path: Vec<u32>,
+    n: u32,
+    said: &AdmitWords,
+) -> Result<Stream, Failure<RequestFault>>
+    ensures value { Gives result (stream_made n said.now (stream_over path.items said.now)) }
+    ensures rules { IfOk result (λ stream. IsStream stream × (stream.ports ≡ path.items) × (stream.branches ≡ [])
+        × (stream.identity ≡ None)) }
 {
     let made = Stream::new(
+        alloc,
         said.name,
         path,
+        Vec::new(alloc),
         &[said.class.unwrap_or(1)],
         said.rate_bps,
         said.burst_bits,
@@ -211,6 +219,7 @@ fn stream_over(path: Vec<u32>, n: u32, said: &AdmitWords) -> Result<Stream, Requ
     );
     match made {
         Ok(stream) => Ok(stream),
-        Err(fault) => Err(RequestFault::Stream(n, fault)),
+        Err(Failure::Fault(fault)) => Err(Failure::Fault(RequestFault::Stream(n, fault))),
+        Err(Failure::NoMemory) => Err(Failure::NoMemory),
     }
 }

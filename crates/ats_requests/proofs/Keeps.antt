@@ -1,9 +1,8 @@
 -- A network for which a certificate holds stays one after each request.
-use Rattle.std.proofs.Common.{◌≡◌, ℕ, ◌<◌, Bool, true, false, cond, List, length, Option, Some}
+use Rattle.std.proofs.Common.{◌≡◌, ℕ, Bool, true, false, cond, List, length, Option, Some}
 use Rattle.std.proofs.Common.{None, refl, ap, ◌∙◌}
-use Rattle.std.specs.Prelude.{is_some, nat_le}
+use Rattle.std.specs.Prelude.{is_some}
 use Rattle.std.specs.Option.{option_map}
-use Rattle.std.proofs.lemmas.Bool.{leb-false}
 use Rattle.std.proofs.lemmas.List.Elements.{All-replicate}
 use Rattle.std.proofs.lemmas.List.{length-replicate}
 use Rattle.ats_facts.proofs.Options.{is_some-false, option_or-none}
@@ -12,9 +11,8 @@ use Rattle.ats_topology.specs.Topology.{DeclaredTopology}
 use Rattle.ats_streams.specs.Stream.{DeclaredStream, IsClass, with_class}
 use Rattle.ats_network.specs.Edits.{less_at, without_named}
 use Rattle.ats_network.specs.Network.{DeclaredNetwork, IsNetwork, senders_of, names_of}
-use Rattle.ats_network.specs.Pushes.{with_stream, is_name_taken, is_identity_taken}
+use Rattle.ats_network.specs.Pushes.{with_stream, is_full, is_name_taken, is_identity_taken}
 use Rattle.ats_network.specs.Tables.{stream_names}
-use Rattle.ats_network.specs.declared.network.TheConstants.{MAX_STREAMS}
 use Rattle.ats_network.proofs.Edited.{without_network}
 use Rattle.ats_network.proofs.Pushed.{pushed_stream}
 use Rattle.ats_tally.specs.declared.reason.Reason.{Reason}
@@ -31,21 +29,21 @@ use Rattle.ats_requests.specs.declared.denied.Denied.TheVariants.{NameTaken, Lim
 -- where nothing stands against an entry, the name is free and there is room
 pub record MayComeIn (network : DeclaredNetwork) (stream : DeclaredStream) : Type 0 where
   pub absent : place_of stream.name (names_of (senders_of network)) ≡ None
-  pub room : length network.streams < MAX_STREAMS
+  pub room : is_full network.streams stream.ports ≡ false
 
 pub may_come_in : (network : DeclaredNetwork) (stream : DeclaredStream) → entry_fault network stream ≡ None
     → MayComeIn network stream
 may_come_in network stream none =
-    by (is_name_taken network stream.name) refl (nat_le MAX_STREAMS (length network.streams)) refl none
+    by (is_name_taken network stream.name) refl (is_full network.streams stream.ports) refl none
   where
     by : (a : Bool) → is_name_taken network stream.name ≡ a
-        → (b : Bool) → nat_le MAX_STREAMS (length network.streams) ≡ b
+        → (b : Bool) → is_full network.streams stream.ports ≡ b
         → cond a (Some NameTaken) (cond b (Some Limit) None) ≡ None → MayComeIn network stream
     by true e b f h = absurd (let no : Some NameTaken ≡ None = h in cc)
     by false e true f h = absurd (let no : Some Limit ≡ None = h in cc)
     by false e false f h = record {
       absent = is_some-false (place_of stream.name (names_of (senders_of network))) e;
-      room = leb-false MAX_STREAMS (length network.streams) f;
+      room = f;
     }
 
 -- so the network with the stream is one
@@ -53,7 +51,7 @@ pub entered : (network : DeclaredNetwork) (stream : DeclaredStream) → IsNetwor
     → MayEnter network.topology stream → entry_fault network stream ≡ None → IsNetwork (with_stream network stream)
 entered network stream is may none =
     let in' : MayComeIn network stream = may_come_in network stream none in
-    pushed_stream network stream is may.rules may.path in'.absent
+    pushed_stream network stream is may.rules may.tree may.one_listener in'.absent
     (ap (is_identity_taken network.streams) may.unidentified) in'.room
 
 -- a stream that may be asked for may be so with any class
@@ -61,14 +59,16 @@ pub enters_with : (topology : DeclaredTopology) (stream : DeclaredStream) (class
     → IsClass class → MayEnter topology (with_class stream class)
 enters_with topology stream class may is = record {
   rules = record {
-    classes = All-replicate IsClass (length stream.path) class is;
-    each_port = length-replicate (length stream.path) class;
+    classes = All-replicate IsClass (length stream.ports) class is;
+    each_port = length-replicate (length stream.ports) class;
     rules = may.rules.rules;
-    path = may.rules.path;
+    branches = may.rules.branches;
+    routes = may.rules.routes;
     deadline = may.rules.deadline;
     identity = may.rules.identity;
   };
-  path = may.path;
+  tree = may.tree;
+  one_listener = may.one_listener;
   unidentified = may.unidentified;
 }
 

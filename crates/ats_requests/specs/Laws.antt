@@ -60,7 +60,7 @@ NoClassHasReasons =
     (network : DeclaredNetwork) (stream : DeclaredStream) (reasons : List Reason)
     → admit_lowest network stream ≡ Err (NoClass reasons) → AreReasons network stream reasons
 
--- whether a stream is admitted to a network for which a certificate holds is judged along its path alone
+-- whether a stream is admitted to a network for which a certificate holds is judged along its ports alone
 abbrev pub AdmitIsJudged : Type 0
 AdmitIsJudged =
     (network : DeclaredNetwork) (stream : DeclaredStream) → IsCertified network → MayEnter network.topology stream

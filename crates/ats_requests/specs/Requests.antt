@@ -3,7 +3,7 @@ use Rattle.ats_topology.specs.Topology.{DeclaredTopology}
 use Rattle.ats_streams.specs.Stream.{DeclaredStream, IsStream}
 use Rattle.ats_network.specs.Edits.{without_named}
 use Rattle.ats_network.specs.Network.{DeclaredNetwork}
-use Rattle.ats_network.specs.Path.{IsValidPath}
+use Rattle.ats_network.specs.Path.{IsTree}
 use Rattle.ats_requests.specs.Admission.{admit, after_admit, admit_lowest, after_lowest, withdraw_fault}
 use Rattle.ats_requests.specs.declared.answer.Answer.{Answer}
 use Rattle.ats_requests.specs.declared.answer.Answer.TheVariants.{Admitted, Withdrawn, Refused}
@@ -11,10 +11,12 @@ use Rattle.ats_requests.specs.declared.denied.Denied.{Denied}
 use Rattle.ats_requests.specs.declared.request.Request.{Request}
 use Rattle.ats_requests.specs.declared.request.Request.TheVariants.{Admit, Lowest, Withdraw}
 
--- a stream that may be asked for: it keeps a stream's rules, its path is valid, and it declares no identity
+-- a stream that may be asked for: it keeps a stream's rules, its legs make a tree, as yet it has no branch, and it
+-- declares no identity
 pub record MayEnter (topology : DeclaredTopology) (stream : DeclaredStream) : Type 0 where
   pub rules : IsStream stream
-  pub path : IsValidPath topology stream.path
+  pub tree : IsTree topology stream.ports stream.branches
+  pub one_listener : stream.branches ≡ []
   pub unidentified : stream.identity ≡ None
 
 -- a request that may be made over a topology
@@ -23,7 +25,7 @@ MayAsk topology (Admit stream) = MayEnter topology stream
 MayAsk topology (Lowest stream) = MayEnter topology stream
 MayAsk topology (Withdraw name) = Unit {0}
 
--- the class at the first port of a stream's path
+-- the class at the first port of a stream
 abbrev pub first_class_of : DeclaredStream → ℕ
 first_class_of stream = slice_index_or stream.classes 0 0
 

@@ -7,7 +7,7 @@ use crate::denied::Denied;
 pub enum Answer {
     /// The stream was admitted.
     Admitted {
-        /// Its class at the first port of its path.
+        /// Its class at the first of its ports.
         class: u8,
         /// The sum of its least bounds, in picoseconds.
         sum: u128,

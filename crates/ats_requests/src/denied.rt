@@ -10,7 +10,7 @@ pub enum Denied {
     NameTaken,
     /// No stream of the network has the name.
     NameUnknown,
-    /// As many streams are there as a network may have.
+    /// As many streams are there as a network may have, or the streams would have more ports together.
     Limit,
     /// No certificate holds for the network with the stream added last, for this reason.
     Because(Reason),

@@ -24,7 +24,7 @@ pub fn no_class_has_reasons()
     ensures { NoClassHasReasons }
 {}
 
-/// A law: whether a stream is admitted is judged along its path alone, port by port.
+/// A law: whether a stream is admitted is judged along its ports alone, port by port.
 pub fn admit_is_judged()
     ensures { AdmitIsJudged }
 {}

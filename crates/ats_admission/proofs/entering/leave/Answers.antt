@@ -16,13 +16,13 @@ pub renew-requires-clause-ports : goal.renew-requires-clause-ports
 renew-requires-clause-ports c =
     let network : DeclaredNetwork = c.args.network.now in
     let n = c.args.number in
-    let path_is : c.path.result.now ≡ (stream_at network n).path =
-    c.path.ensures.value
-    ∙ ap (λ (s : DeclaredStream). s.path)
+    let path_is : c.ports.result.now ≡ (stream_at network n).ports =
+    c.ports.ensures.value
+    ∙ ap (λ (s : DeclaredStream). s.ports)
     (taken_is network c.args.name.now n c.in-Some.stream c.requires.named c.in-Some.ensures.result) in
     let new_is : c.take_stream.new.self ≡ without_at network n =
     c.take_stream.ensures.network ∙ named_at network c.args.name.now n c.requires.named in
-    subst (λ (t : DeclaredNetwork). All (λ p. p < length t.topology.ports) c.path.result.now) (sym new_is)
+    subst (λ (t : DeclaredNetwork). All (λ p. p < length t.topology.ports) c.ports.result.now) (sym new_is)
     (subst (All (λ p. p < length network.topology.ports)) (sym path_is)
     (paths_inside network c.take_stream.ensures.rules n no_stream (omega (arith, c.requires.pending.last))))
 
@@ -30,13 +30,13 @@ pub renew-requires-clause-beside : goal.renew-requires-clause-beside
 renew-requires-clause-beside c =
     let network : DeclaredNetwork = c.args.network.now in
     let n = c.args.number in
-    let path_is : c.path.result.now ≡ (stream_at network n).path =
-    c.path.ensures.value
-    ∙ ap (λ (s : DeclaredStream). s.path)
+    let path_is : c.ports.result.now ≡ (stream_at network n).ports =
+    c.ports.ensures.value
+    ∙ ap (λ (s : DeclaredStream). s.ports)
     (taken_is network c.args.name.now n c.in-Some.stream c.requires.named c.in-Some.ensures.result) in
     let new_is : c.take_stream.new.self ≡ without_at network n =
     c.take_stream.ensures.network ∙ named_at network c.args.name.now n c.requires.named in
-    subst (λ (t : DeclaredNetwork). IsKeptBeside t c.path.result.now c.args.kept.now) (sym new_is)
+    subst (λ (t : DeclaredNetwork). IsKeptBeside t c.ports.result.now c.args.kept.now) (sym new_is)
     (subst (λ (path : List _). IsKeptBeside (without_at network n) path c.args.kept.now) (sym path_is)
     c.requires.pending.beside)
 

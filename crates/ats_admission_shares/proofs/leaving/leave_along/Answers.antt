@@ -23,71 +23,71 @@ seen_stream-seen-requires-clause-apart c =
 pub get-share-requires-clause-port : goal.get-share-requires-clause-port
 get-share-requires-clause-port c =
     let entry = leaving_entry c.args.network.now c.args.stream.now c.args.shares.now c.requires.before
-    c.path-port-items.result.now c.loop-hop.hop (port_sender c.seen_stream-seen.result) c.path-port-items.ensures.value
-    c.loop-hop-test.true c.seen_stream-seen.ensures.seen in
+    c.ports-port-items.result.now c.loop-hop.hop (port_sender c.seen_stream-seen.result)
+    c.ports-port-items.ensures.value c.loop-hop-test.true c.seen_stream-seen.ensures.seen in
     omega (arith, entry.inside, c.loop-hop.invariant.count, c.requires.before.counted.count)
 
 pub get-share-requires-clause-class : goal.get-share-requires-clause-class
 get-share-requires-clause-class c =
     (leaving_entry c.args.network.now c.args.stream.now c.args.shares.now c.requires.before
-    c.path-port-items.result.now c.loop-hop.hop (port_sender c.seen_stream-seen.result) c.path-port-items.ensures.value
-    c.loop-hop-test.true c.seen_stream-seen.ensures.seen).most
+    c.ports-port-items.result.now c.loop-hop.hop (port_sender c.seen_stream-seen.result)
+    c.ports-port-items.ensures.value c.loop-hop-test.true c.seen_stream-seen.ensures.seen).most
 
 pub share_left-left-requires-clause-port : goal.share_left-left-requires-clause-port
 share_left-left-requires-clause-port c =
     let entry = leaving_entry c.args.network.now c.args.stream.now c.args.shares.now c.requires.before
-    c.path-port-items.result.now c.loop-hop.hop (port_sender c.seen_stream-seen.result) c.path-port-items.ensures.value
-    c.loop-hop-test.true c.seen_stream-seen.ensures.seen in
+    c.ports-port-items.result.now c.loop-hop.hop (port_sender c.seen_stream-seen.result)
+    c.ports-port-items.ensures.value c.loop-hop-test.true c.seen_stream-seen.ensures.seen in
     leaving_inside c.args.network.now c.args.stream.now c.args.shares.now c.requires.before
-    (get_or c.path-port-items.result.now c.loop-hop.hop 0) c.loop-hop.hop (port_sender c.seen_stream-seen.result) entry
+    (get_or c.ports-port-items.result.now c.loop-hop.hop 0) c.loop-hop.hop (port_sender c.seen_stream-seen.result) entry
 
 pub share_left-left-requires-clause-class : goal.share_left-left-requires-clause-class
 share_left-left-requires-clause-class c =
     let entry = leaving_entry c.args.network.now c.args.stream.now c.args.shares.now c.requires.before
-    c.path-port-items.result.now c.loop-hop.hop (port_sender c.seen_stream-seen.result) c.path-port-items.ensures.value
-    c.loop-hop-test.true c.seen_stream-seen.ensures.seen in
+    c.ports-port-items.result.now c.loop-hop.hop (port_sender c.seen_stream-seen.result)
+    c.ports-port-items.ensures.value c.loop-hop-test.true c.seen_stream-seen.ensures.seen in
     leaving_class c.args.network.now c.args.stream.now c.args.shares.now c.requires.before
-    (get_or c.path-port-items.result.now c.loop-hop.hop 0) c.loop-hop.hop (port_sender c.seen_stream-seen.result)
-    c.path-port-items.ensures.rules entry
+    (get_or c.ports-port-items.result.now c.loop-hop.hop 0) c.loop-hop.hop (port_sender c.seen_stream-seen.result)
+    c.ports-port-items.ensures.rules entry
 
 pub share_left-left-requires-clause-share : goal.share_left-left-requires-clause-share
 share_left-left-requires-clause-share c =
     let entry = leaving_entry c.args.network.now c.args.stream.now c.args.shares.now c.requires.before
-    c.path-port-items.result.now c.loop-hop.hop (port_sender c.seen_stream-seen.result) c.path-port-items.ensures.value
-    c.loop-hop-test.true c.seen_stream-seen.ensures.seen in
+    c.ports-port-items.result.now c.loop-hop.hop (port_sender c.seen_stream-seen.result)
+    c.ports-port-items.ensures.value c.loop-hop-test.true c.seen_stream-seen.ensures.seen in
     leaving_share c.args.network.now c.args.stream.now c.args.shares.now c.requires.before
-    (without c.args.network.now) c.loop-hop.shares (get_or c.path-port-items.result.now c.loop-hop.hop 0)
+    (without c.args.network.now) c.loop-hop.shares (get_or c.ports-port-items.result.now c.loop-hop.hop 0)
     c.loop-hop.hop (port_sender c.seen_stream-seen.result) c.get-share.result entry c.loop-hop.invariant
     c.get-share.ensures
 
 pub set-requires-clause-port : goal.set-requires-clause-port
 set-requires-clause-port c =
     let entry = leaving_entry c.args.network.now c.args.stream.now c.args.shares.now c.requires.before
-    c.path-port-items.result.now c.loop-hop.hop (port_sender c.seen_stream-seen.result) c.path-port-items.ensures.value
-    c.loop-hop-test.true c.seen_stream-seen.ensures.seen in
+    c.ports-port-items.result.now c.loop-hop.hop (port_sender c.seen_stream-seen.result)
+    c.ports-port-items.ensures.value c.loop-hop-test.true c.seen_stream-seen.ensures.seen in
     omega (arith, entry.inside, c.loop-hop.invariant.count, c.requires.before.counted.count)
 
 pub set-requires-clause-class : goal.set-requires-clause-class
 set-requires-clause-class c =
     (leaving_entry c.args.network.now c.args.stream.now c.args.shares.now c.requires.before
-    c.path-port-items.result.now c.loop-hop.hop (port_sender c.seen_stream-seen.result) c.path-port-items.ensures.value
-    c.loop-hop-test.true c.seen_stream-seen.ensures.seen).most
+    c.ports-port-items.result.now c.loop-hop.hop (port_sender c.seen_stream-seen.result)
+    c.ports-port-items.ensures.value c.loop-hop-test.true c.seen_stream-seen.ensures.seen).most
 
 pub loop-hop-preserved : goal.loop-hop-preserved
 loop-hop-preserved c =
     let entry = leaving_entry c.args.network.now c.args.stream.now c.args.shares.now c.requires.before
-    c.path-port-items.result.now c.loop-hop.hop (port_sender c.seen_stream-seen.result) c.path-port-items.ensures.value
-    c.loop-hop-test.true c.seen_stream-seen.ensures.seen in
+    c.ports-port-items.result.now c.loop-hop.hop (port_sender c.seen_stream-seen.result)
+    c.ports-port-items.ensures.value c.loop-hop-test.true c.seen_stream-seen.ensures.seen in
     entry_changed c.requires.before.old (stream_sender c.args.stream.now)
-    (get_or c.path-port-items.result.now c.loop-hop.hop 0) c.loop-hop.hop (port_sender c.seen_stream-seen.result)
+    (get_or c.ports-port-items.result.now c.loop-hop.hop 0) c.loop-hop.hop (port_sender c.seen_stream-seen.result)
     c.args.shares.now c.loop-hop.shares (without c.args.network.now) c.set.new.self c.share_left-left.result entry
     c.loop-hop.invariant (ap Some (sym c.share_left-left.ensures)) c.set.ensures
 
 pub returns : goal.returns
 returns c =
-    let end : length c.args.stream.now.path ≤ c.loop-hop.hop =
-    omega (arith, c.loop-hop-test.false, ap length c.path-port-items.ensures.value) in
+    let end : length c.args.stream.now.ports ≤ c.loop-hop.hop =
+    omega (arith, c.loop-hop-test.false, ap length c.ports-port-items.ensures.value) in
     shares_left c.requires.before.old c.args.network.now c.args.stream.now c.requires.before.is_less
     c.args.shares.now c.loop-hop.shares c.requires.before.counted
     (subst (λ (path : List ℕ). ChangesAlong (without c.args.network.now) (stream_sender c.args.stream.now) path
-    c.args.shares.now c.loop-hop.shares) (take_all c.loop-hop.hop c.args.stream.now.path end) c.loop-hop.invariant)
+    c.args.shares.now c.loop-hop.shares) (take_all c.loop-hop.hop c.args.stream.now.ports end) c.loop-hop.invariant)

@@ -7,9 +7,9 @@ use Rattle.ats_admission_shares.proofs.leaving.seen_stream.Goals as goal
 pub returns-clause-seen : goal.returns-clause-seen
 returns-clause-seen c =
     let class : get_or c.classes.result.now c.args.hop 0
-    ≡ class_at (stream_sender c.args.stream.now) (get_or c.args.stream.now.path c.args.hop 0) =
+    ≡ class_at (stream_sender c.args.stream.now) (get_or c.args.stream.now.ports c.args.hop 0) =
     ap (λ (l : List ℕ). get_or l c.args.hop 0) c.classes.ensures.value
-    ∙ sym (class_along-at c.args.stream.now.path c.args.stream.now.classes c.args.hop c.requires.apart
+    ∙ sym (class_along-at c.args.stream.now.ports c.args.stream.now.classes c.args.hop c.requires.apart
     c.classes.ensures.rules.each_port c.requires.hop) in
     cc (
       class,

@@ -1,4 +1,4 @@
-use Rattle.std.proofs.Common.{◌≢◌, ◌<◌, ◌∷◌, ◌++◌, [], ℕ, List, length, sym, ap, subst, ◌∙◌, arith}
+use Rattle.std.proofs.Common.{◌≡◌, ◌≢◌, ◌<◌, ◌∷◌, ◌++◌, [], ℕ, List, length, sym, ap, subst, ◌∙◌, arith}
 use Rattle.std.specs.List.{All, AllPairs}
 use Rattle.std.proofs.lemmas.List.{length-map}
 use Rattle.ats_streams.specs.Stream.{DeclaredStream}
@@ -16,10 +16,10 @@ push-requires-clause-ports c =
     let network : DeclaredNetwork = c.args.network.now in
     let n : ℕ = c.args.stream in
     let within : n < length network.streams = omega (arith, c.requires.last) in
-    let own = path_is network c.streams.result.now n c.index-streams-stream.result c.path.result.now within
-    c.streams.ensures.value c.index-streams-stream.is c.path.ensures.value in
+    let own = path_is network c.streams.result.now n c.index-streams-stream.result c.ports.result.now within
+    c.streams.ensures.value c.index-streams-stream.is c.ports.ensures.value in
     subst (All (λ p. p < length c.args.streams.now.lists)) (sym own)
-    (subst (λ (ports : ℕ). All (λ p. p < ports) (stream_at network n).path)
+    (subst (λ (ports : ℕ). All (λ p. p < ports) (stream_at network n).ports)
     (sym c.requires.keeps.users.ports_are) (paths_inside network c.streams.ensures.rules n no_stream within))
 
 pub push-requires-clause-apart : goal.push-requires-clause-apart
@@ -27,8 +27,8 @@ push-requires-clause-apart c =
     let network : DeclaredNetwork = c.args.network.now in
     let n : ℕ = c.args.stream in
     let within : n < length network.streams = omega (arith, c.requires.last) in
-    let own = path_is network c.streams.result.now n c.index-streams-stream.result c.path.result.now within
-    c.streams.ensures.value c.index-streams-stream.is c.path.ensures.value in
+    let own = path_is network c.streams.result.now n c.index-streams-stream.result c.ports.result.now within
+    c.streams.ensures.value c.index-streams-stream.is c.ports.ensures.value in
     subst (AllPairs (λ p q. p ≢ q)) (sym own) (paths_apart network c.streams.ensures.rules n no_stream within)
 
 pub push-requires-clause-room : goal.push-requires-clause-room
@@ -38,21 +38,31 @@ push-requires-clause-room c =
     omega (
       arith,
       c.requires.keeps.users.count,
-      length-map (without_at network n).streams (λ (s : DeclaredStream). s.path),
+      length-map (without_at network n).streams (λ (s : DeclaredStream). s.ports),
       others-length network n c.requires.last,
       c.requires.last,
       c.streams.ensures.rules.few_streams,
     )
 
-pub of-requires : goal.of-requires
-of-requires c =
+pub of-requires-clause-ports : goal.of-requires-clause-ports
+of-requires-clause-ports c =
     let network : DeclaredNetwork = c.args.network.now in
     let n : ℕ = c.args.stream in
     let within : n < length network.streams = omega (arith, c.requires.last) in
     let stream = stream_is network c.streams.result.now n c.index-streams-stream.result within
     c.streams.ensures.value c.index-streams-stream.is in
-    subst (λ (s : DeclaredStream). All (λ p. p < 4096) s.path) (sym stream)
+    subst (λ (s : DeclaredStream). All (λ p. p < 4096) s.ports) (sym stream)
     (few_ports network n c.streams.ensures.rules within)
+
+pub of-requires-clause-one_listener : goal.of-requires-clause-one_listener
+of-requires-clause-one_listener c =
+    let network : DeclaredNetwork = c.args.network.now in
+    let n : ℕ = c.args.stream in
+    let within : n < length network.streams = omega (arith, c.requires.last) in
+    let stream = stream_is network c.streams.result.now n c.index-streams-stream.result within
+    c.streams.ensures.value c.index-streams-stream.is in
+    subst (λ (s : DeclaredStream). s.branches ≡ []) (sym stream)
+    (c.streams.ensures.rules.one_listener n no_stream within)
 
 pub returns-clause-ok : goal.returns-clause-ok
 returns-clause-ok c =
@@ -62,8 +72,8 @@ returns-clause-ok c =
     let within : n < length network.streams = omega (arith, c.requires.last) in
     let stream = stream_is network c.streams.result.now n c.index-streams-stream.result within
     c.streams.ensures.value c.index-streams-stream.is in
-    let own = path_is network c.streams.result.now n c.index-streams-stream.result c.path.result.now within
-    c.streams.ensures.value c.index-streams-stream.is c.path.ensures.value in
+    let own = path_is network c.streams.result.now n c.index-streams-stream.result c.ports.result.now within
+    c.streams.ensures.value c.index-streams-stream.is c.ports.ensures.value in
     let before : List RouteState = routes_of (without_at network n) in
     record {
       users = subst (λ (paths : List (List ℕ)). ListsPaths ports paths c.push.new.self)

@@ -14,24 +14,24 @@ use Rattle.ats_admission_state.proofs.entering.leave.Goals as goal
 
 -- the users once the stream is taken out
 users_left : (network old : DeclaredNetwork) (n : ℕ) (x : DeclaredStream) (path : List ℕ) (before after : UsersState)
-    → n < length old.streams → stream_at old n ≡ x → network ≡ without_at old n → path ≡ x.path
+    → n < length old.streams → stream_at old n ≡ x → network ≡ without_at old n → path ≡ x.ports
     → ListsPaths (length old.topology.ports) (stream_paths old) before
     → ((ports : ℕ) (paths : List (List ℕ)) → ListsPaths ports paths before → get_or paths n [] ≡ path
     → ListsPaths ports (remove paths n) after)
     → ListsPaths (length network.topology.ports) (stream_paths network) after
 users_left network old n x path before after within stream without read listed takes =
     let own : get_or (stream_paths old) n [] ≡ path =
-    get_or-map (λ (s : DeclaredStream). s.path) old.streams n no_stream [] within
-    ∙ ap (λ (s : DeclaredStream). s.path) stream ∙ sym read in
+    get_or-map (λ (s : DeclaredStream). s.ports) old.streams n no_stream [] within
+    ∙ ap (λ (s : DeclaredStream). s.ports) stream ∙ sym read in
     subst (λ (t : DeclaredNetwork). ListsPaths (length t.topology.ports) (stream_paths t) after) (sym without)
     (subst (λ (paths : List (List ℕ)). ListsPaths (length old.topology.ports) paths after)
-    (sym (map-remove (λ (s : DeclaredStream). s.path) old.streams n))
+    (sym (map-remove (λ (s : DeclaredStream). s.ports) old.streams n))
     (takes (length old.topology.ports) (stream_paths old) listed own))
 
 pub leave-requires-clause-users : goal.leave-requires-clause-users
 leave-requires-clause-users c =
-    users_left c.args.network.now c.requires.old c.args.number c.args.stream.now c.path.result.now c.args.streams.now
-    c.take.new.self c.requires.within c.requires.stream c.requires.without c.path.ensures.value
+    users_left c.args.network.now c.requires.old c.args.number c.args.stream.now c.ports.result.now c.args.streams.now
+    c.take.new.self c.requires.within c.requires.stream c.requires.without c.ports.ensures.value
     c.requires.keeps.users c.take.ensures
 
 pub leave-requires-clause-before : goal.leave-requires-clause-before
@@ -46,8 +46,8 @@ leave-requires-clause-before c = record {
 
 pub returns : goal.returns
 returns c = record {
-  users = users_left c.args.network.now c.requires.old c.args.number c.args.stream.now c.path.result.now
-      c.args.streams.now c.take.new.self c.requires.within c.requires.stream c.requires.without c.path.ensures.value
+  users = users_left c.args.network.now c.requires.old c.args.number c.args.stream.now c.ports.result.now
+      c.args.streams.now c.take.new.self c.requires.within c.requires.stream c.requires.without c.ports.ensures.value
       c.requires.keeps.users c.take.ensures;
   shares_are = c.leave.ensures;
   routes_are = c.remove.ensures.items

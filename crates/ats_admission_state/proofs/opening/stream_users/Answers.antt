@@ -7,30 +7,30 @@ use Rattle.ats_admission_state.proofs.opening.stream_users.Goals as goal
 pub push-requires-clause-ports : goal.push-requires-clause-ports
 push-requires-clause-ports c =
     let ports : ℕ = length c.args.network.now.topology.ports in
-    (over_lists ports (length c.loop-stream.users.lists) c.stream-item.result.path c.path.result.now
-    (read_is (λ (x : DeclaredStream). IsOver ports x.path) c.args.network.now.streams c.streams-stream-items.result.now
+    (over_lists ports (length c.loop-stream.users.lists) c.stream-item.result.ports c.ports-in-loop-stream.result.now
+    (read_is (λ (x : DeclaredStream). IsOver ports x.ports) c.args.network.now.streams c.streams-stream-items.result.now
     c.loop-stream.stream-index c.stream-item.result
     (streams_over c.args.network.now c.streams-stream-items.ensures.rules)
     c.loop-stream-test.true c.streams-stream-items.ensures.value c.stream-item.is)
-    c.loop-stream.invariant.ports_are c.path.ensures.value).inside
+    c.loop-stream.invariant.ports_are c.ports-in-loop-stream.ensures.value).inside
 
 pub push-requires-clause-apart : goal.push-requires-clause-apart
 push-requires-clause-apart c =
     let ports : ℕ = length c.args.network.now.topology.ports in
-    (over_lists ports (length c.loop-stream.users.lists) c.stream-item.result.path c.path.result.now
-    (read_is (λ (x : DeclaredStream). IsOver ports x.path) c.args.network.now.streams c.streams-stream-items.result.now
+    (over_lists ports (length c.loop-stream.users.lists) c.stream-item.result.ports c.ports-in-loop-stream.result.now
+    (read_is (λ (x : DeclaredStream). IsOver ports x.ports) c.args.network.now.streams c.streams-stream-items.result.now
     c.loop-stream.stream-index c.stream-item.result
     (streams_over c.args.network.now c.streams-stream-items.ensures.rules)
     c.loop-stream-test.true c.streams-stream-items.ensures.value c.stream-item.is)
-    c.loop-stream.invariant.ports_are c.path.ensures.value).apart
+    c.loop-stream.invariant.ports_are c.ports-in-loop-stream.ensures.value).apart
 
 pub loop-stream-preserved : goal.loop-stream-preserved
 loop-stream-preserved c =
     let ports : ℕ = length c.args.network.now.topology.ports in
     let streams : List DeclaredStream = c.args.network.now.streams in
-    let path_of = λ (x : DeclaredStream). x.path in
+    let path_of = λ (x : DeclaredStream). x.ports in
     subst (λ (paths : List (List ℕ)). ListsPaths ports paths c.push.new.self)
     (next_path path_of streams c.streams-stream-items.result.now c.loop-stream.stream-index c.stream-item.result
-    c.path.result.now c.loop-stream-test.true c.streams-stream-items.ensures.value c.stream-item.is
-    c.path.ensures.value)
+    c.ports-in-loop-stream.result.now c.loop-stream-test.true c.streams-stream-items.ensures.value c.stream-item.is
+    c.ports-in-loop-stream.ensures.value)
     (c.in_ok-push.ensures.ok ports (map path_of (take c.loop-stream.stream-index streams)) c.loop-stream.invariant)

@@ -6,4 +6,4 @@ use Rattle.ats_admission_state.proofs.opening.stream_users.Given as goal
 -- the streams so far are listed
 abbrev pub invariant-loop-stream : goal.invariant-loop-stream
 invariant-loop-stream l = ListsPaths (length l.network.topology.ports)
-    (map (λ (x : DeclaredStream). x.path) (take l.stream-index l.network.streams)) l.users
+    (map (λ (x : DeclaredStream). x.ports) (take l.stream-index l.network.streams)) l.users

@@ -1,4 +1,4 @@
-use Rattle.std.proofs.Common.{◌≡◌, ◌<◌, ℕ, List, length, sym, ap, subst, ◌∙◌, arith}
+use Rattle.std.proofs.Common.{◌≡◌, ◌<◌, ℕ, List, [], length, sym, ap, subst, ◌∙◌, arith}
 use Rattle.std.specs.List.{All}
 use Rattle.std.proofs.lemmas.List.{length-map}
 use Rattle.ats_class_table.specs.Table.{Table}
@@ -18,10 +18,10 @@ pub find_late-requires-clause-ports : goal.find_late-requires-clause-ports
 find_late-requires-clause-ports c =
     let network : DeclaredNetwork = c.args.network.now in
     let within : c.args.stream < length network.streams = omega (arith, c.requires.last) in
-    let own = path_is network c.streams.result.now c.args.stream c.index-streams-stream.result c.path.result.now within
-    c.streams.ensures.value c.index-streams-stream.is c.path.ensures.value in
+    let own = path_is network c.streams.result.now c.args.stream c.index-streams-stream.result c.ports.result.now within
+    c.streams.ensures.value c.index-streams-stream.is c.ports.ensures.value in
     subst (All (λ p. p < length c.args.users.now.lists)) (sym own)
-    (subst (λ (ports : ℕ). All (λ p. p < ports) (stream_at network c.args.stream).path)
+    (subst (λ (ports : ℕ). All (λ p. p < ports) (stream_at network c.args.stream).ports)
     (sym c.requires.users.ports_are)
     (paths_inside network c.streams.ensures.rules c.args.stream no_stream within))
 
@@ -59,11 +59,11 @@ bounds-routes-number c =
     let bounds : Table ℕ = c.args.bounds.now in
     let rules = c.streams.ensures.rules in
     let within : n < length network.streams = omega (arith, c.requires.last) in
-    let own = path_is network c.streams.result.now n c.index-streams-stream.result c.path.result.now within
-    c.streams.ensures.value c.index-streams-stream.is c.path.ensures.value in
+    let own = path_is network c.streams.result.now n c.index-streams-stream.result c.ports.result.now within
+    c.streams.ensures.value c.index-streams-stream.is c.ports.ensures.value in
     let is : late.IsLate network n c.requires.last rules bounds c.requires.least c.in-Some.number =
     late.is_found network n c.requires.last rules bounds c.requires.least c.in-Some.number c.args.routes.now
-    c.path.result.now c.find_late.result c.requires.free c.requires.routes own c.find_late.ensures c.in-Some.is in
+    c.ports.result.now c.find_late.result c.requires.free c.requires.routes own c.find_late.ensures c.in-Some.is in
     let long : length c.args.routes.now ≡ length (without_at network n).streams =
     ap (λ (routes : List RouteState). length routes) c.requires.routes
     ∙ length-map (without_at network n).streams route_of in
@@ -76,11 +76,11 @@ sum-sum-requires c =
     let bounds : Table ℕ = c.args.bounds.now in
     let rules = c.streams.ensures.rules in
     let within : n < length network.streams = omega (arith, c.requires.last) in
-    let own = path_is network c.streams.result.now n c.index-streams-stream.result c.path.result.now within
-    c.streams.ensures.value c.index-streams-stream.is c.path.ensures.value in
+    let own = path_is network c.streams.result.now n c.index-streams-stream.result c.ports.result.now within
+    c.streams.ensures.value c.index-streams-stream.is c.ports.ensures.value in
     let is : late.IsLate network n c.requires.last rules bounds c.requires.least c.in-Some.number =
     late.is_found network n c.requires.last rules bounds c.requires.least c.in-Some.number c.args.routes.now
-    c.path.result.now c.find_late.result c.requires.free c.requires.routes own c.find_late.ensures c.in-Some.is in
+    c.ports.result.now c.find_late.result c.requires.free c.requires.routes own c.find_late.ensures c.in-Some.is in
     let route = late.route_read network n c.requires.last rules bounds c.requires.least c.in-Some.number
     c.args.routes.now c.index-routes-number.result is.within c.requires.routes c.index-routes-number.is in
     subst (AreBounded bounds) (sym route)
@@ -94,11 +94,11 @@ bounds-streams-number c =
     let bounds : Table ℕ = c.args.bounds.now in
     let rules = c.streams.ensures.rules in
     let within : n < length network.streams = omega (arith, c.requires.last) in
-    let own = path_is network c.streams.result.now n c.index-streams-stream.result c.path.result.now within
-    c.streams.ensures.value c.index-streams-stream.is c.path.ensures.value in
+    let own = path_is network c.streams.result.now n c.index-streams-stream.result c.ports.result.now within
+    c.streams.ensures.value c.index-streams-stream.is c.ports.ensures.value in
     let is : late.IsLate network n c.requires.last rules bounds c.requires.least c.in-Some.number =
     late.is_found network n c.requires.last rules bounds c.requires.least c.in-Some.number c.args.routes.now
-    c.path.result.now c.find_late.result c.requires.free c.requires.routes own c.find_late.ensures c.in-Some.is in
+    c.ports.result.now c.find_late.result c.requires.free c.requires.routes own c.find_late.ensures c.in-Some.is in
     let long = ap (λ (streams : List DeclaredStream). length streams) c.streams-in-Some.ensures.value in
     omega (arith, is.within, long, c.requires.last)
 
@@ -109,11 +109,11 @@ returns-in-Some c =
     let bounds : Table ℕ = c.args.bounds.now in
     let rules = c.streams.ensures.rules in
     let within : n < length network.streams = omega (arith, c.requires.last) in
-    let own = path_is network c.streams.result.now n c.index-streams-stream.result c.path.result.now within
-    c.streams.ensures.value c.index-streams-stream.is c.path.ensures.value in
+    let own = path_is network c.streams.result.now n c.index-streams-stream.result c.ports.result.now within
+    c.streams.ensures.value c.index-streams-stream.is c.ports.ensures.value in
     let is : late.IsLate network n c.requires.last rules bounds c.requires.least c.in-Some.number =
     late.is_found network n c.requires.last rules bounds c.requires.least c.in-Some.number c.args.routes.now
-    c.path.result.now c.find_late.result c.requires.free c.requires.routes own c.find_late.ensures c.in-Some.is in
+    c.ports.result.now c.find_late.result c.requires.free c.requires.routes own c.find_late.ensures c.in-Some.is in
     let route = late.route_read network n c.requires.last rules bounds c.requires.least c.in-Some.number
     c.args.routes.now c.index-routes-number.result is.within c.requires.routes c.index-routes-number.is in
     c.within_deadline.ensures
@@ -123,14 +123,23 @@ returns-in-Some c =
     (omega (arith, is.within, c.requires.last)) c.streams-in-Some.ensures.value c.index-streams-number.is)
     route c.sum-sum.ensures
 
-pub of-requires : goal.of-requires
-of-requires c =
+pub of-requires-clause-ports : goal.of-requires-clause-ports
+of-requires-clause-ports c =
     let network : DeclaredNetwork = c.args.network.now in
     let within : c.args.stream < length network.streams = omega (arith, c.requires.last) in
     let stream = stream_is network c.streams.result.now c.args.stream c.index-streams-stream.result within
     c.streams.ensures.value c.index-streams-stream.is in
-    subst (λ (s : DeclaredStream). All (λ p. p < 4096) s.path) (sym stream)
+    subst (λ (s : DeclaredStream). All (λ p. p < 4096) s.ports) (sym stream)
     (few_ports network c.args.stream c.streams.ensures.rules within)
+
+pub of-requires-clause-one_listener : goal.of-requires-clause-one_listener
+of-requires-clause-one_listener c =
+    let network : DeclaredNetwork = c.args.network.now in
+    let within : c.args.stream < length network.streams = omega (arith, c.requires.last) in
+    let stream = stream_is network c.streams.result.now c.args.stream c.index-streams-stream.result within
+    c.streams.ensures.value c.index-streams-stream.is in
+    subst (λ (s : DeclaredStream). s.branches ≡ []) (sym stream)
+    (c.streams.ensures.rules.one_listener c.args.stream no_stream within)
 
 pub sum-requires : goal.sum-requires
 sum-requires c =
@@ -149,13 +158,13 @@ returns c =
     let bounds : Table ℕ = c.args.bounds.now in
     let rules = c.streams.ensures.rules in
     let within : n < length network.streams = omega (arith, c.requires.last) in
-    let own = path_is network c.streams.result.now n c.index-streams-stream.result c.path.result.now within
-    c.streams.ensures.value c.index-streams-stream.is c.path.ensures.value in
+    let own = path_is network c.streams.result.now n c.index-streams-stream.result c.ports.result.now within
+    c.streams.ensures.value c.index-streams-stream.is c.ports.ensures.value in
     let stream = stream_is network c.streams.result.now n c.index-streams-stream.result within
     c.streams.ensures.value c.index-streams-stream.is in
     c.within_deadline-2.ensures
     ∙ late.own_answer network n c.requires.last rules bounds c.requires.least c.index-streams-stream.result
     c.of.result c.sum.result
-    (late.none_found network n c.requires.last rules bounds c.requires.least c.args.routes.now c.path.result.now
+    (late.none_found network n c.requires.last rules bounds c.requires.least c.args.routes.now c.ports.result.now
     c.find_late.result c.requires.free c.requires.routes own c.find_late.ensures c.in_default.is)
     stream (c.of.ensures ∙ ap route_of stream) c.sum.ensures

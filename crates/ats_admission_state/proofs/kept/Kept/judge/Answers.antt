@@ -25,15 +25,15 @@ judge_stream-requires-clause-beside c =
     let network : DeclaredNetwork = c.args.network.now in
     let n : ℕ = c.args.stream in
     (stay network n c.self.inside.bounds (omega (arith, c.requires.last))).entered
-    (subst (λ (kept : KeptState). AreLeastBeside (without_at network n) (stream_at network n).path kept.bounds)
+    (subst (λ (kept : KeptState). AreLeastBeside (without_at network n) (stream_at network n).ports kept.bounds)
     (sym c.self.view_is) c.requires.beside.bounds)
 
 pub returns-in_err-sum-clause-err : goal.returns-in_err-sum-clause-err
 returns-in_err-sum-clause-err c =
     let network : DeclaredNetwork = c.args.network.now in
     let n : ℕ = c.args.stream in
-    let before : IsKeptBeside (without_at network n) (stream_at network n).path _ =
-    subst (IsKeptBeside (without_at network n) (stream_at network n).path) (sym c.self.view_is) c.requires.beside in
+    let before : IsKeptBeside (without_at network n) (stream_at network n).ports _ =
+    subst (IsKeptBeside (without_at network n) (stream_at network n).ports) (sym c.self.view_is) c.requires.beside in
     on_err c.from_residual.result _ (record {
       keeps = before.keeps;
       bounds = (stay network n c.judge_stream.new.bounds (omega (arith, c.requires.last))).left
