@@ -33,13 +33,14 @@ use Rattle.ats_witness.specs.Burst.{IsBurstFor, frames_in_burst, interferes, por
 use Rattle.ats_witness.specs.Burst.{whole_frames}
 use Rattle.ats_witness.specs.Delay.{ArrivedAfter, IsGreatestDelay, NoneArrived}
 use Rattle.ats_witness.specs.Found.{IsFoundAt}
+use Rattle.ats_witness.specs.Played.{IsPlayed}
 use Rattle.ats_witness.proofs.BurstLemmas.{release_in}
 use Rattle.ats_witness.proofs.KeptLemmas.{burst_keeps}
 use Rattle.ats_witness.proofs.StreamLemmas.{stream_covers}
 
--- a stream has a frame in the burst at each port of its path
+-- a stream has a frame in the burst at each of its ports
 own_frame : (network : DeclaredNetwork) (stream hop : ℕ) → IsNetwork network → stream < length network.streams
-    → hop < length (sender_at network stream).path
+    → hop < length (sender_at network stream).ports
     → 1 ≤ frames_in_burst (port_of_hop network stream hop)
     (class_at (sender_at network stream) (port_of_hop network stream hop)) (sender_at network stream)
 own_frame network stream hop net h within =
@@ -48,7 +49,7 @@ own_frame network stream hop net h within =
     let class : ℕ = class_at s port in
     let covers : bits_of s.max_octets ≤ s.burst_bits = stream_covers network stream net h in
     let on : uses port s ≡ true =
-    list_any_at (λ (p : ℕ). eqb p port) s.path hop 0 within (eq-eqb port port refl) in
+    list_any_at (λ (p : ℕ). eqb p port) s.ports hop 0 within (eq-eqb port port refl) in
     let here : interferes port class s ≡ true = le-leb class class (omega arith) in
     let one : 1 ≤ s.burst_bits / bits_of s.max_octets =
     le-div 1 s.burst_bits (bits_of s.max_octets) (omega arith) (omega (arith, covers)) in
@@ -79,7 +80,7 @@ released run stream r there own =
     }
 
 own_journey : (network : DeclaredNetwork) (stream hop : ℕ) (run : List Travel) → IsNetwork network
-    → stream < length network.streams → hop < length (sender_at network stream).path
+    → stream < length network.streams → hop < length (sender_at network stream).ports
     → IsBurstFor network stream (port_of_hop network stream hop) (releases_of run) → HasJourney run stream
 own_journey network stream hop run net h within burst =
     let s : Sender = sender_at network stream in
@@ -117,7 +118,7 @@ arrived run stream limit j Discard there own is by none = absurd by
 
 pub some_arrived : (network : DeclaredNetwork) (rows : List Row) (stream hop : ℕ) (run : List Travel)
     → IsNetwork network → Holds network rows → IsLegal network run → stream < length network.streams
-    → hop < length (sender_at network stream).path
+    → hop < length (sender_at network stream).ports
     → IsBurstFor network stream (port_of_hop network stream hop) (releases_of run) → NoneArrived run stream → ⊥
 some_arrived network rows stream hop run net holds legal h within burst none =
     let port : ℕ = port_of_hop network stream hop in
@@ -153,3 +154,16 @@ pub found_within : (network : DeclaredNetwork) (rows : List Row) (stream port de
 found_within network rows stream port delay net holds h found =
     delay_within network rows stream port delay found.run net holds found.of_burst.by.legal h found.of_burst.burst
     found.greatest
+
+-- the delay found in a run of a burst is the one found at each port of which it is the burst
+pub played_found : (network : DeclaredNetwork) (stream port delay : ℕ) (releases : List Release)
+    → IsPlayed network stream releases delay → IsBurstFor network stream port releases
+    → IsFoundAt network stream port delay
+played_found network stream port delay releases played burst = record {
+  run = played.run;
+  of_burst = record {
+    by = played.by;
+    burst = subst (IsBurstFor network stream port) (sym played.released) burst;
+  };
+  greatest = played.greatest;
+}

@@ -6,3 +6,4 @@ pub mod BurstLemmas
 pub mod KeptLemmas
 mod SizeLemmas
 pub mod FoundLemmas
+pub mod PlayedLemmas

@@ -115,13 +115,13 @@ over-le network octets p net few within =
 travel-le : (network : DeclaredNetwork) (port : ℕ) (s : Sender) → IsNetwork network → IsSender network.topology s
     → travel_to network port s ≤ 57856000000
 travel-le network port s net keeps =
-    let before : List ℕ = before_first (λ (p : ℕ). eqb p port) s.path in
+    let before : List ℕ = before_first (λ (p : ℕ). eqb p port) s.ports in
     let short : length before ≤ 16 =
-    omega (arith, keeps.path.most, length-take (position_or_len (λ (p : ℕ). eqb p port) s.path) s.path) in
+    omega (arith, keeps.path.most, length-take (position_or_len (λ (p : ℕ). eqb p port) s.ports) s.ports) in
     let each : All (λ (p : ℕ). time_over network s.max_octets p ≤ 3616000000) before = λ k d h.
     over-le network s.max_octets (get_or before k d) net keeps.sizes.most
     (All-take (λ (p : ℕ). p < length network.topology.ports)
-    (position_or_len (λ (p : ℕ). eqb p port) s.path) s.path keeps.ports k d h) in
+    (position_or_len (λ (p : ℕ). eqb p port) s.ports) s.ports keeps.ports k d h) in
     let sum = sum_by-le (time_over network s.max_octets) 3616000000 before each in
     omega (arith, sum, short)
 
@@ -190,14 +190,14 @@ burst_may_run network port class made releases net some is order burst = record 
 
 -- a stream's class at a hop of its path is not 0
 pub hop_class : (network : DeclaredNetwork) (stream hop : ℕ) → IsNetwork network → stream < length network.streams
-    → hop < length (sender_at network stream).path
+    → hop < length (sender_at network stream).ports
     → 1 ≤ class_at (sender_at network stream) (port_of_hop network stream hop)
 hop_class network stream hop net h within =
     let s : Sender = sender_at network stream in
     let is : s ≡ stream_sender (get_or network.streams stream no_stream) = stream_at network stream h in
     let port : ℕ = port_of_hop network stream hop in
     let on : uses port s ≡ true =
-    list_any_at (λ (p : ℕ). eqb p port) s.path hop 0 within (eq-eqb port port refl) in
+    list_any_at (λ (p : ℕ). eqb p port) s.ports hop 0 within (eq-eqb port port refl) in
     let class = class_at-stream (get_or network.streams stream no_stream) port (net.streams stream no_stream h)
     (subst (λ (x : Sender). uses port x ≡ true) is on) in
     let same = ap (λ (x : Sender). class_at x port) is in

@@ -18,9 +18,9 @@ time_over network octets p =
 
 -- a sender's travel to a port: what its longest frame takes over the ports of its path before that one
 abbrev pub travel_to : DeclaredNetwork → ℕ → Sender → ℕ
-travel_to network port s = sum_by (time_over network s.max_octets) (before_first (λ p. p == port) s.path)
+travel_to network port s = sum_by (time_over network s.max_octets) (before_first (λ p. p == port) s.ports)
 
--- the greatest travel to a port, of all senders whose paths have it
+-- the greatest travel to a port, of all senders that have it
 abbrev pub greatest_travel : DeclaredNetwork → ℕ → ℕ
 greatest_travel network port = fold max 0 (map (travel_to network port) (filter (uses port) (senders_of network)))
 
@@ -33,7 +33,7 @@ abbrev pub whole_frames : Sender → ℕ
 whole_frames s = min 40 (s.burst_bits / bits_of s.max_octets)
 
 -- how many frames a sender has in the burst at a port for a class: as many as its burst holds, where it interferes,
--- else one; none where its path does not have the port
+-- else one; none where it does not have the port
 abbrev pub frames_in_burst : ℕ → ℕ → Sender → ℕ
 frames_in_burst port class s =
     if uses port s then (if interferes port class s then whole_frames s else 1) else 0
@@ -73,4 +73,4 @@ IsBurstFor network stream port releases =
 
 -- the port of a hop of a sender's path, counted from 0
 abbrev pub port_of_hop : DeclaredNetwork → ℕ → ℕ → ℕ
-port_of_hop network sender hop = slice_index_or (sender_at network sender).path hop 0
+port_of_hop network sender hop = slice_index_or (sender_at network sender).ports hop 0

@@ -37,7 +37,7 @@ IsWithinBound network stream delay =
 abbrev pub IsFirstGreatest : List ℕ → ℕ → Type 0
 IsFirstGreatest numbers place = IsFirstMaxByKey (λ n. n) numbers (length numbers) place
 
--- what is found of a stream: a delay for each port of its path, a hop, and releases
+-- what is found of a stream: a delay for each of its ports, a hop, and releases
 pub record FoundDelays : Type 0 where
   pub delays : List ℕ
   pub hop : ℕ
@@ -46,9 +46,9 @@ pub record FoundDelays : Type 0 where
 abbrev pub found_delays : List ℕ → ℕ → List Release → FoundDelays
 found_delays delays hop releases = record { delays = delays; hop = hop; releases = releases }
 
--- the delay found at each port of its path, in order; the first hop with a greatest delay; and the releases of the
+-- the delay found at each of its ports, in order; the first hop with a greatest delay; and the releases of the
 -- burst at the port of this hop
 pub record AreFound (network : DeclaredNetwork) (stream : ℕ) (found : FoundDelays) : Type 0 where
-  pub each : AllZip (IsFoundAt network stream) (sender_at network stream).path found.delays
+  pub each : AllZip (IsFoundAt network stream) (sender_at network stream).ports found.delays
   pub first : IsFirstGreatest found.delays found.hop
   pub burst : IsBurstFor network stream (port_of_hop network stream found.hop) found.releases

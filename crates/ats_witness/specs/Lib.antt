@@ -4,3 +4,4 @@ pub mod Delay
 pub mod Found
 pub mod Made
 pub mod Longest
+pub mod Played

@@ -21,7 +21,7 @@ pub record IsParticipant (network : DeclaredNetwork) (port : ℕ) (s : Sender) (
   pub most : p.travel ≤ 57856000000
   pub limits : KeepsLimits p.seen
 
--- the greatest travel so far with one sender more, where its path has the port
+-- the greatest travel so far with one sender more, where it has the port
 abbrev pub with_travel : DeclaredNetwork → ℕ → ℕ → Sender → ℕ
 with_travel network port greatest s = if uses port s then max greatest (travel_to network port s) else greatest
 

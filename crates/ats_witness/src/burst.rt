@@ -14,7 +14,7 @@ use ats_num::Ps;
 use ats_trace::Release;
 use std::alloc::{AllocError, Global};
 
-/// The burst at a hop of a stream's path, counted from 0, as releases that may be run. The senders whose paths have the
+/// The burst at a hop of a stream, counted from 0, as releases that may be run. The senders that have the
 /// port of the hop take part, with longest frames: each stream whose class there is at least this stream's with as many
 /// as its burst holds whole, but at most 40, and each other stream and each flow with one. The first are released so
 /// that they come to the port at one moment if nothing delays them, the others a picosecond earlier. The releases are
@@ -27,13 +27,13 @@ pub fn releases(
     hop: u32,
 ) -> Result<Vec<Release>, AllocError>
     requires stream { stream < length network.now.streams }
-    requires hop { hop < length (sender_at network.now stream).path }
+    requires hop { hop < length (sender_at network.now stream).ports }
     ensures burst { IfOk result (λ releases.
         IsBurstFor network.now stream (port_of_hop network.now stream hop) releases.items) }
     ensures releases { IfOk result (λ releases. AreReleases network.now releases.items) }
     ensures keeps { IfOk result (λ releases. (station : ℕ) → KeepsBuckets network.now releases.items station) }
 {
-    let port = network.sender_path(stream)[hop as usize];
+    let port = network.sender_ports(stream)[hop as usize];
     let class = network.sender_class(stream, hop);
     in_order(by_sender(alloc, network, port, class)?)
 }

@@ -1,6 +1,6 @@
 //! The search for the delays of a stream.
 
-ghost use Rattle.std.specs.Prelude.{◌<◌, length, All, IfOk};
+ghost use Rattle.std.specs.Prelude.{◌≡◌, ◌<◌, length, All, IfOk};
 ghost use Rattle.std.specs.List.{AllZip};
 ghost use Rattle.ats_network.specs.Network.{IsNetwork};
 ghost use Rattle.ats_network.specs.Senders.{sender_at};
@@ -8,9 +8,10 @@ ghost use Rattle.ats_certificate.specs.Certificate.{Holds};
 ghost use Rattle.ats_bound.specs.Least.{least_certificate};
 ghost use Rattle.ats_trace.specs.Releases.{AreReleases};
 ghost use Rattle.ats_trace.specs.Run.{HasReleases, IsRunBy};
-ghost use Rattle.ats_witness.specs.Burst.{port_of_hop};
+ghost use Rattle.ats_witness.specs.Burst.{IsBurstFor, port_of_hop};
 ghost use Rattle.ats_witness.specs.Found.{AreFound, IsFirstGreatest, IsFoundAt, IsWithinBound, greatest_wait};
 ghost use Rattle.ats_witness.specs.Last.{last_key};
+ghost use Rattle.ats_witness.specs.Played.{IsPlayed};
 
 use crate::burst::releases;
 use crate::delay::worst;
@@ -23,10 +24,11 @@ use ats_num::Greatest;
 use ats_trace::{Release, Run};
 use std::alloc::{AllocError, Global};
 
-/// What is found of a stream of a network for which a certificate holds: the burst at each port of its path is run, so
+/// What is found of a stream of a network for which a certificate holds: the burst at each of its ports is run, so
 /// that the stream's frames go last of those that tie and each frame arrives behind each port as late as it may, and
 /// the greatest delay of the stream in each run is kept. None is above the sum of the stream's least bounds. It takes
-/// the time of one run for each port, and the memory of one. `AllocError` where there is no memory for it.
+/// the time of one run for each port whose burst is another than that of the port before, and the memory of one.
+/// `AllocError` where there is no memory for it.
 pub fn witness(alloc: Global, network: &Network, stream: u32) -> Result<Found, AllocError>
     requires stream { stream < length network.now.streams }
     requires holds { Holds network.now (least_certificate network.now) }
@@ -40,36 +42,83 @@ pub fn witness(alloc: Global, network: &Network, stream: u32) -> Result<Found, A
     Ok(Found::new(delays, hop, burst))
 }
 
-// The delay found at each port of a stream's path.
+// The delay found at each port of a stream.
 fn delays_of(alloc: Global, network: &Network, stream: u32) -> Result<Vec<u64>, AllocError>
     requires stream { stream < length network.now.streams }
     requires holds { Holds network.now (least_certificate network.now) }
     ensures each { IfOk result (λ delays.
-        AllZip (IsFoundAt network.now stream) (sender_at network.now stream).path delays.items) }
+        AllZip (IsFoundAt network.now stream) (sender_at network.now stream).ports delays.items) }
     ensures within { IfOk result (λ delays. All (IsWithinBound network.now stream) delays.items) }
     ensures rules { IsNetwork network.now }
 {
-    let hops = network.sender_path(stream).len();
+    let hops = network.sender_ports(stream).len();
     let mut delays = Vec::with_capacity(alloc, hops)?;
-    for hop in 0..hops {
-        delays.push(delay_at(alloc, network, stream, hop as u32)?)?;
+    let mut played = play(
+        alloc,
+        network,
+        stream,
+        0,
+        releases(alloc, network, stream, 0)?,
+    )?;
+    delays.push(played.delay)?;
+    for hop in 1..hops {
+        played = play_next(alloc, network, stream, hop as u32, played)?;
+        delays.push(played.delay)?;
     }
     Ok(delays)
 }
 
-// The delay found at the port of a hop of a stream's path.
-fn delay_at(alloc: Global, network: &Network, stream: u32, hop: u32) -> Result<u64, AllocError>
+// A burst, and the greatest delay of a stream in a run of it.
+#[derive(Drop)]
+struct Played {
+    burst: Vec<Release>,
+    delay: u64,
+}
+
+// The burst at the port of a hop, where the one at the port before was played: an equal one is not run again.
+fn play_next(
+    alloc: Global,
+    network: &Network,
+    stream: u32,
+    hop: u32,
+    last: Played,
+) -> Result<Played, AllocError>
     requires stream { stream < length network.now.streams }
-    requires hop { hop < length (sender_at network.now stream).path }
+    requires hop { hop < length (sender_at network.now stream).ports }
     requires rules { IsNetwork network.now }
     requires holds { Holds network.now (least_certificate network.now) }
-    ensures found { IfOk result (IsFoundAt network.now stream (port_of_hop network.now stream hop)) }
-    ensures within { IfOk result (IsWithinBound network.now stream) }
+    requires last { IsPlayed network.now stream last.burst.items last.delay }
+    ensures played { IfOk result (λ played. IsPlayed network.now stream played.burst.items played.delay) }
+    ensures burst { IfOk result (λ played.
+        IsBurstFor network.now stream (port_of_hop network.now stream hop) played.burst.items) }
 {
-    let schedule = releases(alloc, network, stream, hop)?;
-    let run = run_of(alloc, network, &schedule, stream)?;
+    let next = releases(alloc, network, stream, hop)?;
+    if next == last.burst {
+        return Ok(last);
+    }
+    play(alloc, network, stream, hop, next)
+}
+
+// The burst at the port of a hop, with the greatest delay of the stream in its run.
+fn play(
+    alloc: Global,
+    network: &Network,
+    stream: u32,
+    hop: u32,
+    burst: Vec<Release>,
+) -> Result<Played, AllocError>
+    requires stream { stream < length network.now.streams }
+    requires hop { hop < length (sender_at network.now stream).ports }
+    requires rules { IsNetwork network.now }
+    requires holds { Holds network.now (least_certificate network.now) }
+    requires releases { AreReleases network.now burst.items }
+    requires burst { IsBurstFor network.now stream (port_of_hop network.now stream hop) burst.items }
+    ensures played { IfOk result (λ played. IsPlayed network.now stream played.burst.items played.delay) }
+    ensures burst { IfOk result (λ played. played.burst.items ≡ burst.items) }
+{
+    let run = run_of(alloc, network, &burst, stream)?;
     match worst(&run, stream) {
-        Some(delay) => Ok(delay),
+        Some(delay) => Ok(Played { burst, delay }),
         None => unreachable!(),
     }
 }

@@ -6,7 +6,7 @@ ghost use Rattle.ats_witness.specs.Found.{IsFirstGreatest, found_delays};
 use ats_trace::Release;
 use std::marker::Model;
 
-/// What is found of a stream: for each port of its path a delay, the first hop at which the delay is greatest, and the
+/// What is found of a stream: for each of its ports a delay, the first hop at which the delay is greatest, and the
 /// releases of the burst at the port of this hop. Contracts see the delays in picoseconds, the hop, and the releases.
 #[derive(Drop)]
 pub struct Found {
@@ -38,7 +38,7 @@ impl Found {
         }
     }
 
-    /// The delay found at each port of the stream's path, in order, in picoseconds.
+    /// The delay found at each port of the stream, in order, in picoseconds.
     pub fn delays(&self) -> &[u64]
         ensures value { result.now ≡ self.now.delays }
         ensures first { IsFirstGreatest self.now.delays self.now.hop }

@@ -1,4 +1,4 @@
-//! Found delays: what a stated burst at each port of a stream's path does to the stream's frames, beside the bound on
+//! Found delays: what a stated burst at each port of a stream does to the stream's frames, beside the bound on
 //! what can happen.
 #![tactic(auto)]
 

@@ -58,13 +58,13 @@ impl Participant {
     }
 }
 
-/// A sender as it takes part in the burst at a port; `None` exactly where its path does not have the port.
+/// A sender as it takes part in the burst at a port; `None` exactly where it does not have the port.
 pub(crate) fn taking_part(network: &Network, sender: u32, port: u32) -> Option<Participant>
     requires { sender < length (senders_of network.now) }
     ensures { MatchOption result (uses port (sender_at network.now sender) ≡ false)
         (IsParticipant network.now port (sender_at network.now sender)) }
 {
-    let path = network.sender_path(sender);
+    let path = network.sender_ports(sender);
     let hop = hop_of(path, port)?;
     let seen = SeenSender::at(network, sender, hop as u32);
     Some(Participant {

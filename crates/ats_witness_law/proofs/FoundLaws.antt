@@ -56,7 +56,7 @@ happens_within network rows place delay stream sound named can =
     let served = sound.served can.run can.legal j can.there (slice_get_within network.streams i stream own)
     (can.keeps (talker_of network i)) in
     let by : ArrivesBy (j.release.at.0 + bound_along rows stream) j.ending =
-    subst (λ (s : Sender). ArrivesBy (j.release.at.0 + sum_by (bounds_of rows s) s.path) j.ending)
+    subst (λ (s : Sender). ArrivesBy (j.release.at.0 + sum_by (bounds_of rows s) s.ports) j.ending)
     (sender_of_stream network i stream own) served.arrives in
     let reached : ArrivesBy (j.release.at.0 + bound_along rows stream)
     (Sink (record { 0 = j.release.at.0 + delay })) =

@@ -144,7 +144,7 @@ all_cross network run net legal k d h =
     let one : Crossing = get_or crossings k d in
     let at = run_were_sent (IsKnown network) network 0 run
     (λ n j. all_were_sent (IsKnown network) n j.release (sender_at network j.release.sender)
-    (sender_at network j.release.sender).path j.hops j.ending) (known network run c) k d h in
+    (sender_at network j.release.sender).ports j.hops j.ending) (known network run c) k d h in
     let own = λ (x : Crossing). x.port == one.port in
     let mine : All CrossesAfter (crossings_by network run one.port) = λ i e g.
     one_crosses (port_at network.topology.ports one.port).ps_per_bit
@@ -228,7 +228,7 @@ delays_are_exact network run sender took j net legal a =
     let s : Sender = sender_at network j.release.sender in
     let keeps = sender_is network net j.release.sender is.sender in
     let late : NotBefore j.release.at.0 j.ending =
-    not_before j.release.at.0 n.number j.release s s.path j.hops j.ending is.way n.crossings n.handed
-    (comes_first j.release s.path j.hops j.ending (omega (arith, keeps.path.least)) is.released) in
+    not_before j.release.at.0 n.number j.release s s.ports j.hops j.ending is.way n.crossings n.handed
+    (comes_first j.release s.ports j.hops j.ending (omega (arith, keeps.path.least)) is.released) in
     let reached : j.release.at.0 ≤ a.at.0 = subst (NotBefore j.release.at.0) a.arrived late in
     a.arrived ∙ ap (λ (t : Ps). Sink t) (exactly j.release.at.0 took a.at reached a.after)

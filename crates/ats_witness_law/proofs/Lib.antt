@@ -1,5 +1,5 @@
 mod LateArrivals
 mod OneBurst
 mod PortBefore
-mod FoundLaws
-mod WorkedBursts
+pub mod FoundLaws
+pub mod WorkedBursts

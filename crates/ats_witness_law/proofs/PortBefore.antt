@@ -10,7 +10,7 @@ use Rattle.std.proofs.lemmas.List.Folds.{list_any_none}
 use Rattle.std.proofs.lemmas.List.Sums.{fails_before_first, passes_at_first, position_or_len_is, sum_by_more}
 use Rattle.ats_facts.proofs.Lists.{pairs_head}
 use Rattle.ats_network.specs.Class.{before_along, port_before}
-use Rattle.ats_network.proofs.ClassLemmas.{before_along-at}
+use Rattle.ats_network.proofs.ClassLemmas.{before_along-at, port_before-one}
 use Rattle.ats_witness.specs.Burst.{time_over, travel_to}
 use Rattle.ats_witness_law.specs.Laws.{TravelGoesOverThePortBefore}
 
@@ -80,8 +80,11 @@ has_place port path used =
 
 pub travel_goes_over_the_port_before : TravelGoesOverThePortBefore
 travel_goes_over_the_port_before network s port is used =
-    let at : HasPlace port s.path = has_place port s.path used in
+    let at : HasPlace port s.ports = has_place port s.ports used in
     subst (λ (p : ℕ). travel_to network p s
     ≡ option_map_or (λ before. travel_to network before s + time_over network s.max_octets before) (port_before s p) 0)
     at.there
-    (by_place (time_over network s.max_octets) s.path at.place is.apart at.within)
+    (by_place (time_over network s.max_octets) s.ports at.place is.apart at.within
+    ∙ sym (ap (λ (o : Option ℕ).
+    option_map_or (λ before. travel_to network before s + time_over network s.max_octets before) o 0)
+    (port_before-one s (get_or s.ports at.place 0) is.one_listener)))

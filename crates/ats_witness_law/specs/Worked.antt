@@ -34,7 +34,7 @@ before_the_other =
     ∷ sunk 1 1 1522 (hop 1 1 1 12336001 ∷ hop 13836001 13836001 26172001 38508001 ∷ []) 39008001
     ∷ []
 
--- at each port of its path the fork's first stream has a delay, and the burst there is this one; the second delay is
+-- at each of its ports the fork's first stream has a delay, and the burst there is this one; the second delay is
 -- the greatest, and the sum of its least bounds. On the line a frame of the flow is a picosecond ahead at both ports,
 -- and the delay found is less than the bound
 pub record FoundDelaysAreMet : Type 0 where

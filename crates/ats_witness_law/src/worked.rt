@@ -2,7 +2,7 @@
 
 ghost use Rattle.ats_witness_law.specs.Worked.{BurstsCount, FoundDelaysAreMet};
 
-/// The burst at each port of a stream's path and the delay found there, in a network where two streams meet, whose
+/// The burst at each port of a stream and the delay found there, in a network where two streams meet, whose
 /// bound is reached, and in one where a flow is in the way, whose bound is not.
 pub fn found_delays_are_met()
     ensures { FoundDelaysAreMet }

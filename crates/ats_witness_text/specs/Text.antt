@@ -24,10 +24,10 @@ witness_line name delay bound =
     codes "witness " ++ name ++ codes " delay " ++ decimal delay ++ codes " bound " ++ decimal bound
     ++ codes " gap " ++ decimal (bound - delay) ++ codes "\n"
 
--- what is printed of what is found of a stream: a line for each port of its path, with the delay found there, then the
+-- what is printed of what is found of a stream: a line for each of its ports, with the delay found there, then the
 -- releases, and last its name with the greatest delay found and with this bound
 unfoldable pub witness_text : DeclaredNetwork → ℕ → FoundDelays → ℕ → List ℕ
 witness_text network stream found bound =
-    flat_map (hop_line network.topology) (zip (sender_at network stream).path found.delays)
+    flat_map (hop_line network.topology) (zip (sender_at network stream).ports found.delays)
     ++ flat_map (release_line network) found.releases
     ++ witness_line (sender_at network stream).name (slice_index found.delays found.hop) bound

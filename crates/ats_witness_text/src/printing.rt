@@ -17,7 +17,7 @@ use ats_witness::Found;
 use itoa::{Buffer, Integer};
 use std::alloc::{AllocError, Global};
 
-/// What is found of a stream of a network, as text: a line for each port of its path with the delay found there, a line
+/// What is found of a stream of a network, as text: a line for each of its ports with the delay found there, a line
 /// for each release of the burst at the port of the first hop with a greatest delay, and a last one with the stream's
 /// name, this delay, a bound, and by how much the bound is above the delay: 0 where it is not. All times are in
 /// picoseconds. It takes time linear in the number of lines. `AllocError` where there is no memory for the text.
@@ -38,7 +38,7 @@ pub fn witnessed(
     write_hops(
         &mut out,
         network.topology(),
-        network.sender_path(stream),
+        network.sender_ports(stream),
         found.delays(),
     )?;
     write_releases(&mut out, network, found.releases())?;

@@ -28,7 +28,7 @@ few_senders network net =
 
 -- what was made is made for the port and the class of the hop
 made_is : (network : DeclaredNetwork) (stream hop : ℕ) (path : List ℕ) (class : ℕ) (made : List Release)
-    → path ≡ (sender_at network stream).path
+    → path ≡ (sender_at network stream).ports
     → class ≡ class_at (sender_at network stream) (port_of_hop network stream hop)
     → made ≡ by_sender network (get_or path hop 0) class (length (senders_of network))
     → made ≡ by_sender network (port_of_hop network stream hop)
@@ -43,9 +43,9 @@ returns-clause-burst c = IfOk-weaker c.in_order.result _ _
     (λ releases order. made_is_burst c.args.network.now (port_of_hop c.args.network.now c.args.stream c.args.hop)
     (class_at (sender_at c.args.network.now c.args.stream)
     (port_of_hop c.args.network.now c.args.stream c.args.hop)) c.in_ok-by_sender.field-0.items releases.items
-    (few_senders c.args.network.now c.sender_path.ensures.rules)
-    (made_is c.args.network.now c.args.stream c.args.hop c.sender_path.result.now c.sender_class-class.result
-    c.in_ok-by_sender.field-0.items c.sender_path.ensures.value c.sender_class-class.ensures.port
+    (few_senders c.args.network.now c.sender_ports.ensures.rules)
+    (made_is c.args.network.now c.args.stream c.args.hop c.sender_ports.result.now c.sender_class-class.result
+    c.in_ok-by_sender.field-0.items c.sender_ports.ensures.value c.sender_class-class.ensures.port
     c.in_ok-by_sender.ensures) order)
     c.in_order.ensures
 
@@ -54,15 +54,15 @@ returns-clause-releases c =
     let network : DeclaredNetwork = c.args.network.now in
     let port : ℕ = port_of_hop network c.args.stream c.args.hop in
     let class : ℕ = class_at (sender_at network c.args.stream) port in
-    let is = made_is network c.args.stream c.args.hop c.sender_path.result.now c.sender_class-class.result
-    c.in_ok-by_sender.field-0.items c.sender_path.ensures.value c.sender_class-class.ensures.port
+    let is = made_is network c.args.stream c.args.hop c.sender_ports.result.now c.sender_class-class.result
+    c.in_ok-by_sender.field-0.items c.sender_ports.ensures.value c.sender_class-class.ensures.port
     c.in_ok-by_sender.ensures in
     IfOk-weaker c.in_order.result _ _
     (λ releases order. burst_may_run network port class c.in_ok-by_sender.field-0.items releases.items
-    c.sender_path.ensures.rules
-    (hop_class network c.args.stream c.args.hop c.sender_path.ensures.rules c.requires.stream c.requires.hop) is order
+    c.sender_ports.ensures.rules
+    (hop_class network c.args.stream c.args.hop c.sender_ports.ensures.rules c.requires.stream c.requires.hop) is order
     (made_is_burst network port class c.in_ok-by_sender.field-0.items releases.items
-    (few_senders network c.sender_path.ensures.rules) is order))
+    (few_senders network c.sender_ports.ensures.rules) is order))
     c.in_order.ensures
 
 pub returns-clause-keeps : goal.returns-clause-keeps
@@ -70,11 +70,11 @@ returns-clause-keeps c =
     let network : DeclaredNetwork = c.args.network.now in
     let port : ℕ = port_of_hop network c.args.stream c.args.hop in
     let class : ℕ = class_at (sender_at network c.args.stream) port in
-    let is = made_is network c.args.stream c.args.hop c.sender_path.result.now c.sender_class-class.result
-    c.in_ok-by_sender.field-0.items c.sender_path.ensures.value c.sender_class-class.ensures.port
+    let is = made_is network c.args.stream c.args.hop c.sender_ports.result.now c.sender_class-class.result
+    c.in_ok-by_sender.field-0.items c.sender_ports.ensures.value c.sender_class-class.ensures.port
     c.in_ok-by_sender.ensures in
     IfOk-weaker c.in_order.result _ _
-    (λ releases order station. burst_keeps network port class releases.items c.sender_path.ensures.rules
+    (λ releases order station. burst_keeps network port class releases.items c.sender_ports.ensures.rules
     (made_is_burst network port class c.in_ok-by_sender.field-0.items releases.items
-    (few_senders network c.sender_path.ensures.rules) is order) station)
+    (few_senders network c.sender_ports.ensures.rules) is order) station)
     c.in_order.ensures

@@ -2,10 +2,12 @@ use Rattle.std.proofs.Common.{take}
 use Rattle.std.specs.List.{All, AllZip}
 use Rattle.ats_network.specs.Senders.{sender_at}
 use Rattle.ats_witness.specs.Found.{IsFoundAt, IsWithinBound}
+use Rattle.ats_witness.specs.Played.{IsPlayed}
 use Rattle.ats_witness.proofs.finding.delays_of.Given as goal
 
--- the delays found at the ports so far
+-- the delays found at the ports so far, and the last of them in its burst
 abbrev pub invariant-loop-hop : goal.invariant-loop-hop
 invariant-loop-hop l =
-    AllZip (IsFoundAt l.network l.stream) (take l.hop (sender_at l.network l.stream).path) l.delays.items
+    AllZip (IsFoundAt l.network l.stream) (take l.hop (sender_at l.network l.stream).ports) l.delays.items
     × All (IsWithinBound l.network l.stream) l.delays.items
+    × IsPlayed l.network l.stream l.played.burst.items l.played.delay

@@ -9,7 +9,7 @@ pub first_greatest-hop-requires : goal.first_greatest-hop-requires
 first_greatest-hop-requires c =
     let network = c.args.network.now in
     let keeps = stream_keeps network c.args.stream c.delays_of.ensures.rules c.requires.stream in
-    let many = length_all_zip (IsFoundAt network c.args.stream) (sender_at network c.args.stream).path
+    let many = length_all_zip (IsFoundAt network c.args.stream) (sender_at network c.args.stream).ports
     c.in_ok-delays.delays.items c.in_ok-delays.ensures.each in
     omega (arith, many, keeps.path.least, ap (λ (l : List ℕ). length l) c.deref.ensures.value)
 
@@ -17,7 +17,7 @@ pub overflow_cast-hop : goal.overflow_cast-hop
 overflow_cast-hop c =
     let network = c.args.network.now in
     let keeps = stream_keeps network c.args.stream c.delays_of.ensures.rules c.requires.stream in
-    let many = length_all_zip (IsFoundAt network c.args.stream) (sender_at network c.args.stream).path
+    let many = length_all_zip (IsFoundAt network c.args.stream) (sender_at network c.args.stream).ports
     c.in_ok-delays.delays.items c.in_ok-delays.ensures.each in
     omega (
       arith,
@@ -31,7 +31,7 @@ pub releases-requires-clause-hop : goal.releases-requires-clause-hop
 releases-requires-clause-hop c =
     let network = c.args.network.now in
     let keeps = stream_keeps network c.args.stream c.delays_of.ensures.rules c.requires.stream in
-    let many = length_all_zip (IsFoundAt network c.args.stream) (sender_at network c.args.stream).path
+    let many = length_all_zip (IsFoundAt network c.args.stream) (sender_at network c.args.stream).ports
     c.in_ok-delays.delays.items c.in_ok-delays.ensures.each in
     omega (
       arith,

@@ -20,18 +20,18 @@ is_sender network i h =
 pub write_hops-requires-clause-ports : goal.write_hops-requires-clause-ports
 write_hops-requires-clause-ports c =
     let network = c.args.network.now in
-    rw (c.sender_path.ensures.value, c.topology.ensures.value)
-    (sender_keeps network c.args.stream c.sender_path.ensures.rules
+    rw (c.sender_ports.ensures.value, c.topology.ensures.value)
+    (sender_keeps network c.args.stream c.sender_ports.ensures.rules
     (is_sender network c.args.stream c.requires.stream)).ports
 
 pub write_hops-requires-clause-fit : goal.write_hops-requires-clause-fit
 write_hops-requires-clause-fit c =
     let network = c.args.network.now in
-    let many = length_all_zip (IsFoundAt network c.args.stream) (sender_at network c.args.stream).path
+    let many = length_all_zip (IsFoundAt network c.args.stream) (sender_at network c.args.stream).ports
     c.args.found.now.delays c.requires.found.each in
     omega (
       arith,
       many,
       ap (λ (l : List ℕ). length l) c.delays.ensures.value,
-      ap (λ (l : List ℕ). length l) c.sender_path.ensures.value,
+      ap (λ (l : List ℕ). length l) c.sender_ports.ensures.value,
     )
