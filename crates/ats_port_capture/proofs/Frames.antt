@@ -33,31 +33,33 @@ row_at run rows frame d e within = rw e (get_or-map journey_of run frame no_trav
 
 -- a frame whose path does not have the port is not sent there
 pub nothing_kept : (network : DeclaredNetwork) (run : List Travel) (port frame : ℕ) (release : Release) (path : List ℕ)
-    → release ≡ (travel_at run frame).release → path ≡ (sender_at network release.sender).path
+    → release ≡ (travel_at run frame).release → path ≡ (sender_at network release.sender).ports
     → position_from (λ p. eqb p port) 0 path ≡ None
     → map (sighting_of run) (sent_of network port frame (travel_at run frame)) ≡ []
 nothing_kept network run port frame release path same path_is none =
     let j : Travel = travel_at run frame in
     let s : Sender = sender_at network j.release.sender in
-    let is : path ≡ s.path = path_is ∙ ap (λ (r : Release). (sender_at network r.sender).path) same in
-    ap (map (sighting_of run)) (none_along port frame j.release s s.path j.hops
+    let is : path ≡ s.ports = path_is ∙ ap (λ (r : Release). (sender_at network r.sender).ports) same in
+    ap (map (sighting_of run)) (none_along port frame j.release s s.ports j.hops
     (subst (All (λ p. eqb p port ≡ false)) is (all_fail (λ p. eqb p port) 0 path none)))
 
 -- and of one whose path has it, the record there tells what is kept
 kept_of : (network : DeclaredNetwork) (run : List Travel) (port frame n : ℕ) → IsNetwork network
-    → IsJourney network (travel_at run frame) → n < length (sender_at network (travel_at run frame).release.sender).path
-    → get_or (sender_at network (travel_at run frame).release.sender).path n 0 ≡ port
+    → IsJourney network (travel_at run frame)
+    → n < length (sender_at network (travel_at run frame).release.sender).ports
+    → get_or (sender_at network (travel_at run frame).release.sender).ports n 0 ≡ port
     → map (sighting_of run) (sent_of network port frame (travel_at run frame))
     ≡ kept_there (travel_at run frame).release.octets (travel_at run frame).release.sender
     (class_at (sender_at network (travel_at run frame).release.sender)
-    (get_or (sender_at network (travel_at run frame).release.sender).path n 0)) (slice_get (travel_at run frame).hops n)
+    (get_or (sender_at network (travel_at run frame).release.sender).ports n 0))
+    (slice_get (travel_at run frame).hops n)
 kept_of network run port frame n net journey within is =
     let j : Travel = travel_at run frame in
     let s : Sender = sender_at network j.release.sender in
     let sender : IsSender network.topology s = each_is_sender network net j.release.sender no_sender journey.sender in
-    ap (map (sighting_of run)) (at_place port frame j.release s s.path j.hops n sender.apart within is)
-    ∙ kept_at run frame j.release (class_at s (get_or s.path n 0)) j.hops n
-    (way_agrees s.path j.hops j.ending journey.way) refl
+    ap (map (sighting_of run)) (at_place port frame j.release s s.ports j.hops n sender.apart within is)
+    ∙ kept_at run frame j.release (class_at s (get_or s.ports n 0)) j.hops n
+    (way_agrees s.ports j.hops j.ending journey.way) refl
 
 -- what is read of a frame of a run: its release, its sender's path, its records, and the place of a port on the path
 pub record IsRead (network : DeclaredNetwork) (run : List Travel) (port frame : ℕ) (release : Release) (path : List ℕ)
@@ -65,14 +67,14 @@ pub record IsRead (network : DeclaredNetwork) (run : List Travel) (port frame : 
   pub net : IsNetwork network
   pub journey : IsJourney network (travel_at run frame)
   pub same : release ≡ (travel_at run frame).release
-  pub path_is : path ≡ (sender_at network release.sender).path
+  pub path_is : path ≡ (sender_at network release.sender).ports
   pub hops_are : hops ≡ (travel_at run frame).hops
   pub place : position_from (λ p. eqb p port) 0 path ≡ Some n
 
 -- the class that is read of it
 abbrev pub class_read : DeclaredNetwork → Release → ℕ → ℕ
 class_read network release n =
-    class_at (sender_at network release.sender) (get_or (sender_at network release.sender).path n 0)
+    class_at (sender_at network release.sender) (get_or (sender_at network release.sender).ports n 0)
 
 pub kept_is : {network : DeclaredNetwork} {run : List Travel} {port frame : ℕ} {release : Release} {path : List ℕ}
     {hops : List HopRecord} {n : ℕ} → IsRead network run port frame release path hops n
@@ -81,11 +83,11 @@ pub kept_is : {network : DeclaredNetwork} {run : List Travel} {port frame : ℕ}
 kept_is {network} {run} {port} {frame} {release} {path} {hops} {n} read =
     let j : Travel = travel_at run frame in
     let s : Sender = sender_at network j.release.sender in
-    let is : path ≡ s.path = read.path_is ∙ ap (λ (r : Release). (sender_at network r.sender).path) read.same in
+    let is : path ≡ s.ports = read.path_is ∙ ap (λ (r : Release). (sender_at network r.sender).ports) read.same in
     let f : IsFound (λ p. eqb p port) path 0 0 n = found (λ p. eqb p port) 0 path n 0 read.place in
-    let long : length path ≡ length s.path = ap (λ (l : List ℕ). length l) is in
+    let long : length path ≡ length s.ports = ap (λ (l : List ℕ). length l) is in
     let place : n ≡ f.place = omega (arith, f.is) in
-    let port_is : get_or s.path n 0 ≡ port =
+    let port_is : get_or s.ports n 0 ≡ port =
     ap (λ (l : List ℕ). get_or l n 0) (sym is) ∙ ap (λ (k : ℕ). get_or path k 0) place
     ∙ eqb-true (get_or path f.place 0) port f.passes in
     kept_of network run port frame n read.net read.journey (omega (arith, f.within, place, long)) port_is
@@ -134,7 +136,7 @@ writable {network} {run} {frame = frame} {release = release} {n = n} start class
     record {
       start = fits;
       octets = sized;
-      class = class_within network release.sender (get_or (sender_at network release.sender).path n 0) class
+      class = class_within network release.sender (get_or (sender_at network release.sender).ports n 0) class
           read.net (subst (λ (r : Release). r.sender < length (senders_of network)) (sym read.same)
           read.journey.sender) is;
     }
@@ -146,7 +148,7 @@ place_short {network} {run} {frame = frame} {path = path} read inside =
     let j : Travel = travel_at run frame in
     let s : IsSender network.topology (sender_at network j.release.sender) =
     each_is_sender network read.net j.release.sender no_sender read.journey.sender in
-    let long : length path ≡ length (sender_at network j.release.sender).path =
+    let long : length path ≡ length (sender_at network j.release.sender).ports =
     ap (λ (l : List ℕ). length l)
-    (read.path_is ∙ ap (λ (r : Release). (sender_at network r.sender).path) read.same) in
+    (read.path_is ∙ ap (λ (r : Release). (sender_at network r.sender).ports) read.same) in
     omega (arith, s.path.most, long)

@@ -61,7 +61,7 @@ fn sighting_of(network: &Network, run: &Run, port: u32, frame: u32) -> Option<Si
     ensures each { IfSome result IsWritable }
 {
     let release = release_of(run, frame);
-    let hop = hop_of(network.sender_path(release.sender), port)?;
+    let hop = hop_of(network.sender_ports(release.sender), port)?;
     let (start, _) = run.hops_of(frame).get(hop)?.sent?;
     Some(Sighting {
         start,

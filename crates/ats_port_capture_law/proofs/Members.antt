@@ -78,7 +78,7 @@ readable_from network run frame (j ∷ rest) net journeys is =
     let sender : IsSender network.topology s = each_is_sender network net j.release.sender no_sender journey.sender in
     let same : travel_at run frame ≡ j = ap (travel_at run) (omega arith) ∙ is 0 (omega arith) in
     All-append (HopIsReadable run) (journey_hops network frame j) (hops_from network (frame + 1) rest)
-    (readable_along run frame j.release s s.path j.hops
+    (readable_along run frame j.release s s.ports j.hops
     (subst (λ (t : Travel). IsFrameSize t.release.octets) (sym same) journey.octets)
     (λ port. class_at-le s port sender.classes))
     (readable_from network run (frame + 1) rest net (All-tail (IsJourney network) j rest journeys)
@@ -124,7 +124,7 @@ few_from network port frame (j ∷ rest) net journeys =
     let journey : IsJourney network j = All-head (IsJourney network) j rest journeys in
     let s : Sender = sender_at network j.release.sender in
     let sender : IsSender network.topology s = each_is_sender network net j.release.sender no_sender journey.sender in
-    let here = few_along port frame j.release s s.path j.hops sender.apart in
+    let here = few_along port frame j.release s s.ports j.hops sender.apart in
     let further = few_from network port (frame + 1) rest net (All-tail (IsJourney network) j rest journeys) in
     let both : length (picked port (journey_hops network frame j ++ hops_from network (frame + 1) rest))
     ≡ length (picked port (journey_hops network frame j)) + length (picked port (hops_from network (frame + 1) rest)) =
@@ -153,8 +153,8 @@ none_from network port frame (j ∷ rest) net beyond journeys =
     let sender : IsSender network.topology s = each_is_sender network net j.release.sender no_sender journey.sender in
     picked-append port (journey_hops network frame j) (hops_from network (frame + 1) rest)
     ∙ ap (λ (l : List Transmission). l ++ picked port (hops_from network (frame + 1) rest))
-    (none_along port frame j.release s s.path j.hops
-    (none_beyond port (length network.topology.ports) s.path beyond sender.ports))
+    (none_along port frame j.release s s.ports j.hops
+    (none_beyond port (length network.topology.ports) s.ports beyond sender.ports))
     ∙ none_from network port (frame + 1) rest net beyond (All-tail (IsJourney network) j rest journeys)
 
 pub none_sent : (network : DeclaredNetwork) (run : List Travel) (port : ℕ) → IsNetwork network

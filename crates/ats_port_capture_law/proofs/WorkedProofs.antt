@@ -29,7 +29,7 @@ abbrev seconds_fit : Transmission → Bool
 seconds_fit t = nat_lt (nanos_of t / 1_000_000_000) (2 ^ 32)
 
 -- a port that sends one frame at most
-short : (network : DeclaredNetwork) (run : List Travel) (port : ℕ) (file : List ℕ)
+pub short : (network : DeclaredNetwork) (run : List Travel) (port : ℕ) (file : List ℕ)
     → length (sent_by network run port) ≤ 1
     → list_all seconds_fit (sent_by network run port) ≡ true
     → file ≡ capture_of network run (sent_by network run port) → IsCapture network run port file

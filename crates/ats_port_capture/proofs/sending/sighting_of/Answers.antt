@@ -9,17 +9,17 @@ pub returns-in_err-hop-clause-all : goal.returns-in_err-hop-clause-all
 returns-in_err-hop-clause-all c =
     ap (λ (o : Option Sighting). listed o) c.from_residual.ensures
     ∙ sym (nothing_kept c.args.network.now c.args.run.now c.args.port c.args.frame c.release_of-release.result
-    c.sender_path.result.now c.release_of-release.ensures c.sender_path.ensures.value
+    c.sender_ports.result.now c.release_of-release.ensures c.sender_ports.ensures.value
     (sym c.in_err-hop.ensures.place))
 
 pub returns-in_err-get-clause-all : goal.returns-in_err-get-clause-all
 returns-in_err-get-clause-all c =
     let read : IsRead c.args.network.now c.args.run.now c.args.port c.args.frame c.release_of-release.result
-    c.sender_path.result.now c.hops_of.result.now c.in_ok-hop.hop = record {
-      net = c.sender_path.ensures.rules;
+    c.sender_ports.result.now c.hops_of.result.now c.in_ok-hop.hop = record {
+      net = c.sender_ports.ensures.rules;
       journey = c.requires.journeys c.args.frame no_travel c.requires.frame;
       same = c.release_of-release.ensures;
-      path_is = c.sender_path.ensures.value;
+      path_is = c.sender_ports.ensures.value;
       hops_are = c.hops_of.ensures;
       place = sym c.in_ok-hop.ensures.place;
     } in
@@ -29,11 +29,11 @@ returns-in_err-get-clause-all c =
 pub returns-in_err-start-clause-all : goal.returns-in_err-start-clause-all
 returns-in_err-start-clause-all c =
     let read : IsRead c.args.network.now c.args.run.now c.args.port c.args.frame c.release_of-release.result
-    c.sender_path.result.now c.hops_of.result.now c.in_ok-hop.hop = record {
-      net = c.sender_path.ensures.rules;
+    c.sender_ports.result.now c.hops_of.result.now c.in_ok-hop.hop = record {
+      net = c.sender_ports.ensures.rules;
       journey = c.requires.journeys c.args.frame no_travel c.requires.frame;
       same = c.release_of-release.ensures;
-      path_is = c.sender_path.ensures.value;
+      path_is = c.sender_ports.ensures.value;
       hops_are = c.hops_of.ensures;
       place = sym c.in_ok-hop.ensures.place;
     } in
@@ -44,11 +44,11 @@ returns-in_err-start-clause-all c =
 pub overflow_cast-hop : goal.overflow_cast-hop
 overflow_cast-hop c =
     let read : IsRead c.args.network.now c.args.run.now c.args.port c.args.frame c.release_of-release.result
-    c.sender_path.result.now c.hops_of.result.now c.in_ok-hop.hop = record {
-      net = c.sender_path.ensures.rules;
+    c.sender_ports.result.now c.hops_of.result.now c.in_ok-hop.hop = record {
+      net = c.sender_ports.ensures.rules;
       journey = c.requires.journeys c.args.frame no_travel c.requires.frame;
       same = c.release_of-release.ensures;
-      path_is = c.sender_path.ensures.value;
+      path_is = c.sender_ports.ensures.value;
       hops_are = c.hops_of.ensures;
       place = sym c.in_ok-hop.ensures.place;
     } in
@@ -58,11 +58,11 @@ overflow_cast-hop c =
 pub returns-clause-all : goal.returns-clause-all
 returns-clause-all c =
     let read : IsRead c.args.network.now c.args.run.now c.args.port c.args.frame c.release_of-release.result
-    c.sender_path.result.now c.hops_of.result.now c.in_ok-hop.hop = record {
-      net = c.sender_path.ensures.rules;
+    c.sender_ports.result.now c.hops_of.result.now c.in_ok-hop.hop = record {
+      net = c.sender_ports.ensures.rules;
       journey = c.requires.journeys c.args.frame no_travel c.requires.frame;
       same = c.release_of-release.ensures;
-      path_is = c.sender_path.ensures.value;
+      path_is = c.sender_ports.ensures.value;
       hops_are = c.hops_of.ensures;
       place = sym c.in_ok-hop.ensures.place;
     } in
@@ -72,11 +72,11 @@ returns-clause-all c =
 pub returns-clause-each : goal.returns-clause-each
 returns-clause-each c =
     let read : IsRead c.args.network.now c.args.run.now c.args.port c.args.frame c.release_of-release.result
-    c.sender_path.result.now c.hops_of.result.now c.in_ok-hop.hop = record {
-      net = c.sender_path.ensures.rules;
+    c.sender_ports.result.now c.hops_of.result.now c.in_ok-hop.hop = record {
+      net = c.sender_ports.ensures.rules;
       journey = c.requires.journeys c.args.frame no_travel c.requires.frame;
       same = c.release_of-release.ensures;
-      path_is = c.sender_path.ensures.value;
+      path_is = c.sender_ports.ensures.value;
       hops_are = c.hops_of.ensures;
       place = sym c.in_ok-hop.ensures.place;
     } in
