@@ -1,0 +1,6 @@
+//! What is printed of what is measured of releases.
+#![tactic(auto)]
+
+pub mod printing;
+
+pub use printing::fitted;
