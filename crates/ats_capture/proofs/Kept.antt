@@ -59,7 +59,7 @@ position_keeps bytes =
     (read_keeps (length bytes) (form_of bytes) _ (All-nil IsLongEnough)) (λ reach h. h))
 
 -- the records of a capture are long enough
-records_keep : (bytes : List ℕ) → IfOk (records_of bytes) (All IsLongEnough)
+pub records_keep : (bytes : List ℕ) → IfOk (records_of bytes) (All IsLongEnough)
 records_keep bytes =
     let LongAt : Position → Type 0 = λ p. All IsLongEnough p.records in
     after LongAt (All IsLongEnough) (position_of bytes) records_at (position_keeps bytes) (λ p h.

@@ -31,7 +31,7 @@ fn talker_of(network: &Network, stream: u32) -> u32
     requires { stream < length (senders_of network.now) }
     ensures { result ≡ talker_of network.now stream }
 {
-    let first = network.sender_path(stream)[0];
+    let first = network.sender_ports(stream)[0];
     network.topology().ports()[first as usize].from
 }
 

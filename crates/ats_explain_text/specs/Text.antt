@@ -60,15 +60,15 @@ unfoldable pub hop_line : DeclaredTopology → ℕ → ℕ → Parts → List �
 hop_line topology port class parts =
     codes "hop " ++ port_name topology port ++ codes " " ++ decimal class ++ parts_text parts ++ codes "\n"
 
--- the line of a port of a stream's path
+-- the line of a port of a stream
 abbrev pub hop_text : DeclaredNetwork → DeclaredStream → ℕ → List ℕ
 hop_text network stream port =
     hop_line network.topology port (class_at (stream_sender stream) port) (parts_of_hop network stream port)
 
--- the line of a stream, and one for each port of its path
+-- the line of a stream, and one for each of its ports
 abbrev pub stream_text : DeclaredNetwork → DeclaredStream → List ℕ
 stream_text network stream =
-    stream_line stream.name (margin_of network stream) ++ flat_map (hop_text network stream) stream.path
+    stream_line stream.name (margin_of network stream) ++ flat_map (hop_text network stream) stream.ports
 
 -- `port PORT load LOAD`
 unfoldable pub port_line : DeclaredTopology → ℕ → ℕ → List ℕ

@@ -18,7 +18,7 @@ use ats_streams::Stream;
 use ats_topology::Topology;
 use std::alloc::{AllocError, Global};
 
-/// A line for each stream, and behind it one for each port of its path with the parts of the bound there; a line for
+/// A line for each stream, and behind it one for each of its ports with the parts of the bound there; a line for
 /// each port that a stream uses; and a line of totals. `AllocError` where there is no memory for the text.
 #[tactic(auto, unfolding(crate::specs::Text::explain_text))]
 pub fn explained(alloc: Global, explanation: &Explanation) -> Result<Vec<u8>, AllocError>
@@ -51,8 +51,8 @@ fn write_stream(
     stream: &Stream,
     margin: &Margin,
 ) -> Result<(), AllocError>
-    requires used { All (HopIsUsed explanation.now stream.now) stream.now.path }
-    requires apart { AllPairs (λ p q. p ≢ q) stream.now.path }
+    requires used { All (HopIsUsed explanation.now stream.now) stream.now.ports }
+    requires apart { AllPairs (λ p q. p ≢ q) stream.now.ports }
     requires margin { margin.now ≡ margin_of explanation.now stream.now }
     ensures { OnOk result (out.new.items ≡ out.old.items ++ stream_text explanation.now stream.now) }
 {
@@ -74,19 +74,19 @@ fn write_margin(out: &mut Vec<u8>, name: &Name, margin: &Margin) -> Result<(), A
     Ok(())
 }
 
-// A line for each port of a stream's path.
+// A line for each port of a stream.
 fn write_hops(
     out: &mut Vec<u8>,
     explanation: &Explanation,
     stream: &Stream,
 ) -> Result<(), AllocError>
-    requires used { All (HopIsUsed explanation.now stream.now) stream.now.path }
-    requires apart { AllPairs (λ p q. p ≢ q) stream.now.path }
+    requires used { All (HopIsUsed explanation.now stream.now) stream.now.ports }
+    requires apart { AllPairs (λ p q. p ≢ q) stream.now.ports }
     ensures { OnOk result
-        (out.new.items ≡ out.old.items ++ flat_map (hop_text explanation.now stream.now) stream.now.path) }
+        (out.new.items ≡ out.old.items ++ flat_map (hop_text explanation.now stream.now) stream.now.ports) }
 {
     let classes = stream.classes();
-    for (hop, port) in stream.path().iter().enumerate() {
+    for (hop, port) in stream.ports().iter().enumerate() {
         write_hop(out, explanation, stream, *port, classes[hop])?;
     }
     Ok(())

@@ -77,7 +77,7 @@ stream_kept e s h =
     identity_kept e s.identity (last_read (identity_at e) _ s (λ o. refl) numbers.then)
 
 -- each entry that is read keeps what an entry keeps
-entries_kept : {A : Type 0} (P : A → Type 0) (read : Entry → Result A DocumentFault)
+pub entries_kept : {A : Type 0} (P : A → Type 0) (read : Entry → Result A DocumentFault)
     → ((e : Entry) (x : A) → read e ≡ Ok x → P x)
     → (f : Format) (t : Table) (n : ℕ) (tables : List Members) (xs : List A) → entries_from read f t n tables ≡ Ok xs
     → All P xs

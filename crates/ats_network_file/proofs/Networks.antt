@@ -8,15 +8,17 @@ use Rattle.ats_num.specs.Places.{place_of}
 use Rattle.ats_topology.specs.Faults.{topology_fault}
 use Rattle.ats_topology.specs.Topology.{DeclaredTopology, IsTopology, topology_of}
 use Rattle.ats_topology.proofs.Rules.{topology_rules}
+use Rattle.ats_streams.proofs.OneListener.{no_branches}
 use Rattle.ats_streams.specs.Stream.{DeclaredStream, IsStream, MayIdentify, stream_fault}
 use Rattle.ats_streams.specs.Flow.{DeclaredFlow, IsFlow, flow_fault}
 use Rattle.ats_network.specs.Sender.{Sender}
-use Rattle.ats_network.specs.Path.{IsValidPath}
+use Rattle.ats_network.specs.Path.{IsTree, IsValidPath}
 use Rattle.ats_network.specs.Network.{DeclaredNetwork, IsNetwork, declared_network, senders_of, names_of}
-use Rattle.ats_network.specs.Pushes.{with_stream, with_flow, is_name_taken, is_identity_taken}
+use Rattle.ats_network.specs.Pushes.{with_stream, with_flow, is_full, is_name_taken, is_identity_taken}
 use Rattle.ats_network.specs.Pushes.{stream_push_fault, flow_push_fault}
-use Rattle.ats_network.specs.declared.network.TheConstants.{MAX_STREAMS, MAX_FLOWS}
+use Rattle.ats_network.specs.declared.network.TheConstants.{MAX_FLOWS}
 use Rattle.ats_network.proofs.Pushed.{pushed_stream, pushed_flow}
+use Rattle.ats_network.proofs.TreeLemmas.{alone_tree}
 use Rattle.ats_facts.proofs.Options.{is_some-false}
 use Rattle.ats_network_table.specs.Walk.{IsIdentity}
 use Rattle.ats_network_table.specs.declared.fault.DocumentFault.{DocumentFault}
@@ -57,16 +59,16 @@ name_free : (network : DeclaredNetwork) (name : List ℕ) → is_name_taken netw
 name_free network name h = is_some-false (place_of name (names_of (senders_of network))) h
 
 stream_push_kept : (network : DeclaredNetwork) (stream : DeclaredStream) (next : DeclaredNetwork)
-    → IsNetwork network → IsStream stream → IsValidPath network.topology stream.path
+    → IsNetwork network → IsStream stream → stream.branches ≡ [] → IsValidPath network.topology stream.ports
     → Sound (stream_push_fault network stream) (with_stream network stream) next
     → IsNetwork next
-stream_push_kept network stream next is keeps valid sound =
+stream_push_kept network stream next is keeps alone valid sound =
     let a = passed (is_name_taken network stream.name) _ _ sound.none in
     let b = passed (is_identity_taken network.streams stream.identity) _ _ a.none in
-    let c = passed (nat_le MAX_STREAMS (length network.streams)) _ _ b.none in
+    let c = passed (is_full network.streams stream.ports) _ _ b.none in
     subst IsNetwork sound.same
-    (pushed_stream network stream is keeps valid (name_free network stream.name a.test) b.test
-    (room MAX_STREAMS (length network.streams) c.test))
+    (pushed_stream network stream is keeps (alone_tree network.topology stream.ports stream.branches alone valid) alone
+    (name_free network stream.name a.test) b.test c.test)
 
 stream_add_kept : (network : DeclaredNetwork) (n : ℕ) (e : file.DeclaredStream) (next : DeclaredNetwork)
     → Identified e → IsNetwork network → stream_added network n e ≡ Ok next → IsNetwork next
@@ -86,7 +88,8 @@ stream_add_kept network n e next identified is h =
     (sym same) made.then) in
     let may : MayIdentify e.identity = λ pair given. let one : IsIdentity pair = identified pair given in
     record { within = one.address; least = one.vlan_least; most = one.vlan_most } in
-    stream_push_kept network stream next is (stream_keeps e.classes stream refl may sound.none)
+    stream_push_kept network stream next is
+    (stream_keeps e.classes stream refl (no_branches routed.first) may sound.none) refl
     (path_kept network.topology Stream n e.route routed.first routed.is) (added stream sound.same)
 
 flow_push_kept : (network : DeclaredNetwork) (flow : DeclaredFlow) (next : DeclaredNetwork)
@@ -138,11 +141,13 @@ bare topology is = record {
   topology = is;
   streams = All-nil IsStream;
   flows = All-nil IsFlow;
-  paths = All-nil (λ (s : Sender). IsValidPath topology s.path);
+  trees = All-nil (λ (s : Sender). IsTree topology s.ports s.branches);
   names = λ n h. absurd (omega arith);
   identities = λ i j d order h. absurd (omega arith);
   few_streams = omega arith;
   few_flows = omega arith;
+  few_ports = omega arith;
+  one_listener = All-nil (λ (s : DeclaredStream). s.branches ≡ []);
 }
 
 topology_kept : (d : file.DeclaredDocument) (topology : DeclaredTopology) → topology_in d ≡ Ok topology

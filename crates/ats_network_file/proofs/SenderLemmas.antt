@@ -10,7 +10,9 @@ use Rattle.ats_num.specs.declared.rate.TheConstants.{MAX_BPS, MAX_BURST_BITS}
 use Rattle.ats_num.specs.declared.wire.TheConstants.{MIN_OCTETS, MAX_OCTETS}
 use Rattle.ats_streams.specs.Rules.{KeepsRules}
 use Rattle.ats_streams.specs.Fault.{rules_fault}
+use Rattle.ats_streams.specs.Branches.{AreBranches, is_bad_route, routes_of}
 use Rattle.ats_streams.specs.Flow.{DeclaredFlow, IsFlow, flow_fault}
+use Rattle.ats_streams.specs.Path.{IsPath}
 use Rattle.ats_streams.specs.Stream.{DeclaredStream, IsStream, IsClass, MayIdentify, stream_fault, limit_fault}
 use Rattle.ats_streams.specs.Stream.{is_bad_class, are_bad_classes, classes_for}
 use Rattle.ats_streams.proofs.ClassLemmas.{so_many}
@@ -91,25 +93,50 @@ classes_kept ports given h =
     or_parts (list_any is_bad_class given) (not (length given == 1) && not (length given == ports)) h in
     record { each = along_kept ports given parts.0; count = so_many ports given h }
 
--- a stream without a fault, whose identity is one, keeps what each stream keeps
-pub stream_keeps : (given : List ℕ) (s : DeclaredStream) → s.classes ≡ classes_for (length s.path) given
-    → MayIdentify s.identity → stream_fault given s ≡ None → IsStream s
-stream_keeps given s along identity h =
-    let a = passed (are_bad_classes (length s.path) given) _ _ h in
+route_kept : (route : List ℕ) → is_bad_route route ≡ false → IsPath route
+route_kept route h =
+    let within : Between 1 MAX_PORTS (length route) = between 1 MAX_PORTS (length route) h in
+    record { least = within.above; most = within.below }
+
+routes_kept : (routes : List (List ℕ)) → list_any is_bad_route routes ≡ false → All IsPath routes
+routes_kept [] h = All-nil IsPath
+routes_kept (route ∷ routes) h =
+    let parts : (is_bad_route route ≡ false) × (list_any is_bad_route routes ≡ false) =
+    or_parts (is_bad_route route) (list_any is_bad_route routes) h in
+    All-cons IsPath route routes (route_kept route parts.0) (routes_kept routes parts.1)
+
+-- each route of a stream without a fault is a path
+pub routes_keep : (given : List ℕ) (s : DeclaredStream) → stream_fault given s ≡ None
+    → All IsPath (routes_of s.ports s.branches)
+routes_keep given s h =
+    let routes : List (List ℕ) = routes_of s.ports s.branches in
+    let a = passed (are_bad_classes (length s.ports) given) _ _ h in
     let b =
-    option_or-none (rules_fault s.rate s.burst_bits s.min_octets s.max_octets) (limit_fault s.path s.deadline_ns)
+    option_or-none (rules_fault s.rate s.burst_bits s.min_octets s.max_octets) (limit_fault routes s.deadline_ns)
     a.none in
-    let c = passed (nat_lt (length s.path) 1 || nat_lt MAX_PORTS (length s.path)) _ _ b.1 in
+    let c = passed (list_any is_bad_route routes) _ _ b.1 in
+    routes_kept routes c.test
+
+-- a stream without a fault, whose branches are lawful and whose identity is one, keeps what each stream keeps
+pub stream_keeps : (given : List ℕ) (s : DeclaredStream) → s.classes ≡ classes_for (length s.ports) given
+    → AreBranches s.ports s.branches → MayIdentify s.identity → stream_fault given s ≡ None → IsStream s
+stream_keeps given s along branches identity h =
+    let a = passed (are_bad_classes (length s.ports) given) _ _ h in
+    let routes : List (List ℕ) = routes_of s.ports s.branches in
+    let b =
+    option_or-none (rules_fault s.rate s.burst_bits s.min_octets s.max_octets) (limit_fault routes s.deadline_ns)
+    a.none in
+    let c = passed (list_any is_bad_route routes) _ _ b.1 in
     let d = passed (nat_lt s.deadline_ns 1 || nat_lt MAX_DEADLINE_NS s.deadline_ns) _ _ c.none in
-    let classes : AreClasses (length s.path) s.classes =
-    subst (AreClasses (length s.path)) (sym along) (classes_kept (length s.path) given a.test) in
-    let ports : Between 1 MAX_PORTS (length s.path) = between 1 MAX_PORTS (length s.path) c.test in
+    let classes : AreClasses (length s.ports) s.classes =
+    subst (AreClasses (length s.ports)) (sym along) (classes_kept (length s.ports) given a.test) in
     let deadline : Between 1 MAX_DEADLINE_NS s.deadline_ns = between 1 MAX_DEADLINE_NS s.deadline_ns d.test in
     record {
       classes = classes.each;
       each_port = classes.count;
       rules = rules_kept s.rate s.burst_bits s.min_octets s.max_octets b.0;
-      path = record { least = ports.above; most = ports.below };
+      branches = branches;
+      routes = routes_keep given s h;
       deadline = record { positive = deadline.above; most = deadline.below };
       identity = identity;
     }

@@ -1,6 +1,7 @@
 //! The streams that a network file declares.
 
-ghost use Rattle.std.specs.Prelude.{◌≡◌, IfOk};
+ghost use Rattle.std.specs.Prelude.{◌≡◌, [], IfOk};
+ghost use Rattle.ats_num.specs.Failure.{Gives};
 ghost use Rattle.ats_network_file.specs.Senders.{stream_over, stream_made};
 
 use crate::fault::NetFault;
@@ -33,7 +34,7 @@ impl SenderEntry for StreamEntry {
             number,
             &self.route,
         )?;
-        let stream = stream_over(path, number, self)?;
+        let stream = stream_over(alloc, path, number, self)?;
         match network.push_stream(stream) {
             Ok(()) => Ok(()),
             Err(failure) => Err(refused(SenderTable::Stream, number, failure)),
@@ -42,13 +43,21 @@ impl SenderEntry for StreamEntry {
 }
 
 // The stream of an entry over a path.
-fn stream_over(path: Vec<u32>, number: u32, entry: &StreamEntry) -> Result<Stream, NetFault>
-    ensures value { result ≡ stream_made number entry.now (stream_over path.items entry.now) }
-    ensures path { IfOk result (λ stream. stream.path ≡ path.items) }
+fn stream_over(
+    alloc: Global,
+    path: Vec<u32>,
+    number: u32,
+    entry: &StreamEntry,
+) -> Result<Stream, Failure<NetFault>>
+    ensures value { Gives result (stream_made number entry.now (stream_over path.items entry.now)) }
+    ensures path { IfOk result (λ stream. stream.ports ≡ path.items) }
+    ensures one_listener { IfOk result (λ stream. stream.branches ≡ []) }
 {
     let made = Stream::new(
+        alloc,
         entry.name,
         path,
+        Vec::new(alloc),
         &entry.classes,
         entry.rate_bps,
         entry.burst_bits,
@@ -59,6 +68,11 @@ fn stream_over(path: Vec<u32>, number: u32, entry: &StreamEntry) -> Result<Strea
     );
     match made {
         Ok(stream) => Ok(stream),
-        Err(fault) => Err(broken(SenderTable::Stream, number, fault)),
+        Err(Failure::Fault(fault)) => Err(Failure::Fault(broken(
+            SenderTable::Stream,
+            number,
+            fault,
+        ))),
+        Err(Failure::NoMemory) => Err(Failure::NoMemory),
     }
 }

@@ -1,11 +1,13 @@
 -- Each entry of a document stands in its network.
-use Rattle.std.proofs.Common.{◌≡◌, ◌∙◌, ℕ, ◌+◌, List, [], ◌∷◌, ◌++◌, Some, Result, Ok, Err, refl, sym, ap, subst}
+use Rattle.std.proofs.Common.{◌≡◌, ◌∙◌, ℕ, ◌+◌, List, [], ◌∷◌, ◌++◌, Some, None, Result, Ok, Err, refl, sym, ap, subst}
 use Rattle.std.proofs.Common.{append_assoc}
 use Rattle.std.proofs.lemmas.List.{append-nil}
 use Rattle.std.specs.List.{AllZip}
 use Rattle.ats_num.specs.Failure.{◌>>=◌, ok_where, or_fault, unless}
 use Rattle.ats_topology.specs.Faults.{topology_fault}
 use Rattle.ats_topology.specs.Topology.{DeclaredTopology, topology_of}
+use Rattle.ats_streams.proofs.OneListener.{alone_path}
+use Rattle.ats_streams.specs.Path.{IsPath}
 use Rattle.ats_streams.specs.Stream.{DeclaredStream, stream_fault}
 use Rattle.ats_streams.specs.Flow.{DeclaredFlow, flow_fault}
 use Rattle.ats_network.specs.Network.{DeclaredNetwork, declared_network}
@@ -22,6 +24,7 @@ use Rattle.ats_network_file.specs.declared.senders.SenderTable.{SenderTable}
 use Rattle.ats_network_file.specs.declared.senders.SenderTable.TheVariants.{Flow, Stream}
 use Rattle.ats_network_file.specs.declared.fault.NetFault.{NetFault}
 use Rattle.ats_network_file.specs.declared.fault.NetFault.TheVariants as net
+use Rattle.ats_network_file.proofs.SenderLemmas.{routes_keep}
 use Rattle.ats_network_file.proofs.Steps.{Given, Sound, both, ok_where_ok, or_fault_ok, unless_ok}
 use Rattle.ats_network_file.proofs.ValidPaths.{valid_passed}
 use Rattle.ats_network_file_law.specs.Entries.{EachEntryStands, IsFlowOf, IsNetworkOf, IsPathOf, IsStreamOf}
@@ -44,10 +47,16 @@ path_found topology table n route path h =
     let at = or_fault_ok (net.BadPath table n) (ports_of topology route) read.first read.is ∙ ap Some given.same in
     record { valid = valid; of_route = path_of_route topology route path at valid }
 
+-- over a path that breaks no rule the stream of an entry has few ports
+pub path_ruled : (e : file.DeclaredStream) (path : List ℕ) → stream_fault e.classes (stream_over path e) ≡ None
+    → IsPath path
+path_ruled e path none = alone_path path [] refl (routes_keep e.classes (stream_over path e) none)
+
 -- what one entry adds: a sender that is its own, behind those that are there
 pub record AddsStream (network next : DeclaredNetwork) (e : file.DeclaredStream) : Type 0 where
   pub stream : DeclaredStream
   pub is_of : IsStreamOf network.topology e stream
+  pub path : IsPath stream.ports
   pub added : next ≡ with_stream network stream
 
 pub stream_stands : (network : DeclaredNetwork) (n : ℕ) (e : file.DeclaredStream) (next : DeclaredNetwork)
@@ -69,6 +78,7 @@ stream_stands network n e next h =
       stream = stream;
       is_of = record {
         name = refl;
+        one_listener = refl;
         route = found.of_route;
         valid = found.valid;
         classes = refl;
@@ -79,6 +89,7 @@ stream_stands network n e next h =
         deadline = refl;
         identity = refl;
       };
+      path = path_ruled e routed.first sound.none;
       added = sym pushed.same ∙ ap (with_stream network) (sym sound.same);
     }
 

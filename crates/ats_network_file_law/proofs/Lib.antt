@@ -15,3 +15,4 @@ pub mod FormRoutes
 pub mod FormStreams
 pub mod FormArrays
 pub mod PassedOn
+pub mod Named

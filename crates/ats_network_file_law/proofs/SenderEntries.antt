@@ -1,22 +1,24 @@
 -- The entries of streams and flows, each behind those that were added.
-use Rattle.std.proofs.Common.{◌≡◌, ◌∙◌, ℕ, ◌+◌, Bool, true, false, cond, List, [], ◌∷◌, ◌++◌, length, map}
+use Rattle.std.proofs.Common.{◌≡◌, ◌∙◌, ℕ, ◌+◌, ◌*◌, ◌≤◌, Bool, true, false, cond, List, [], ◌∷◌, ◌++◌, length, map}
 use Rattle.std.proofs.Common.{Option, Some, None, refl, sym, ap, subst, arith, append_assoc, length-append}
 use Rattle.std.specs.Prelude.{◌||◌, is_some, filter, nat_le}
 use Rattle.std.specs.List.{list_any, position_from}
 use Rattle.std.proofs.lemmas.List.{append-nil, map-append}
 use Rattle.std.proofs.lemmas.List.Elements.{filter-append}
+use Rattle.std.proofs.lemmas.List.Sums.{sum_by_push}
 use Rattle.ats_num.specs.Places.{place_of}
 use Rattle.ats_topology.specs.Topology.{DeclaredTopology}
-use Rattle.ats_streams.specs.Stream.{DeclaredStream}
+use Rattle.ats_streams.specs.Stream.{DeclaredStream, stream_fault}
 use Rattle.ats_streams.specs.Flow.{DeclaredFlow}
-use Rattle.ats_network.specs.Network.{DeclaredNetwork, names_of, senders_of}
+use Rattle.ats_network.specs.Network.{DeclaredNetwork, names_of, ports_together, senders_of}
 use Rattle.ats_network.specs.Pushes.{flow_push_fault, has_identity, is_identity, is_identity_taken, stream_push_fault}
-use Rattle.ats_network.specs.Pushes.{with_flow, with_stream}
+use Rattle.ats_network.specs.Pushes.{is_full, with_flow, with_stream}
 use Rattle.ats_network.specs.Tables.{flow_names, stream_identities, stream_names}
 use Rattle.ats_network.specs.declared.fault.PushFault.{PushFault}
 use Rattle.ats_network.specs.declared.fault.PushFault.TheVariants.{NameTaken, IdentityTaken, Limit}
 use Rattle.ats_network.specs.declared.network.TheConstants.{MAX_FLOWS, MAX_STREAMS}
 use Rattle.ats_network.proofs.NameLemmas.{names_of-senders}
+use Rattle.ats_network.proofs.Together.{full_where_few}
 use Rattle.ats_network_toml.specs.Document as file
 use Rattle.ats_network_file.specs.Senders.{flow_added, flow_over, stream_added, stream_over}
 use Rattle.ats_network_file.specs.declared.senders.SenderTable.{SenderTable}
@@ -24,7 +26,7 @@ use Rattle.ats_network_file.specs.declared.senders.SenderTable.TheVariants.{Flow
 use Rattle.ats_network_file_law.specs.SenderFaults.{HasFault, IsAt, SenderEntry, count_in, flow, identity_in}
 use Rattle.ats_network_file_law.specs.SenderFaults.{is_identity_given}
 use Rattle.ats_network_file_law.specs.SenderFaults.{name_in, stands_in, stream}
-use Rattle.ats_network_file_law.proofs.Entries.{AddsFlow, AddsStream, flow_stands, stream_stands}
+use Rattle.ats_network_file_law.proofs.Entries.{AddsFlow, AddsStream, flow_stands, path_ruled, stream_stands}
 use Rattle.ats_network_file_law.proofs.SenderSteps.{due, fault_had, had_given}
 use Rattle.ats_network_file_law.proofs.SenderWalks.{TellsOne}
 
@@ -35,6 +37,7 @@ pub record StreamsStand (topology : DeclaredTopology) (done : List SenderEntry) 
     pub names : stream_names s.streams ≡ map name_in done
     pub identities : stream_identities s.streams ≡ map identity_in done
     pub many : length s.streams ≡ count_in Stream done
+    pub few_ports : ports_together s.streams ≤ 16 * length s.streams
     pub flows : s.flows ≡ []
     pub no_flows : count_in Flow done ≡ 0
     pub next : n ≡ count_in Stream done + 1
@@ -105,6 +108,11 @@ stream_next topology done s n e next h a =
     let many = h.many in
     let none = h.no_flows in
     let number = h.next in
+    let ports : ports_together next.streams ≡ ports_together s.streams + length a.stream.ports =
+    ap (λ (m : DeclaredNetwork). ports_together m.streams) a.added
+    ∙ sum_by_push (λ (t : DeclaredStream). length t.ports) s.streams a.stream in
+    let grown : length next.streams ≡ length s.streams + 1 =
+    ap (λ (m : DeclaredNetwork). length m.streams) a.added ∙ long in
     record {
       over = ap (λ (m : DeclaredNetwork). m.topology) a.added ∙ h.over;
       names = ap (λ (m : DeclaredNetwork). stream_names m.streams) a.added
@@ -117,21 +125,24 @@ stream_next topology done s n e next h a =
           ∙ ap (λ x. map identity_in done ++ x ∷ []) a.is_of.identity
           ∙ sym (more identity_in done (stream e));
       many = ap (λ (m : DeclaredNetwork). length m.streams) a.added ∙ long ∙ omega (arith, many, counts);
+      few_ports = omega (arith, ports, grown, h.few_ports, a.path.most);
       flows = ap (λ (m : DeclaredNetwork). m.flows) a.added ∙ h.flows;
       no_flows = omega (arith, none, flows);
       next = omega (arith, number, counts);
     }
 
--- what a network takes of a stream, it takes of the entry
+-- what a network takes of a stream that breaks no rule, it takes of the entry
 stream_pushes : (topology : DeclaredTopology) (done : List SenderEntry) (s : DeclaredNetwork) (n : ℕ)
     (e : file.DeclaredStream) (path : List ℕ) → StreamsStand topology done s n
+    → stream_fault e.classes (stream_over path e) ≡ None
     → stream_push_fault s (stream_over path e) ≡ due done (stream e)
-stream_pushes topology done s n e path h =
+stream_pushes topology done s n e path h kept =
     same_push (is_some (place_of e.name (names_of (senders_of s)))) (is_identity_taken s.streams e.identity)
-    (nat_le MAX_STREAMS (length s.streams)) (is_some (place_of e.name (map name_in done)))
+    (is_full s.streams path) (is_some (place_of e.name (map name_in done)))
     (is_identity_given done e.identity) (nat_le MAX_STREAMS (count_in Stream done))
     (ap (λ ns. is_some (place_of e.name ns)) (names_there topology done s n h))
-    (identity_taken s.streams done e.identity h.identities) (ap (nat_le MAX_STREAMS) h.many)
+    (identity_taken s.streams done e.identity h.identities)
+    (full_where_few s.streams path h.few_ports (path_ruled e path kept) ∙ ap (nat_le MAX_STREAMS) h.many)
 
 pub stream_tells : (topology : DeclaredTopology) (done : List SenderEntry) (s : DeclaredNetwork) (n : ℕ)
     (e : file.DeclaredStream) → StreamsStand topology done s n
@@ -186,9 +197,9 @@ pub flow_tells : (topology : DeclaredTopology) (done : List SenderEntry) (s : De
 flow_tells topology done s n e h = record {
   first = λ f is. subst (λ (t : DeclaredTopology). HasFault t done (flow e) f) h.over
       (fault_had s.topology done (flow e) n (λ path. flow_over path e) (flow_push_fault s) (with_flow s) f at
-      (λ path. flow_pushes topology done s n e path h) is);
+      (λ path kept. flow_pushes topology done s n e path h) is);
   given = λ f had. had_given s.topology done (flow e) n (λ path. flow_over path e) (flow_push_fault s) (with_flow s) f
-      at (λ path. flow_pushes topology done s n e path h)
+      at (λ path kept. flow_pushes topology done s n e path h)
       (subst (λ (t : DeclaredTopology). HasFault t done (flow e) f) (sym h.over) had);
   next = λ next is. flow_next topology done s n e next h (flow_stands s n e next is);
 }

@@ -160,7 +160,8 @@ push_fault topology before entry n f x at ruled h = by (is_name_given before (na
 -- the fault that an entry is refused for is one that it has
 pub fault_had : {X : Type 0} (topology : DeclaredTopology) (before : List SenderEntry) (entry : SenderEntry) (n : ℕ)
     (over : List ℕ → X) (push : X → Option PushFault) (grown : X → DeclaredNetwork) (f : NetFault)
-    → IsAt before entry (table_in entry) n → ((path : List ℕ) → push (over path) ≡ due before entry)
+    → IsAt before entry (table_in entry) n → ((path : List ℕ) → broken_over entry path ≡ None
+    → push (over path) ≡ due before entry)
     → judged topology entry n over push grown ≡ Err f → HasFault topology before entry f
 fault_had {X} topology before entry n over push grown f at pushes h =
     elim (ended (path_in topology (table_in entry) n (route_in entry)) (onward entry n over push grown) f h) [
@@ -181,7 +182,7 @@ fault_had {X} topology before entry n over push grown f at pushes h =
         push_fault topology before entry n f (grown (over path)) at
         (record { path = path; routed = routed; kept = e })
         (ap (λ (o : Option PushFault). unless (refusal_of (table_in entry) n) o (grown (over path)))
-        (sym (pushes path)) ∙ g)
+        (sym (pushes path e)) ∙ g)
 
 -- one of two places is that of the entry
 number_is : (before : List SenderEntry) (entry : SenderEntry) (t : SenderTable) (m n : ℕ) → IsAt before entry t m
@@ -207,7 +208,8 @@ due_past before entry h g over =
 -- an entry is refused for the fault that it has
 pub had_given : {X : Type 0} (topology : DeclaredTopology) (before : List SenderEntry) (entry : SenderEntry) (n : ℕ)
     (over : List ℕ → X) (push : X → Option PushFault) (grown : X → DeclaredNetwork) (f : NetFault)
-    → IsAt before entry (table_in entry) n → ((path : List ℕ) → push (over path) ≡ due before entry)
+    → IsAt before entry (table_in entry) n → ((path : List ℕ) → broken_over entry path ≡ None
+    → push (over path) ≡ due before entry)
     → HasFault topology before entry f → judged topology entry n over push grown ≡ Err f
 had_given {X} topology before entry n over push grown f at pushes h = by f h
   where
@@ -224,7 +226,7 @@ had_given {X} topology before entry n over push grown f at pushes h = by f h
         ∙ ap (λ (o : Option StreamFault). unless (net.Sender (table_in entry) n) o (over r.path)
         >>= λ x. unless (refusal_of (table_in entry) n) (push x) (grown x)) r.kept
         ∙ ap (λ (o : Option PushFault). unless (refusal_of (table_in entry) n) o (grown (over r.path)))
-        (pushes r.path ∙ e)
+        (pushes r.path r.kept ∙ e)
 
     by : (g : NetFault) → HasFault topology before entry g → judged topology entry n over push grown ≡ Err g
     by (net.BadPath t m) k =

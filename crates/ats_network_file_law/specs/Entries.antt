@@ -1,4 +1,4 @@
-use Rattle.std.specs.Prelude.{◌≡◌, ℕ, List, length, map, Some, Ok}
+use Rattle.std.specs.Prelude.{◌≡◌, ℕ, List, [], length, map, Some, Ok}
 use Rattle.std.specs.List.{AllZip}
 use Rattle.ats_num.specs.Places.{place_of}
 use Rattle.ats_topology.specs.Node.{names_of}
@@ -30,14 +30,15 @@ abbrev pub IsPathOf : DeclaredTopology → file.DeclaredRoute → List ℕ → T
 IsPathOf topology (file.path names) path = names_along topology path ≡ names
 IsPathOf topology (file.ends from to) path = IsBetweenEnds topology from to path
 
--- a stream is the one of an entry: the same name and numbers, a valid path, that of the route, and the classes given,
--- a single one of which stands for each port
+-- a stream is the one of an entry: the same name and numbers, one listener, a valid path, that of the route, and the
+-- classes given, a single one of which stands for each port
 pub record IsStreamOf (topology : DeclaredTopology) (entry : file.DeclaredStream) (stream : DeclaredStream) : Type 0
   where
     pub name : stream.name ≡ entry.name
-    pub route : IsPathOf topology entry.route stream.path
-    pub valid : IsValidPath topology stream.path
-    pub classes : stream.classes ≡ classes_for (length stream.path) entry.classes
+    pub one_listener : stream.branches ≡ []
+    pub route : IsPathOf topology entry.route stream.ports
+    pub valid : IsValidPath topology stream.ports
+    pub classes : stream.classes ≡ classes_for (length stream.ports) entry.classes
     pub rate : stream.rate ≡ entry.rate_bps
     pub burst : stream.burst_bits ≡ entry.burst_bits
     pub least : stream.min_octets ≡ entry.min_octets

@@ -4,3 +4,4 @@ pub mod TopologyFaults
 pub mod SenderFaults
 pub mod FormFaults
 pub mod Passed
+pub mod Named

@@ -2,6 +2,7 @@
 
 ghost use Rattle.ats_network_file_law.specs.Entries.{EachEntryStands};
 ghost use Rattle.ats_network_file_law.specs.FormFaults.{FormFaultIsTheFirst};
+ghost use Rattle.ats_network_file_law.specs.Named.{EachSenderIsNamed};
 ghost use Rattle.ats_network_file_law.specs.Passed.{PassOn, TablesAreMeant};
 ghost use Rattle.ats_network_file_law.specs.SenderFaults.{SenderFaultIsTheFirst};
 ghost use Rattle.ats_network_file_law.specs.TopologyFaults.{TopologyFaultIsTheFirst};
@@ -11,6 +12,12 @@ ghost use Rattle.ats_network_file_law.specs.TopologyFaults.{TopologyFaultIsTheFi
 /// for each port of it; and nothing else stands there.
 pub fn each_entry_stands()
     ensures { EachEntryStands }
+{}
+
+/// A law: each stream and each flow of the network that a text declares has a proper name, of 1 to 32
+/// letters, digits, `_` or `-`.
+pub fn each_sender_is_named()
+    ensures { EachSenderIsNamed }
 {}
 
 /// A law: a text gives a fault of form exactly where it is its first: it is no TOML, or of the top table

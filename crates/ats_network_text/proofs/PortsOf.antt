@@ -18,7 +18,7 @@ use Rattle.ats_network_text.specs.Text.{port_line}
 
 -- the ports of each stream and each flow of a network are ports of its topology
 pub ports_of_streams : (network : DeclaredNetwork) → IsNetwork network
-    → All (λ (s : DeclaredStream). ArePorts network.topology.ports s.path) network.streams
+    → All (λ (s : DeclaredStream). ArePorts network.topology.ports s.ports) network.streams
 ports_of_streams network is =
     let Is : Sender → Type 0 = IsSender network.topology in
     let streams : List Sender = map stream_sender network.streams in

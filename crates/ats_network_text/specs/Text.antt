@@ -33,14 +33,14 @@ classes_text [] = []
 classes_text (class ∷ classes) =
     decimal class ++ (if list_all (λ c. c == class) classes then [] else behind_commas classes)
 
--- a word, the name of a sender, its class or its classes, and the ports of its path
+-- a word, the name of a sender, its class or its classes, and its ports
 unfoldable pub sender_line : DeclaredTopology → List ℕ → List ℕ → List ℕ → List ℕ → List ℕ
 sender_line topology word name classes path =
     word ++ codes " " ++ name ++ codes " " ++ classes_text classes ++ path_text topology path ++ codes "\n"
 
 -- `stream NAME CLASS` and its ports, with the classes in the place of CLASS where they differ
 abbrev pub stream_line : DeclaredTopology → DeclaredStream → List ℕ
-stream_line topology s = sender_line topology (codes "stream") s.name s.classes s.path
+stream_line topology s = sender_line topology (codes "stream") s.name s.classes s.ports
 
 -- `flow NAME 0` and its ports
 abbrev pub flow_line : DeclaredTopology → DeclaredFlow → List ℕ

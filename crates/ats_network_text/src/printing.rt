@@ -18,7 +18,7 @@ use std::alloc::{AllocError, Global};
 
 /// A line for each port by number, with its picoseconds per bit and its latency in picoseconds, and
 /// its earliest latency where that is another; a line for each stream and then for each flow, with
-/// its class, or its classes joined by commas where they differ, and the ports of its path; and a
+/// its class, or its classes joined by commas where they differ, and its ports; and a
 /// line of totals. `AllocError` where there is no memory for the text.
 #[tactic(auto, unfolding(crate::specs::Text::show_text))]
 pub fn show(alloc: Global, network: &Network) -> Result<Vec<u8>, AllocError>
@@ -79,7 +79,7 @@ fn write_streams(
     topology: &Topology,
     streams: &[Stream],
 ) -> Result<(), AllocError>
-    requires { All (λ (s : DeclaredStream). ArePorts topology.now.ports s.path) streams.now }
+    requires { All (λ (s : DeclaredStream). ArePorts topology.now.ports s.ports) streams.now }
     ensures { OnOk result (out.new.items ≡ out.old.items ++ flat_map (stream_line topology.now) streams.now) }
 {
     for stream in streams {
@@ -90,7 +90,7 @@ fn write_streams(
             b"stream",
             name.bytes(),
             stream.classes(),
-            stream.path(),
+            stream.ports(),
         )?;
     }
     Ok(())

@@ -77,5 +77,5 @@ way_fits (p ∷ path) (hop ∷ hops) ending way =
 
 -- so has a journey
 pub journey_fits : (network : DeclaredNetwork) (j : Travel) → IsJourney network j
-    → length j.hops ≤ length (sender_at network j.release.sender).path
-journey_fits network j is = way_fits (sender_at network j.release.sender).path j.hops j.ending is.way
+    → length j.hops ≤ length (sender_at network j.release.sender).ports
+journey_fits network j is = way_fits (sender_at network j.release.sender).ports j.hops j.ending is.way

@@ -47,7 +47,7 @@ unfoldable pub journey_text : DeclaredNetwork → ℕ × Travel → List ℕ
 journey_text network numbered =
     frame_line network numbered.0 numbered.1.release
     ++ flat_map (hop_line network.topology)
-    (zip (sender_at network numbered.1.release.sender).path numbered.1.hops)
+    (zip (sender_at network numbered.1.release.sender).ports numbered.1.hops)
     ++ ending_line numbered.1.ending
 
 -- what is printed of a run: its frames in order, numbered from 0, and the totals

@@ -129,7 +129,7 @@ pub(crate) fn write_journey(
         (out.new.items ≡ out.old.items ++ journey_text network.now (frame, travel_at run.now frame)) }
 {
     let row = row_of(run, frame);
-    let path = network.sender_path(row.release.sender);
+    let path = network.sender_ports(row.release.sender);
     write_frame(out, network, frame, &row.release)?;
     write_hops(out, network.topology(), path, run.hops_of(frame))?;
     write_ending(out, &row.ending)?;

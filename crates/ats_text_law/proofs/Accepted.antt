@@ -62,7 +62,7 @@ module _ (topology : DeclaredTopology) (rows others : List Row) where
       }
 
   stream_parts : (given : List Row) (s : DeclaredStream) (b : List ℕ) → stream_lines topology given s ++ b
-      ≡ flat_map (hop_line topology given s) s.path
+      ≡ flat_map (hop_line topology given s) s.ports
       ++ ((codes "sum " ++ s.name ++ codes " ") ++ (decimal (bound_along given s) ++ 10 ∷ b))
   unfolding stream_lines
   stream_parts given s b = simp append_assoc refl
@@ -75,7 +75,7 @@ module _ (topology : DeclaredTopology) (rows others : List Row) where
   cut_stream : (s : DeclaredStream) (b y : List ℕ) → HasShortBounds rows s → HasShortBounds others s
       → stream_lines topology rows s ++ b ≡ stream_lines topology others s ++ y → AreOfStream s b y
   cut_stream s b y short brief same =
-      let hops = cut_hops s s.path
+      let hops = cut_hops s s.ports
       ((codes "sum " ++ s.name ++ codes " ") ++ (decimal (bound_along rows s) ++ 10 ∷ b))
       ((codes "sum " ++ s.name ++ codes " ") ++ (decimal (bound_along others s) ++ 10 ∷ y)) short.bounds
       brief.bounds (sym (stream_parts rows s b) ∙ same ∙ stream_parts others s y) in

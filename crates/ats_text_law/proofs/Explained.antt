@@ -54,29 +54,29 @@ module _ (network other : DeclaredNetwork) (over : network.topology ≡ other.to
       }
 
   stream_parts : (n : DeclaredNetwork) (s : DeclaredStream) (b : List ℕ) → stream_text n s ++ b
-      ≡ stream_line s.name (margin_of n s) ++ (flat_map (hop_text n s) s.path ++ b)
-  stream_parts n s b = append_assoc (stream_line s.name (margin_of n s)) (flat_map (hop_text n s) s.path) b
+      ≡ stream_line s.name (margin_of n s) ++ (flat_map (hop_text n s) s.ports ++ b)
+  stream_parts n s b = append_assoc (stream_line s.name (margin_of n s)) (flat_map (hop_text n s) s.ports) b
 
   -- two streams and what stands behind their lines
   record AreStreams (stream twin : DeclaredStream) (b y : List ℕ) : Type 0 where
     told : ExplainedTheSame network other stream twin
     rest : b ≡ y
 
-  cut_stream : (stream twin : DeclaredStream) (b y : List ℕ) → stream.name ≡ twin.name → stream.path ≡ twin.path
+  cut_stream : (stream twin : DeclaredStream) (b y : List ℕ) → stream.name ≡ twin.name → stream.ports ≡ twin.ports
       → IsExplainable network stream → IsExplainable other twin
       → stream_text network stream ++ b ≡ stream_text other twin ++ y → AreStreams stream twin b y
   cut_stream stream twin b y named along short brief same =
       let here : stream_line stream.name (margin_of network stream)
-      ++ (flat_map (hop_text network stream) stream.path ++ b)
-      ≡ stream_line stream.name (margin_of other twin) ++ (flat_map (hop_text other twin) stream.path ++ y) =
+      ++ (flat_map (hop_text network stream) stream.ports ++ b)
+      ≡ stream_line stream.name (margin_of other twin) ++ (flat_map (hop_text other twin) stream.ports ++ y) =
       sym (stream_parts network stream b) ∙ same ∙ stream_parts other twin y
-      ∙ ap (λ n. stream_line n (margin_of other twin) ++ (flat_map (hop_text other twin) twin.path ++ y)) (sym named)
+      ∙ ap (λ n. stream_line n (margin_of other twin) ++ (flat_map (hop_text other twin) twin.ports ++ y)) (sym named)
       ∙ ap (λ p. stream_line stream.name (margin_of other twin) ++ (flat_map (hop_text other twin) p ++ y))
       (sym along) in
       let margins = cut_margins stream.name (margin_of network stream) (margin_of other twin)
-      (flat_map (hop_text network stream) stream.path ++ b) (flat_map (hop_text other twin) stream.path ++ y)
+      (flat_map (hop_text network stream) stream.ports ++ b) (flat_map (hop_text other twin) stream.ports ++ y)
       short.sum brief.sum short.deadline brief.deadline here in
-      let hops = cut_path stream twin stream.path b y short.hops
+      let hops = cut_path stream twin stream.ports b y short.hops
       (subst (λ p. All (IsShortHop other twin) p) (sym along) brief.hops) margins.rest in
       record { told = record { margin = margins.margin_is; hops = hops.hops }; rest = hops.rest }
 
@@ -88,7 +88,7 @@ module _ (network other : DeclaredNetwork) (over : network.topology ≡ other.to
   names streams = map (λ (s : DeclaredStream). s.name) streams
 
   abbrev paths : List DeclaredStream → List (List ℕ)
-  paths streams = map (λ (s : DeclaredStream). s.path) streams
+  paths streams = map (λ (s : DeclaredStream). s.ports) streams
 
   cut_streams : (streams twins : List DeclaredStream) (b y : List ℕ) → names streams ≡ names twins
       → paths streams ≡ paths twins → All (IsExplainable network) streams → All (IsExplainable other) twins

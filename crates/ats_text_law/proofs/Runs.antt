@@ -88,7 +88,7 @@ module _ (network : DeclaredNetwork) (rules : IsNetwork network) (named : HasNam
 
   journey_parts : (n : ℕ) (one : Travel) (b : List ℕ) → journey_text network (n, one) ++ b
       ≡ frame_line network n one.release
-      ++ (way_lines network.topology (sender_at network one.release.sender).path one.hops one.ending ++ b)
+      ++ (way_lines network.topology (sender_at network one.release.sender).ports one.hops one.ending ++ b)
   unfolding journey_text
   journey_parts n one b = simp append_assoc refl
 
@@ -108,11 +108,11 @@ module _ (network : DeclaredNetwork) (rules : IsNetwork network) (named : HasNam
       → HasShortTimes one → HasShortTimes two
       → journey_text network (n, one) ++ b ≡ journey_text network (n, two) ++ y → AreJourneys one two b y
   cut_journeys n one two b y first second short brief same =
-      let path : Travel → List ℕ = λ j. (sender_at network j.release.sender).path in
+      let path : Travel → List ℕ = λ j. (sender_at network j.release.sender).ports in
       let frames = cut_frames n one two (way_lines network.topology (path one) one.hops one.ending ++ b)
       (way_lines network.topology (path two) two.hops two.ending ++ y) first second short brief
       (sym (journey_parts n one b) ∙ same ∙ journey_parts n two y) in
-      let along : path one ≡ path two = ap (λ (r : Release). (sender_at network r.sender).path) frames.release_is in
+      let along : path one ≡ path two = ap (λ (r : Release). (sender_at network r.sender).ports) frames.release_is in
       let way : IsWay (path one) two.hops two.ending =
       subst (λ p. IsWay p two.hops two.ending) (sym along) second.way in
       let lines : way_lines network.topology (path one) one.hops one.ending ++ b
@@ -134,7 +134,7 @@ module _ (network : DeclaredNetwork) (rules : IsNetwork network) (named : HasNam
   no_frame : (n : ℕ) (one : Travel) (b y : List ℕ) → journey_text network (n, one) ++ b ≡ 116 ∷ y → ⊥
   no_frame n one b y same =
       let text = journey_parts n one b ∙ frame_parts n one.release
-      (way_lines network.topology (sender_at network one.release.sender).path one.hops one.ending ++ b) in
+      (way_lines network.topology (sender_at network one.release.sender).ports one.hops one.ending ++ b) in
       let letter : 102 ≡ 116 = ap (λ t. get_or t 0 0) (sym text ∙ same) in
       omega (arith, letter)
 

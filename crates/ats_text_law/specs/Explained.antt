@@ -45,7 +45,7 @@ pub record IsShortHop (network : DeclaredNetwork) (stream : DeclaredStream) (por
 pub record IsExplainable (network : DeclaredNetwork) (stream : DeclaredStream) : Type 0 where
   pub sum : IsShort (margin_of network stream).sum
   pub deadline : IsShort (margin_of network stream).deadline
-  pub hops : All (IsShortHop network stream) stream.path
+  pub hops : All (IsShortHop network stream) stream.ports
 
 -- the parts of two bounds are the same; of the sender of the longest lower frame, how it is written
 pub record PartsTheSame (parts others : Parts) : Type 0 where
@@ -63,17 +63,18 @@ pub record HopTheSame (network other : DeclaredNetwork) (stream twin : DeclaredS
   pub class : class_of stream port ≡ class_of twin port
   pub parts : PartsTheSame (parts_of_hop network stream port) (parts_of_hop other twin port)
 
--- two streams, each of a network of its own, have the same sum and deadline, and at each port of the path the same
+-- two streams, each of a network of its own, have the same sum and deadline, and at each of the ports the same
 -- parts
 pub record ExplainedTheSame (network other : DeclaredNetwork) (stream twin : DeclaredStream) : Type 0 where
   pub margin : margin_of network stream ≡ margin_of other twin
-  pub hops : All (HopTheSame network other stream twin) stream.path
+  pub hops : All (HopTheSame network other stream twin) stream.ports
 
--- two networks are over one topology, and their streams have the same names and paths, in the same order
+-- two networks are over one topology, and their streams have the same names and ports, in the same order
 pub record AreAlike (network other : DeclaredNetwork) : Type 0 where
   pub topology : network.topology ≡ other.topology
   pub names : map (λ (s : DeclaredStream). s.name) network.streams ≡ map (λ (s : DeclaredStream). s.name) other.streams
-  pub paths : map (λ (s : DeclaredStream). s.path) network.streams ≡ map (λ (s : DeclaredStream). s.path) other.streams
+  pub paths : map (λ (s : DeclaredStream). s.ports) network.streams
+      ≡ map (λ (s : DeclaredStream). s.ports) other.streams
 
 -- what is printed of two such networks is the same only where each stream's margin and each part of each hop are
 abbrev pub ExplainTellsAll : Type 0

@@ -49,10 +49,10 @@ ReportTellsAll = (network : DeclaredNetwork) (run other : List Travel) (sums oth
     → IsReportable network run sums → IsReportable network other others
     → report_text network run sums ≡ report_text network other others → ReportTheSame network run other sums others
 
--- by the rows of two certificates a stream has the same bound at each port of its path, and the same sum
+-- by the rows of two certificates a stream has the same bound at each of its ports, and the same sum
 pub record BoundTheSame (rows others : List Row) (s : DeclaredStream) : Type 0 where
   pub bounds : All (λ port. bound_of_hop rows (stream_sender s) port ≡ bound_of_hop others (stream_sender s) port)
-      s.path
+      s.ports
   pub sum : bound_along rows s ≡ bound_along others s
 
 -- what is printed of two accepted certificates of a network is the same only where each stream has the same bounds and

@@ -70,5 +70,5 @@ AreShort (Some sums) = All IsShort sums
 
 -- the bounds of a stream by the rows of a certificate, and their sum
 pub record HasShortBounds (rows : List Row) (s : DeclaredStream) : Type 0 where
-  pub bounds : All (λ port. IsShort (bound_of_hop rows (stream_sender s) port)) s.path
+  pub bounds : All (λ port. IsShort (bound_of_hop rows (stream_sender s) port)) s.ports
   pub sum : IsShort (bound_along rows s)

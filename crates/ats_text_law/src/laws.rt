@@ -17,7 +17,7 @@ pub fn report_tells_all()
 {}
 
 /// A law: what `check` prints of two accepted certificates of one network is the same only where each
-/// stream has the same bound at each port of its path, and the same sum, by both. So the text has the
+/// stream has the same bound at each of its ports, and the same sum, by both. So the text has the
 /// bounds of every stream.
 pub fn accepted_tells_all()
     ensures { AcceptedTellsAll }

@@ -15,15 +15,15 @@ use Rattle.ats_checker.specs.declared.refusal.Refusal.{Refusal}
 use Rattle.ats_checker.specs.declared.refusal.Refusal.TheVariants.{RowMissing, RowStray, FieldWrong, WaitTooSmall}
 use Rattle.ats_checker.specs.declared.refusal.Refusal.TheVariants.{Network}
 
--- `hop NAME PORT BOUND` for a port of a stream's path
+-- `hop NAME PORT BOUND` for a port of a stream
 unfoldable pub hop_line : DeclaredTopology → List Row → DeclaredStream → ℕ → List ℕ
 hop_line topology rows s port =
     codes "hop " ++ s.name ++ codes " " ++ port_name topology port ++ codes " "
     ++ decimal (bound_of_hop rows (stream_sender s) port) ++ codes "\n"
 
--- a line for each port of a stream's path
+-- a line for each port of a stream
 abbrev pub hop_lines : DeclaredTopology → List Row → DeclaredStream → List ℕ
-hop_lines topology rows s = flat_map (hop_line topology rows s) s.path
+hop_lines topology rows s = flat_map (hop_line topology rows s) s.ports
 
 -- these lines, then `sum NAME SUM`
 unfoldable pub stream_lines : DeclaredTopology → List Row → DeclaredStream → List ℕ

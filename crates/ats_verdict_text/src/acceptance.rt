@@ -59,8 +59,8 @@ fn write_stream(
     sum: u128,
 ) -> Result<(), AllocError>
     requires ports { bounds.now.ports ≡ length topology.now.ports }
-    requires inside { All (λ p. p < length topology.now.ports) stream.now.path }
-    requires apart { AllPairs (λ p q. p ≢ q) stream.now.path }
+    requires inside { All (λ p. p < length topology.now.ports) stream.now.ports }
+    requires apart { AllPairs (λ p q. p ≢ q) stream.now.ports }
     requires sum { sum ≡ bound_along bounds.now.rows stream.now }
     ensures { OnOk result (out.new.items ≡ out.old.items ++ stream_lines topology.now bounds.now.rows stream.now) }
 {
@@ -72,7 +72,7 @@ fn write_stream(
     Ok(())
 }
 
-// A line for each port of a stream's path.
+// A line for each port of a stream.
 fn write_hops(
     out: &mut Vec<u8>,
     topology: &Topology,
@@ -80,12 +80,12 @@ fn write_hops(
     stream: &Stream,
 ) -> Result<(), AllocError>
     requires ports { bounds.now.ports ≡ length topology.now.ports }
-    requires inside { All (λ p. p < length topology.now.ports) stream.now.path }
-    requires apart { AllPairs (λ p q. p ≢ q) stream.now.path }
+    requires inside { All (λ p. p < length topology.now.ports) stream.now.ports }
+    requires apart { AllPairs (λ p q. p ≢ q) stream.now.ports }
     ensures { OnOk result (out.new.items ≡ out.old.items ++ hop_lines topology.now bounds.now.rows stream.now) }
 {
     let classes = stream.classes();
-    for (hop, port) in stream.path().iter().enumerate() {
+    for (hop, port) in stream.ports().iter().enumerate() {
         write_hop(out, topology, bounds, stream, *port, classes[hop])?;
     }
     Ok(())

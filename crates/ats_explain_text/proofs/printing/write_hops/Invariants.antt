@@ -6,4 +6,4 @@ use Rattle.ats_explain_text.proofs.printing.write_hops.Given as goal
 -- the lines of the hops so far
 abbrev pub invariant-loop-hop : goal.invariant-loop-hop
 invariant-loop-hop l =
-    l.out.items ≡ l.initial.out.items ++ flat_map (hop_text l.explanation l.stream) (take l.hop l.stream.path)
+    l.out.items ≡ l.initial.out.items ++ flat_map (hop_text l.explanation l.stream) (take l.hop l.stream.ports)

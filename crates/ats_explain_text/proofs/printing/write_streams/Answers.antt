@@ -17,7 +17,7 @@ write_stream-requires-clause-used c =
     let item : c.index-streams-i.result ≡ slice_index_or network.streams c.loop-i.i c.index-streams-i.result =
     c.index-streams-i.is
     ∙ ap (λ (streams : List DeclaredStream). slice_index_or streams c.loop-i.i c.index-streams-i.result) all in
-    subst (λ (s : DeclaredStream). All (HopIsUsed network s) s.path) (sym item)
+    subst (λ (s : DeclaredStream). All (HopIsUsed network s) s.ports) (sym item)
     (hops_used network c.loop-i.i c.index-streams-i.result (omega (arith, long)))
 
 pub write_stream-requires-clause-apart : goal.write_stream-requires-clause-apart
@@ -30,5 +30,5 @@ write_stream-requires-clause-apart c =
     let item : c.index-streams-i.result ≡ slice_index_or network.streams c.loop-i.i c.index-streams-i.result =
     c.index-streams-i.is
     ∙ ap (λ (streams : List DeclaredStream). slice_index_or streams c.loop-i.i c.index-streams-i.result) all in
-    subst (λ (s : DeclaredStream). AllPairs (λ p q. p ≢ q) s.path) (sym item)
+    subst (λ (s : DeclaredStream). AllPairs (λ p q. p ≢ q) s.ports) (sym item)
     (paths_apart network c.network.ensures.rules c.loop-i.i c.index-streams-i.result (omega (arith, long)))

@@ -6,4 +6,4 @@ use Rattle.ats_verdict_text.proofs.acceptance.write_hops.Given as goal
 -- the lines of the hops so far
 abbrev pub invariant-loop-hop : goal.invariant-loop-hop
 invariant-loop-hop l = l.out.items
-    ≡ l.initial.out.items ++ flat_map (hop_line l.topology l.bounds.rows l.stream) (take l.hop l.stream.path)
+    ≡ l.initial.out.items ++ flat_map (hop_line l.topology l.bounds.rows l.stream) (take l.hop l.stream.ports)

@@ -15,9 +15,9 @@ write_stream-requires-clause-inside c =
     c.index-streams-i.is
     ∙ ap (λ (streams : List DeclaredStream). slice_index_or streams c.loop-i.i c.index-streams-i.result)
     c.streams-streams.ensures.value in
-    subst (λ (s : DeclaredStream). All (λ p. p < length c.topology.result.now.ports) s.path) (sym item)
+    subst (λ (s : DeclaredStream). All (λ p. p < length c.topology.result.now.ports) s.ports) (sym item)
     (subst (λ (t : DeclaredTopology).
-    All (λ p. p < length t.ports) (slice_index_or network.streams c.loop-i.i c.index-streams-i.result).path)
+    All (λ p. p < length t.ports) (slice_index_or network.streams c.loop-i.i c.index-streams-i.result).ports)
     (sym c.topology.ensures.value)
     (paths_inside network c.streams-streams.ensures.rules c.loop-i.i c.index-streams-i.result (omega (arith, long))))
 
@@ -30,5 +30,5 @@ write_stream-requires-clause-apart c =
     c.index-streams-i.is
     ∙ ap (λ (streams : List DeclaredStream). slice_index_or streams c.loop-i.i c.index-streams-i.result)
     c.streams-streams.ensures.value in
-    subst (λ (s : DeclaredStream). AllPairs (λ p q. p ≢ q) s.path) (sym item)
+    subst (λ (s : DeclaredStream). AllPairs (λ p q. p ≢ q) s.ports) (sym item)
     (paths_apart network c.streams-streams.ensures.rules c.loop-i.i c.index-streams-i.result (omega (arith, long)))

@@ -1,0 +1,10 @@
+use Rattle.std.specs.Prelude.{◌≡◌, ℕ, IsTrue, List, All, Ok}
+use Rattle.ats_num.specs.Name.{is_name}
+use Rattle.ats_network.specs.Network.{DeclaredNetwork, senders_of}
+use Rattle.ats_network.specs.Sender.{Sender}
+use Rattle.ats_network_file.specs.Reading.{network_of}
+
+-- each stream and each flow of the network that a text declares has a name of 1 to 32 letters, digits, `_` or `-`
+abbrev pub EachSenderIsNamed : Type 0
+EachSenderIsNamed = (text : List ℕ) (network : DeclaredNetwork) → network_of text ≡ Ok network
+    → All (λ (s : Sender). IsTrue (is_name s.name)) (senders_of network)
