@@ -9,6 +9,8 @@ use Rattle.ats_command_input.specs.Command.{Conform}
 use Rattle.ats_command_input.specs.Command.{Admit, Generate, Settings}
 use Rattle.ats_command_input.specs.Command.{Buffers, Peaks}
 use Rattle.ats_command_input.specs.Command.{LrqShape, LrqBound, LrqCheck}
+use Rattle.ats_command_input.specs.Command.{Record, Witness}
+use Rattle.ats_command_input.specs.Command.{Releases, Fit}
 use Rattle.ats_command_input.specs.Answer.{Answer, HasText, words_answer}
 use Rattle.ats_command_due.specs.Due.{IsAnswer, IsDueAnswer, IsTold, told_bytes}
 use Rattle.ats_command_due.specs.Calls.{Answers, Printed, PrintedPrefix, ReadRose, IsCalm, StatusIsDue}
@@ -138,6 +140,26 @@ calm_unread told (LrqShape file) before after calm = λ rose. let At : List ℕ 
 calm_unread told (LrqBound net) before after calm = λ rose. let At : List ℕ → Type 0 =
     λ name. Rose (before name) (after name) in calm 0 [] (lit< tt) (subst At rose.1 rose.2)
 calm_unread told (LrqCheck net certificate) before after calm = λ rose. let At : List ℕ → Type 0 =
+    λ name. Rose (before name) (after name) in
+    elim rose.1 [
+      | inl first ↦ calm 0 [] (lit< tt) (subst At first rose.2)
+      | inr second ↦ calm 1 [] (lit< tt) (subst At second.0 rose.2)
+    ]
+calm_unread told (Record net schedule order port) before after calm = λ rose. let At : List ℕ → Type 0 =
+    λ name. Rose (before name) (after name) in
+    elim rose.1 [
+      | inl first ↦ calm 0 [] (lit< tt) (subst At first rose.2)
+      | inr second ↦ calm 1 [] (lit< tt) (subst At second.0 rose.2)
+    ]
+calm_unread told (Witness net stream) before after calm = λ rose. let At : List ℕ → Type 0 =
+    λ name. Rose (before name) (after name) in calm 0 [] (lit< tt) (subst At rose.1 rose.2)
+calm_unread told (Releases net station file) before after calm = λ rose. let At : List ℕ → Type 0 =
+    λ name. Rose (before name) (after name) in
+    elim rose.1 [
+      | inl first ↦ calm 0 [] (lit< tt) (subst At first rose.2)
+      | inr second ↦ calm 1 [] (lit< tt) (subst At second.0 rose.2)
+    ]
+calm_unread told (Fit net schedule) before after calm = λ rose. let At : List ℕ → Type 0 =
     λ name. Rose (before name) (after name) in
     elim rose.1 [
       | inl first ↦ calm 0 [] (lit< tt) (subst At first rose.2)

@@ -15,6 +15,8 @@ use ats_buffer_commands::{buffers, peaks};
 use ats_command_input::{Command, Status, Stop, finish, named_by, print};
 use ats_io::{Files, Sink};
 use ats_lrq_commands::{lrq_bound, lrq_check, lrq_shape};
+use ats_record_commands::{record, witness};
+use ats_release_commands::{fit, releases};
 use ats_run_commands::{capture, generate, replay};
 use ats_verdict_commands::{admit, bound, check, conform, explain, settings, shape, show};
 use std::alloc::Global;
@@ -101,5 +103,11 @@ fn outcome_of<F: Files>(alloc: Global, command: Command, files: &mut F) -> Resul
         Command::LrqShape(file) => lrq_shape(alloc, file, files),
         Command::LrqBound(net) => lrq_bound(alloc, net, files),
         Command::LrqCheck(net, certificate) => lrq_check(alloc, net, certificate, files),
+        Command::Record(net, schedule, order, port) => {
+            record(alloc, net, schedule, order, port, files)
+        }
+        Command::Witness(net, name) => witness(alloc, net, name, files),
+        Command::Releases(net, station, file) => releases(alloc, net, station, file, files),
+        Command::Fit(net, schedule) => fit(alloc, net, schedule, files),
     }
 }

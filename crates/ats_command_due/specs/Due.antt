@@ -9,19 +9,26 @@ use Rattle.ats_command_input.specs.Command.{Capture, Conform, Admit, Generate}
 use Rattle.ats_command_input.specs.Command.{Settings}
 use Rattle.ats_command_input.specs.Command.{Buffers, Peaks}
 use Rattle.ats_command_input.specs.Command.{LrqBound, LrqCheck, LrqShape}
+use Rattle.ats_command_input.specs.Command.{Record, Witness}
+use Rattle.ats_command_input.specs.Command.{Releases, Fit}
 use Rattle.ats_num.specs.Failure.{◌>>=◌}
 use Rattle.ats_command_input.specs.declared.order.Order.{Order}
 use Rattle.ats_command_input.specs.Answer.{Answer, words_answer, settled}
 use Rattle.ats_command_input.specs.Input.{shape_in, network_in, rows_in}
 use Rattle.ats_command_due.specs.Judged.{bound_judged, certificate_judged, explain_judged, requests_judged}
 use Rattle.ats_command_due.specs.Judged.{rows_judged}
+use Rattle.ats_command_input.specs.Port.{port_in}
 use Rattle.ats_command_input.specs.Station.{station_in}
 use Rattle.ats_command_due.specs.Captured.{IsCaptured, captured_in}
 use Rattle.ats_command_due.specs.Conformed.{IsAnswerTo, JudgesScheduled}
+use Rattle.ats_command_due.specs.Fitted.{IsFitted}
 use Rattle.ats_command_due.specs.Generated.{IsGenerated, generated_in}
 use Rattle.ats_command_due.specs.Held.{IsHeldText, held_in}
 use Rattle.ats_command_due.specs.Replayed.{IsOneOf, IsReplayed, scheduled_in}
+use Rattle.ats_command_due.specs.Recorded.{IsRecorded, recorded_in}
+use Rattle.ats_command_due.specs.Released.{released_in}
 use Rattle.ats_command_due.specs.Set.{TellsSettings}
+use Rattle.ats_command_due.specs.Witnessed.{IsWitnessed, witnessed_in}
 
 -- to `shape FILE`, by the bytes of the file
 unfoldable pub shape_answer : List ℕ → List ℕ → Answer
@@ -114,6 +121,25 @@ lrq_check_answer net certificate net_bytes certificate_bytes = settled (do
   network ← network_in net net_bytes
   certificate_judged (narrowed network) certificate certificate_bytes)
 
+-- an answer to `record NET SCHEDULE ORDER PORT`, by the bytes of both files: it prints the capture of the port in some
+-- run in this order
+abbrev pub IsRecordAnswer : List ℕ → List ℕ → Order → List ℕ → List ℕ → List ℕ → Answer → Type 0
+IsRecordAnswer net schedule order port net_bytes schedule_bytes answer =
+    IsOneOf (IsRecorded order) (recorded_in net schedule port net_bytes schedule_bytes) answer
+
+-- an answer to `witness NET NAME`, by the bytes of the file: it prints delays that are found of the stream
+abbrev pub IsWitnessAnswer : List ℕ → List ℕ → List ℕ → Answer → Type 0
+IsWitnessAnswer net name bytes answer = IsOneOf IsWitnessed (witnessed_in net name bytes) answer
+
+-- to `releases NET STATION FILE`, by the bytes of both files: the schedule of the releases that `capture` runs
+unfoldable pub releases_answer : List ℕ → List ℕ → List ℕ → List ℕ → List ℕ → Answer
+releases_answer net station file net_bytes file_bytes = settled (released_in net station file net_bytes file_bytes)
+
+-- an answer to `fit NET SCHEDULE`, by the bytes of both files: it prints what is measured of the releases
+abbrev pub IsFitAnswer : List ℕ → List ℕ → List ℕ → List ℕ → Answer → Type 0
+IsFitAnswer net schedule net_bytes schedule_bytes answer =
+    IsOneOf IsFitted (scheduled_in net schedule net_bytes schedule_bytes) answer
+
 -- an answer to a command, where its files have these bytes
 abbrev pub IsAnswer : (List ℕ → List ℕ) → Command → Answer → Type 0
 IsAnswer bytes (Shape file) answer = answer ≡ shape_answer file (bytes file)
@@ -137,6 +163,11 @@ IsAnswer bytes (LrqShape file) answer = answer ≡ lrq_shape_answer file (bytes 
 IsAnswer bytes (LrqBound net) answer = answer ≡ lrq_bound_answer net (bytes net)
 IsAnswer bytes (LrqCheck net certificate) answer =
     answer ≡ lrq_check_answer net certificate (bytes net) (bytes certificate)
+IsAnswer bytes (Record net schedule order port) answer =
+    IsRecordAnswer net schedule order port (bytes net) (bytes schedule) answer
+IsAnswer bytes (Witness net name) answer = IsWitnessAnswer net name (bytes net) answer
+IsAnswer bytes (Releases net station file) answer = answer ≡ releases_answer net station file (bytes net) (bytes file)
+IsAnswer bytes (Fit net schedule) answer = IsFitAnswer net schedule (bytes net) (bytes schedule) answer
 IsAnswer bytes Unknown answer = answer ≡ words_answer
 
 -- the bytes of each file word are told
@@ -160,6 +191,11 @@ Declares told net = IfTold (told net) (λ bytes. IsOk (network_in net bytes))
 abbrev pub DeclaresStation : (List ℕ → Option (List ℕ)) → List ℕ → List ℕ → Type 0
 DeclaresStation told net station =
     IfTold (told net) (λ bytes. IsOk (network_in net bytes >>= λ network. station_in network.topology station))
+
+-- they declare one in which a port has this name
+abbrev pub DeclaresPort : (List ℕ → Option (List ℕ)) → List ℕ → List ℕ → Type 0
+DeclaresPort told net port =
+    IfTold (told net) (λ bytes. IsOk (network_in net bytes >>= λ network. port_in network.topology port))
 
 -- they declare one, and the bytes that are told under another name the rows of a certificate for it
 abbrev pub DeclaresRows : (List ℕ → Option (List ℕ)) → List ℕ → List ℕ → Type 0
@@ -188,4 +224,8 @@ Reaches told (Peaks net certificate schedule order) name =
 Reaches told (LrqShape file) name = name ≡ file
 Reaches told (LrqBound net) name = name ≡ net
 Reaches told (LrqCheck net certificate) name = (name ≡ net) ⊎ ((name ≡ certificate) × Declares told net)
+Reaches told (Record net schedule order port) name = (name ≡ net) ⊎ ((name ≡ schedule) × DeclaresPort told net port)
+Reaches told (Witness net stream) name = name ≡ net
+Reaches told (Releases net station file) name = (name ≡ net) ⊎ ((name ≡ file) × DeclaresStation told net station)
+Reaches told (Fit net schedule) name = (name ≡ net) ⊎ ((name ≡ schedule) × Declares told net)
 Reaches told Unknown name = ⊥

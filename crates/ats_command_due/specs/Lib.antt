@@ -5,6 +5,10 @@ pub mod Conformed
 pub mod Generated
 pub mod Set
 pub mod Held
+pub mod Recorded
+pub mod Released
+pub mod Fitted
+pub mod Witnessed
 pub mod Due
 pub mod Calls
 pub mod Soundness

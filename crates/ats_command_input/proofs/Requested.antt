@@ -18,9 +18,11 @@ use Rattle.ats_topology.specs.Node.{is_station, names_of}
 use Rattle.ats_topology.specs.Topology.{DeclaredTopology, IsTopology, node_at, if_station, station_named, IsStationAt}
 use Rattle.ats_topology.specs.declared.node.Node.{Node}
 use Rattle.ats_streams.specs.Stream.{DeclaredStream, classes_for, stream_fault}
+use Rattle.ats_streams.proofs.OneListener.{alone_branches}
 use Rattle.ats_network.specs.Path.{IsValidPath}
 use Rattle.ats_network.specs.Shortest.{shortest_of}
 use Rattle.ats_network.proofs.RouteLemmas.{shortest_least}
+use Rattle.ats_network.proofs.TreeLemmas.{alone_tree}
 use Rattle.ats_network_file.proofs.SenderLemmas.{stream_keeps}
 use Rattle.ats_network_file.proofs.Steps.{Given, Sound, both, ok_where_ok, or_fault_ok, unless_ok}
 use Rattle.ats_requests.specs.Requests.{MayAsk, MayEnter}
@@ -97,14 +99,15 @@ path_valid topology n words path is h =
     (or_fault_ok (UnknownNode n) (station_named topology (word words 3)) ends.first ends.is))
     (or_fault_ok (NoPath n) (path_between topology begins.first ends.first) path ends.then)
 
--- a stream over a valid path that breaks no rule and has no identity may be asked for
+-- a stream with one listener over a valid path that breaks no rule and has no identity may be asked for
 may_enter : (topology : DeclaredTopology) (given : List ℕ) (stream : DeclaredStream)
-    → stream.classes ≡ classes_for (length stream.path) given → stream.identity ≡ None
-    → IsValidPath topology stream.path → stream_fault given stream ≡ None → MayEnter topology stream
-may_enter topology given stream along unidentified valid none = record {
-  rules = stream_keeps given stream along
+    → stream.classes ≡ classes_for (length stream.ports) given → stream.branches ≡ [] → stream.identity ≡ None
+    → IsValidPath topology stream.ports → stream_fault given stream ≡ None → MayEnter topology stream
+may_enter topology given stream along alone unidentified valid none = record {
+  rules = stream_keeps given stream along (alone_branches stream.ports stream.branches alone)
       (λ pair identified. absurd (none-some pair (sym unidentified ∙ identified))) none;
-  path = valid;
+  tree = alone_tree topology stream.ports stream.branches alone valid;
+  one_listener = alone;
   unidentified = unidentified;
 }
 
@@ -130,7 +133,7 @@ admit_may topology n words request is h =
     subst (MayAsk topology) is_asked
     (may_ask topology said.first.class made.first
     (subst (MayEnter topology) sound.same
-    (may_enter topology (made_class said.first ∷ []) stream refl refl
+    (may_enter topology (made_class said.first ∷ []) stream refl refl refl
     (path_valid topology n words path.first is path.is) sound.none)))
 
 withdraw_may : (topology : DeclaredTopology) (n : ℕ) (words : List (List ℕ)) (request : Request)

@@ -22,6 +22,10 @@ pub data Command : Type 0 where
   LrqShape : List ℕ → Command
   LrqBound : List ℕ → Command
   LrqCheck : List ℕ → List ℕ → Command
+  Record : List ℕ → List ℕ → Order → List ℕ → Command
+  Witness : List ℕ → List ℕ → Command
+  Releases : List ℕ → List ℕ → List ℕ → Command
+  Fit : List ℕ → List ℕ → Command
   Unknown : Command
 
 -- the replay of a schedule in an order, where there is one
@@ -44,6 +48,11 @@ capture_in net station file (Some order) = Capture net station file order
 abbrev pub peaks_in : List ℕ → List ℕ → List ℕ → Option Order → Command
 peaks_in net certificate schedule None = Unknown
 peaks_in net certificate schedule (Some order) = Peaks net certificate schedule order
+
+-- the capture of a port in a replay of a schedule in an order, where there is one
+abbrev pub record_in : List ℕ → List ℕ → Option Order → List ℕ → Command
+record_in net schedule None port = Unknown
+record_in net schedule (Some order) port = Record net schedule order port
 
 -- the commands of the other regulator, behind the word `lrq`: one with one word
 unfoldable pub lrq_with_one : List ℕ → List ℕ → Command
@@ -74,6 +83,8 @@ with_two verb net file =
     else if bytes_eq verb (codes "buffers") then Buffers net file
     else if bytes_eq verb (codes "conform") then Conform net file
     else if bytes_eq verb (codes "admit") then Admit net file
+    else if bytes_eq verb (codes "witness") then Witness net file
+    else if bytes_eq verb (codes "fit") then Fit net file
     else if bytes_eq verb (codes "lrq") then lrq_with_one net file
     else Unknown
 
@@ -82,14 +93,16 @@ unfoldable pub with_three : List ℕ → List ℕ → List ℕ → List ℕ → 
 with_three verb net second third =
     if bytes_eq verb (codes "replay") then replay_in net second (order_named third)
     else if bytes_eq verb (codes "generate") then generate_in net (seed_named second) (count_named third)
+    else if bytes_eq verb (codes "releases") then Releases net second third
     else if bytes_eq verb (codes "lrq") then lrq_with_two net second third
     else Unknown
 
 -- with four
 unfoldable pub with_four : List ℕ → List ℕ → List ℕ → List ℕ → List ℕ → Command
-with_four verb net second third order =
-    if bytes_eq verb (codes "capture") then capture_in net second third (order_named order)
-    else if bytes_eq verb (codes "buffers") then peaks_in net second third (order_named order)
+with_four verb net second third fourth =
+    if bytes_eq verb (codes "capture") then capture_in net second third (order_named fourth)
+    else if bytes_eq verb (codes "buffers") then peaks_in net second third (order_named fourth)
+    else if bytes_eq verb (codes "record") then record_in net second (order_named third) fourth
     else Unknown
 
 -- the command that words name: a verb with its words, by their number
@@ -97,7 +110,7 @@ abbrev pub command_of : List (List ℕ) → Command
 command_of (verb ∷ file ∷ []) = with_one verb file
 command_of (verb ∷ net ∷ file ∷ []) = with_two verb net file
 command_of (verb ∷ net ∷ second ∷ third ∷ []) = with_three verb net second third
-command_of (verb ∷ net ∷ second ∷ third ∷ order ∷ []) = with_four verb net second third order
+command_of (verb ∷ net ∷ second ∷ third ∷ fourth ∷ []) = with_four verb net second third fourth
 command_of words = Unknown
 
 -- the words of a command that name files, from left to right
@@ -118,4 +131,8 @@ file_words (Peaks net certificate schedule order) = net ∷ certificate ∷ sche
 file_words (LrqShape file) = file ∷ []
 file_words (LrqBound net) = net ∷ []
 file_words (LrqCheck net certificate) = net ∷ certificate ∷ []
+file_words (Record net schedule order port) = net ∷ schedule ∷ []
+file_words (Witness net name) = net ∷ []
+file_words (Releases net station file) = net ∷ file ∷ []
+file_words (Fit net schedule) = net ∷ schedule ∷ []
 file_words Unknown = []

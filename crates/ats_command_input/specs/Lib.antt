@@ -6,4 +6,6 @@ pub mod Named
 pub mod Outcome
 pub mod Status
 pub mod Station
+pub mod Port
+pub mod Stream
 pub mod Making

@@ -8,6 +8,8 @@ use Rattle.ats_command_input.specs.declared.command.Command.TheVariants.{Conform
 use Rattle.ats_command_input.specs.declared.command.Command.TheVariants.{Settings}
 use Rattle.ats_command_input.specs.declared.command.Command.TheVariants.{Buffers, Peaks}
 use Rattle.ats_command_input.specs.declared.command.Command.TheVariants.{LrqShape, LrqBound, LrqCheck}
+use Rattle.ats_command_input.specs.declared.command.Command.TheVariants.{Record, Witness}
+use Rattle.ats_command_input.specs.declared.command.Command.TheVariants.{Releases, Fit}
 
 -- the bytes of words
 abbrev pub texts_of : List (String Global) → List (List ℕ)
@@ -35,6 +37,10 @@ view (Peaks net certificate schedule order) = table.Peaks net.now certificate.no
 view (LrqShape file) = table.LrqShape file.now
 view (LrqBound net) = table.LrqBound net.now
 view (LrqCheck net certificate) = table.LrqCheck net.now certificate.now
+view (Record net schedule order port) = table.Record net.now schedule.now order port.now
+view (Witness net name) = table.Witness net.now name.now
+view (Releases net station file) = table.Releases net.now station.now file.now
+view (Fit net schedule) = table.Fit net.now schedule.now
 
 -- the same, where there may be none
 abbrev pub view_of : Option Command → table.Command

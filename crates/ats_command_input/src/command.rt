@@ -1,7 +1,7 @@
 //! The command table.
 
 ghost use Rattle.std.specs.Prelude.{◌≡◌};
-ghost use Rattle.ats_command_input.specs.Command.{capture_in, command_of, generate_in, peaks_in, replay_in};
+ghost use Rattle.ats_command_input.specs.Command.{capture_in, command_of, generate_in, peaks_in, record_in, replay_in};
 ghost use Rattle.ats_command_input.specs.Making.{count_named, seed_named};
 ghost use Rattle.ats_command_input.specs.Order.{order_named};
 ghost use Rattle.ats_command_input.specs.Command.{with_four, with_one, with_three, with_two};
@@ -46,6 +46,14 @@ pub enum Command<'a> {
     LrqBound(&'a str),
     /// `lrq check NET CERT`: judges a certificate so, and gives the sums.
     LrqCheck(&'a str, &'a str),
+    /// `record NET SCHEDULE ORDER PORT`: runs a schedule, and gives what a port sent as a capture.
+    Record(&'a str, &'a str, Order, &'a str),
+    /// `witness NET NAME`: delays of a stream that can happen, beside the sum of its least bounds.
+    Witness(&'a str, &'a str),
+    /// `releases NET STATION FILE`: the schedule of what a station sent by a capture.
+    Releases(&'a str, &'a str, &'a str),
+    /// `fit NET SCHEDULE`: what the releases of a schedule need of what their senders declare.
+    Fit(&'a str, &'a str),
 }
 
 /// The command that words name; `None` exactly where they are not in the table.
@@ -56,7 +64,7 @@ pub fn named_by(words: &[String]) -> Option<Command<'_>>
         [verb, file] => with_one(verb, file),
         [verb, net, file] => with_two(verb, net, file),
         [verb, net, second, third] => with_three(verb, net, second, third),
-        [verb, net, second, third, order] => with_four(verb, net, second, third, order),
+        [verb, net, second, third, fourth] => with_four(verb, net, second, third, fourth),
         _ => None,
     }
 }
@@ -120,6 +128,10 @@ fn with_two<'a>(verb: &str, net: &'a str, file: &'a str) -> Option<Command<'a>>
         Some(Command::Conform(net, file))
     } else if verb == "admit" {
         Some(Command::Admit(net, file))
+    } else if verb == "witness" {
+        Some(Command::Witness(net, file))
+    } else if verb == "fit" {
+        Some(Command::Fit(net, file))
     } else if verb == "lrq" {
         lrq_with_one(net, file)
     } else {
@@ -136,6 +148,8 @@ fn with_three<'a>(verb: &str, net: &'a str, second: &'a str, third: &'a str) -> 
         replay_in(net, second, third)
     } else if verb == "generate" {
         generate_in(net, second, third)
+    } else if verb == "releases" {
+        Some(Command::Releases(net, second, third))
     } else if verb == "lrq" {
         lrq_with_two(net, second, third)
     } else {
@@ -150,14 +164,16 @@ fn with_four<'a>(
     net: &'a str,
     second: &'a str,
     third: &'a str,
-    order: &str,
+    fourth: &'a str,
 ) -> Option<Command<'a>>
-    ensures { view_of result ≡ with_four verb.now net.now second.now third.now order.now }
+    ensures { view_of result ≡ with_four verb.now net.now second.now third.now fourth.now }
 {
     if verb == "capture" {
-        capture_in(net, second, third, order)
+        capture_in(net, second, third, fourth)
     } else if verb == "buffers" {
-        peaks_in(net, second, third, order)
+        peaks_in(net, second, third, fourth)
+    } else if verb == "record" {
+        record_in(net, second, third, fourth)
     } else {
         None
     }
@@ -180,6 +196,13 @@ fn peaks_in<'a>(
     ensures { view_of result ≡ peaks_in net.now certificate.now schedule.now (order_named order.now) }
 {
     Some(Command::Peaks(net, certificate, schedule, order_named(order)?))
+}
+
+// The capture of a port in a replay of a schedule in the order that a word names.
+fn record_in<'a>(net: &'a str, schedule: &'a str, order: &str, port: &'a str) -> Option<Command<'a>>
+    ensures { view_of result ≡ record_in net.now schedule.now (order_named order.now) port.now }
+{
+    Some(Command::Record(net, schedule, order_named(order)?, port))
 }
 
 // The making of traffic from the seed and of as many frames as words name.

@@ -42,12 +42,8 @@ pub fn certificate_of(alloc: Global, network: &Network) -> Result<Vec<u8>, Stop>
     }
 }
 
-// The line that says why no certificate holds.
-pub(crate) fn refused(
-    alloc: Global,
-    topology: &Topology,
-    reason: &Reason,
-) -> Result<Vec<u8>, AllocError>
+/// The line that says why no certificate holds. `AllocError` where there is no memory for it.
+pub fn refused(alloc: Global, topology: &Topology, reason: &Reason) -> Result<Vec<u8>, AllocError>
     requires { ReasonInside topology.now reason.now }
     ensures { IfOk result (λ text. text.items ≡ refused_text (reason_text topology.now reason.now)) }
 {

@@ -3,7 +3,7 @@ use Rattle.ats_network.specs.Network.{DeclaredNetwork}
 use Rattle.ats_certificate.specs.declared.row.Row.{Row}
 use Rattle.ats_command_input.proofs.Steps.{not_failed}
 use Rattle.ats_command_due.specs.Held.{Held, IsHeldText, held}
-use Rattle.ats_run_commands.proofs.Replays.{stop_gives_one}
+use Rattle.ats_command_due.proofs.Replays.{stop_gives_one}
 use Rattle.ats_buffer_commands.proofs.Holding.{passes_each, stops_each}
 use Rattle.ats_buffer_commands.proofs.peaks_command.judgement_of.Goals as goal
 

@@ -11,7 +11,7 @@ use Rattle.ats_command_input.proofs.Steps.{stops_all, reads_stopped}
 use Rattle.ats_command_due.specs.Due.{told_bytes}
 use Rattle.ats_command_due.specs.Held.{IsHeldText, held_in, held_judged}
 use Rattle.ats_command_due.proofs.Steps.{told_is, declared_is_ok, reads_one, reads_two, reads_three}
-use Rattle.ats_run_commands.proofs.Replays.{one_settles, stop_gives_one, one_goes_on}
+use Rattle.ats_command_due.proofs.Replays.{one_settles, stop_gives_one, one_goes_on}
 use Rattle.ats_buffer_commands.proofs.peaks_command.peaks.Goals as goal
 
 pub returns-in_err-network-clause-due : goal.returns-in_err-network-clause-due

@@ -7,7 +7,7 @@ use Rattle.ats_command_input.proofs.Steps.{stops_all, reads_stopped}
 use Rattle.ats_command_due.specs.Held.{IsHeldText, held}
 use Rattle.ats_command_due.specs.Judged.{unless_refused}
 use Rattle.ats_command_due.specs.Replayed.{GivesOne}
-use Rattle.ats_run_commands.proofs.Replays.{stop_gives_one, one_goes_on}
+use Rattle.ats_command_due.proofs.Replays.{stop_gives_one, one_goes_on}
 use Rattle.ats_buffer_commands.proofs.peaks_command.peaks_in.Goals as goal
 
 pub returns-in_err-releases-clause-due : goal.returns-in_err-releases-clause-due

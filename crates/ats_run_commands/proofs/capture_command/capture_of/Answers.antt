@@ -1,6 +1,6 @@
 use Rattle.ats_command_input.specs.Input.{traffic_in}
 use Rattle.ats_command_due.specs.Captured.{IsCaptureText}
-use Rattle.ats_run_commands.proofs.Replays.{stop_gives_one}
+use Rattle.ats_command_due.proofs.Replays.{stop_gives_one}
 use Rattle.ats_command_input.proofs.Steps.{reads_stopped}
 use Rattle.ats_run_commands.proofs.capture_command.capture_of.Goals as goal
 

@@ -4,7 +4,7 @@ use Rattle.ats_command_input.proofs.Steps.{stops_all, reads_stopped}
 use Rattle.ats_command_due.specs.Due.{told_bytes}
 use Rattle.ats_command_due.specs.Generated.{IsGenerated, generated_in, made_for}
 use Rattle.ats_command_due.proofs.Steps.{told_is, reads_one}
-use Rattle.ats_run_commands.proofs.Replays.{one_settles, stop_gives_one, one_goes_on}
+use Rattle.ats_command_due.proofs.Replays.{one_settles, stop_gives_one, one_goes_on}
 use Rattle.ats_command_input.specs.Command.{Generate}
 use Rattle.ats_run_commands.proofs.generate_command.generate.Goals as goal
 

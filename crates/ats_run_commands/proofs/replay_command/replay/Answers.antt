@@ -8,7 +8,7 @@ use Rattle.ats_command_input.proofs.Steps.{stops_all, reads_stopped}
 use Rattle.ats_command_due.specs.Due.{told_bytes}
 use Rattle.ats_command_due.specs.Replayed.{IsReplayText, IsReplayed, scheduled_in}
 use Rattle.ats_command_due.proofs.Steps.{told_is, declared_is_ok, reads_both, reads_one}
-use Rattle.ats_run_commands.proofs.Replays.{one_settles, stop_gives_one, one_goes_on, one_made}
+use Rattle.ats_command_due.proofs.Replays.{one_settles, stop_gives_one, one_goes_on, one_made}
 use Rattle.ats_run_commands.proofs.replay_command.replay.Goals as goal
 
 pub returns-in_err-network-clause-due : goal.returns-in_err-network-clause-due

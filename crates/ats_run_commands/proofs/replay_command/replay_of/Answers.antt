@@ -1,6 +1,6 @@
 use Rattle.ats_command_input.specs.Input.{releases_in}
 use Rattle.ats_command_due.specs.Replayed.{IsReplayText}
-use Rattle.ats_run_commands.proofs.Replays.{stop_gives_one}
+use Rattle.ats_command_due.proofs.Replays.{stop_gives_one}
 use Rattle.ats_command_input.proofs.Steps.{reads_stopped}
 use Rattle.ats_run_commands.proofs.replay_command.replay_of.Goals as goal
 
