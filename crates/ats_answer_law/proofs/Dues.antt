@@ -9,15 +9,20 @@ use Rattle.ats_command_law.specs.BufferMeaning.{BuffersMean, BuffersSay, PeaksMe
 use Rattle.ats_command_law.specs.CaptureMeaning.{CaptureMeans, CaptureSays}
 use Rattle.ats_command_law.specs.ConformMeaning.{ConformMeans, ConformSays}
 use Rattle.ats_command_law.specs.ExplainMeaning.{ExplainMeans, ExplainSays}
+use Rattle.ats_command_law.specs.FitMeaning.{FitMeans, FitSays}
 use Rattle.ats_command_law.specs.GenerateMeaning.{GenerateMeans, GenerateSays}
 use Rattle.ats_command_law.specs.LrqMeaning.{LrqBoundMeans, LrqBoundSays, LrqCheckMeans, LrqCheckSays}
 use Rattle.ats_command_law.specs.LrqMeaning.{LrqShapeMeans, LrqShapeSays}
 use Rattle.ats_command_law.specs.Meaning.{BoundMeans, BoundSays, CheckMeans, CheckSays}
+use Rattle.ats_command_law.specs.RecordMeaning.{RecordMeans, RecordSays}
+use Rattle.ats_command_law.specs.ReleasesMeaning.{ReleasesMean, ReleasesSay}
 use Rattle.ats_command_law.specs.ReplayMeaning.{ReplayMeans, ReplaySays}
 use Rattle.ats_command_law.specs.SettingsMeaning.{SettingsMean, SettingsSay}
+use Rattle.ats_command_law.specs.WitnessMeaning.{WitnessMeans, WitnessSays}
 use Rattle.ats_answer_law.specs.Due.{Told, Of, OfBoth, BoundIsDue, ExplainIsDue, CheckIsDue, ConformIsDue, AdmitIsDue}
 use Rattle.ats_answer_law.specs.Due.{ReplayIsDue, CaptureIsDue, GenerateIsDue, WordsAreDue, OfThree, SettingsAreDue}
 use Rattle.ats_answer_law.specs.Due.{BuffersAreDue, PeaksAreDue, LrqShapeIsDue, LrqBoundIsDue, LrqCheckIsDue}
+use Rattle.ats_answer_law.specs.Due.{RecordIsDue, WitnessIsDue, ReleasesAreDue, FitIsDue}
 
 some_is : (o : Option (List ℕ)) → IsSome o → o ≡ Some (unwrap_or o [])
 some_is None h = cc
@@ -145,6 +150,32 @@ lrq_check_is_due means net certificate told answer due =
     (λ net_bytes bytes. LrqCheckSays net certificate net_bytes bytes answer.text answer.status) due.is_told
     (subst (λ (a : Answer). LrqCheckSays net certificate net_bytes bytes a.text a.status) (sym due.answers)
     (means net certificate net_bytes bytes))
+
+pub record_is_due : RecordMeans → RecordIsDue
+record_is_due means net schedule port order told answer due =
+    of_both told net schedule
+    (λ net_bytes bytes. RecordSays net schedule port net_bytes bytes order answer.text answer.status) due.is_told
+    (means net schedule port (told_bytes told net) (told_bytes told schedule) order answer due.answers)
+
+pub witness_is_due : WitnessMeans → WitnessIsDue
+witness_is_due means net name told answer due =
+    of_told told net (λ bytes. WitnessSays net name bytes answer.text answer.status) due.is_told
+    (means net name (told_bytes told net) answer due.answers)
+
+pub releases_are_due : ReleasesMean → ReleasesAreDue
+releases_are_due means net station file told answer due =
+    let net_bytes : List ℕ = told_bytes told net in
+    let bytes : List ℕ = told_bytes told file in
+    of_both told net file
+    (λ net_bytes bytes. ReleasesSay net station file net_bytes bytes answer.text answer.status) due.is_told
+    (subst (λ (a : Answer). ReleasesSay net station file net_bytes bytes a.text a.status) (sym due.answers)
+    (means net station file net_bytes bytes))
+
+pub fit_is_due : FitMeans → FitIsDue
+fit_is_due means net schedule told answer due =
+    of_both told net schedule
+    (λ net_bytes bytes. FitSays net schedule net_bytes bytes answer.text answer.status) due.is_told
+    (means net schedule (told_bytes told net) (told_bytes told schedule) answer due.answers)
 
 pub words_are_due : WordsAreDue
 words_are_due told answer due = due.answers

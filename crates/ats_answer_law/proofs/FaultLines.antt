@@ -1,176 +1,53 @@
 -- Where Input is due, the text names the file that fails, and its first fault.
-use Rattle.std.proofs.Common.{◌≡◌, ◌⊎◌, ℕ, List, Option, Some, None, Result, Ok, Err, refl, sym, ap, subst, inl, inr}
+use Rattle.std.proofs.Common.{◌≡◌, ℕ, List, None, Result, Ok, sym, ap, subst, inl, inr}
 use Rattle.std.specs.Prelude.{IfErr, codes}
 use Rattle.std.specs.Option.{option_map}
-use Rattle.ats_num.specs.Failure.{◌>>=◌, or_fault}
-use Rattle.ats_topology.specs.Topology.{DeclaredTopology, station_named}
+use Rattle.ats_num.specs.Failure.{◌>>=◌}
 use Rattle.ats_network.specs.Network.{DeclaredNetwork}
-use Rattle.ats_network_file.specs.FaultText as network
-use Rattle.ats_network_file.specs.Reading.{network_of}
 use Rattle.ats_network_text.specs.Text.{show_text}
-use Rattle.ats_shape.specs.FaultText as shape
-use Rattle.ats_shape.specs.Reading.{shape_of}
 use Rattle.ats_shape.specs.Text.{text_of}
 use Rattle.ats_lrq.specs.Narrow.{narrowed}
 use Rattle.ats_lrq_shape.specs.Verdicts.{lrq_text_of}
 use Rattle.ats_buffer.specs.Buffer.{buffers_of}
 use Rattle.ats_buffer_text.specs.Text.{buffers_text}
 use Rattle.ats_certificate.specs.declared.row.Row.{Row}
-use Rattle.ats_certificate_file.specs.FaultText as certificate
-use Rattle.ats_certificate_file.specs.Reading.{rows_of}
 use Rattle.ats_trace.specs.declared.journey.Release.{Release}
-use Rattle.ats_schedule.specs.FaultText as schedule
-use Rattle.ats_schedule.specs.Reading.{releases_of}
-use Rattle.ats_requests.specs.declared.request.Request.{Request}
-use Rattle.ats_request_file.specs.FaultText as requests
-use Rattle.ats_request_file.specs.Reading.{requests_of}
-use Rattle.ats_pcap.specs.declared.record.Record.{Record}
-use Rattle.ats_capture.specs.FaultText as capture
-use Rattle.ats_capture.specs.Reading as file
-use Rattle.ats_capture.specs.Traffic.{Traffic, traffic_of}
-use Rattle.ats_capture.specs.declared.fault.JoinFault.{JoinFault}
-use Rattle.ats_capture.specs.declared.fault.RecordsFault.{RecordsFault}
-use Rattle.ats_certificate.specs.Used.{places_of}
-use Rattle.ats_certificate_file.specs.Text.{certificate_text}
-use Rattle.ats_tally.specs.Reason.{first_some}
-use Rattle.ats_bound.specs.Least.{least_certificate}
-use Rattle.ats_bound.specs.Reason.{overload, reason_of}
+use Rattle.ats_capture.specs.Traffic.{Traffic}
 use Rattle.ats_checker.specs.Refusal.{refusal_of}
-use Rattle.ats_explain_text.specs.Text.{explain_text}
-use Rattle.ats_admission_text.specs.Text.{admission_text}
-use Rattle.ats_verdict_text.specs.Text.{accepted_text, reason_text, refusal_text}
-use Rattle.ats_gen.specs.Made.{gen_fault}
-use Rattle.ats_gen.specs.declared.fault.GenFault.{GenFault}
+use Rattle.ats_verdict_text.specs.Text.{refusal_text}
 use Rattle.ats_command_input.specs.Answer.{Answer, settled}
 use Rattle.ats_command_input.specs.Command.{Shape, Show, Bound, Explain, Check, Conform, Admit, Replay}
 use Rattle.ats_command_input.specs.Command.{Capture, Generate, Settings, Buffers, Peaks, LrqShape, LrqBound, LrqCheck}
-use Rattle.ats_command_input.specs.Command.{Unknown}
-use Rattle.ats_command_input.specs.Input.{declared_in, network_in, records_in, releases_in, requests_in, rows_in}
+use Rattle.ats_command_input.specs.Command.{Record, Witness, Releases, Fit, Unknown}
+use Rattle.ats_command_input.specs.Input.{network_in, releases_in, requests_in, rows_in}
 use Rattle.ats_command_input.specs.Input.{shape_in, traffic_in}
-use Rattle.ats_command_input.specs.Station.{station_answer, station_in}
+use Rattle.ats_command_input.specs.Port.{port_in}
+use Rattle.ats_command_input.specs.Station.{station_in}
+use Rattle.ats_command_input.specs.Stream.{stream_in}
 use Rattle.ats_command_input.specs.declared.status.Status.TheVariants.{Input, Words}
 use Rattle.ats_command_due.specs.Captured.{Captured, IsCaptured, captured_in}
 use Rattle.ats_command_due.specs.Due.{IsGenerateAnswer, told_bytes}
 use Rattle.ats_command_due.specs.Due.{admit_answer, bound_answer, check_answer, explain_answer, shape_answer}
 use Rattle.ats_command_due.specs.Due.{buffers_answer, lrq_bound_answer, lrq_check_answer, lrq_shape_answer, show_answer}
-use Rattle.ats_command_due.specs.Generated.{IsGenerated, generated_in, made_for, network_unless}
+use Rattle.ats_command_due.specs.Due.{releases_answer}
+use Rattle.ats_command_due.specs.Fitted.{IsFitted}
+use Rattle.ats_command_due.specs.Generated.{IsGenerated, generated_in, made_for}
 use Rattle.ats_command_due.specs.Judged.{admission_judged, bound_judged, certificate_judged, check_judged}
 use Rattle.ats_command_due.specs.Held.{Held, IsHeldText, held, held_in}
 use Rattle.ats_command_due.specs.Judged.{buffers_judged, explain_judged, requests_judged, unless_refused}
+use Rattle.ats_command_due.specs.Recorded.{IsRecorded, Recorded, recorded_in}
+use Rattle.ats_command_due.specs.Released.{released_in, released_text}
 use Rattle.ats_command_due.specs.Replayed.{IsReplayed, Scheduled, scheduled_in}
+use Rattle.ats_command_due.specs.Witnessed.{IsWitnessed, Witnessed, witness_judged, witnessed_in}
 use Rattle.ats_answer_law.specs.Faults.{FaultsAreTold, NetworkFails, OneFails, ReleasesFail, RequestsFail, RowsFail}
-use Rattle.ats_answer_law.specs.Faults.{ShapeFails, TrafficFails, HasNoRecords, IsOverLimit, LaterFails}
+use Rattle.ats_answer_law.specs.Faults.{RecordFails, ShapeFails, TrafficFails, LaterFails}
 use Rattle.ats_answer_law.proofs.Dues.{of_both, of_three, of_told}
-use Rattle.ats_answer_law.proofs.Failing.{Tells, file_fails, judged_fails, judgement_fails, one_fails, refused_is_not}
+use Rattle.ats_answer_law.proofs.Failing.{Tells, judged_fails, judgement_fails, one_fails}
 use Rattle.ats_answer_law.proofs.Failing.{settings_fail, settled_fails, steps_fail, told_more}
-
-shape_fails : (file bytes : List ℕ) → IfErr (shape_in file bytes) (Tells (ShapeFails file bytes))
-unfolding shape_in
-shape_fails file bytes = file_fails 16777216 file bytes shape.fault_text shape_of
-
-network_fails : (net bytes : List ℕ) → IfErr (network_in net bytes) (Tells (NetworkFails net bytes))
-unfolding network_in
-network_fails net bytes = file_fails 16777216 net bytes network.fault_text network_of
-
-rows_fail : (topology : DeclaredTopology) (file bytes : List ℕ)
-    → IfErr (rows_in topology file bytes) (Tells (λ text. RowsFail file bytes text topology))
-unfolding rows_in
-rows_fail topology file bytes = file_fails 16777216 file bytes certificate.fault_text (rows_of topology)
-
-releases_fail : (over : DeclaredNetwork) (file bytes : List ℕ)
-    → IfErr (releases_in over file bytes) (Tells (λ text. ReleasesFail file bytes text over))
-unfolding releases_in
-releases_fail over file bytes = file_fails 33554432 file bytes schedule.fault_text (releases_of over)
-
-requests_fail : (topology : DeclaredTopology) (file bytes : List ℕ)
-    → IfErr (requests_in topology file bytes) (Tells (λ text. RequestsFail file bytes text topology))
-unfolding requests_in
-requests_fail topology file bytes = file_fails 16777216 file bytes requests.fault_text (requests_of topology)
-
--- a word that names no station is refused
-station_refuses : (Fails : List ℕ → Type 0) (topology : DeclaredTopology) (word : List ℕ)
-    → IfErr (station_in topology word) (Tells Fails)
-unfolding station_in
-station_refuses Fails topology word = either (station_named topology word)
-  where
-    either : (named : Option ℕ) → IfErr (or_fault (station_answer word) named) (Tells Fails)
-    either None = λ input. absurd (refused_is_not input)
-    either (Some place) = tt
-
--- a capture, at the station with a place
-abbrev RecordsFail : List ℕ → List ℕ → DeclaredNetwork → ℕ → List ℕ → Type 0
-RecordsFail file bytes over place text =
-    ((fault : RecordsFault) × HasNoRecords file bytes text fault)
-    ⊎ ((records : List Record) × (fault : JoinFault) × IsOverLimit file bytes text over place records fault)
-
-joined_fails : (over : DeclaredNetwork) (place : ℕ) (name bytes : List ℕ) (records : List Record)
-    (joined : Result Traffic JoinFault) → file.records_in bytes ≡ Ok records → traffic_of over place records ≡ joined
-    → IfErr (declared_in name capture.fault_text joined) (Tells (RecordsFail name bytes over place))
-joined_fails over place name bytes records (Ok traffic) read is = tt
-joined_fails over place name bytes records (Err fault) read is =
-    λ input. inr (records, fault, record { read = read; first = is; written = refl })
-
-read_fails : (over : DeclaredNetwork) (place : ℕ) (name bytes : List ℕ) (read : Result (List Record) RecordsFault)
-    → file.records_in bytes ≡ read
-    → IfErr (declared_in name capture.records_fault_text read
-    >>= λ records. declared_in name capture.fault_text (traffic_of over place records))
-    (Tells (RecordsFail name bytes over place))
-read_fails over place name bytes (Ok records) is =
-    joined_fails over place name bytes records (traffic_of over place records) is refl
-read_fails over place name bytes (Err fault) is = λ input. inl (fault, record { first = is; written = refl })
-
-traffic_fails : (over : DeclaredNetwork) (place : ℕ) (name bytes : List ℕ)
-    → IfErr (traffic_in over place name bytes) (Tells (RecordsFail name bytes over place))
-unfolding traffic_in records_in
-traffic_fails over place name bytes = read_fails over place name bytes (file.records_in bytes) refl
-
--- none are made for a network
-making_refuses : (Fails : List ℕ → Type 0) (seed count : ℕ) (over : DeclaredNetwork)
-    → IfErr (made_for seed count over) (Tells Fails)
-unfolding made_for
-making_refuses Fails seed count over = either (gen_fault over seed count)
-  where
-    either : (fault : Option GenFault) → IfErr (network_unless over fault) (Tells Fails)
-    either None = tt
-    either (Some fault) = λ input. absurd (refused_is_not input)
-
--- nor is what is judged of what files declare
-bound_refuses : (Fails : List ℕ → Type 0) (over : DeclaredNetwork) → IfErr (bound_judged over) (Tells Fails)
-unfolding bound_judged
-bound_refuses Fails over = judged_fails Fails (certificate_text over.topology (least_certificate over))
-    (option_map (reason_text over.topology) (reason_of over))
-
-explain_refuses : (Fails : List ℕ → Type 0) (over : DeclaredNetwork) → IfErr (explain_judged over) (Tells Fails)
-unfolding explain_judged
-explain_refuses Fails over = judged_fails Fails (explain_text over)
-    (option_map (reason_text over.topology) (first_some (overload over) (places_of over)))
-
-check_refuses : (Fails : List ℕ → Type 0) (over : DeclaredNetwork) (rows : List Row)
-    → IfErr (check_judged over rows) (Tells Fails)
-unfolding check_judged
-check_refuses Fails over rows = judged_fails Fails (accepted_text over rows)
-    (option_map (refusal_text over.topology) (refusal_of over rows))
-
-admit_refuses : (Fails : List ℕ → Type 0) (over : DeclaredNetwork) (asked : List Request)
-    → IfErr (admission_judged over asked) (Tells Fails)
-unfolding admission_judged
-admit_refuses Fails over asked = judged_fails Fails (admission_text over asked)
-    (option_map (reason_text over.topology) (reason_of over))
-
--- the first of two files, and then the second
-either_fails : {A : Type 0} (net net_bytes : List ℕ) (Second : List ℕ → DeclaredNetwork → Type 0)
-    (next : DeclaredNetwork → Result A Answer)
-    → ((declared : DeclaredNetwork) → IfErr (next declared) (Tells (λ text. Second text declared)))
-    → IfErr (network_in net net_bytes >>= next) (Tells (λ text. OneFails net net_bytes text (Second text)))
-either_fails {A} net net_bytes Second next second =
-    steps_fail Either (network_in net net_bytes) next
-    (told_more (NetworkFails net net_bytes) Either (network_in net net_bytes) (λ text fails. inl fails)
-    (network_fails net net_bytes))
-    (λ declared is. told_more (λ text. Second text declared) Either (next declared)
-    (λ text fails. inr (declared, is, fails)) (second declared))
-  where
-    Either : List ℕ → Type 0
-    Either text = OneFails net net_bytes text (Second text)
+use Rattle.ats_answer_law.proofs.FailingFiles.{RecordsFail, admit_refuses, bound_refuses, check_refuses, either_fails}
+use Rattle.ats_answer_law.proofs.FailingFiles.{explain_refuses, making_refuses, network_fails, port_refuses}
+use Rattle.ats_answer_law.proofs.FailingFiles.{releases_fail, requests_fail, rows_fail, shape_fails, station_refuses}
+use Rattle.ats_answer_law.proofs.FailingFiles.{stream_refuses, traffic_fails, witness_refuses}
 
 -- the commands that read one file
 shape_tells : (file bytes : List ℕ) → Tells (ShapeFails file bytes) (shape_answer file bytes)
@@ -208,6 +85,17 @@ generate_tells net seed count bytes answer is =
     one_fails (NetworkFails net bytes) (IsGenerated seed count) (network_in net bytes >>= made_for seed count) answer
     (steps_fail (NetworkFails net bytes) (network_in net bytes) (made_for seed count) (network_fails net bytes)
     (λ over is. making_refuses (NetworkFails net bytes) seed count over)) is
+
+witnessed_fails : (net name bytes : List ℕ) → IfErr (witnessed_in net name bytes) (Tells (NetworkFails net bytes))
+unfolding witnessed_in
+witnessed_fails net name bytes =
+    steps_fail (NetworkFails net bytes) (network_in net bytes) read (network_fails net bytes) (λ over is.
+    steps_fail (NetworkFails net bytes) (stream_in over.streams name) (witness_judged over)
+    (stream_refuses (NetworkFails net bytes) over.streams name)
+    (λ stream named. witness_refuses (NetworkFails net bytes) over stream))
+  where
+    read : DeclaredNetwork → Result Witnessed Answer
+    read over = stream_in over.streams name >>= witness_judged over
 
 -- the commands that read two
 check_tells : (net certificate net_bytes bytes : List ℕ)
@@ -276,6 +164,44 @@ captured_fails net station name net_bytes bytes =
 
     read : DeclaredNetwork → Result Captured Answer
     read over = station_in over.topology station >>= at_station over
+
+releases_tell : (net station name net_bytes bytes : List ℕ)
+    → Tells (λ text. OneFails net net_bytes text (TrafficFails station name bytes text))
+    (releases_answer net station name net_bytes bytes)
+unfolding releases_answer released_in
+releases_tell net station name net_bytes bytes =
+    settled_fails Fails (captured_in net station name net_bytes bytes >>= written)
+    (steps_fail Fails (captured_in net station name net_bytes bytes) written
+    (captured_fails net station name net_bytes bytes) (λ captured is. tt))
+  where
+    Fails : List ℕ → Type 0
+    Fails text = OneFails net net_bytes text (TrafficFails station name bytes text)
+
+    written : Captured → Result (List ℕ) Answer
+    written captured = Ok (released_text captured.network captured.traffic)
+
+recorded_fails : (net schedule port net_bytes bytes : List ℕ)
+    → IfErr (recorded_in net schedule port net_bytes bytes)
+    (Tells (λ text. OneFails net net_bytes text (RecordFails port schedule bytes text)))
+unfolding recorded_in
+recorded_fails net schedule port net_bytes bytes =
+    either_fails net net_bytes (RecordFails port schedule bytes) read (λ over.
+    steps_fail (Fails over) (port_in over.topology port) (at_port over) (port_refuses (Fails over) over.topology port)
+    (λ place named. steps_fail (Fails over) (releases_in over schedule bytes) (with_releases over place)
+    (told_more (λ text. ReleasesFail schedule bytes text over) (Fails over) (releases_in over schedule bytes)
+    (λ text fails. (place, named, fails)) (releases_fail over schedule bytes)) (λ releases is. tt)))
+  where
+    Fails : DeclaredNetwork → List ℕ → Type 0
+    Fails over text = RecordFails port schedule bytes text over
+
+    with_releases : DeclaredNetwork → ℕ → List Release → Result Recorded Answer
+    with_releases over place releases = Ok (record { network = over; port = place; releases = releases })
+
+    at_port : DeclaredNetwork → ℕ → Result Recorded Answer
+    at_port over place = releases_in over schedule bytes >>= with_releases over place
+
+    read : DeclaredNetwork → Result Recorded Answer
+    read over = port_in over.topology port >>= at_port over
 
 -- rows that are refused are told so with another status
 buffers_refuses : (Fails : List ℕ → Type 0) (over : DeclaredNetwork) (rows : List Row)
@@ -462,4 +388,30 @@ faults_are_told told (LrqCheck net name) answer due input =
     due.is_told
     (subst (Tells (λ text. OneFails net net_bytes text (λ over. RowsFail name bytes text over.topology)))
     (sym due.answers) (lrq_check_tells net name net_bytes bytes) input)
+faults_are_told told (Record net name order port) answer due input =
+    let net_bytes : List ℕ = told_bytes told net in
+    let bytes : List ℕ = told_bytes told name in
+    of_both told net name
+    (λ net_bytes bytes. OneFails net net_bytes answer.text (RecordFails port name bytes answer.text)) due.is_told
+    (one_fails (λ text. OneFails net net_bytes text (RecordFails port name bytes text)) (IsRecorded order)
+    (recorded_in net name port net_bytes bytes) answer (recorded_fails net name port net_bytes bytes) due.answers input)
+faults_are_told told (Witness net name) answer due input =
+    let bytes : List ℕ = told_bytes told net in
+    of_told told net (λ bytes. NetworkFails net bytes answer.text) due.is_told
+    (one_fails (NetworkFails net bytes) IsWitnessed (witnessed_in net name bytes) answer
+    (witnessed_fails net name bytes) due.answers input)
+faults_are_told told (Releases net station name) answer due input =
+    let net_bytes : List ℕ = told_bytes told net in
+    let bytes : List ℕ = told_bytes told name in
+    of_both told net name
+    (λ net_bytes bytes. OneFails net net_bytes answer.text (TrafficFails station name bytes answer.text)) due.is_told
+    (subst (Tells (λ text. OneFails net net_bytes text (TrafficFails station name bytes text))) (sym due.answers)
+    (releases_tell net station name net_bytes bytes) input)
+faults_are_told told (Fit net name) answer due input =
+    let net_bytes : List ℕ = told_bytes told net in
+    let bytes : List ℕ = told_bytes told name in
+    of_both told net name
+    (λ net_bytes bytes. OneFails net net_bytes answer.text (ReleasesFail name bytes answer.text)) due.is_told
+    (one_fails (λ text. OneFails net net_bytes text (ReleasesFail name bytes text)) IsFitted
+    (scheduled_in net name net_bytes bytes) answer (scheduled_fails net name net_bytes bytes) due.answers input)
 faults_are_told told Unknown answer due input = absurd (words_is_not answer due.answers input)

@@ -6,7 +6,9 @@ runs_keep_their_order = record {
   replay = λ order network releases text run is. is.is_run.by_order;
   capture = λ order network traffic text run is. is.is_run.by_order;
   buffers = λ order h text run peaks is. is.is_run.by_order;
+  record_order = λ order network port releases file run is. is.is_run.by_order;
   generate = λ network releases text run is. is.is_run.by_order;
+  witness = λ network stream port delay found. found.of_burst.by;
 }
 
 pub peaks_are_held : PeaksAreHeld

@@ -1,5 +1,5 @@
 -- A command comes to a file behind another only where that one has no fault.
-use Rattle.std.proofs.Common.{◌≡◌, ◌⊎◌, inl, inr}
+use Rattle.std.proofs.Common.{◌⊎◌, inl, inr}
 use Rattle.ats_answer_law.specs.Reached.{LaterFilesWait}
 
 -- of two cases the second, where the first is none
@@ -16,6 +16,9 @@ later_files_wait = record {
   lrq_check = λ told net file other reaches. (second other reaches).1;
   replay = λ told net file order other reaches. (second other reaches).1;
   capture = λ told net station file order other reaches. (second other reaches).1;
+  record_schedule = λ told net file port order other reaches. (second other reaches).1;
+  releases = λ told net station file other reaches. (second other reaches).1;
+  fit = λ told net file other reaches. (second other reaches).1;
   rows = λ told net file schedule order other apart reaches.
       elim (second other reaches) [
         | inl its ↦ its.1

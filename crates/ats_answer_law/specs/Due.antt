@@ -2,7 +2,7 @@ use Rattle.std.specs.Prelude.{◌≡◌, ℕ, List, codes, Option, Some}
 use Rattle.ats_command_input.specs.Answer.{Answer}
 use Rattle.ats_command_input.specs.Command.{Command, Shape, Show, Bound, Explain, Check, Conform, Admit, Replay}
 use Rattle.ats_command_input.specs.Command.{Capture, Generate, Settings, Buffers, Peaks, LrqShape, LrqBound, LrqCheck}
-use Rattle.ats_command_input.specs.Command.{Unknown}
+use Rattle.ats_command_input.specs.Command.{Record, Witness, Releases, Fit, Unknown}
 use Rattle.ats_command_input.specs.declared.order.Order.{Order}
 use Rattle.ats_command_input.specs.declared.status.Status.{Status}
 use Rattle.ats_command_input.specs.declared.status.Status.TheVariants.{Words}
@@ -12,11 +12,15 @@ use Rattle.ats_command_law.specs.BufferMeaning.{BuffersSay, PeaksSay}
 use Rattle.ats_command_law.specs.CaptureMeaning.{CaptureSays}
 use Rattle.ats_command_law.specs.ConformMeaning.{ConformSays}
 use Rattle.ats_command_law.specs.ExplainMeaning.{ExplainSays}
+use Rattle.ats_command_law.specs.FitMeaning.{FitSays}
 use Rattle.ats_command_law.specs.GenerateMeaning.{GenerateSays}
 use Rattle.ats_command_law.specs.LrqMeaning.{LrqBoundSays, LrqCheckSays, LrqShapeSays}
 use Rattle.ats_command_law.specs.Meaning.{BoundSays, CheckSays}
+use Rattle.ats_command_law.specs.RecordMeaning.{RecordSays}
+use Rattle.ats_command_law.specs.ReleasesMeaning.{ReleasesSay}
 use Rattle.ats_command_law.specs.ReplayMeaning.{ReplaySays}
 use Rattle.ats_command_law.specs.SettingsMeaning.{SettingsSay}
+use Rattle.ats_command_law.specs.WitnessMeaning.{WitnessSays}
 use Rattle.ats_answer_law.specs.Shown.{ShapeSays, ShowSays}
 
 -- What each answer that is due to a command says of the bytes that are told under the names of its files.
@@ -109,6 +113,23 @@ LrqBoundIsDue = (net : List ℕ) → EachSays (LrqBound net) (λ told answer. Sa
 abbrev pub LrqCheckIsDue : Type 0
 LrqCheckIsDue = (net certificate : List ℕ) → EachSays (LrqCheck net certificate)
     (λ told answer. SaysOfBoth told net certificate (LrqCheckSays net certificate) answer)
+
+abbrev pub RecordIsDue : Type 0
+RecordIsDue = (net schedule port : List ℕ) (order : Order) → EachSays (Record net schedule order port)
+    (λ told answer. SaysOfBoth told net schedule
+    (λ net_bytes bytes. RecordSays net schedule port net_bytes bytes order) answer)
+
+abbrev pub WitnessIsDue : Type 0
+WitnessIsDue = (net name : List ℕ) → EachSays (Witness net name)
+    (λ told answer. SaysOf told net (WitnessSays net name) answer)
+
+abbrev pub ReleasesAreDue : Type 0
+ReleasesAreDue = (net station file : List ℕ) → EachSays (Releases net station file)
+    (λ told answer. SaysOfBoth told net file (ReleasesSay net station file) answer)
+
+abbrev pub FitIsDue : Type 0
+FitIsDue = (net schedule : List ℕ) → EachSays (Fit net schedule)
+    (λ told answer. SaysOfBoth told net schedule (FitSays net schedule) answer)
 
 -- to words that are no command, whatever is told, one answer alone
 abbrev pub WordsAreDue : Type 0

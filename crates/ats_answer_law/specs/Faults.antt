@@ -21,8 +21,10 @@ use Rattle.ats_capture.specs.declared.fault.RecordsFault.{RecordsFault}
 use Rattle.ats_command_input.specs.Answer.{Answer}
 use Rattle.ats_command_input.specs.Command.{Command, Shape, Show, Bound, Explain, Check, Conform, Admit, Replay}
 use Rattle.ats_command_input.specs.Command.{Capture, Generate, Settings, Buffers, Peaks, LrqShape, LrqBound, LrqCheck}
-use Rattle.ats_command_input.specs.Command.{Unknown}
+use Rattle.ats_command_input.specs.Command.{Witness, Releases, Fit, Unknown}
+use Rattle.ats_command_input.specs.Command as table
 use Rattle.ats_command_input.specs.Input.{network_in, rows_in}
+use Rattle.ats_command_input.specs.Port.{port_in}
 use Rattle.ats_command_input.specs.Station.{station_in}
 use Rattle.ats_command_input.specs.declared.status.Status.TheVariants.{Input}
 use Rattle.ats_command_due.specs.Due.{IsDueAnswer}
@@ -86,6 +88,11 @@ TrafficFails station file bytes text over =
     × (((fault : RecordsFault) × HasNoRecords file bytes text fault)
     ⊎ ((records : List Record) × (fault : JoinFault) × IsOverLimit file bytes text over place records fault))
 
+-- a schedule's file fails over a network in which a port has a name
+abbrev pub RecordFails : List ℕ → List ℕ → List ℕ → List ℕ → DeclaredNetwork → Type 0
+RecordFails port schedule bytes text over =
+    (place : ℕ) × (port_in over.topology port ≡ Ok place) × ReleasesFail schedule bytes text over
+
 -- the first of two files fails, or it declares a network, over which the second fails
 abbrev pub OneFails : List ℕ → List ℕ → List ℕ → (DeclaredNetwork → Type 0) → Type 0
 OneFails net net_bytes text Fails =
@@ -130,6 +137,13 @@ FileFails told (LrqBound net) text = Of told net (λ bytes. NetworkFails net byt
 FileFails told (LrqCheck net certificate) text =
     OfBoth told net certificate (λ net_bytes bytes.
     OneFails net net_bytes text (λ declared. RowsFail certificate bytes text declared.topology))
+FileFails told (table.Record net schedule order port) text =
+    OfBoth told net schedule (λ net_bytes bytes. OneFails net net_bytes text (RecordFails port schedule bytes text))
+FileFails told (Witness net name) text = Of told net (λ bytes. NetworkFails net bytes text)
+FileFails told (Releases net station file) text =
+    OfBoth told net file (λ net_bytes bytes. OneFails net net_bytes text (TrafficFails station file bytes text))
+FileFails told (Fit net schedule) text =
+    OfBoth told net schedule (λ net_bytes bytes. OneFails net net_bytes text (ReleasesFail schedule bytes text))
 FileFails told Unknown text = ⊥
 
 -- where Input is due to a command, the text names the file that fails, and its first fault in its words

@@ -1,7 +1,9 @@
 use Rattle.std.specs.Prelude.{◌≡◌, ◌≢◌, ℕ, List, Some, IsOk}
 use Rattle.ats_num.specs.Failure.{◌>>=◌}
-use Rattle.ats_command_input.specs.Command.{Check, Conform, Admit, Replay, Capture, Buffers, Peaks, LrqCheck}
+use Rattle.ats_command_input.specs.Command.{Check, Conform, Admit, Replay, Capture, Buffers, Peaks, LrqCheck, Record}
+use Rattle.ats_command_input.specs.Command.{Releases, Fit}
 use Rattle.ats_command_input.specs.Input.{network_in, rows_in}
+use Rattle.ats_command_input.specs.Port.{port_in}
 use Rattle.ats_command_input.specs.Station.{station_in}
 use Rattle.ats_command_input.specs.declared.order.Order.{Order}
 use Rattle.ats_command_due.specs.Due.{Reaches}
@@ -31,6 +33,16 @@ pub record LaterFilesWait : Type 0 where
       → Reaches told (Capture net station file order) file
       → (bytes : List ℕ) → told net ≡ Some bytes
       → IsOk (network_in net bytes >>= λ network. station_in network.topology station)
+  pub record_schedule : (told : Told) (net file port : List ℕ) (order : Order) → file ≢ net
+      → Reaches told (Record net file order port) file
+      → (bytes : List ℕ) → told net ≡ Some bytes
+      → IsOk (network_in net bytes >>= λ network. port_in network.topology port)
+  pub releases : (told : Told) (net station file : List ℕ) → file ≢ net
+      → Reaches told (Releases net station file) file
+      → (bytes : List ℕ) → told net ≡ Some bytes
+      → IsOk (network_in net bytes >>= λ network. station_in network.topology station)
+  pub fit : (told : Told) (net file : List ℕ) → file ≢ net → Reaches told (Fit net file) file
+      → DeclaresNetwork told net
   pub rows : (told : Told) (net file schedule : List ℕ) (order : Order) → file ≢ net → file ≢ schedule
       → Reaches told (Peaks net file schedule order) file → DeclaresNetwork told net
   pub schedule : (told : Told) (net certificate file : List ℕ) (order : Order) → file ≢ net → file ≢ certificate

@@ -4,16 +4,18 @@ ghost use Rattle.ats_answer_law.specs.Accepted.{PromisesAreSound};
 ghost use Rattle.ats_answer_law.specs.Due.{AdmitIsDue, BoundIsDue, CaptureIsDue, CheckIsDue, ConformIsDue};
 ghost use Rattle.ats_answer_law.specs.Due.{ExplainIsDue, GenerateIsDue, ReplayIsDue, ShapeIsDue, ShowIsDue};
 ghost use Rattle.ats_answer_law.specs.Due.{BuffersAreDue, LrqBoundIsDue, LrqCheckIsDue, LrqShapeIsDue, PeaksAreDue};
-ghost use Rattle.ats_answer_law.specs.Due.{SettingsAreDue, WordsAreDue};
+ghost use Rattle.ats_answer_law.specs.Due.{FitIsDue, RecordIsDue, ReleasesAreDue, SettingsAreDue, WitnessIsDue};
+ghost use Rattle.ats_answer_law.specs.Due.{WordsAreDue};
 ghost use Rattle.ats_answer_law.specs.Faults.{FaultsAreTold};
 ghost use Rattle.ats_answer_law.specs.Reached.{LaterFilesWait};
 ghost use Rattle.ats_answer_law.specs.Runs.{PeaksAreHeld, RunsKeepTheirOrder};
 
 use ats_command_law::laws::{
     what_admit_answers, what_bound_answers, what_buffers_answers, what_capture_answers,
-    what_check_answers, what_conform_answers, what_explain_answers, what_generate_answers,
-    what_lrq_bound_answers, what_lrq_check_answers, what_lrq_shape_answers, what_peaks_answer,
-    what_replay_answers, what_settings_answers,
+    what_check_answers, what_conform_answers, what_explain_answers, what_fit_answers,
+    what_generate_answers, what_lrq_bound_answers, what_lrq_check_answers, what_lrq_shape_answers,
+    what_peaks_answer, what_record_answers, what_releases_answers, what_replay_answers,
+    what_settings_answers, what_witness_answers,
 };
 
 /// Each answer that is due to `shape`, by its status. `Done`: the bytes that are told declare a shape, and the text
@@ -132,6 +134,35 @@ pub fn lrq_check_is_due()
     what_lrq_check_answers();
 }
 
+/// Each answer that is due to `record` says of the bytes that are told under both names what `what_record_answers` has.
+pub fn record_is_due()
+    ensures { RecordIsDue }
+{
+    what_record_answers();
+}
+
+/// Each answer that is due to `witness` says of the bytes that are told what `what_witness_answers` has.
+pub fn witness_is_due()
+    ensures { WitnessIsDue }
+{
+    what_witness_answers();
+}
+
+/// Each answer that is due to `releases` says of the bytes that are told under both names what `what_releases_answers`
+/// has.
+pub fn releases_are_due()
+    ensures { ReleasesAreDue }
+{
+    what_releases_answers();
+}
+
+/// Each answer that is due to `fit` says of the bytes that are told under both names what `what_fit_answers` has.
+pub fn fit_is_due()
+    ensures { FitIsDue }
+{
+    what_fit_answers();
+}
+
 /// To words that are no command one answer is due: `Words`, with the line `words`.
 pub fn words_are_due()
     ensures { WordsAreDue }
@@ -144,8 +175,9 @@ pub fn faults_are_told()
     ensures { FaultsAreTold }
 {}
 
-/// The run whose text is due to `replay`, `capture` or `buffers` is one by the tie and the pace of the order that is
-/// asked for, and to `generate` one by those of `early`.
+/// The run whose text is due to `replay`, `capture`, `buffers` or `record` is one by the tie and the pace of the order
+/// that is asked for, and to `generate` one by those of `early`. A delay that `witness` prints is found in one in which
+/// the stream's frames go last of those that tie, and frames arrive behind ports as late as they may.
 pub fn runs_keep_their_order()
     ensures { RunsKeepTheirOrder }
 {}

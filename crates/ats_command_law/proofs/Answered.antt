@@ -13,13 +13,15 @@ use Rattle.ats_num.specs.Failure.{unless}
 use Rattle.ats_num.specs.Places.{place_of}
 use Rattle.ats_topology.specs.Topology.{DeclaredTopology}
 use Rattle.ats_topology.proofs.Known.{name_there}
+use Rattle.ats_streams.proofs.OneListener.{alone_path}
 use Rattle.ats_streams.specs.Stream.{DeclaredStream, with_class}
 use Rattle.ats_network.specs.Edits.{less_at, no_stream, without_named}
 use Rattle.ats_network.specs.Network.{DeclaredNetwork, IsNetwork, names_of, senders_of}
-use Rattle.ats_network.specs.Pushes.{is_name_taken, with_stream}
+use Rattle.ats_network.specs.Pushes.{is_full, is_name_taken, with_stream}
 use Rattle.ats_network.specs.Tables.{stream_names}
 use Rattle.ats_network.specs.declared.network.TheConstants.{MAX_STREAMS}
 use Rattle.ats_network.proofs.NameLemmas.{absent_differs}
+use Rattle.ats_network.proofs.Together.{full_by_streams}
 use Rattle.ats_certificate.specs.Certificate.{bound_along}
 use Rattle.ats_tally.specs.declared.reason.Reason.{Reason}
 use Rattle.ats_bound.specs.Least.{least_certificate}
@@ -63,21 +65,25 @@ name_free network name free =
     let names : List (List ℕ) = names_of (senders_of network) in
     absent_differs name names (is_some-false (place_of name names) free)
 
--- what stands against an entry is a taken name, or that the network is full
-entry_denies : (P : Denied → Type 0) (network : DeclaredNetwork) (stream : DeclaredStream)
-    → (IsNameTaken network stream.name → P NameTaken) → (IsFull network stream.name → P Limit) → (denied : Denied)
-    → entry_fault network stream ≡ Some denied → P denied
-entry_denies P network stream taken full denied h =
-    by (is_name_taken network stream.name) refl (nat_le MAX_STREAMS (length network.streams)) refl h
+-- what stands against an entry is a taken name, or that the network is full: with one listener each, streams never have
+-- more ports together than they may
+entry_denies : (P : Denied → Type 0) (network : DeclaredNetwork) (stream : DeclaredStream) → IsNetwork network
+    → MayEnter network.topology stream → (IsNameTaken network stream.name → P NameTaken)
+    → (IsFull network stream.name → P Limit) → (denied : Denied) → entry_fault network stream ≡ Some denied → P denied
+entry_denies P network stream is may taken full denied h =
+    by (is_name_taken network stream.name) refl (is_full network.streams stream.ports) refl h
   where
-    by : (a : Bool) → is_name_taken network stream.name ≡ a
-        → (b : Bool) → nat_le MAX_STREAMS (length network.streams) ≡ b
+    by_streams : is_full network.streams stream.ports ≡ nat_le MAX_STREAMS (length network.streams)
+    by_streams = full_by_streams network stream.ports is
+        (alone_path stream.ports stream.branches may.one_listener may.rules.routes)
+
+    by : (a : Bool) → is_name_taken network stream.name ≡ a → (b : Bool) → is_full network.streams stream.ports ≡ b
         → cond a (Some NameTaken) (cond b (Some Limit) None) ≡ Some denied → P denied
     by true e b f h = subst P (same_Some NameTaken denied h) (taken (name_taken network stream.name e))
     by false e true f h =
         subst P (same_Some Limit denied h) (full (record {
           free = name_free network stream.name e;
-          full = leb-true MAX_STREAMS (length network.streams) f;
+          full = leb-true MAX_STREAMS (length network.streams) (sym by_streams ∙ f);
         }))
     by false e false f h = absurd (none-some denied h)
 
@@ -97,7 +103,7 @@ admit_denies network stream denied is may h = by (entry_fault network stream) re
     by : (o : Option Denied) → entry_fault network stream ≡ o → (r : Option Reason) → reason_with network stream ≡ r
         → option_or o (option_map Because r) ≡ Some denied → AdmitDenied network stream denied
     by (Some d) e r f h =
-        entry_denies (AdmitDenied network stream) network stream (λ t. t) (λ t. t) denied (e ∙ h)
+        entry_denies (AdmitDenied network stream) network stream is may (λ t. t) (λ t. t) denied (e ∙ h)
     by None e (Some reason) f h =
         subst (AdmitDenied network stream) (same_Some (Because reason) denied h)
         (reason_is_first network stream reason is may e f)
@@ -157,7 +163,7 @@ lowest_denies network stream denied is may h =
         → class_given o r ≡ Err denied → LowestDenied network stream denied
     by (Some d) e r g =
         let same : d ≡ denied = cc g in
-        entry_denies (LowestDenied network stream) network stream (λ t. t) (λ t. t) denied (e ∙ ap Some same)
+        entry_denies (LowestDenied network stream) network stream is may (λ t. t) (λ t. t) denied (e ∙ ap Some same)
     by None e (Ok class) g = absurd (let no : Ok class ≡ Err denied = g in cc)
     by None e (Err reasons) g =
         let same : NoClass reasons ≡ denied = cc g in

@@ -36,7 +36,7 @@ gives_on (Ok value) next h k = k value
 gives_on (Err answer) next h k = h
 
 -- where a capture's file declares no traffic, it has a fault
-traffic_gives : (network : DeclaredNetwork) (place : ℕ) (file bytes : List ℕ)
+pub traffic_gives : (network : DeclaredNetwork) (place : ℕ) (file bytes : List ℕ)
     → MatchResult (traffic_in network place file bytes) (λ (traffic : Traffic). Unit {0}) IsInput
 unfolding records_in traffic_in
 traffic_gives network place file bytes =
@@ -46,7 +46,7 @@ traffic_gives network place file bytes =
     (λ records. input_gives file fault_text (traffic_of network place records))
 
 -- a file declares what its bytes are read as
-read_as : {A F : Type 0} (file : List ℕ) (words : F → List ℕ) (read : Result A F) (value : A)
+pub read_as : {A F : Type 0} (file : List ℕ) (words : F → List ℕ) (read : Result A F) (value : A)
     → declared_in file words read ≡ Ok value → read ≡ Ok value
 read_as file words (Ok one) value h = cc
 read_as file words (Err fault) value h = cc
@@ -58,7 +58,7 @@ none_against fault None x value h = (refl, cc)
 none_against fault (Some f) x value h = cc
 
 -- the traffic of a capture's file is that of all its records
-traffic_counted : (network : DeclaredNetwork) (place : ℕ) (file bytes : List ℕ) (traffic : Traffic)
+pub traffic_counted : (network : DeclaredNetwork) (place : ℕ) (file bytes : List ℕ) (traffic : Traffic)
     → traffic_in network place file bytes ≡ Ok traffic
     → (records : List Record) × IsCounted file bytes network place traffic records
 unfolding traffic_in
@@ -76,10 +76,10 @@ traffic_counted network place file bytes traffic h = by (records_in file bytes) 
     by (Err answer) is g = cc
 
 -- a word that is the name of no station is answered so
-abbrev IsNoStation : List ℕ → Answer → Type 0
+abbrev pub IsNoStation : List ℕ → Answer → Type 0
 IsNoStation station answer = answer ≡ station_answer station
 
-station_gives : (topology : DeclaredTopology) (station : List ℕ)
+pub station_gives : (topology : DeclaredTopology) (station : List ℕ)
     → MatchResult (station_in topology station) (λ (place : ℕ). Unit {0}) (IsNoStation station)
 unfolding station_in
 station_gives topology station = by (station_named topology station)

@@ -21,7 +21,7 @@ done_is_not_refused text answer h done =
     let clash : answer.status ≡ Refused = ap (λ (a : Answer). a.status) h in cc
 
 -- an answer that is done says that every station keeps its buckets
-done_keeps : (network : DeclaredNetwork) (releases : List Release) (text : List ℕ)
+pub done_keeps : (network : DeclaredNetwork) (releases : List Release) (text : List ℕ)
     → JudgesReleases network releases (record { status = Done; text = text }) → AllKeepBuckets network releases
 done_keeps network releases text (inl conforming) = conforming.keeps
 done_keeps network releases text (inr (broken, is)) =

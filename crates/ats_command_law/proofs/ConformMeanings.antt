@@ -4,23 +4,14 @@ use Rattle.std.specs.Prelude.{MatchResult}
 use Rattle.ats_network.specs.Network.{DeclaredNetwork, IsNetwork}
 use Rattle.ats_trace.specs.declared.journey.Release.{Release}
 use Rattle.ats_conform.proofs.Prefix.{one-breaks}
-use Rattle.ats_schedule.specs.Reading.{releases_of}
-use Rattle.ats_schedule.specs.FaultText as schedule
 use Rattle.ats_num.specs.Failure.{◌>>=◌}
 use Rattle.ats_command_input.specs.Answer.{Answer}
 use Rattle.ats_command_input.specs.Input.{network_in, releases_in}
 use Rattle.ats_command_due.specs.Conformed.{IsAnswerTo, JudgesReleases, JudgesScheduled}
 use Rattle.ats_command_due.specs.Replayed.{scheduled_in}
-use Rattle.ats_command_law.proofs.Meanings.{IsInput, file_gives, network_gives, none_declared}
+use Rattle.ats_command_law.proofs.Meanings.{IsInput, network_gives, none_declared}
+use Rattle.ats_command_law.proofs.ReplayMeanings.{releases_give}
 use Rattle.ats_command_law.specs.ConformMeaning.{ConformMeans, ConformSays}
-
--- where a schedule's file declares no releases, it has a fault
-releases_give : (network : DeclaredNetwork) (file bytes : List ℕ)
-    → MatchResult (releases_in network file bytes) (λ (releases : List Release). Unit {0}) IsInput
-unfolding releases_in
-releases_give network file bytes =
-    file_gives 33554432 file bytes schedule.fault_text (releases_of network) (λ (releases : List Release). Unit {0})
-    (λ text releases read. tt)
 
 -- where both declare what they should
 judgement_says : (net schedule net_bytes schedule_bytes : List ℕ) (network : DeclaredNetwork) (releases : List Release)

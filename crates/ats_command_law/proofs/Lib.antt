@@ -21,3 +21,9 @@ pub mod BufferMeanings
 pub mod SettingsMeanings
 pub mod LrqMeanings
 pub mod LrqShapeMeanings
+pub mod RecordMeanings
+pub mod WitnessMeanings
+pub mod ReleasesMeanings
+pub mod ReleasesBounds
+pub mod FitMeanings
+pub mod OneFit

@@ -4,17 +4,23 @@ use Rattle.ats_command_input.specs.Command.{Command, Shape, Show, Bound, Explain
 use Rattle.ats_command_input.specs.Command.{Capture, Conform, Admit, Generate, Settings}
 use Rattle.ats_command_input.specs.Command.{Buffers, Peaks}
 use Rattle.ats_command_input.specs.Command.{LrqShape, LrqBound, LrqCheck}
+use Rattle.ats_command_input.specs.Command.{Record, Witness, Releases, Fit}
 use Rattle.ats_command_input.specs.Answer.{Answer, words_answer}
 use Rattle.ats_command_input.specs.Input.{network_in}
 use Rattle.ats_command_due.specs.Due.{IsDueAnswer, IsTold, told_bytes}
 use Rattle.ats_command_due.specs.Due.{admit_answer, bound_answer, check_answer, explain_answer, shape_answer}
-use Rattle.ats_command_due.specs.Due.{buffers_answer, show_answer}
+use Rattle.ats_command_due.specs.Due.{buffers_answer, releases_answer, show_answer}
 use Rattle.ats_command_due.specs.Due.{lrq_bound_answer, lrq_check_answer, lrq_shape_answer}
 use Rattle.ats_command_due.specs.Held.{IsHeldText, held_in}
+use Rattle.ats_fit.specs.Laws.{LeastBurstExists, MeasuredIsOne}
 use Rattle.ats_command_law.specs.Laws.{HasOneAnswer, OneAnswerIsDue, OneStatusIsDue}
 use Rattle.ats_command_due.specs.Captured.{IsCaptured, captured_in}
+use Rattle.ats_command_due.specs.Fitted.{IsFitted}
 use Rattle.ats_command_due.specs.Generated.{IsGenerated, generated_in}
+use Rattle.ats_command_due.specs.Recorded.{IsRecorded, recorded_in}
 use Rattle.ats_command_due.specs.Replayed.{IsOneOf, IsReplayed, scheduled_in}
+use Rattle.ats_command_due.specs.Witnessed.{IsWitnessed, witnessed_in}
+use Rattle.ats_command_law.proofs.OneFit.{one_fit}
 use Rattle.ats_command_law.proofs.OneJudgement.{one_judgement, same_judgement}
 use Rattle.ats_command_law.proofs.OneText.{one_text, same_text}
 use Rattle.ats_command_law.proofs.Scheduled.{scheduled_may}
@@ -32,73 +38,90 @@ one_status Text (Ok value) one other h k = h.0 ∙ sym k.0
 one_status Text (Err answer) one other h k = ap (λ (a : Answer). a.status) (h ∙ sym k)
 
 -- just one answer is due to a command
-only_due : (told : List ℕ → Option (List ℕ)) (command : Command) → IsTold told command → HasOneAnswer told command
-    → (answer : Answer) × (IsDueAnswer told command answer)
+only_due : LeastBurstExists → MeasuredIsOne → (told : List ℕ → Option (List ℕ)) (command : Command)
+    → IsTold told command → HasOneAnswer told command → (answer : Answer) × (IsDueAnswer told command answer)
     × ((other : Answer) → IsDueAnswer told command other → other ≡ answer)
-only_due told (Shape file) is_told one =
+only_due has_burst is_one told (Shape file) is_told one =
     (shape_answer file (told_bytes told file), record { is_told = is_told; answers = refl }, λ other due. due.answers)
-only_due told (Show net) is_told one =
+only_due has_burst is_one told (Show net) is_told one =
     (show_answer net (told_bytes told net), record { is_told = is_told; answers = refl }, λ other due. due.answers)
-only_due told (Bound net) is_told one =
+only_due has_burst is_one told (Bound net) is_told one =
     (bound_answer net (told_bytes told net), record { is_told = is_told; answers = refl }, λ other due. due.answers)
-only_due told (Explain net) is_told one =
+only_due has_burst is_one told (Explain net) is_told one =
     (explain_answer net (told_bytes told net), record { is_told = is_told; answers = refl }, λ other due. due.answers)
-only_due told (Settings net) is_told one =
+only_due has_burst is_one told (Settings net) is_told one =
     let alone = one_text (network_in net (told_bytes told net)) in
     (alone.0, record { is_told = is_told; answers = alone.1 }, λ other due. alone.2 other due.answers)
-only_due told (Check net certificate) is_told one = (
+only_due has_burst is_one told (Check net certificate) is_told one = (
   check_answer net certificate (told_bytes told net) (told_bytes told certificate),
   record { is_told = is_told; answers = refl },
   λ other due. due.answers,
 )
-only_due told (Buffers net certificate) is_told one = (
+only_due has_burst is_one told (Buffers net certificate) is_told one = (
   buffers_answer net certificate (told_bytes told net) (told_bytes told certificate),
   record { is_told = is_told; answers = refl },
   λ other due. due.answers,
 )
-only_due told (Conform net schedule) is_told one =
+only_due has_burst is_one told (Conform net schedule) is_told one =
     let alone = one_judgement (scheduled_in net schedule (told_bytes told net) (told_bytes told schedule))
     (scheduled_may net schedule (told_bytes told net) (told_bytes told schedule)) in
     (alone.0, record { is_told = is_told; answers = alone.1 }, λ other due. alone.2 other due.answers)
-only_due told (Admit net requests) is_told one = (
+only_due has_burst is_one told (Admit net requests) is_told one = (
   admit_answer net requests (told_bytes told net) (told_bytes told requests),
   record { is_told = is_told; answers = refl },
   λ other due. due.answers,
 )
-only_due told (Replay net schedule order) is_told one =
+only_due has_burst is_one told (Replay net schedule order) is_told one =
     let alone = one_without_texts (IsReplayed order)
     (scheduled_in net schedule (told_bytes told net) (told_bytes told schedule)) one in
     (alone.0, record { is_told = is_told; answers = alone.1 }, λ other due. alone.2 other due.answers)
-only_due told (Capture net station file order) is_told one =
+only_due has_burst is_one told (Capture net station file order) is_told one =
     let alone = one_without_texts (IsCaptured order)
     (captured_in net station file (told_bytes told net) (told_bytes told file)) one in
     (alone.0, record { is_told = is_told; answers = alone.1 }, λ other due. alone.2 other due.answers)
-only_due told (Generate net seed count) is_told one =
+only_due has_burst is_one told (Generate net seed count) is_told one =
     let alone = one_without_texts (IsGenerated seed count) (generated_in net seed count (told_bytes told net)) one in
     (alone.0, record { is_told = is_told; answers = alone.1 }, λ other due. alone.2 other due.answers)
-only_due told (Peaks net certificate schedule order) is_told one =
+only_due has_burst is_one told (Peaks net certificate schedule order) is_told one =
     let alone = one_without_texts (IsHeldText order)
     (held_in net certificate schedule (told_bytes told net) (told_bytes told certificate) (told_bytes told schedule))
     one in
     (alone.0, record { is_told = is_told; answers = alone.1 }, λ other due. alone.2 other due.answers)
-only_due told (LrqShape file) is_told one = (
+only_due has_burst is_one told (LrqShape file) is_told one = (
   lrq_shape_answer file (told_bytes told file),
   record { is_told = is_told; answers = refl },
   λ other due.
       due.answers,
 )
-only_due told (LrqBound net) is_told one =
+only_due has_burst is_one told (LrqBound net) is_told one =
     (lrq_bound_answer net (told_bytes told net), record { is_told = is_told; answers = refl }, λ other due. due.answers)
-only_due told (LrqCheck net certificate) is_told one = (
+only_due has_burst is_one told (LrqCheck net certificate) is_told one = (
   lrq_check_answer net certificate (told_bytes told net) (told_bytes told certificate),
   record { is_told = is_told; answers = refl },
   λ other due. due.answers,
 )
-only_due told Unknown is_told one =
+only_due has_burst is_one told (Record net schedule order port) is_told one =
+    let alone = one_without_texts (IsRecorded order)
+    (recorded_in net schedule port (told_bytes told net) (told_bytes told schedule)) one in
+    (alone.0, record { is_told = is_told; answers = alone.1 }, λ other due. alone.2 other due.answers)
+only_due has_burst is_one told (Witness net name) is_told one =
+    let alone = one_without_texts IsWitnessed (witnessed_in net name (told_bytes told net)) one in
+    (alone.0, record { is_told = is_told; answers = alone.1 }, λ other due. alone.2 other due.answers)
+only_due has_burst is_one told (Releases net station file) is_told one = (
+  releases_answer net station file (told_bytes told net) (told_bytes told file),
+  record { is_told = is_told; answers = refl },
+  λ other due. due.answers,
+)
+only_due has_burst is_one told (Fit net schedule) is_told one =
+    let alone = one_fit has_burst is_one (scheduled_in net schedule (told_bytes told net) (told_bytes told schedule))
+    (scheduled_may net schedule (told_bytes told net) (told_bytes told schedule)) in
+    (alone.0, record { is_told = is_told; answers = alone.1 }, λ other due. alone.2 other due.answers)
+only_due has_burst is_one told Unknown is_told one =
     (words_answer, record { is_told = is_told; answers = refl }, λ other due. due.answers)
 
-pub one_answer : OneAnswerIsDue
-one_answer told words is_told one = let d = only_due told (command_of words) is_told one in
+pub one_answer : LeastBurstExists → MeasuredIsOne → OneAnswerIsDue
+one_answer has_burst is_one told words is_told one =
+    let d = only_due has_burst is_one told (command_of words) is_told one in
     (d.0, record { due = d.1; only = d.2 })
 
 -- equal answers have one status
@@ -150,6 +173,17 @@ same_due told (LrqBound net) one other h k =
 same_due told (LrqCheck net certificate) one other h k =
     same_status one other (lrq_check_answer net certificate (told_bytes told net) (told_bytes told certificate))
     h.answers k.answers
+same_due told (Record net schedule order port) one other h k =
+    one_status (IsRecorded order) (recorded_in net schedule port (told_bytes told net) (told_bytes told schedule)) one
+    other h.answers k.answers
+same_due told (Witness net name) one other h k =
+    one_status IsWitnessed (witnessed_in net name (told_bytes told net)) one other h.answers k.answers
+same_due told (Releases net station file) one other h k =
+    same_status one other (releases_answer net station file (told_bytes told net) (told_bytes told file)) h.answers
+    k.answers
+same_due told (Fit net schedule) one other h k =
+    one_status IsFitted (scheduled_in net schedule (told_bytes told net) (told_bytes told schedule)) one other h.answers
+    k.answers
 same_due told Unknown one other h k = same_status one other words_answer h.answers k.answers
 
 pub one_status_due : OneStatusIsDue

@@ -1,4 +1,4 @@
--- Each stream that a text asks for has one class at every port of its path.
+-- Each stream that a text asks for has one class at each of its ports.
 use Rattle.std.proofs.Common.{◌≡◌, ℕ, ◌+◌, Bool, true, false, cond, List, [], ◌∷◌, ◌++◌, length, Option, Some, None}
 use Rattle.std.proofs.Common.{Ok, Err, refl, subst}
 use Rattle.std.specs.Prelude.{◌==◌, nat_lt, codes}

@@ -15,14 +15,14 @@ use Rattle.ats_command_law.specs.Laws.{AcceptedTextIsSound, lines_by, PrintedBou
 -- the lines of a stream go by the bounds of its sender
 lines_of_sender : (topology : DeclaredTopology) (rows : List Row) (stream : DeclaredStream)
     → stream_lines topology rows stream
-    ≡ lines_by topology stream.name (bounds_of rows (stream_sender stream)) (stream_sender stream).path
+    ≡ lines_by topology stream.name (bounds_of rows (stream_sender stream)) (stream_sender stream).ports
 unfolding stream_lines hop_line
 lines_of_sender topology rows stream = refl
 
 pub printed_bounds_are_sound : PrintedBoundsAreSound
 printed_bounds_are_sound network rows i stream named =
     subst (λ (s : Sender). stream_lines network.topology rows stream
-    ≡ lines_by network.topology stream.name (bounds_of rows s) s.path)
+    ≡ lines_by network.topology stream.name (bounds_of rows s) s.ports)
     (sym (sender_of_stream network i stream named)) (lines_of_sender network.topology rows stream)
 
 -- what is written of each element by itself, and by its number as well

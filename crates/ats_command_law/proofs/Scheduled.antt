@@ -200,7 +200,7 @@ under_keeps network (first ∷ records) =
     (from_keeps network [] records (no_release network [] refl))
 
 -- releases that are declared may be run
-releases_may : (network : DeclaredNetwork) (file bytes : List ℕ)
+pub releases_may : (network : DeclaredNetwork) (file bytes : List ℕ)
     → IfOk (releases_in network file bytes) (AreReleases network)
 unfolding releases_in
 releases_may network file bytes =

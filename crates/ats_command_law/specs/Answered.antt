@@ -21,11 +21,11 @@ pub record HasFirstReason (network : DeclaredNetwork) (reason : Reason) : Type 0
   pub rules : IsNetwork network
   pub first : IsFirstReason network reason
 
--- a network with a stream added last, which has this class at each port of its path, and the first reason against it
+-- a network with a stream added last, which has this class at each of its ports, and the first reason against it
 abbrev pub HasReasonWith : DeclaredNetwork → DeclaredStream → ℕ → Reason → Type 0
 HasReasonWith network stream class reason = HasFirstReason (with_stream network (with_class stream class)) reason
 
--- a stream came in, with this class at each port of its path, beside all that was there; this is the sum of its least
+-- a stream came in, with this class at each of its ports, beside all that was there; this is the sum of its least
 -- bounds in the network that came of it
 pub record CameIn (old new : DeclaredNetwork) (stream : DeclaredStream) (class sum : ℕ) : Type 0 where
   pub beside : new ≡ with_stream old (with_class stream class)

@@ -9,22 +9,24 @@ use Rattle.ats_network.specs.Senders.{sender_at}
 use Rattle.ats_certificate.specs.declared.row.Row.{Row}
 use Rattle.ats_soundness_law.specs.Sound.{bounds_of}
 use Rattle.ats_verdict_text.specs.Text.{accepted_text, stream_lines}
-use Rattle.ats_command_input.specs.Command.{Command, Replay, Capture, Generate, Peaks, command_of}
+use Rattle.ats_command_input.specs.Command.{Command, Replay, Capture, Generate, Peaks, Record, Witness, command_of}
 use Rattle.ats_command_input.specs.Answer.{Answer}
 use Rattle.ats_command_due.specs.Due.{IsDueAnswer, IsTold, told_bytes}
 use Rattle.ats_command_due.specs.Captured.{captured_in}
 use Rattle.ats_command_due.specs.Generated.{generated_in}
 use Rattle.ats_command_due.specs.Held.{held_in}
+use Rattle.ats_command_due.specs.Recorded.{recorded_in}
 use Rattle.ats_command_due.specs.Replayed.{scheduled_in}
+use Rattle.ats_command_due.specs.Witnessed.{witnessed_in}
 
 -- this answer is due, and no other
 pub record IsOnlyDue (told : List ℕ → Option (List ℕ)) (words : List (List ℕ)) (answer : Answer) : Type 0 where
   pub due : IsDueAnswer told (command_of words) answer
   pub only : (other : Answer) → IsDueAnswer told (command_of words) other → other ≡ answer
 
--- the bytes that are told leave one answer alone: to each command but `replay`, `capture`, `generate` and `buffers`
--- with a schedule, which may print what came of any run in their order, and to these where a file has a fault, no
--- station has the name, no releases are made, or the certificate does not hold
+-- the bytes that are told leave one answer alone: to each command but `replay`, `capture`, `generate`, `buffers` with a
+-- schedule, `record` and `witness`, which may print what came of any run in their order, and to these where a file has
+-- a fault, no station, port or stream has the name, no releases are made, the certificate does not hold, or none does
 abbrev pub HasOneAnswer : (List ℕ → Option (List ℕ)) → Command → Type 0
 HasOneAnswer told (Replay net schedule order) =
     IsErr (scheduled_in net schedule (told_bytes told net) (told_bytes told schedule))
@@ -34,6 +36,9 @@ HasOneAnswer told (Generate net seed count) = IsErr (generated_in net seed count
 HasOneAnswer told (Peaks net certificate schedule order) =
     IsErr (held_in net certificate schedule (told_bytes told net) (told_bytes told certificate)
     (told_bytes told schedule))
+HasOneAnswer told (Record net schedule order port) =
+    IsErr (recorded_in net schedule port (told_bytes told net) (told_bytes told schedule))
+HasOneAnswer told (Witness net name) = IsErr (witnessed_in net name (told_bytes told net))
 HasOneAnswer told command = Unit {0}
 
 -- for all words, and all bytes told under the names of their files, just one answer is due, where they leave one alone
@@ -46,24 +51,24 @@ abbrev pub OneStatusIsDue : Type 0
 OneStatusIsDue = (told : List ℕ → Option (List ℕ)) (words : List (List ℕ)) (one other : Answer)
     → IsDueAnswer told (command_of words) one → IsDueAnswer told (command_of words) other → one.status ≡ other.status
 
--- a line `hop NAME PORT BOUND` for each port of a path, by these bounds, and a line `sum NAME SUM` with their sum
+-- a line `hop NAME PORT BOUND` for each of these ports, by these bounds, and a line `sum NAME SUM` with their sum
 abbrev pub lines_by : DeclaredTopology → List ℕ → (ℕ → ℕ) → List ℕ → List ℕ
 lines_by topology name bound path =
     flat_map (λ port. codes "hop " ++ name ++ codes " " ++ port_name topology port ++ codes " " ++ decimal (bound port)
     ++ codes "\n") path ++ codes "sum " ++ name ++ codes " " ++ decimal (sum_by bound path) ++ codes "\n"
 
--- what is printed of the stream with a number: at each port of its path the bound of which soundness speaks, and the
+-- what is printed of the stream with a number: at each of its ports the bound of which soundness speaks, and the
 -- sum of these bounds
 abbrev pub PrintedBoundsAreSound : Type 0
 PrintedBoundsAreSound = (network : DeclaredNetwork) (rows : List Row) (i : ℕ) (stream : DeclaredStream)
     → slice_get network.streams i ≡ Some stream → stream_lines network.topology rows stream
-    ≡ lines_by network.topology stream.name (bounds_of rows (sender_at network i)) (sender_at network i).path
+    ≡ lines_by network.topology stream.name (bounds_of rows (sender_at network i)) (sender_at network i).ports
 
 -- such lines of the stream with a number, by the bounds of which soundness speaks
 abbrev pub sound_lines : DeclaredNetwork → List Row → ℕ × DeclaredStream → List ℕ
 sound_lines network rows numbered =
     lines_by network.topology numbered.1.name (bounds_of rows (sender_at network numbered.0))
-    (sender_at network numbered.0).path
+    (sender_at network numbered.0).ports
 
 -- so is the whole text that is printed of an accepted certificate: such lines of each stream, in order with its number,
 -- and then the line `accepted N` with the number of streams

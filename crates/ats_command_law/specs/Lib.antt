@@ -12,3 +12,8 @@ pub mod GenerateMeaning
 pub mod BufferMeaning
 pub mod SettingsMeaning
 pub mod LrqMeaning
+pub mod RecordMeaning
+pub mod WitnessMeaning
+pub mod ReleasesMeaning
+pub mod ReleasesBounds
+pub mod FitMeaning

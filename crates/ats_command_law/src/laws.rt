@@ -7,23 +7,33 @@ ghost use Rattle.ats_command_law.specs.CaptureMeaning.{CaptureMeans};
 ghost use Rattle.ats_command_law.specs.ConformBounds.{ConformKeepsBounds};
 ghost use Rattle.ats_command_law.specs.ConformMeaning.{ConformMeans};
 ghost use Rattle.ats_command_law.specs.ExplainMeaning.{ExplainMeans};
+ghost use Rattle.ats_command_law.specs.FitMeaning.{FitAgreesWithConform, FitMeans};
 ghost use Rattle.ats_command_law.specs.GenerateMeaning.{GenerateMeans, PrintedWorstIsWithin};
 ghost use Rattle.ats_command_law.specs.Laws.{AcceptedTextIsSound, OneAnswerIsDue, OneStatusIsDue};
 ghost use Rattle.ats_command_law.specs.Laws.{PrintedBoundsAreSound};
 ghost use Rattle.ats_command_law.specs.LrqMeaning.{LrqBoundMeans, LrqCheckMeans, LrqShapeMeans};
 ghost use Rattle.ats_command_law.specs.Meaning.{BoundMeans, CheckMeans};
+ghost use Rattle.ats_command_law.specs.RecordMeaning.{RecordMeans};
+ghost use Rattle.ats_command_law.specs.ReleasesBounds.{ReleasedIsScheduled, ReleasesKeepBounds};
+ghost use Rattle.ats_command_law.specs.ReleasesMeaning.{ReleasesMean};
 ghost use Rattle.ats_command_law.specs.ReplayMeaning.{ReplayKeepsBounds, ReplayMeans};
 ghost use Rattle.ats_command_law.specs.SettingsMeaning.{SettingsMean};
+ghost use Rattle.ats_command_law.specs.WitnessMeaning.{WitnessMeans};
 
 use ats_explain::laws::{clear_where_one_holds, each_stream_adds_up};
+use ats_fit::laws::{least_burst_exists, measured_is_one, none_over_is_kept};
 
-/// For all words, and all bytes told under the names of their files, just one answer is due, except to `replay` and
-/// `capture` where no file has a fault and, for `capture`, a station has the name, to `generate` where releases are
-/// made, and to `buffers` with a schedule where no file has a fault and the certificate holds: these may print what
-/// came of any run in their order.
+/// For all words, and all bytes told under the names of their files, just one answer is due, except to `replay`,
+/// `capture` and `record` where no file has a fault and, for the last two, a station or a port has the name, to
+/// `generate` where releases are made, to `buffers` with a schedule where no file has a fault and the certificate
+/// holds, and to `witness` where a stream has the name and some certificate holds: these may print what came of any run
+/// in their order.
 pub fn one_answer_is_due()
     ensures { OneAnswerIsDue }
-{}
+{
+    least_burst_exists();
+    measured_is_one();
+}
 
 /// For all words and bytes, all answers that are due have one status.
 pub fn one_status_is_due()
@@ -100,7 +110,7 @@ pub fn what_conform_answers()
 /// network as it is, and after each request, the least certificate holds and is sound, and by it each frame of a talker
 /// that keeps its buckets arrives within its stream's sum and deadline; and the text gives the answers, one to each
 /// request, and the number of streams at the end. A stream that is admitted is the one asked for, in the printed class
-/// at each port of its path, beside all that was there; the printed sum is that of its least bounds. Where the lowest
+/// at each of its ports, beside all that was there; the printed sum is that of its least bounds. Where the lowest
 /// class was asked for, there is a first reason against the network with it in each lower class. A stream that is
 /// withdrawn is gone, and it alone. A denial changes nothing, and its cause holds: a printed reason is the first
 /// against the network with the stream, for `no-class` in each class. `Refused`: they declare a network, for which no
@@ -124,6 +134,70 @@ pub fn what_replay_answers()
 /// status comes.
 pub fn what_capture_answers()
     ensures { CaptureMeans }
+{}
+
+/// What each answer to `releases` means, by its status. `Done`: the files declare a network and a capture, of which
+/// releases of the station with this name come, which may be run on the network; the text is their schedule, and as
+/// that of a file it declares just these over the network. `Refused`: the first declares a network in which no station
+/// has this name. `Input`: one of them does not declare what it should. No other status comes.
+pub fn what_releases_answers()
+    ensures { ReleasesMean }
+{}
+
+/// Where `Done` is due to `releases`, and its text is told under a name: to each command that reads the network and a
+/// schedule of this name, the schedule is the releases of the capture. So what `conform` or `fit` says of it, it says
+/// of the capture.
+pub fn released_is_scheduled()
+    ensures { ReleasedIsScheduled }
+{}
+
+/// Where `Done` is due to `releases`, to `conform` of its text, to `check` of a certificate, and to `capture` of the
+/// same capture or to `replay` of that text, for one network: by the releases every station keeps its buckets, and each
+/// frame of each stream is, in the run that the last prints, never discarded, eligible at each next hop within the
+/// bound that `check` prints for the hop before, and arrives within the printed sum of its stream and within its
+/// deadline.
+pub fn releases_keep_bounds()
+    ensures { ReleasesKeepBounds }
+{}
+
+/// What each answer to `fit` means, by its status. `Done`: the files declare a network and releases, and the text gives
+/// for each stream and then each flow, in order, how many releases it has, the least and the greatest of their octets,
+/// and for a stream the least burst: with it the stream's releases conform to its declared rate, and with no bit less
+/// do they. The number of senders that are over what they declare is 0 exactly where every station keeps its buckets.
+/// `Input`: one of the files does not declare what it should. No other status comes.
+pub fn what_fit_answers()
+    ensures { FitMeans }
+{
+    none_over_is_kept();
+}
+
+/// Where `Done` is due to `fit`, it tells of no sender that is over what it declares exactly where `Done` is due to
+/// `conform` of the same files.
+pub fn fit_agrees_with_conform()
+    ensures { FitAgreesWithConform }
+{
+    none_over_is_kept();
+}
+
+/// What each answer to `record` means, by its status. `Done`: the files declare a network, in which a port has this
+/// name, and releases, and the bytes are the capture of the port in a legal run of the network, by the tie and the pace
+/// of the order, with exactly these releases. What the port sent is read back of them: one record for each
+/// transmission, in the order in which they started, with the nanosecond of its start, the octets of its frame, and
+/// what identifies its stream. `Refused`: the first declares a network, in which no port has this name. `Input`: one of
+/// them does not declare what it should. No other status comes.
+pub fn what_record_answers()
+    ensures { RecordMeans }
+{}
+
+/// What each answer to `witness` means, by its status. `Done`: the file declares a network, in which a stream has this
+/// name, and for which the least certificate holds. The text gives a delay for each port of the stream's path, the
+/// greatest of a run of the burst there, and the burst of the first port with a greatest one. Each of the delays can
+/// happen: in a legal run in which every station keeps its buckets a frame of the stream takes just so long. None is
+/// above the sum of the stream's least bounds, which the text gives too. `Refused`: it declares a network, in which no
+/// stream has this name, or for which no certificate holds, and the text says which, with the first reason. `Input`: it
+/// declares none. No other status comes.
+pub fn what_witness_answers()
+    ensures { WitnessMeans }
 {}
 
 /// What each answer to `generate` means, by its status. `Done`: the file declares a network, and the text sums up a

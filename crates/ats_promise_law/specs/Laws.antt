@@ -1,0 +1,41 @@
+use Rattle.std.specs.Prelude.{◌≡◌, ℕ, List, Option, Ok}
+use Rattle.ats_bucket.specs.Conforming.{Frame}
+use Rattle.ats_streams.specs.declared.traffic.Declared.{Declared}
+use Rattle.ats_network.specs.Network.{DeclaredNetwork}
+use Rattle.ats_certificate.specs.declared.row.Row.{Row}
+use Rattle.ats_group.specs.Judge.{Judge, ats_judge, bucket_rule}
+use Rattle.ats_soundness_law.specs.Sound.{IsSoundBy}
+use Rattle.ats_checker.specs.InTime.{FramesAreInTimeBy}
+use Rattle.ats_lrq.specs.Judge.{lrq_judge, spacing_rule}
+use Rattle.ats_verdict_text.specs.Text.{accepted_text}
+use Rattle.ats_command_input.specs.Command.{Check, LrqCheck}
+use Rattle.ats_command_input.specs.Input.{network_in, rows_in}
+use Rattle.ats_command_due.specs.Due.{IsTold, told_bytes}
+use Rattle.ats_command_due.specs.Soundness.{Promises}
+
+-- both files declare this network and these rows; the rows are sound where groups judge so and talkers keep this rule,
+-- frames are in time by them, and the text gives their bounds and sums
+pub record AreDeclared (judge : Judge) (rule : Declared → List Frame → Type 0)
+    (net certificate net_bytes certificate_bytes text : List ℕ) (network : DeclaredNetwork) (rows : List Row) : Type 0
+  where
+    pub network_declared : network_in net net_bytes ≡ Ok network
+    pub rows_declared : rows_in network.topology certificate certificate_bytes ≡ Ok rows
+    pub sound : IsSoundBy judge rule network rows
+    pub in_time : FramesAreInTimeBy judge rule network rows
+    pub written : text ≡ accepted_text network rows
+
+-- there are such a network and rows of the files of these words
+abbrev pub SomeAreDeclared : Judge → (Declared → List Frame → Type 0) → (List ℕ → Option (List ℕ)) → List ℕ → List ℕ
+    → List ℕ → Type 0
+SomeAreDeclared judge rule told net certificate text = (network : DeclaredNetwork) × (rows : List Row)
+    × AreDeclared judge rule net certificate (told_bytes told net) (told_bytes told certificate) text network rows
+
+-- what `check` promises of its text is that, by the groups of Asynchronous Traffic Shaping and for talkers that keep
+-- their buckets; what `lrq check` does, by length-rate-quotient regulators and for talkers that keep their spacing
+pub record PromisesAreKept : Type 0 where
+  pub check : (told : List ℕ → Option (List ℕ)) (net certificate text : List ℕ)
+      → Promises told (Check net certificate) text → IsTold told (Check net certificate)
+      → SomeAreDeclared ats_judge bucket_rule told net certificate text
+  pub lrq_check : (told : List ℕ → Option (List ℕ)) (net certificate text : List ℕ)
+      → Promises told (LrqCheck net certificate) text → IsTold told (LrqCheck net certificate)
+      → SomeAreDeclared lrq_judge spacing_rule told net certificate text
