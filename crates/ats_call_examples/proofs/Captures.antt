@@ -27,47 +27,49 @@ use Rattle.ats_call_examples.proofs.Telling.{of_declared, two_told}
 
 -- Calls that run a capture.
 
-abbrev counted : Traffic
+abbrev pub counted : Traffic
 counted = record { releases = one_release 1522; records = 1; unidentified = 0; oversize = 0 }
 
 -- what was captured of this network, by the bytes of a capture at the station that a word names
-abbrev captured_of : List ℕ → List ℕ → DeclaredNetwork → Result Captured Answer
-captured_of station bytes over =
+abbrev captured_of : List ℕ → List ℕ → List ℕ → DeclaredNetwork → Result Captured Answer
+captured_of station file bytes over =
     station_in over.topology station
-    >>= λ place. traffic_in over place (codes "s") bytes
+    >>= λ place. traffic_in over place file bytes
     >>= λ traffic. Ok (record { network = over; traffic = traffic })
 
 -- by what the network's file declares
-captured_by : (station net bytes : List ℕ) (declared : Result DeclaredNetwork Answer) (due : Result Captured Answer)
-    → network_in (codes "n") net ≡ declared → (declared >>= captured_of station bytes) ≡ due
-    → captured_in (codes "n") station (codes "s") net bytes ≡ due
+captured_by : (station file net bytes : List ℕ) (declared : Result DeclaredNetwork Answer)
+    (due : Result Captured Answer)
+    → network_in (codes "n") net ≡ declared → (declared >>= captured_of station file bytes) ≡ due
+    → captured_in (codes "n") station file net bytes ≡ due
 unfolding captured_in
-captured_by station net bytes declared due is h = answered (network_in (codes "n") net) (captured_of station bytes)
+captured_by station file net bytes declared due is h =
+    answered (network_in (codes "n") net) (captured_of station file bytes)
     (λ (r : Result Captured Answer). r ≡ due) declared is h
 
-captured_is : captured_in (codes "n") (codes "s1") (codes "s") network captured
+pub captured_is : (file : List ℕ) → captured_in (codes "n") (codes "s1") file network captured
     ≡ Ok (record { network = line; traffic = counted })
 unfolding
     station_in traffic_in records_in capture.records_in form_of of_header is_whole order_of position_of of_record
     record_of address_of identity_of number16 number32
-captured_is = captured_by (codes "s1") network captured (Ok line) (Ok (record { network = line; traffic = counted }))
-    line_is refl
+captured_is file = captured_by (codes "s1") file network captured (Ok line)
+    (Ok (record { network = line; traffic = counted })) line_is refl
 
-no_station : captured_in (codes "n") (codes "b1") (codes "s") network rows
+pub no_station : captured_in (codes "n") (codes "b1") (codes "s") network rows
     ≡ Err (refused_with (codes "refused station b1\n"))
 unfolding station_in
-no_station = captured_by (codes "b1") network rows (Ok line) (Err (refused_with (codes "refused station b1\n"))) line_is
-    refl
+no_station = captured_by (codes "b1") (codes "s") network rows (Ok line)
+    (Err (refused_with (codes "refused station b1\n"))) line_is refl
 
-no_capture : captured_in (codes "n") (codes "s1") (codes "s") network rows
+pub no_capture : captured_in (codes "n") (codes "s1") (codes "s") network rows
     ≡ Err (faulty_with (codes "input s bad-magic\n"))
 unfolding station_in traffic_in records_in capture.records_in of_header order_of position_of number32
-no_capture = captured_by (codes "s1") network rows (Ok line) (Err (faulty_with (codes "input s bad-magic\n"))) line_is
-    refl
+no_capture = captured_by (codes "s1") (codes "s") network rows (Ok line)
+    (Err (faulty_with (codes "input s bad-magic\n"))) line_is refl
 
-neither : captured_in (codes "n") (codes "b1") (codes "s") no_text rows
+pub neither : captured_in (codes "n") (codes "b1") (codes "s") no_text rows
     ≡ Err (faulty_with (codes "input n not-toml\n"))
-neither = captured_by (codes "b1") no_text rows (Err (faulty_with (codes "input n not-toml\n")))
+neither = captured_by (codes "b1") (codes "s") no_text rows (Err (faulty_with (codes "input n not-toml\n")))
     (Err (faulty_with (codes "input n not-toml\n"))) no_network refl
 
 runs_mixed : IsRunIn (Mixed 9) line (one_release 1522) (one_journey 1522 12336000)
@@ -80,12 +82,12 @@ counts_are : codes "records 1 unidentified 0 oversize 0\n" ≡ counts_text count
 unfolding digits
 counts_are = refl
 
-replays : IsCaptureAnswer (codes "n") (codes "s1") (codes "s") (Mixed 9) network captured
+pub replays : (file : List ℕ) → IsCaptureAnswer (codes "n") (codes "s1") file (Mixed 9) network captured
     (done_with (departures ++ codes "records 1 unidentified 0 oversize 0\n"))
-replays =
-    of_declared (IsOneOf (IsCaptured (Mixed 9))) (captured_in (codes "n") (codes "s1") (codes "s") network captured)
+replays file =
+    of_declared (IsOneOf (IsCaptured (Mixed 9))) (captured_in (codes "n") (codes "s1") file network captured)
     (Ok (record { network = line; traffic = counted }))
-    (done_with (departures ++ codes "records 1 unidentified 0 oversize 0\n")) captured_is (
+    (done_with (departures ++ codes "records 1 unidentified 0 oversize 0\n")) (captured_is file) (
       refl,
       (
         one_journey 1522 12336000,
@@ -119,7 +121,7 @@ pub capture_is_answered : CaptureIsAnswered
 capture_is_answered = record {
   done = record {
     is_told = two_told (told network [] captured) (codes "n") (codes "s") refl refl;
-    answers = replays;
+    answers = replays (codes "s");
   };
   refused = record {
     is_told = two_told (told network [] rows) (codes "n") (codes "s") refl refl;

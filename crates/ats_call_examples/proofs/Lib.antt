@@ -6,4 +6,9 @@ pub mod Scheduled
 pub mod Conformed
 pub mod Replayed
 pub mod Captures
+pub mod Recorded
+pub mod Fork
+pub mod Witnessed
 pub mod Made
+pub mod Released
+pub mod Fitted

@@ -119,7 +119,7 @@ still_text_is = network_is still still_document (Ok still_network)
     (document_is still (Ok still_document) refl refl) refl
 
 -- so they are taken
-taken : Result DeclaredNetwork NetFault → Result DeclaredNetwork Answer
+unfoldable pub taken : Result DeclaredNetwork NetFault → Result DeclaredNetwork Answer
 taken = declared_in (codes "n") network_file.fault_text
 
 pub line_is : network_in (codes "n") network ≡ Ok line

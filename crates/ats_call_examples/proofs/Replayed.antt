@@ -26,7 +26,7 @@ runs_early = record {
   exactly = refl;
 }
 
-runs_late : IsRunIn Late line (one_release 1522) (one_journey 1522 12336000)
+pub runs_late : IsRunIn Late line (one_release 1522) (one_journey 1522 12336000)
 runs_late = record {
   by_order = run_by (key_of Late) (wait_of Late) line (one_journey 1522 12336000) refl refl refl;
   exactly = refl;
@@ -36,7 +36,7 @@ pub departures_are : departures ≡ departures_text line (one_journey 1522 12336
 unfolding digits departures_text frame_line hop_line journey_text counts_text totals_line
 departures_are = refl
 
-replays_by : (order : Order) → IsRunIn order line (one_release 1522) (one_journey 1522 12336000)
+pub replays_by : (order : Order) → IsRunIn order line (one_release 1522) (one_journey 1522 12336000)
     → IsReplayAnswer (codes "n") (codes "s") order network schedule (done_with departures)
 replays_by order runs =
     of_declared (IsOneOf (IsReplayed order)) (scheduled_in (codes "n") (codes "s") network schedule)

@@ -21,7 +21,7 @@ scheduled_of bytes over =
     releases_in over (codes "s") bytes >>= λ releases. Ok (record { network = over; releases = releases })
 
 -- by what the network's file declares
-scheduled_by : (net bytes : List ℕ) (declared : Result DeclaredNetwork Answer) (due : Result Scheduled Answer)
+pub scheduled_by : (net bytes : List ℕ) (declared : Result DeclaredNetwork Answer) (due : Result Scheduled Answer)
     → network_in (codes "n") net ≡ declared → (declared >>= scheduled_of bytes) ≡ due
     → scheduled_in (codes "n") (codes "s") net bytes ≡ due
 unfolding scheduled_in

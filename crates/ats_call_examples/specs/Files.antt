@@ -26,6 +26,23 @@ late = line_text (codes "100000000") (codes "26671")
 abbrev pub overloaded : List ℕ
 overloaded = line_text (codes "2000000000") (codes "26672")
 
+-- a network of three stations around a bridge, with two streams to one of them, in which the frames of either may stay
+-- for just as long as they wait at most
+abbrev pub fork_stream : List ℕ → List ℕ → List ℕ
+fork_stream name from =
+    codes "[[stream]]\nname = \"" ++ name ++ codes "\"\nfrom = \"" ++ from ++ codes "\"\nto = \"s2\"\nclass = 6\n"
+    ++ codes "rate_bps = 100000000\nburst_bits = 12336\nmin_octets = 64\nmax_octets = 1522\ndeadline_ns = 1000000\n"
+
+abbrev pub fork_text : List ℕ
+fork_text =
+    codes "format = 1\n" ++ codes "[[station]]\nname = \"s1\"\n" ++ codes "[[station]]\nname = \"s2\"\n"
+    ++ codes "[[station]]\nname = \"s3\"\n"
+    ++ codes "[[bridge]]\nname = \"b1\"\nprocessing_ns = 1000\nresidence_ns = 11664\n"
+    ++ codes "[[link]]\na = \"s1\"\nb = \"b1\"\nmbps = 1000\npropagation_ns = 500\n"
+    ++ codes "[[link]]\na = \"b1\"\nb = \"s2\"\nmbps = 1000\npropagation_ns = 500\n"
+    ++ codes "[[link]]\na = \"s3\"\nb = \"b1\"\nmbps = 1000\npropagation_ns = 500\n"
+    ++ fork_stream (codes "a") (codes "s1") ++ fork_stream (codes "z") (codes "s3")
+
 -- no text at all
 abbrev pub no_text : List ℕ
 no_text = 0xFF ∷ []
@@ -55,6 +72,10 @@ schedule = schedule_of (codes "1522")
 abbrev pub long_schedule : List ℕ
 long_schedule = schedule_of (codes "1523")
 
+-- and one of three frames, two of them at once
+abbrev pub crowded_schedule : List ℕ
+crowded_schedule = codes "at_ps,sender,octets\n" ++ codes "0,a,1522\n0,a,1522\n12336000,a,64\n"
+
 -- what is told under three names: `n`, `c` and `s`
 abbrev pub told : List ℕ → List ℕ → List ℕ → List ℕ → Option (List ℕ)
 told net second third name =
@@ -62,6 +83,11 @@ told net second third name =
     else if bytes_eq name (codes "c") then Some second
     else if bytes_eq name (codes "s") then Some third
     else None
+
+-- and what is told under a fourth one, `p`
+abbrev pub told_also : List ℕ → List ℕ → List ℕ → List ℕ → List ℕ → Option (List ℕ)
+told_also net second third fourth name =
+    if bytes_eq name (codes "p") then Some fourth else told net second third name
 
 -- the answers, by their texts
 abbrev pub done_with : List ℕ → Answer

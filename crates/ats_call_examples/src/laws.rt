@@ -3,7 +3,8 @@
 ghost use Rattle.ats_call_examples.specs.Judged.{AdmitIsAnswered, BoundIsAnswered, CheckIsAnswered, ConformIsAnswered};
 ghost use Rattle.ats_call_examples.specs.Judged.{ExplainIsAnswered, ShapeIsAnswered, ShowIsAnswered};
 ghost use Rattle.ats_call_examples.specs.Run.{BoundsAreMet, CaptureIsAnswered, GenerateIsAnswered, ReplayIsAnswered};
-ghost use Rattle.ats_call_examples.specs.Run.{WordsAreAnswered};
+ghost use Rattle.ats_call_examples.specs.Run.{CaptureBoundsAreMet, FitIsAnswered, RecordIsAnswered};
+ghost use Rattle.ats_call_examples.specs.Run.{ReleasesAreAnswered, WitnessIsAnswered, WordsAreAnswered};
 
 /// What is due to `shape`: of a frame that is eligible, and of a bad line.
 pub fn shape_is_answered()
@@ -60,6 +61,30 @@ pub fn generate_is_answered()
     ensures { GenerateIsAnswered }
 {}
 
+/// What is due to `record`: of one frame, at each port of its path, and at a port that sends none; of a word that is
+/// the name of no port, of a file that is no schedule, and of two files with a fault.
+pub fn record_is_answered()
+    ensures { RecordIsAnswered }
+{}
+
+/// What is due to `witness`: of two streams that meet, of a word that is the name of no stream, of a network for which
+/// no certificate holds, and of bytes that are no TOML.
+pub fn witness_is_answered()
+    ensures { WitnessIsAnswered }
+{}
+
+/// What is due to `releases`: of one frame, of a bridge in place of a station, of a file that is no capture, and of two
+/// files with a fault.
+pub fn releases_are_answered()
+    ensures { ReleasesAreAnswered }
+{}
+
+/// What is due to `fit`: of a frame that needs the burst that its stream declares, of frames that need more, of a file
+/// that is no schedule, and of two files with a fault.
+pub fn fit_is_answered()
+    ensures { FitIsAnswered }
+{}
+
 /// What is due to words that are no command, whatever is told.
 pub fn words_are_answered()
     ensures { WordsAreAnswered }
@@ -69,4 +94,10 @@ pub fn words_are_answered()
 /// `replay_keeps_bounds` and `conform_keeps_bounds` of `ats_command_law` ask.
 pub fn bounds_are_met()
     ensures { BoundsAreMet }
+{}
+
+/// One network, certificate and capture, and the text of `releases` as a schedule, with which `Done` is due to
+/// `releases`, `conform`, `check`, `capture` and `replay`, as `releases_keep_bounds` of `ats_command_law` asks.
+pub fn capture_bounds_are_met()
+    ensures { CaptureBoundsAreMet }
 {}

@@ -8,13 +8,21 @@ use ats_io::{MemFiles, MemSink, SureFiles, SureSink};
 use std::alloc::AllocGlobal;
 use std::process::Abort;
 
-const SHAPE: &[u8] = b"residence 1000000\nstream x 100000000 12336 64 1522\nframe 0 x 1522\n";
+// A stream whose burst is two longest frames, and two of these.
+const SHAPE: &[u8] =
+    b"residence 1000000\nstream x 100000000 24672 64 1522\nframe 0 x 1522\nframe 12336000 x 1522\n";
 
 const NETWORK: &[u8] =
     b"format = 1\n[[station]]\nname = \"s1\"\n[[station]]\nname = \"s2\"\n[[link]]\na = \"s1\"\nb = \"s2\"\n\
     mbps = 1000\npropagation_ns = 500\n[[stream]]\nname = \"a\"\npath = [\"s1\", \"s2\"]\nclass = 6\n\
     rate_bps = 100000000\nburst_bits = 12336\nmin_octets = 64\nmax_octets = 1522\n\
     address = \"02:00:00:00:00:01\"\nvlan = 1\n";
+
+// The same, where the burst of a is two longest frames.
+const WIDE: &[u8] =
+    b"format = 1\n[[station]]\nname = \"s1\"\n[[station]]\nname = \"s2\"\n[[link]]\na = \"s1\"\nb = \"s2\"\n\
+    mbps = 1000\npropagation_ns = 500\n[[stream]]\nname = \"a\"\npath = [\"s1\", \"s2\"]\nclass = 6\n\
+    rate_bps = 100000000\nburst_bits = 24672\nmin_octets = 64\nmax_octets = 1522\n";
 
 const CERTIFICATE: &[u8] =
     b"port,class,higher,equal,bursts,lower,least,wait,bound\ns1>s2,6,0,100000000000,12336,0,672,11664000,12836000\n";
@@ -29,6 +37,12 @@ const CAPTURE: &[u8] = b"\xd4\xc3\xb2\xa1\x02\x00\x04\x00\x00\x00\x00\x00\x00\x0
     \x00\xf1\x53\x65\x00\x00\x00\x00\x10\x00\x00\x00\x2a\x00\x00\x00\
     \x02\x00\x00\x00\x00\x01\x02\x00\x00\x00\x00\x11\x81\x00\xc0\x01";
 
+// What port s1>s2 sends of the schedule: a frame at 0, of class 6, whose record has 18 bytes and tells 1518 octets.
+const RECORD: &[u8] = b"\x4d\x3c\xb2\xa1\x02\x00\x04\x00\x00\x00\x00\x00\x00\x00\x00\x00\
+    \x00\x00\x04\x00\x01\x00\x00\x00\
+    \x00\x00\x00\x00\x00\x00\x00\x00\x12\x00\x00\x00\xee\x05\x00\x00\
+    \x02\x00\x00\x00\x00\x01\x02\x00\x00\x00\x00\x00\x81\x00\xc0\x01\x88\xb5";
+
 // The most bytes that a write takes.
 const MOST: usize = 16;
 
@@ -40,7 +54,8 @@ const COMMANDS: &[(&[&str], u32, &[u8])] = &[
     (
         &["shape", "s"],
         2,
-        b"frame 0 x 1522 0 eligible 0\ntotal frames 1 eligible 1 late 0 size 0\n",
+        b"frame 0 x 1522 0 eligible 0\nframe 1 x 1522 12336000 eligible 12336000\n\
+        total frames 2 eligible 2 late 0 size 0\n",
     ),
     (
         &["show", "n"],
@@ -96,18 +111,36 @@ const COMMANDS: &[(&[&str], u32, &[u8])] = &[
         4,
         b"admitted c 7 13508000\nwithdrawn a\nstreams 1\n",
     ),
-    // The first frame of a member waits for none, so it is eligible at its arrival by either regulator.
+    // The burst would let the second frame through at once; its rate takes 123360000 picoseconds for the first one.
     (
         &["lrq", "shape", "s"],
         2,
-        b"frame 0 x 1522 0 eligible 0\ntotal frames 1 eligible 1 late 0 size 0\n",
+        b"frame 0 x 1522 0 eligible 0\nframe 1 x 1522 12336000 eligible 123360000\n\
+        total frames 2 eligible 2 late 0 size 0\n",
     ),
-    // The burst of a is one longest frame, of 12336 bits, so narrowed bursts are those declared.
-    (&["lrq", "bound", "n"], 2, CERTIFICATE),
+    // The wider burst of a is narrowed to one longest frame, of 12336 bits.
+    (&["lrq", "bound", "w"], 2, CERTIFICATE),
     (
-        &["lrq", "check", "n", "c"],
+        &["lrq", "check", "w", "c"],
         4,
         b"hop a s1>s2 12836000\nsum a 12836000\naccepted 1\n",
+    ),
+    (&["record", "n", "r", "early", "s1>s2"], 4, RECORD),
+    // The burst of a is one longest frame, which takes 12336000 picoseconds and the link's 500000.
+    (
+        &["witness", "n", "a"],
+        2,
+        b"hop s1>s2 12836000\nrelease 1 a 1522\nwitness a delay 12836000 bound 12836000 gap 0\n",
+    ),
+    (
+        &["releases", "n", "s1", "p"],
+        4,
+        b"at_ps,sender,octets\n0,a,64\n",
+    ),
+    (
+        &["fit", "n", "r"],
+        4,
+        b"stream a frames 1 octets 1522 1522 burst 12336 of 12336\ntotal frames 1 streams 1 over 0\n",
     ),
 ];
 
@@ -134,7 +167,17 @@ fn files(rt: &(impl Abort + AllocGlobal)) -> Vec<(String, Vec<u8>)> {
     let (shape, network) = (file(rt, "s", SHAPE), file(rt, "n", NETWORK));
     let (certificate, schedule) = (file(rt, "c", CERTIFICATE), file(rt, "r", SCHEDULE));
     let (capture, requests) = (file(rt, "p", CAPTURE), file(rt, "q", REQUESTS));
-    vec![in rt.alloc(); shape, network, certificate, schedule, capture, requests].expect(rt, "room")
+    let wide = file(rt, "w", WIDE);
+    vec![in rt.alloc();
+        shape,
+        network,
+        certificate,
+        schedule,
+        capture,
+        requests,
+        wide,
+    ]
+    .expect(rt, "room")
 }
 
 // The end of a call with these words over these files and a sink with so much room, and the sink after it. The read and
@@ -182,6 +225,9 @@ fn each_write_fails(rt: HostRuntime) {
             assert!(rt; is_whole || status == Status::WriteFailed);
             assert!(rt; !is_whole || status == Status::Done);
             assert!(rt; out.bytes() == &text[..front]);
+            if is_whole {
+                break;
+            }
         }
     }
 }

@@ -23,6 +23,7 @@ fn fault(rt: &impl Abort, answer: Result<(), Failure<PushFault>>) -> Option<Push
 }
 
 // Adds one stream more, whose address is its number, and gives the fault of a refusal.
+#[tactic(auto, using(ats_streams::proofs::OneListener::alone_branches, ats_network::proofs::TreeLemmas::alone_tree))]
 fn push_stream(
     rt: &(impl Abort + AllocGlobal),
     network: &mut Network,
@@ -30,8 +31,10 @@ fn push_stream(
 ) -> Option<PushFault> {
     assert!(rt; is_identity(number, 7));
     let stream = Stream::new(
+        rt.alloc(),
         name(rt, number),
         Vec::from_slice(rt.alloc(), &[0]).expect(rt, "room"),
+        Vec::new(rt.alloc()),
         &[6],
         100_000,
         12336,
@@ -41,7 +44,7 @@ fn push_stream(
         Some((number, 7)),
     )
     .expect(rt, "a stream");
-    assert!(rt; network.valid_path(stream.path()));
+    assert!(rt; network.valid_path(stream.ports()));
     fault(rt, network.push_stream(stream))
 }
 

@@ -29,7 +29,7 @@ not_served served =
     let over : 137196000 ≤ 0 + 13836000 = served.prompt.1.0 in
     absurd (omega arith)
 
-not_prompt : ¬ IsPromptIfEligible (bounds_of line_rows (sender_at line 0)) (sender_at line 0).path held_back.hops
+not_prompt : ¬ IsPromptIfEligible (bounds_of line_rows (sender_at line 0)) (sender_at line 0).ports held_back.hops
     held_back.ending
 not_prompt prompt =
     let over : 137196000 ≤ 0 + 13836000 = prompt.0 in

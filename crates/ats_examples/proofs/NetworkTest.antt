@@ -1,7 +1,7 @@
 use Rattle.std.proofs.Common.{◌≡◌, ◌≢◌, ℕ, ◌≤◌, Bool, true, false, ◌&&◌, List, [], ◌∷◌, length, refl, sym, ap}
-use Rattle.std.proofs.Common.{◌∙◌, Option, Some, None}
+use Rattle.std.proofs.Common.{◌∙◌, Option, Some, None, arith}
 use Rattle.std.specs.Prelude.{nat_le, nat_lt, not, ◌==◌, is_none, slice_index_or}
-use Rattle.std.specs.List.{list_all}
+use Rattle.std.specs.List.{All, list_all}
 use Rattle.std.proofs.lemmas.Bool.{and_parts, false≢true, true≢false, eq-eqb, not-true}
 use Rattle.std.proofs.lemmas.Option.{none-some}
 use Rattle.ats_num.specs.Places.{place_of}
@@ -21,12 +21,16 @@ use Rattle.ats_streams.specs.Rules.{KeepsRules}
 use Rattle.ats_streams.specs.Path.{IsPath}
 use Rattle.ats_streams.specs.Stream.{DeclaredStream, IsClass, IsStream}
 use Rattle.ats_streams.specs.Flow.{DeclaredFlow, IsFlow}
+use Rattle.ats_streams.specs.declared.branch.Branch.{Branch}
 use Rattle.ats_streams.specs.declared.path.TheConstants.{MAX_PORTS}
 use Rattle.ats_streams.specs.declared.stream.TheConstants.{MAX_CLASS, MAX_DEADLINE_NS}
+use Rattle.ats_streams.proofs.OneListener.{alone_branches, alone_routes}
 use Rattle.ats_network.specs.Sender.{Sender}
-use Rattle.ats_network.specs.Path.{IsValidPath, nodes_along}
+use Rattle.ats_network.specs.Path.{IsTree, IsValidPath, nodes_along}
 use Rattle.ats_network.specs.Network.{DeclaredNetwork, IsNetwork, declared_network, senders_of, names_of, Share}
 use Rattle.ats_network.specs.declared.network.TheConstants.{MAX_STREAMS, MAX_FLOWS}
+use Rattle.ats_network.proofs.Together.{few_each}
+use Rattle.ats_network.proofs.TreeLemmas.{alone_tree}
 use Rattle.ats_examples.proofs.Tests.{le_of, lt_of, eq_of, all_by, pairs_pass, pairs_by, each_below, below_by}
 
 -- A test of the rules of a network on closed ones, whose streams have no identity.
@@ -72,12 +76,23 @@ is_path path = is_between 1 MAX_PORTS (length path)
 path_by : (path : List ℕ) → is_path path ≡ true → IsPath path
 path_by path h = let parts = between_by 1 MAX_PORTS (length path) h in record { least = parts.0; most = parts.1 }
 
--- a stream without an identity
+-- no branches
+abbrev pub is_alone : List Branch → Bool
+is_alone [] = true
+is_alone (b ∷ branches) = false
+
+alone_by : (branches : List Branch) → is_alone branches ≡ true → branches ≡ []
+alone_by [] h = refl
+alone_by (b ∷ branches) h = absurd (false≢true h)
+
+-- a stream with one listener and without an identity
 abbrev pub is_stream : DeclaredStream → Bool
 is_stream s =
     list_all (is_between 1 MAX_CLASS) s.classes
-    && (length s.classes == length s.path
-    && (keeps_rules s && (is_path s.path && (is_between 1 MAX_DEADLINE_NS s.deadline_ns && is_none s.identity))))
+    && (length s.classes == length s.ports
+    && (keeps_rules s
+    && (is_path s.ports
+    && (is_between 1 MAX_DEADLINE_NS s.deadline_ns && (is_none s.identity && is_alone s.branches)))))
 
 class_by : (class : ℕ) → is_between 1 MAX_CLASS class ≡ true → IsClass class
 class_by class h = let parts = between_by 1 MAX_CLASS class h in record { least = parts.0; most = parts.1 }
@@ -86,25 +101,43 @@ no_identity : (identity : Option (ℕ × ℕ)) → is_none identity ≡ true →
 no_identity None h pair given = none-some pair given
 no_identity (Some other) h pair given = false≢true h
 
-pub stream_by : (s : DeclaredStream) → is_stream s ≡ true → IsStream s
-stream_by s h =
+-- what the test of a stream shows
+record Passes (s : DeclaredStream) : Type 0 where
+  rules : IsStream s
+  alone : s.branches ≡ []
+
+passes_by : (s : DeclaredStream) → is_stream s ≡ true → Passes s
+passes_by s h =
+    let own : Bool = is_none s.identity && is_alone s.branches in
     let timed : Bool = is_between 1 MAX_DEADLINE_NS s.deadline_ns in
-    let late : Bool = is_path s.path && (timed && is_none s.identity) in
-    let same : Bool = length s.classes == length s.path in
+    let late : Bool = is_path s.ports && (timed && own) in
+    let same : Bool = length s.classes == length s.ports in
     let first = and_parts (list_all (is_between 1 MAX_CLASS) s.classes) (same && (keeps_rules s && late)) h in
     let second = and_parts same (keeps_rules s && late) first.1 in
     let third = and_parts (keeps_rules s) late second.1 in
-    let fourth = and_parts (is_path s.path) (timed && is_none s.identity) third.1 in
-    let fifth = and_parts timed (is_none s.identity) fourth.1 in
+    let fourth = and_parts (is_path s.ports) (timed && own) third.1 in
+    let fifth = and_parts timed own fourth.1 in
+    let sixth = and_parts (is_none s.identity) (is_alone s.branches) fifth.1 in
     let deadline = between_by 1 MAX_DEADLINE_NS s.deadline_ns fifth.0 in
+    let alone : s.branches ≡ [] = alone_by s.branches sixth.1 in
     record {
-      classes = all_by IsClass (is_between 1 MAX_CLASS) class_by s.classes first.0;
-      each_port = eq_of (length s.classes) (length s.path) second.0;
-      rules = rules_by s third.0;
-      path = path_by s.path fourth.0;
-      deadline = record { positive = deadline.0; most = deadline.1 };
-      identity = λ pair given. absurd (no_identity s.identity fifth.1 pair given);
+      rules = record {
+        classes = all_by IsClass (is_between 1 MAX_CLASS) class_by s.classes first.0;
+        each_port = eq_of (length s.classes) (length s.ports) second.0;
+        rules = rules_by s third.0;
+        branches = alone_branches s.ports s.branches alone;
+        routes = alone_routes s.ports s.branches alone (path_by s.ports fourth.0);
+        deadline = record { positive = deadline.0; most = deadline.1 };
+        identity = λ pair given. absurd (no_identity s.identity sixth.0 pair given);
+      };
+      alone = alone;
     }
+
+pub stream_by : (s : DeclaredStream) → is_stream s ≡ true → IsStream s
+stream_by s h = (passes_by s h).rules
+
+pub one_listener_by : (s : DeclaredStream) → is_stream s ≡ true → s.branches ≡ []
+one_listener_by s h = (passes_by s h).alone
 
 abbrev pub is_flow : DeclaredFlow → Bool
 is_flow f = is_between MIN_OCTETS MAX_OCTETS f.max_octets && is_path f.path
@@ -178,8 +211,15 @@ valid_from_by t a path h =
       apart = pairs_by (λ a b. a ≢ b) (λ a b. not (a == b)) apart_by (nodes_along t.ports path) fourth.1;
     }
 
+-- ports without branches that are a valid path
 abbrev pub has_valid_path : DeclaredTopology → Sender → Bool
-has_valid_path t s = is_valid_from t (starts_at t.ports s.path) s.path
+has_valid_path t s = is_alone s.branches && is_valid_from t (starts_at t.ports s.ports) s.ports
+
+tree_by : (t : DeclaredTopology) (s : Sender) → has_valid_path t s ≡ true → IsTree t s.ports s.branches
+tree_by t s h =
+    let parts = and_parts (is_alone s.branches) (is_valid_from t (starts_at t.ports s.ports) s.ports) h in
+    alone_tree t s.ports s.branches (alone_by s.branches parts.0)
+    (valid_from_by t (starts_at t.ports s.ports) s.ports parts.1)
 
 -- each name is found at its place
 abbrev pub is_place : Option ℕ → ℕ → Bool
@@ -200,7 +240,7 @@ has_none s other = is_none s.identity
 own_by : (s other : DeclaredStream) → has_none s other ≡ true → (identity : ℕ × ℕ) → ¬ Share s other identity
 own_by s other h identity shared = no_identity s.identity h identity shared.one
 
--- the streams, the flows, their paths and names
+-- the streams, the flows, their ports and names
 abbrev pub network_passes : DeclaredNetwork → Bool
 network_passes network =
     list_all is_stream network.streams
@@ -228,17 +268,22 @@ network_by nodes links streams flows sound h =
     let fifth = and_parts (pairs_pass has_none streams)
     (nat_le (length streams) MAX_STREAMS && nat_le (length flows) MAX_FLOWS) fourth.1 in
     let sixth = and_parts (nat_le (length streams) MAX_STREAMS) (nat_le (length flows) MAX_FLOWS) fifth.1 in
+    let rules : All IsStream streams = all_by IsStream is_stream stream_by streams first.0 in
+    let alone : All (λ (s : DeclaredStream). s.branches ≡ []) streams =
+    all_by (λ (s : DeclaredStream). s.branches ≡ []) is_stream one_listener_by streams first.0 in
+    let few_streams : length streams ≤ MAX_STREAMS = le_of (length streams) MAX_STREAMS sixth.0 in
     record {
       topology = topology_rules nodes links sound;
-      streams = all_by IsStream is_stream stream_by streams first.0;
+      streams = rules;
       flows = all_by IsFlow is_flow flow_by flows second.0;
-      paths = all_by (λ (s : Sender). IsValidPath network.topology s.path) (has_valid_path network.topology)
-          (λ s. valid_from_by network.topology (starts_at network.topology.ports s.path) s.path) (senders_of network)
-          third.0;
+      trees = all_by (λ (s : Sender). IsTree network.topology s.ports s.branches) (has_valid_path network.topology)
+          (tree_by network.topology) (senders_of network) third.0;
       names = λ n within. place_by (place_of (slice_index_or names n []) names) n
           (below_by (is_found names) (length names) fourth.0 n within);
       identities = pairs_by (λ (s t : DeclaredStream). (identity : ℕ × ℕ) → ¬ Share s t identity) has_none own_by
           streams fifth.0;
-      few_streams = le_of (length streams) MAX_STREAMS sixth.0;
+      few_streams = few_streams;
       few_flows = le_of (length flows) MAX_FLOWS sixth.1;
+      few_ports = omega (arith, few_each streams rules alone, few_streams);
+      one_listener = alone;
     }

@@ -82,15 +82,16 @@ released_by release (hop ∷ hops) h =
 abbrev pub has_way : DeclaredNetwork → Travel → Bool
 has_way network j =
     nat_lt j.release.sender (length (senders_of network))
-    && goes_way (sender_at network j.release.sender).path j.hops j.ending
+    && goes_way (sender_at network j.release.sender).ports j.hops j.ending
 
 has_way_by : (network : DeclaredNetwork) (j : Travel) → has_way network j ≡ true
-    → (j.release.sender < length (senders_of network)) × IsWay (sender_at network j.release.sender).path j.hops j.ending
+    → (j.release.sender < length (senders_of network))
+    × IsWay (sender_at network j.release.sender).ports j.hops j.ending
 has_way_by network j h =
-    let goes : Bool = goes_way (sender_at network j.release.sender).path j.hops j.ending in
+    let goes : Bool = goes_way (sender_at network j.release.sender).ports j.hops j.ending in
     let parts = and_parts (nat_lt j.release.sender (length (senders_of network))) goes h in (
       lt_of j.release.sender (length (senders_of network)) parts.0,
-      way_by (sender_at network j.release.sender).path j.hops j.ending parts.1,
+      way_by (sender_at network j.release.sender).ports j.hops j.ending parts.1,
     )
 
 abbrev pub is_frame : Travel → Bool
@@ -123,7 +124,7 @@ kept_by in_order network run h = ascending_by (map (λ (r : Release). r.at.0) (r
 kept_by octets network run h = all_by (λ (j : Travel). IsFrameSize j.release.octets) is_frame frame_by run h
 kept_by way network run h =
     all_by (λ (j : Travel). (j.release.sender < length (senders_of network))
-    × IsWay (sender_at network j.release.sender).path j.hops j.ending) (has_way network) (has_way_by network) run h
+    × IsWay (sender_at network j.release.sender).ports j.hops j.ending) (has_way network) (has_way_by network) run h
 kept_by released network run h = all_by (λ (j : Travel). IsReleased j.release j.hops)
     (λ (j : Travel). is_released j.release j.hops) (λ j. released_by j.release j.hops) run h
 kept_by links network run h = links_by network run h

@@ -42,15 +42,15 @@ along_by given port s (p ∷ path) passed goes =
 
 -- each sender has its rows
 abbrev are_covered : List Row → List Sender → Bool
-are_covered given senders = list_all (λ (s : Sender). has_rows_along given s s.path) senders
+are_covered given senders = list_all (λ (s : Sender). has_rows_along given s s.ports) senders
 
 covered_by : (given : List Row) (port class : ℕ) (senders : List Sender) → are_covered given senders ≡ true
     → list_any (is_of class) (senders_at port senders) ≡ true → IsSome (row_of given port class)
 covered_by given port class [] passed used = absurd (false≢true used)
 covered_by given port class (s ∷ senders) passed used = by (uses port s) refl (covered_by given port class senders) used
   where
-    parts : (has_rows_along given s s.path ≡ true) × (are_covered given senders ≡ true)
-    parts = and_parts (has_rows_along given s s.path) (are_covered given senders) passed
+    parts : (has_rows_along given s s.ports ≡ true) × (are_covered given senders ≡ true)
+    parts = and_parts (has_rows_along given s s.ports) (are_covered given senders) passed
 
     by : (b : Bool) → uses port s ≡ b → (are_covered given senders ≡ true
         → list_any (is_of class) (senders_at port senders) ≡ true → IsSome (row_of given port class))
@@ -60,7 +60,7 @@ covered_by given port class (s ∷ senders) passed used = by (uses port s) refl 
     by true on rest h =
         elim (or_cases (is_of class (seen_at port s)) (list_any (is_of class) (senders_at port senders)) h) [
           | inl same ↦ subst (λ (c : ℕ). IsSome (row_of given port c)) (eqb-true (class_at s port) class same)
-              (along_by given port s s.path parts.0 on)
+              (along_by given port s s.ports parts.0 on)
           | inr later ↦ rest parts.1 later
         ]
     by false off rest h = rest parts.1 h

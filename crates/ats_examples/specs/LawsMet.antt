@@ -43,12 +43,12 @@ pub record LawsAreMet : Type 0 where
   pub whole : the_frame.ending
       ≡ Sink (record {
         0 = the_frame.release.at.0 + sum_by (bounds_of line_rows (sender_at line the_frame.release.sender))
-            (sender_at line the_frame.release.sender).path;
+            (sender_at line the_frame.release.sender).ports;
       })
   pub sum : sum_by (bounds_of line_rows (sender_at line the_frame.release.sender))
-      (sender_at line the_frame.release.sender).path ≡ 26672000
+      (sender_at line the_frame.release.sender).ports ≡ 26672000
   pub beyond : IsLegal line regulated
   pub not_kept : ¬ KeepsBuckets line (releases_of regulated) (talker_of line 0)
   pub not_served : ¬ IsServed line_rows (sender_at line 0) held_back
-  pub not_prompt : ¬ IsPromptIfEligible (bounds_of line_rows (sender_at line 0)) (sender_at line 0).path held_back.hops
+  pub not_prompt : ¬ IsPromptIfEligible (bounds_of line_rows (sender_at line 0)) (sender_at line 0).ports held_back.hops
       held_back.ending

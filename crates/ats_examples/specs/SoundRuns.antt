@@ -28,7 +28,7 @@ pub record IsCertified (network : DeclaredNetwork) (rows : List Row) : Type 0 wh
 -- the sum of the bounds of a frame
 abbrev pub sum_of : DeclaredNetwork → List Row → Travel → ℕ
 sum_of network rows j =
-    sum_by (bounds_of rows (sender_at network j.release.sender)) (sender_at network j.release.sender).path
+    sum_by (bounds_of rows (sender_at network j.release.sender)) (sender_at network j.release.sender).ports
 
 -- a frame of a legal run whose talker keeps its buckets: it is served, and arrives exactly when the sum of its bounds
 -- is over

@@ -1,5 +1,6 @@
 pub mod KeysNamed
 pub mod NetworksWritten
+pub mod NumbersWithin
 pub mod FilesWritten
 pub mod InputsWritten
 pub mod LimitsAllowed

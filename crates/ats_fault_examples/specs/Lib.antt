@@ -1,5 +1,6 @@
 pub mod Keys
 pub mod Networks
+pub mod Numbers
 pub mod Files
 pub mod Inputs
 pub mod Limits

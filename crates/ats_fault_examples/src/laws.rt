@@ -5,6 +5,7 @@ ghost use Rattle.ats_fault_examples.specs.Inputs.{InputsAreWritten, MakingIsRefu
 ghost use Rattle.ats_fault_examples.specs.Keys.{KeysAreNamed};
 ghost use Rattle.ats_fault_examples.specs.Limits.{LimitsAreAllowed};
 ghost use Rattle.ats_fault_examples.specs.Networks.{NetworkFaultsAreWritten};
+ghost use Rattle.ats_fault_examples.specs.Numbers.{NumbersAreWithin};
 
 /// The word of each table and of each key of a network file.
 pub fn keys_are_named()
@@ -36,4 +37,10 @@ pub fn making_is_refused()
 /// which are allowed, and those next to them, which are not.
 pub fn limits_are_allowed()
     ensures { LimitsAreAllowed }
+{}
+
+/// The texts that write numbers, the longest of 36 digits, and those next to them, which write none; the 64 bytes that
+/// names may have; and how many releases, streams and frames a file may declare, or a word may ask to be made.
+pub fn numbers_are_within()
+    ensures { NumbersAreWithin }
 {}

@@ -9,3 +9,5 @@ pub mod RecordsRead
 pub mod LinesRead
 pub mod CaptureRead
 pub mod CrowdWritten
+pub mod FlowsWritten
+pub mod WaitsWritten

@@ -5,3 +5,5 @@ pub mod Records
 pub mod Lines
 pub mod Captured
 pub mod Shown
+pub mod Alone
+pub mod Waiting

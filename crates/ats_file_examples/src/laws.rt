@@ -1,11 +1,13 @@
 //! Worked files with many entries: what they declare, in which entry a fault is, and what is printed of them.
 
+ghost use Rattle.ats_file_examples.specs.Alone.{FlowsAreWritten};
 ghost use Rattle.ats_file_examples.specs.Captured.{CaptureIsCounted};
 ghost use Rattle.ats_file_examples.specs.Lines.{RequestsAreCounted, ShapeIsCounted};
 ghost use Rattle.ats_file_examples.specs.Network.{FaultsAreCounted, FormIsCounted, NetworkIsRead};
 ghost use Rattle.ats_file_examples.specs.Records.{ReleasesAreRead, RowsAreRead};
 ghost use Rattle.ats_file_examples.specs.Shown.{CrowdIsWritten};
 ghost use Rattle.ats_file_examples.specs.Together.{KeysGoTogether};
+ghost use Rattle.ats_file_examples.specs.Waiting.{WaitsAreWritten};
 
 /// The text of a network file with three to six tables of each array, the tables that it has, and the network that it
 /// declares.
@@ -59,4 +61,16 @@ pub fn capture_is_counted()
 /// What `show`, `check` and `explain` print of a network of four streams and three flows, where no stream is late.
 pub fn crowd_is_written()
     ensures { CrowdIsWritten }
+{}
+
+/// What `show` and `explain` print of networks with ports that flows alone use, with senders whose frames are of one
+/// length, of which the first is named, with streams that differ in their names alone, and without streams.
+pub fn flows_are_written()
+    ensures { FlowsAreWritten }
+{}
+
+/// What `shape` and `lrq shape` print of a frame that waits as long as it may, and of one that waits 1 ps or a little
+/// longer: another stream's frame waits for the first, and not for the second.
+pub fn waits_are_written()
+    ensures { WaitsAreWritten }
 {}

@@ -52,7 +52,7 @@ pub sent_goes : (network : DeclaredNetwork) (run : List Travel) (rows : List Jou
     (hops : List HopRecord) → run ≡ travels_of rows spans hops
     → rows ≡ row 1522 (Sink (record { 0 = 26672000 })) ∷ [] → spans ≡ two 0 ∷ []
     → hops ≡ passing 0 0 12336000 ∷ passing 13836000 13836000 26172000 ∷ []
-    → 0 < length (senders_of network) → length (sender_at network 0).path ≡ 2 → All (IsJourney network) run
+    → 0 < length (senders_of network) → length (sender_at network 0).ports ≡ 2 → All (IsJourney network) run
 sent_goes network run rows spans hops is e f g sender path =
     let row_there : Journey = row 1522 (Sink (record { 0 = 26672000 })) in
     let records : List HopRecord = passing 0 0 12336000 ∷ passing 13836000 13836000 26172000 ∷ [] in
@@ -63,7 +63,7 @@ sent_goes network run rows spans hops is e f g sender path =
     (record { release = row_there.release; hops = records; ending = row_there.ending }) [] (record {
       sender = sender;
       octets = record { least = omega arith; most = omega arith };
-      way = over_two (sender_at network 0).path records row_there.ending path (λ p q. tt);
+      way = over_two (sender_at network 0).ports records row_there.ending path (λ p q. tt);
       released = (refl, refl);
     }) (none network))
 
@@ -72,7 +72,7 @@ pub discarded_go : (network : DeclaredNetwork) (run : List Travel) (rows : List 
     (hops : List HopRecord) → run ≡ travels_of rows spans hops
     → rows ≡ row 1523 Discard ∷ row 64 Discard ∷ [] → spans ≡ two 0 ∷ two 2 ∷ []
     → hops ≡ passing 0 0 12344000 ∷ too_long 13844000 ∷ passing 0 12344000 13016000 ∷ too_late 14516000 33372000 ∷ []
-    → 0 < length (senders_of network) → length (sender_at network 0).path ≡ 2 → All (IsJourney network) run
+    → 0 < length (senders_of network) → length (sender_at network 0).ports ≡ 2 → All (IsJourney network) run
 discarded_go network run rows spans hops is e f g sender path =
     let both : List Journey = row 1523 Discard ∷ row 64 Discard ∷ [] in
     let one : List HopRecord = passing 0 0 12344000 ∷ too_long 13844000 ∷ [] in
@@ -85,11 +85,11 @@ discarded_go network run rows spans hops is e f g sender path =
     subst (All (IsJourney network)) (sym all) (All-cons (IsJourney network) first (second ∷ []) (record {
       sender = sender;
       octets = record { least = omega arith; most = omega arith };
-      way = over_two (sender_at network 0).path one Discard path (λ p q. (refl, refl));
+      way = over_two (sender_at network 0).ports one Discard path (λ p q. (refl, refl));
       released = (refl, refl);
     }) (All-cons (IsJourney network) second [] (record {
       sender = sender;
       octets = record { least = omega arith; most = omega arith };
-      way = over_two (sender_at network 0).path other Discard path (λ p q. (refl, refl));
+      way = over_two (sender_at network 0).ports other Discard path (λ p q. (refl, refl));
       released = (refl, refl);
     }) (none network)))

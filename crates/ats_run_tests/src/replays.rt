@@ -79,7 +79,7 @@ fn hop(arrival: u64, verdict: Verdict, sent: Option<(Ps, Ps)>) -> HopRecord
 // The run of a frame that reaches its listener.
 fn sent(rt: &(impl Abort + AllocGlobal), network: &Network) -> Run
     requires sender { 0 < length (senders_of network.now) }
-    requires path { length (sender_at network.now 0).path ≡ 2 }
+    requires path { length (sender_at network.now 0).ports ≡ 2 }
     ensures { All (IsJourney network.now) result }
 {
     let rows = vec![in rt.alloc(); journey(1522, Ending::Sink(Ps(26_672_000)))].expect(rt, "room");
@@ -99,7 +99,7 @@ fn sent(rt: &(impl Abort + AllocGlobal), network: &Network) -> Run
 // The run of a frame that is too long, and one that would be eligible too late.
 fn discarded(rt: &(impl Abort + AllocGlobal), network: &Network) -> Run
     requires sender { 0 < length (senders_of network.now) }
-    requires path { length (sender_at network.now 0).path ≡ 2 }
+    requires path { length (sender_at network.now 0).ports ≡ 2 }
     ensures { All (IsJourney network.now) result }
 {
     let rows = vec![in rt.alloc();
@@ -131,7 +131,7 @@ fn prints_a_frame_that_arrives(rt: HostRuntime) {
         panic!(rt; "no network");
     };
     assert!(rt; network.senders() == 2);
-    assert!(rt; network.sender_path(0).len() == 2);
+    assert!(rt; network.sender_ports(0).len() == 2);
     let run = sent(&rt, &network);
     let text = departures(rt.alloc(), &network, &run).expect(&rt, "room");
     assert!(rt; text.as_slice() == SENT);
@@ -146,7 +146,7 @@ fn captures_what_a_port_sent(rt: HostRuntime) {
         panic!(rt; "no network");
     };
     assert!(rt; network.senders() == 2);
-    assert!(rt; network.sender_path(0).len() == 2);
+    assert!(rt; network.sender_ports(0).len() == 2);
     let run = sent(&rt, &network);
     let capture = file(rt.alloc(), &network, &run, 2).expect(&rt, "room");
     assert!(rt; capture.as_slice() == CAPTURED);
@@ -160,7 +160,7 @@ fn prints_frames_that_are_discarded(rt: HostRuntime) {
         panic!(rt; "no network");
     };
     assert!(rt; network.senders() == 2);
-    assert!(rt; network.sender_path(0).len() == 2);
+    assert!(rt; network.sender_ports(0).len() == 2);
     let run = discarded(&rt, &network);
     let text = departures(rt.alloc(), &network, &run).expect(&rt, "room");
     assert!(rt; text.as_slice() == DISCARDED);

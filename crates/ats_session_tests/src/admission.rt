@@ -30,6 +30,7 @@ fn session(rt: &(impl Abort + AllocGlobal)) -> Session {
 }
 
 // A stream of this name and class on the path of `a`, with frames of 64 to so many octets.
+#[tactic(auto, using(ats_streams::proofs::OneListener::alone_branches, ats_network::proofs::TreeLemmas::alone_tree))]
 fn stream(
     rt: &(impl Abort + AllocGlobal),
     session: &Session,
@@ -42,8 +43,10 @@ fn stream(
     ensures { MayEnter session.now.topology result }
 {
     let stream = Stream::new(
+        rt.alloc(),
         Name::new(name).expect(rt, "a name"),
         Vec::from_slice(rt.alloc(), &[0, 2]).expect(rt, "room"),
+        Vec::new(rt.alloc()),
         &[class],
         rate_bps,
         burst_bits,
@@ -53,7 +56,7 @@ fn stream(
         None,
     )
     .expect(rt, "a stream");
-    assert!(rt; session.network().valid_path(stream.path()));
+    assert!(rt; session.network().valid_path(stream.ports()));
     stream
 }
 

@@ -1,8 +1,10 @@
 use Rattle.std.proofs.Common.{refl, lit<}
 use Rattle.ats_command_input.specs.Command.{lrq_with_one, lrq_with_two, with_four, with_one, with_three, with_two}
+use Rattle.ats_command_input.specs.Port.{port_in}
 use Rattle.ats_command_input.specs.Station.{station_in}
+use Rattle.ats_command_input.specs.Stream.{stream_in}
 use Rattle.ats_text_examples.specs.Called.{VerbsAreCommands, StationsAreNamed, OrdersAreNamed, CodesAreSeven}
-use Rattle.ats_text_examples.specs.Called.{TextsArePrinted, CallsAreNamed}
+use Rattle.ats_text_examples.specs.Called.{TextsArePrinted, CallsAreNamed, PortsAreNamed, StreamsAreNamed}
 
 -- Words of calls by computation.
 
@@ -26,6 +28,11 @@ verbs_are_commands = record {
   lrq_bound = refl;
   lrq_check = refl;
   no_lrq = refl;
+  port_record = refl;
+  no_record = refl;
+  found = refl;
+  releases = refl;
+  fit = refl;
   no_verb = refl;
   no_file = refl;
   no_order = refl;
@@ -44,6 +51,14 @@ stations_are_named = record {
   front = refl;
   no_name = refl;
 }
+
+ports_are_named : PortsAreNamed
+unfolding port_in
+ports_are_named = record { first = refl; back = refl; last = refl; apart = refl; node = refl }
+
+streams_are_named : StreamsAreNamed
+unfolding stream_in
+streams_are_named = record { first = refl; second = refl; flow = refl; other = refl }
 
 orders_are_named : OrdersAreNamed
 orders_are_named = record {
@@ -92,6 +107,8 @@ pub calls_are_named : CallsAreNamed
 calls_are_named = record {
   verbs = verbs_are_commands;
   stations = stations_are_named;
+  ports = ports_are_named;
+  streams = streams_are_named;
   orders = orders_are_named;
   exit_codes = codes_are_seven;
   printed = texts_are_printed;

@@ -19,3 +19,5 @@ pub mod Taking
 pub mod Measured
 pub mod SetWritten
 pub mod OuterTold
+pub mod DelaysWritten
+pub mod FitsWritten

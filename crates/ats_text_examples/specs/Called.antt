@@ -2,10 +2,13 @@ use Rattle.std.specs.Prelude.{◌≡◌, ◌<◌, ℕ, List, [], ◌∷◌, ◌+
 use Rattle.ats_command_input.specs.Answer.{Answer, HasText}
 use Rattle.ats_command_input.specs.Command.{Shape, Show, Bound, Explain, Check, Conform, Admit, Replay, Capture}
 use Rattle.ats_command_input.specs.Command.{Generate, Settings, Buffers, Peaks, LrqShape, LrqBound, LrqCheck, Unknown}
+use Rattle.ats_command_input.specs.Command.{Record, Witness, Releases, Fit}
 use Rattle.ats_command_input.specs.Command.{command_of, file_words}
 use Rattle.ats_command_input.specs.Order.{order_named, key_of, wait_of}
+use Rattle.ats_command_input.specs.Port.{port_in}
 use Rattle.ats_command_input.specs.Station.{station_in}
 use Rattle.ats_command_input.specs.Status.{code_of}
+use Rattle.ats_command_input.specs.Stream.{stream_in}
 use Rattle.ats_command_input.specs.declared.order.Order.TheVariants.{Early, Late, Mixed}
 use Rattle.ats_command_input.specs.declared.status.Status.TheVariants as status
 use Rattle.ats_text_examples.specs.Worked.{way}
@@ -35,6 +38,13 @@ pub record VerbsAreCommands : Type 0 where
   pub lrq_check : command_of (codes "lrq" ∷ codes "check" ∷ codes "n" ∷ codes "x" ∷ [])
       ≡ LrqCheck (codes "n") (codes "x")
   pub no_lrq : command_of (codes "lrq" ∷ codes "show" ∷ codes "n" ∷ []) ≡ Unknown
+  pub port_record : command_of (codes "record" ∷ codes "n" ∷ codes "x" ∷ codes "late" ∷ codes "p" ∷ [])
+      ≡ Record (codes "n") (codes "x") Late (codes "p")
+  pub no_record : command_of (codes "record" ∷ codes "n" ∷ codes "x" ∷ codes "p" ∷ codes "late" ∷ []) ≡ Unknown
+  pub found : command_of (codes "witness" ∷ codes "n" ∷ codes "a" ∷ []) ≡ Witness (codes "n") (codes "a")
+  pub releases : command_of (codes "releases" ∷ codes "n" ∷ codes "s" ∷ codes "x" ∷ [])
+      ≡ Releases (codes "n") (codes "s") (codes "x")
+  pub fit : command_of (codes "fit" ∷ codes "n" ∷ codes "x" ∷ []) ≡ Fit (codes "n") (codes "x")
   pub no_verb : command_of (codes "Check" ∷ codes "n" ∷ codes "x" ∷ []) ≡ Unknown
   pub no_file : command_of (codes "check" ∷ codes "n" ∷ []) ≡ Unknown
   pub no_order : command_of (codes "replay" ∷ codes "n" ∷ codes "x" ∷ codes "mixed" ∷ []) ≡ Unknown
@@ -56,6 +66,29 @@ pub record StationsAreNamed : Type 0 where
   pub other : station_in way.topology (codes "s3") ≡ Err (no_station (codes "s3"))
   pub front : station_in way.topology (codes "s") ≡ Err (no_station (codes "s"))
   pub no_name : station_in way.topology (codes "s 1") ≡ Err (no_station (codes "s 1"))
+
+-- to a word that names no port of it, and to one that names no stream
+abbrev pub no_port : List ℕ → Answer
+no_port word = record { status = status.Refused; text = codes "refused port " ++ word ++ codes "\n" }
+
+abbrev pub no_stream : List ℕ → Answer
+no_stream word = record { status = status.Refused; text = codes "refused stream " ++ word ++ codes "\n" }
+
+-- its ports by their words, each with its number: two of one link, and the last. Two nodes that no link joins are none,
+-- nor is a node alone
+pub record PortsAreNamed : Type 0 where
+  pub first : port_in way.topology (codes "s1>b1") ≡ Ok 0
+  pub back : port_in way.topology (codes "b1>s1") ≡ Ok 1
+  pub last : port_in way.topology (codes "s2>b2") ≡ Ok 5
+  pub apart : port_in way.topology (codes "s1>b2") ≡ Err (no_port (codes "s1>b2"))
+  pub node : port_in way.topology (codes "s1") ≡ Err (no_port (codes "s1"))
+
+-- its streams by their words. A flow is none
+pub record StreamsAreNamed : Type 0 where
+  pub first : stream_in way.streams (codes "u") ≡ Ok 0
+  pub second : stream_in way.streams (codes "v") ≡ Ok 1
+  pub flow : stream_in way.streams (codes "f") ≡ Err (no_stream (codes "f"))
+  pub other : stream_in way.streams (codes "w") ≡ Err (no_stream (codes "w"))
 
 -- the words of orders. By `early` the frame of the lesser number goes first, by `late` that of the sender of the
 -- greater number, and by `mixed:1` the numbers of each two senders are exchanged, by `mixed:5` also 3 and 6. By `early`
@@ -104,6 +137,8 @@ pub record CodesAreSeven : Type 0 where
 pub record CallsAreNamed : Type 0 where
   pub verbs : VerbsAreCommands
   pub stations : StationsAreNamed
+  pub ports : PortsAreNamed
+  pub streams : StreamsAreNamed
   pub orders : OrdersAreNamed
   pub exit_codes : CodesAreSeven
   pub printed : TextsArePrinted

@@ -13,3 +13,5 @@ pub mod Called
 pub mod Taken
 pub mod Measures
 pub mod Outer
+pub mod Found
+pub mod Fitted

@@ -3,6 +3,8 @@
 ghost use Rattle.ats_text_examples.specs.Asked.{RequestsAreRead};
 ghost use Rattle.ats_text_examples.specs.Called.{CallsAreNamed};
 ghost use Rattle.ats_text_examples.specs.Captured.{CapturesAreRead};
+ghost use Rattle.ats_text_examples.specs.Fitted.{FitsAreWritten};
+ghost use Rattle.ats_text_examples.specs.Found.{DelaysAreWritten};
 ghost use Rattle.ats_text_examples.specs.Measures.{MeasuresAreMeant};
 ghost use Rattle.ats_text_examples.specs.Outer.{OutsideIsTold};
 ghost use Rattle.ats_text_examples.specs.Ports.{PortsAreWorked, RatesAreInverse};
@@ -64,6 +66,16 @@ pub fn runs_are_written()
     ensures { RunsAreWritten }
 {}
 
+/// What `witness` prints of a delay for each port of a stream's path, and of releases.
+pub fn delays_are_written()
+    ensures { DelaysAreWritten }
+{}
+
+/// What `fit` prints of streams and flows with releases and without, and which of them are over what they declare.
+pub fn fits_are_written()
+    ensures { FitsAreWritten }
+{}
+
 /// Certificates and schedules: how rows and releases are written, how their records are read, and in which record a
 /// fault is.
 pub fn tables_are_told()
@@ -86,8 +98,8 @@ pub fn captures_are_read()
     ensures { CapturesAreRead }
 {}
 
-/// The command of each verb, the station of each name, the order of each word, which frame goes first by it, the
-/// seven exit codes, and by which of these a text is printed.
+/// The command of each verb, the station, port and stream of each name, the order of each word, which frame goes first
+/// by it, the seven exit codes, and by which of these a text is printed.
 pub fn calls_are_named()
     ensures { CallsAreNamed }
 {}

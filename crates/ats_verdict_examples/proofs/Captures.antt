@@ -13,4 +13,7 @@ captures_are_met = record {
   over = refl;
   over_counted = sym (traffic_is_counted identified 0 (until 100000000000001));
   last = refl;
+  since_others = refl;
+  at_start = refl;
+  none = refl;
 }

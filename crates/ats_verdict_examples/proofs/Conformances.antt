@@ -17,11 +17,12 @@ use Rattle.ats_conform.specs.declared.broken.Broken.TheVariants.{Size, Bucket}
 use Rattle.ats_conform.proofs.OneBroken.{broken-one}
 use Rattle.ats_conform.proofs.Prefix.{one-breaks}
 use Rattle.ats_bucket.specs.Conforming.{Frame}
-use Rattle.ats_examples.specs.Networks.{line, fork}
+use Rattle.ats_examples.specs.Networks.{line, line_and_flow, fork}
 use Rattle.ats_examples.proofs.BucketTest.{conforms_by, stream_conforms, is_sized}
 use Rattle.ats_examples.proofs.LegalTest.{ascending_by}
 use Rattle.ats_examples.proofs.Tests.{le_of, lt_of, all_by, pairs_pass, each_below, below_by}
 use Rattle.ats_verdict_examples.specs.Conformance.{behind_the_burst, from_either, too_long, both_too_long}
+use Rattle.ats_verdict_examples.specs.Conformance.{in_turn, flow_burst, long_of_flow, from_65, too_short}
 use Rattle.ats_verdict_examples.specs.Conformance.{ConformanceIsMet}
 
 -- Tests of releases, which compute, and what the laws say of them.
@@ -172,6 +173,65 @@ breaks_first_size = record {
   size = false≢true;
 }
 
+-- the second frame of the second stream exceeds its bucket from its first on
+not_in_turn : ¬ AllKeepBuckets fork (take 4 in_turn)
+not_in_turn keeps =
+    let over : 1000000000000 * 13008 ≤ 100000000 * 6719999 + 1000000000000 * 12336 =
+    ((keeps 2).streams 1 (lit< tt) refl).within 0 1 (lit≤ tt) (lit< tt) in
+    absurd (omega arith)
+
+its_first_exceeds : ExceedsFrom 100000000 12336 (counted (metered_from 1 0 in_turn)) 1 0
+its_first_exceeds = record {
+  within = lit≤ tt;
+  over = omega (arith, ints);
+  greatest = greatest;
+  earliest = λ k h. absurd (omega arith);
+}
+  where
+    greatest : (k : ℕ) → k ≤ 1 → excess 100000000 12336 (counted (metered_from 1 0 in_turn)) k 1
+        ≤ℤ excess 100000000 12336 (counted (metered_from 1 0 in_turn)) 0 1
+    greatest zero h = omega (arith, ints)
+    greatest (suc zero) h = omega (arith, ints)
+    greatest (suc (suc k)) h = absurd (omega arith)
+
+breaks_in_turn : Breaks fork in_turn (Bucket 1 3)
+breaks_in_turn = record {
+  first = record { within = lit< tt; before = all_keep_by fork (take 3 in_turn) refl refl; broken = not_in_turn };
+  size = refl;
+  bucket = record { place = 0; number = refl; exceeds = its_first_exceeds };
+}
+
+-- a frame of a flow that is too long, and one of a stream that is too short
+flow_not_sized : ¬ AllKeepBuckets line_and_flow (take 1 long_of_flow)
+flow_not_sized keeps =
+    let fits : false ≡ true = (keeps 0).sizes 0 no_release (lit< tt) (lit< tt) refl in
+    absurd (false≢true fits)
+
+breaks_flow : Breaks line_and_flow long_of_flow (Size 0)
+breaks_flow = record {
+  first = record {
+    within = lit< tt;
+    before = all_keep_by line_and_flow (take 0 long_of_flow) refl refl;
+    broken = flow_not_sized;
+  };
+  size = false≢true;
+}
+
+short_not_sized : ¬ AllKeepBuckets from_65 (take 1 too_short)
+short_not_sized keeps =
+    let fits : false ≡ true = (keeps 0).sizes 0 no_release (lit< tt) (lit< tt) refl in
+    absurd (false≢true fits)
+
+breaks_short : Breaks from_65 too_short (Size 0)
+breaks_short = record {
+  first = record {
+    within = lit< tt;
+    before = all_keep_by from_65 (take 0 too_short) refl refl;
+    broken = short_not_sized;
+  };
+  size = false≢true;
+}
+
 -- the frame from which on the bucket is exceeded
 abbrev since_of : Broken → ℕ
 since_of (Size frame) = frame
@@ -199,4 +259,11 @@ conformance_is_met = record {
   not_first_stream = λ h.
       (let e : ◌≡◌ {A = ℕ} 0 1 = ap since_of (broken-one fork both_too_long (Size 0) (Size 1) breaks_first_size h) in
       absurd (omega arith));
+  among_all = breaks_in_turn;
+  not_of_stream = λ h.
+      (let e : ◌≡◌ {A = ℕ} 1 0 = ap since_of (broken-one fork in_turn (Bucket 1 3) (Bucket 0 1) breaks_in_turn h) in
+      absurd (omega arith));
+  flow_keeps = all_keep_by line_and_flow flow_burst refl refl;
+  flow_long = breaks_flow;
+  short = breaks_short;
 }

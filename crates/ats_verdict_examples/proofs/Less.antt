@@ -90,13 +90,13 @@ path_is_met = record {
   rules = too_fast_is;
   ports = ports;
   first = refl;
-  lowest = sym (path_finds_first (overload with_too_fast) with_too_fast too_fast.path ports);
+  lowest = sym (path_finds_first (overload with_too_fast) with_too_fast too_fast.ports ports);
 }
   where
-    ports : All (λ port. port < length with_too_fast.topology.ports) too_fast.path
+    ports : All (λ port. port < length with_too_fast.topology.ports) too_fast.ports
     ports = all_by (λ (port : ℕ). port < length with_too_fast.topology.ports)
         (λ (port : ℕ). nat_lt port (length with_too_fast.topology.ports))
-        (λ port. lt_of port (length with_too_fast.topology.ports)) too_fast.path refl
+        (λ port. lt_of port (length with_too_fast.topology.ports)) too_fast.ports refl
 
 pub admission_is_met : AdmissionIsMet
 admission_is_met = record { less = less_is_met; late = late_is_met; path = path_is_met }

@@ -1,4 +1,6 @@
+pub mod Admissions
 pub mod Captures
+pub mod CausesFirst
 pub mod Conformances
 pub mod Explanations
 pub mod Less

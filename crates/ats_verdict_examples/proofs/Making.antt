@@ -5,13 +5,13 @@ use Rattle.std.specs.Ordering.{is_lt, nat_cmp}
 use Rattle.std.specs.List.Sorted.{ties, IsNonDecreasingBy, IsStableByKey}
 use Rattle.std.proofs.lemmas.Bool.{and_parts, cases_eq, false≢true, not-true}
 use Rattle.std.proofs.lemmas.List.Elements.{filter-append}
-use Rattle.std.proofs.lemmas.List.Sorted.{IsPermutation-swap, Contains-permutation}
+use Rattle.std.proofs.lemmas.List.Sorted.{IsPermutation-refl, IsPermutation-swap, Contains-permutation}
 use Rattle.std.proofs.lemmas.Map.Keys.{ge_from_not_lt}
 use Rattle.ats_trace.specs.declared.journey.Release.{Release}
-use Rattle.ats_gen.specs.Made.{made, AreMade}
+use Rattle.ats_gen.specs.Made.{made, AreByTime, AreMade}
 use Rattle.ats_examples.specs.Networks.{fork}
-use Rattle.ats_examples.proofs.Tests.{le_of, pairs_by}
-use Rattle.ats_verdict_examples.specs.Made.{as_made, by_time, MakingIsMet}
+use Rattle.ats_examples.proofs.Tests.{le_of, pairs_by, pairs_pass}
+use Rattle.ats_verdict_examples.specs.Made.{as_made, at_once, by_time, DrawsAreMet, MakingIsMet}
 use Rattle.ats_verdict_examples.specs.Networks.{release}
 
 -- The made releases by computation, and their order by time.
@@ -59,20 +59,22 @@ stable x =
     ∙ ap (λ (rest : List Release). filter test front ++ rest) swapped
     ∙ sym (filter-append test front (later ∷ earlier ∷ []))
 
-ascends : IsNonDecreasingBy at_of by_time
-ascends i j d before within =
-    let pairs : AllPairs (λ (x y : Release). at_of x ≤ at_of y) by_time =
+-- releases by time, pair by pair
+ascends_by : (releases : List Release) → pairs_pass (λ (x y : Release). nat_le (at_of x) (at_of y)) releases ≡ true
+    → IsNonDecreasingBy at_of releases
+ascends_by releases ordered i j d before within =
+    let pairs : AllPairs (λ (x y : Release). at_of x ≤ at_of y) releases =
     pairs_by (λ (x y : Release). at_of x ≤ at_of y) (λ (x y : Release). nat_le (at_of x) (at_of y))
-    (λ x y. le_of (at_of x) (at_of y)) by_time refl in
+    (λ x y. le_of (at_of x) (at_of y)) releases ordered in
     elim (cases_eq i j) [
-      | inl same ↦ subst (λ (k : ℕ). at_of (get_or by_time i d) ≤ at_of (get_or by_time k d)) same (omega arith)
+      | inl same ↦ subst (λ (k : ℕ). at_of (get_or releases i d) ≤ at_of (get_or releases k d)) same (omega arith)
       | inr other ↦ pairs i j d (omega arith) within
     ]
 
 sorted : AreMade fork 7 4 by_time
 sorted = record {
   same = IsPermutation-swap as_made by_time 2 3 (lit< tt) (lit< tt) refl;
-  by_time = ascends;
+  by_time = ascends_by by_time refl;
   ties = stable;
 }
 
@@ -92,6 +94,33 @@ no_such (suc (suc (suc zero)), within, e) =
     let o : ◌≡◌ {A = ℕ} 889 1222 = ap (λ (r : Release). r.octets) e in absurd (omega arith)
 no_such (suc (suc (suc (suc k))), within, e) = absurd (omega arith)
 
+-- releases at one time stay as they are
+stays_by : (releases : List Release) → pairs_pass (λ (x y : Release). nat_le (at_of x) (at_of y)) releases ≡ true
+    → AreByTime releases releases
+stays_by releases ordered = record {
+  same = IsPermutation-refl releases;
+  by_time = ascends_by releases ordered;
+  ties = λ x. refl;
+}
+
+-- the first of those that come with the second one
+not_turned : ¬ AreByTime (at_once 1 0) (at_once 0 1)
+not_turned h =
+    let sender : ◌≡◌ {A = ℕ} 0 1 =
+    ap (λ (rs : List Release). (get_or rs 0 (release 0 2 0)).sender) (h.ties (release 5 0 64)) in
+    absurd (omega arith)
+
+draws_are_met : DrawsAreMet
+draws_are_met = record {
+  least = refl;
+  least_next = refl;
+  greatest = refl;
+  greatest_next = refl;
+  clock = refl;
+  stays = stays_by (at_once 1 0) refl;
+  not_turned = not_turned;
+}
+
 pub making_is_met : MakingIsMet
 making_is_met = record {
   made_is = refl;
@@ -99,4 +128,5 @@ making_is_met = record {
   not_unsorted = not_unsorted;
   not_from_other = λ h.
       no_such (Contains-permutation (made fork 8 4) by_time (release 0 0 1222) h.same (0, lit< tt, refl));
+  draws = draws_are_met;
 }

@@ -2,6 +2,7 @@ use Rattle.std.proofs.Common.{◌≡◌, Bool, true, ◌&&◌, [], All, Option, 
 use Rattle.std.specs.Prelude.{codes, is_none}
 use Rattle.std.proofs.lemmas.Bool.{and_parts, false≢true}
 use Rattle.ats_streams.specs.Stream.{DeclaredStream}
+use Rattle.ats_network.proofs.TreeLemmas.{alone_tree}
 use Rattle.ats_requests.specs.Laws.{IsCertified}
 use Rattle.ats_requests.specs.Requests.{MayEnter, MayAsk}
 use Rattle.ats_requests.specs.declared.request.Request.{Request}
@@ -10,7 +11,8 @@ use Rattle.ats_requests.proofs.Classes.{lowest_is_first, no_class_has_reasons}
 use Rattle.ats_requests.proofs.Keeps.{admit_is_judged}
 use Rattle.ats_requests.proofs.Requests.{requests_keep}
 use Rattle.ats_examples.specs.Networks.{line_nodes, line_links}
-use Rattle.ats_examples.proofs.NetworkTest.{network_by, is_stream, stream_by, is_valid_from, valid_from_by}
+use Rattle.ats_examples.proofs.NetworkTest.{network_by, is_stream, stream_by, one_listener_by, is_valid_from}
+use Rattle.ats_examples.proofs.NetworkTest.{valid_from_by}
 use Rattle.ats_examples.proofs.Tests.{all_by}
 use Rattle.ats_verdict_examples.specs.Requested.{bridged, large, small, asked, late_in_each, RequestsAreMet}
 
@@ -21,7 +23,7 @@ certified = record { rules = network_by line_nodes line_links bridged.streams []
 
 -- a stream may enter
 abbrev enters : DeclaredStream → Bool
-enters stream = is_stream stream && (is_valid_from bridged.topology 0 stream.path && is_none stream.identity)
+enters stream = is_stream stream && (is_valid_from bridged.topology 0 stream.ports && is_none stream.identity)
 
 none_by : {A : Type 0} (given : Option A) → is_none given ≡ true → given ≡ None
 none_by None h = refl
@@ -29,12 +31,15 @@ none_by (Some a) h = absurd (false≢true h)
 
 enters_by : (stream : DeclaredStream) → enters stream ≡ true → MayEnter bridged.topology stream
 enters_by stream h =
-    let path : Bool = is_valid_from bridged.topology 0 stream.path in
+    let path : Bool = is_valid_from bridged.topology 0 stream.ports in
     let first = and_parts (is_stream stream) (path && is_none stream.identity) h in
     let second = and_parts path (is_none stream.identity) first.1 in
+    let alone : stream.branches ≡ [] = one_listener_by stream first.0 in
     record {
       rules = stream_by stream first.0;
-      path = valid_from_by bridged.topology 0 stream.path second.0;
+      tree = alone_tree bridged.topology stream.ports stream.branches alone
+          (valid_from_by bridged.topology 0 stream.ports second.0);
+      one_listener = alone;
       unidentified = none_by stream.identity second.1;
     }
 

@@ -39,6 +39,16 @@ at_listener = record { releases = []; records = 4; unidentified = 4; oversize = 
 abbrev pub until : ℕ → List Record
 until nanos = captured 0 64 (Some (1, 5)) ∷ captured nanos 64 (Some (1, 5)) ∷ []
 
+-- records of no stream, and one longer than a frame, before those of the stream: the first record of all is the first
+-- time, and one that goes back in time is released with the latest of all, however far it goes
+abbrev pub others_first : List Record
+others_first =
+    captured 0 100 None ∷ captured 500 64 (Some (1, 5)) ∷ captured 1000 100 None ∷ captured 900 128 (Some (1, 5)) ∷ []
+
+abbrev pub back_to_start : List Record
+back_to_start =
+    captured 700 2001 (Some (1, 5)) ∷ record { nanos = 999999999; octets = 64; identity = Some (1, 5) } ∷ []
+
 -- what they come to one after another is what all of them come to
 pub record CapturesAreMet : Type 0 where
   pub talker : traffic_of identified 0 four ≡ Ok at_talker
@@ -53,3 +63,13 @@ pub record CapturesAreMet : Type 0 where
     unidentified = 0;
     oversize = 0;
   })
+  pub since_others : traffic_of identified 0 others_first ≡ Ok (record {
+    releases = release 500000 0 64 ∷ release 1000000 0 128 ∷ [];
+    records = 4;
+    unidentified = 2;
+    oversize = 0;
+  })
+  pub at_start : traffic_of identified 0 back_to_start
+      ≡ Ok (record { releases = release 0 0 64 ∷ []; records = 2; unidentified = 0; oversize = 1 })
+  pub none : traffic_of identified 0 []
+      ≡ Ok (record { releases = []; records = 0; unidentified = 0; oversize = 0 })

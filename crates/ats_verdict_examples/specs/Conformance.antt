@@ -1,10 +1,12 @@
-use Rattle.std.specs.Prelude.{ℕ, List, [], ◌∷◌}
+use Rattle.std.specs.Prelude.{ℕ, List, [], ◌∷◌, codes, None}
+use Rattle.ats_streams.specs.Stream.{declared_stream}
+use Rattle.ats_network.specs.Network.{DeclaredNetwork, declared_network}
 use Rattle.ats_trace.specs.Releases.{AreReleases}
 use Rattle.ats_trace.specs.declared.journey.Release.{Release}
 use Rattle.ats_conform.specs.Broken.{Breaks}
 use Rattle.ats_conform.specs.Releases.{AllKeepBuckets}
 use Rattle.ats_conform.specs.declared.broken.Broken.TheVariants.{Size, Bucket}
-use Rattle.ats_examples.specs.Networks.{line, fork}
+use Rattle.ats_examples.specs.Networks.{line, line_and_flow, fork}
 use Rattle.ats_verdict_examples.specs.Networks.{release}
 
 -- Releases of the line's stream that keep its bucket, and some that break it.
@@ -27,9 +29,29 @@ too_long = release 0 0 64 ∷ release 100000000 0 1523 ∷ []
 abbrev pub both_too_long : List Release
 both_too_long = release 0 1 1523 ∷ release 0 0 1523 ∷ []
 
+-- of two streams the second sends the burst and, 1 ps too early, a small frame, each behind a frame of the first
+abbrev pub in_turn : List Release
+in_turn = release 0 0 64 ∷ release 0 1 1522 ∷ release 1 0 64 ∷ release 6719999 1 64 ∷ []
+
+-- two of the longest frames of a flow at once, and one that is an octet longer
+abbrev pub flow_burst : List Release
+flow_burst = release 0 1 1522 ∷ release 0 1 1522 ∷ []
+
+abbrev pub long_of_flow : List Release
+long_of_flow = release 0 1 1523 ∷ []
+
+-- the line, whose stream declares 65 octets or more, and a frame that is an octet shorter
+abbrev pub from_65 : DeclaredNetwork
+from_65 = declared_network line.topology
+    (declared_stream (codes "a") (0 ∷ 2 ∷ []) (6 ∷ 6 ∷ []) 100000000 12336 65 1522 1000000 None ∷ []) []
+
+abbrev pub too_short : List Release
+too_short = release 0 0 64 ∷ []
+
 -- each may be run. By the first every station keeps its buckets. By the next the last frame, 1 ps earlier, exceeds the
 -- bucket from frame 1 on, and by those after it from frame 0; by the next ones frame 1 has no declared size. Nothing
--- else is named. Of two streams that break theirs, the one whose frame is first is named
+-- else is named. Of two streams that break theirs, the one whose frame is first is named, and frames are named by their
+-- numbers among all releases, not among those of their stream. A flow may send frames at once, of declared sizes
 pub record ConformanceIsMet : Type 0 where
   pub kept_run : AreReleases line (behind_the_burst 106720000)
   pub kept : AllKeepBuckets line (behind_the_burst 106720000)
@@ -44,3 +66,8 @@ pub record ConformanceIsMet : Type 0 where
   pub both_run : AreReleases fork both_too_long
   pub first_frame : Breaks fork both_too_long (Size 0)
   pub not_first_stream : ¬ Breaks fork both_too_long (Size 1)
+  pub among_all : Breaks fork in_turn (Bucket 1 3)
+  pub not_of_stream : ¬ Breaks fork in_turn (Bucket 0 1)
+  pub flow_keeps : AllKeepBuckets line_and_flow flow_burst
+  pub flow_long : Breaks line_and_flow long_of_flow (Size 0)
+  pub short : Breaks from_65 too_short (Size 0)

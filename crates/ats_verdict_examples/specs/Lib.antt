@@ -8,3 +8,5 @@ pub mod Requested
 pub mod Made
 pub mod Ways
 pub mod Captured
+pub mod FirstCauses
+pub mod Admitted

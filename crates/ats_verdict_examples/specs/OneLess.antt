@@ -54,13 +54,13 @@ pub record LateIsMet : Type 0 where
   pub late : late_near (of_three 91351) y ≡ Some (Deadline (codes "x") 91352000)
   pub lowest : found_there (lowest_late (of_three 91351) (1 ∷ 0 ∷ [])) ≡ Some (Deadline (codes "x") 91352000)
 
--- a stream that overloads each port of its path, whose ports stand in descending order: port 1 is found, which is the
--- last of the path
+-- a stream that overloads each of its ports, which stand in descending order: port 1 is found, which is the last of
+-- them
 pub record PathIsMet : Type 0 where
   pub rules : IsNetwork with_too_fast
-  pub ports : All (λ port. port < length with_too_fast.topology.ports) too_fast.path
-  pub first : first_found (overload with_too_fast) with_too_fast too_fast.path ≡ Some (Overloaded 1 6 2000000000000)
-  pub lowest : found_there (lowest_found (overload with_too_fast) with_too_fast too_fast.path)
+  pub ports : All (λ port. port < length with_too_fast.topology.ports) too_fast.ports
+  pub first : first_found (overload with_too_fast) with_too_fast too_fast.ports ≡ Some (Overloaded 1 6 2000000000000)
+  pub lowest : found_there (lowest_found (overload with_too_fast) with_too_fast too_fast.ports)
       ≡ Some (Overloaded 1 6 2000000000000)
 
 -- what the laws of admission ask is met

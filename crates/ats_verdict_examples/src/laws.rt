@@ -1,8 +1,10 @@
 //! Worked networks, certificates and releases, and what the laws say of them.
 
+ghost use Rattle.ats_verdict_examples.specs.Admitted.{StreamsAreAdmitted};
 ghost use Rattle.ats_verdict_examples.specs.Captured.{CapturesAreMet};
 ghost use Rattle.ats_verdict_examples.specs.Conformance.{ConformanceIsMet};
 ghost use Rattle.ats_verdict_examples.specs.Explained.{ExplanationsAreMet};
+ghost use Rattle.ats_verdict_examples.specs.FirstCauses.{CausesAreFirst};
 ghost use Rattle.ats_verdict_examples.specs.Made.{MakingIsMet};
 ghost use Rattle.ats_verdict_examples.specs.OneLess.{AdmissionIsMet};
 ghost use Rattle.ats_verdict_examples.specs.Reasons.{ReasonsAreMet};
@@ -14,7 +16,8 @@ use ats_explain::laws::{clear_where_one_holds, each_stream_adds_up};
 
 /// Releases by which every station keeps its buckets, and such that one frame breaks what its stream declares, a
 /// picosecond early or an octet long. What is named then is the frame from which on the bucket is exceeded by most, the
-/// first of two that are as bad; of two streams that break theirs, the one whose frame is first.
+/// first of two that are as bad; of two streams that break theirs, the one whose frame is first. A flow may send frames
+/// at once, of declared sizes.
 pub fn conformance_is_met()
     ensures { ConformanceIsMet }
 {}
@@ -28,6 +31,12 @@ pub fn reasons_are_met()
 /// Rows that hold, and rows that are refused for each of the seven causes, which is the first against them.
 pub fn refusals_are_met()
     ensures { RefusalsAreMet }
+{}
+
+/// Rows with two causes against them at once, and networks with two reasons: which of them is named, wherever each
+/// stands. A load of just the link is no overload, and a longer wait with the bound that follows is enough.
+pub fn causes_are_first()
+    ensures { CausesAreFirst }
 {}
 
 /// A bound whose five parts all count, and add up to it; a network that is clear, for which a certificate holds, and
@@ -49,8 +58,15 @@ pub fn requests_are_met()
     ensures { RequestsAreMet }
 {}
 
+/// The lowest class of a stream is one above those in which it is late, with its very bounds as its deadline. A stream
+/// that is admitted stands last with the class it asks for, a denial leaves all as it was, and one that is withdrawn
+/// leaves the others in their order.
+pub fn streams_are_admitted()
+    ensures { StreamsAreAdmitted }
+{}
+
 /// The releases of four frames that are made from a seed, which stand by time in another order. As they were made they
-/// are no made releases, nor from another seed.
+/// are no made releases, nor from another seed. And what is drawn from the least and the greatest seed.
 pub fn making_is_met()
     ensures { MakingIsMet }
 {}

@@ -1,0 +1,6 @@
+pub mod Bursts
+pub mod Regulators
+pub mod SetAndHeld
+pub mod Occupied
+pub mod Peaks
+pub mod WordsNone

@@ -1,0 +1,45 @@
+//! Worked calls: the bytes of their files, and the answers that are due.
+
+ghost use Rattle.ats_answer_examples.specs.Regulated.{LrqBoundIsAnswered, LrqCheckIsAnswered, LrqShapeIsAnswered};
+ghost use Rattle.ats_answer_examples.specs.Told.{BuffersIsAnswered, PeaksIsAnswered, SettingsIsAnswered};
+ghost use Rattle.ats_answer_examples.specs.Words.{WordsAreNone};
+
+/// What is due to `settings`: of a network with one stream over a bridge, and of bytes that are no TOML.
+pub fn settings_is_answered()
+    ensures { SettingsIsAnswered }
+{}
+
+/// What is due to `buffers` with a certificate: of the least one, of one with a bound 1 ps less, of a file that is
+/// none, and of two files with a fault.
+pub fn buffers_is_answered()
+    ensures { BuffersIsAnswered }
+{}
+
+/// What is due to `buffers` with a schedule: of two frames that a bridge holds together and a station does not; of a
+/// certificate that is refused; and of one file with a fault, of two and of three, of which the first is told.
+pub fn peaks_is_answered()
+    ensures { PeaksIsAnswered }
+{}
+
+/// What is due to `lrq shape`: of two frames of which the second waits, and of a bad line.
+pub fn lrq_shape_is_answered()
+    ensures { LrqShapeIsAnswered }
+{}
+
+/// What is due to `lrq bound`: of a network whose deadline is the sum of its bounds with narrowed bursts, and is less
+/// with the declared ones, of one with 1 ns less, and of bytes that are no TOML.
+pub fn lrq_bound_is_answered()
+    ensures { LrqBoundIsAnswered }
+{}
+
+/// What is due to `lrq check`: of the least certificate with narrowed bursts, which is refused with the declared ones,
+/// of one with a bound 1 ps less, of a network with a deadline 1 ns less, of a file that is no certificate, and of two
+/// files with a fault.
+pub fn lrq_check_is_answered()
+    ensures { LrqCheckIsAnswered }
+{}
+
+/// Words that are no command: too few and too many for each, others in their place, and the numbers of mixed orders.
+pub fn words_are_none()
+    ensures { WordsAreNone }
+{}

@@ -1,0 +1,4 @@
+mod TextProofs
+mod RunProofs
+mod OutsideProofs
+mod CapturedProofs

@@ -1,0 +1,29 @@
+//! What just counts, and what just does not.
+
+ghost use Rattle.ats_edge_examples.specs.Captured.{SenderIsCaptured};
+ghost use Rattle.ats_edge_examples.specs.Outside.{OutsideIsAtEdges};
+ghost use Rattle.ats_edge_examples.specs.Runs.{RunsAreAtEdges};
+ghost use Rattle.ats_edge_examples.specs.Texts.{TextsAreAtEdges};
+
+/// How lines of certificates and schedules are cut; shape files with a residence and a time of 0, and with a byte order
+/// mark; numbers of 18 and of 19 digits in request files; and classes along a path as they are told.
+pub fn texts_are_at_edges()
+    ensures { TextsAreAtEdges }
+{}
+
+/// Which frames a talker answers for, when a frame arrives in time, and in which order a run has its releases; how the
+/// last of several verdicts counts, and that a frame of a size that is not allowed moves nothing; a path of one port;
+/// and the last release that may be made.
+pub fn runs_are_at_edges()
+    ensures { RunsAreAtEdges }
+{}
+
+/// In which order files are read, and which bytes of a text a sink takes.
+pub fn outside_is_at_edges()
+    ensures { OutsideIsAtEdges }
+{}
+
+/// The capture of a port that sent a frame of sender 1 before one of sender 0: it tells of senders, and not of frames.
+pub fn sender_is_captured()
+    ensures { SenderIsCaptured }
+{}

@@ -1,0 +1,11 @@
+pub mod TopologiesFirst
+pub mod RulesFirst
+pub mod TablesFirst
+pub mod KindsRead
+pub mod ArraysJudged
+pub mod Routes
+pub mod SendersFirst
+pub mod RecordsFirst
+pub mod ShapesFirst
+pub mod RequestsFirst
+pub mod CapturesFirst

@@ -1,0 +1,10 @@
+pub mod Topologies
+pub mod Rules
+pub mod Tables
+pub mod Kinds
+pub mod Arrays
+pub mod Senders
+pub mod Records
+pub mod Shapes
+pub mod Asked
+pub mod Captures

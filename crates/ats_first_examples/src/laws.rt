@@ -1,0 +1,65 @@
+//! Which of several faults is named first, on closed examples.
+
+ghost use Rattle.ats_first_examples.specs.Arrays.{ArraysAreJudged};
+ghost use Rattle.ats_first_examples.specs.Asked.{RequestsAreFirst};
+ghost use Rattle.ats_first_examples.specs.Captures.{CapturesAreFirst};
+ghost use Rattle.ats_first_examples.specs.Kinds.{KindsAreRead};
+ghost use Rattle.ats_first_examples.specs.Records.{RecordsAreFirst};
+ghost use Rattle.ats_first_examples.specs.Rules.{RulesAreFirst};
+ghost use Rattle.ats_first_examples.specs.Senders.{SendersAreFirst};
+ghost use Rattle.ats_first_examples.specs.Shapes.{ShapesAreFirst};
+ghost use Rattle.ats_first_examples.specs.Tables.{TablesAreFirst};
+ghost use Rattle.ats_first_examples.specs.Topologies.{TopologyFaultsAreFirst};
+
+/// Nodes and links: of the eight kinds of fault the first in their order, wherever its entry stands, and of one kind
+/// the first entry.
+pub fn topology_faults_are_first()
+    ensures { TopologyFaultsAreFirst }
+{}
+
+/// The rules that a stream or a flow breaks, and why a network takes no further one.
+pub fn rules_are_first()
+    ensures { RulesAreFirst }
+{}
+
+/// A table of a network file: a key that is missing, then one that is unknown, then one with a value of another kind,
+/// each the first in the order of the keys.
+pub fn tables_are_first()
+    ensures { TablesAreFirst }
+{}
+
+/// The values that a table may have: numbers of each range, addresses, lists, and keys that may be absent.
+pub fn kinds_are_read()
+    ensures { KindsAreRead }
+{}
+
+/// The top of a network file and its arrays in their order, and the most tables that each may have.
+pub fn arrays_are_judged()
+    ensures { ArraysAreJudged }
+{}
+
+/// The streams and flows of a network file: of one its path, its rules, its name and its identity, and of all the
+/// first.
+pub fn senders_are_first()
+    ensures { SendersAreFirst }
+{}
+
+/// Records of certificates and schedules.
+pub fn records_are_first()
+    ensures { RecordsAreFirst }
+{}
+
+/// Lines of shape files.
+pub fn shapes_are_first()
+    ensures { ShapesAreFirst }
+{}
+
+/// Lines of request files, and the most that may be asked.
+pub fn requests_are_first()
+    ensures { RequestsAreFirst }
+{}
+
+/// Bytes of captures, and the releases that their records make.
+pub fn captures_are_first()
+    ensures { CapturesAreFirst }
+{}

@@ -1,0 +1,34 @@
+use Rattle.std.proofs.Common.{refl}
+use Rattle.ats_limit_examples.specs.Legs.{LegsAreLimited, PortsAreCounted, RoutesAreLimited}
+
+-- Limits by computation.
+
+routes_are_limited : RoutesAreLimited
+routes_are_limited = record {
+  longest = refl;
+  over = refl;
+  two_longest = refl;
+  two_over = refl;
+  trunk_over = refl;
+  classes = refl;
+  of_trunk = refl;
+  of_routes = refl;
+  routes = refl;
+}
+
+ports_are_counted : PortsAreCounted
+ports_are_counted = record {
+  together = refl;
+  most = refl;
+  over = refl;
+  branches_most = refl;
+  branches_over = refl;
+  last = refl;
+  past = refl;
+}
+
+pub legs_are_limited : LegsAreLimited
+legs_are_limited = record {
+  routes = routes_are_limited;
+  ports = ports_are_counted;
+}

@@ -1,0 +1,2 @@
+pub mod ChainProofs
+pub mod LegProofs

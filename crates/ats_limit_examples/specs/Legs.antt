@@ -1,0 +1,47 @@
+use Rattle.std.specs.Prelude.{◌≡◌, ℕ, true, false, List, [], ◌∷◌, codes, replicate, Some, None}
+use Rattle.ats_streams.specs.Branches.{routes_of}
+use Rattle.ats_streams.specs.Stream.{DeclaredStream, branching_stream, stream_fault}
+use Rattle.ats_streams.specs.declared.fault.StreamFault.TheVariants.{BadClass, Limit}
+use Rattle.ats_network.specs.Network.{ports_together}
+use Rattle.ats_network.specs.Pushes.{is_full}
+
+-- How many ports a stream with branches may have on a route, and streams together.
+
+-- a stream with so many ports, the last of which are those of a branch that begins behind its trunk of this length, at
+-- a hop
+abbrev pub branching : ℕ → ℕ → ℕ → DeclaredStream
+branching ports trunk hop = branching_stream (codes "w") (replicate ports 0)
+    (record { first = trunk; leg = 0; hop = hop } ∷ []) [] 1 672 64 64 1 None
+
+-- routes go by the ports in front of a branch and its own: 16 on a route are the most, however many the legs have
+-- together. There is a class for each port of each leg
+pub record RoutesAreLimited : Type 0 where
+  pub longest : stream_fault (1 ∷ []) (branching 17 16 15) ≡ None
+  pub over : stream_fault (1 ∷ []) (branching 18 16 15) ≡ Some Limit
+  pub two_longest : stream_fault (1 ∷ []) (branching 31 16 1) ≡ None
+  pub two_over : stream_fault (1 ∷ []) (branching 32 16 1) ≡ Some Limit
+  pub trunk_over : stream_fault (1 ∷ []) (branching 18 17 1) ≡ Some Limit
+  pub classes : stream_fault (replicate 17 1) (branching 17 16 15) ≡ None
+  pub of_trunk : stream_fault (replicate 16 1) (branching 17 16 15) ≡ Some BadClass
+  pub of_routes : stream_fault (replicate 32 1) (branching 17 16 15) ≡ Some BadClass
+  pub routes : routes_of (10 ∷ 11 ∷ 12 ∷ 13 ∷ []) (record { first = 3; leg = 0; hop = 1 } ∷ [])
+      ≡ (10 ∷ 11 ∷ 12 ∷ []) ∷ (10 ∷ 13 ∷ []) ∷ []
+
+-- so many streams with one listener and so many ports each
+abbrev pub streams_of : ℕ → ℕ → List DeclaredStream
+streams_of count ports =
+    replicate count (branching_stream (codes "w") (replicate ports 0) [] [] 1 672 64 64 1 None)
+
+-- the ports of all legs count together, each once: 65,536 are the most, and 4096 streams
+pub record PortsAreCounted : Type 0 where
+  pub together : ports_together (branching 4 3 1 ∷ branching 31 16 1 ∷ streams_of 2 5) ≡ 45
+  pub most : is_full (streams_of 4095 16) (replicate 16 0) ≡ false
+  pub over : is_full (streams_of 4095 16) (replicate 17 0) ≡ true
+  pub branches_most : is_full (replicate 2114 (branching 31 16 1)) (replicate 2 0) ≡ false
+  pub branches_over : is_full (replicate 2114 (branching 31 16 1)) (replicate 3 0) ≡ true
+  pub last : is_full (streams_of 4095 1) (0 ∷ []) ≡ false
+  pub past : is_full (streams_of 4096 1) (0 ∷ []) ≡ true
+
+pub record LegsAreLimited : Type 0 where
+  pub routes : RoutesAreLimited
+  pub ports : PortsAreCounted

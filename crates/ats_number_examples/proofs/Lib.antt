@@ -1,0 +1,2 @@
+pub mod CountedProofs
+pub mod ToldProofs

@@ -1,0 +1,3 @@
+pub mod Networks
+pub mod Counted
+pub mod Told

@@ -1,0 +1,15 @@
+//! More than one late stream, hop, frame, or admission, on closed examples.
+
+ghost use Rattle.ats_number_examples.specs.Counted.{NumbersAreCounted};
+ghost use Rattle.ats_number_examples.specs.Told.{NumbersAreTold};
+
+/// Each late stream and each hop at which a frame may have to stay too long counts; flows stay where a stream is
+/// admitted.
+pub fn numbers_are_counted()
+    ensures { NumbersAreCounted }
+{}
+
+/// Each frame of a run is told of, and a spread by its earliest latency, also where that is 0.
+pub fn numbers_are_told()
+    ensures { NumbersAreTold }
+{}

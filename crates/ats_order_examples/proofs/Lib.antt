@@ -1,0 +1,2 @@
+pub mod FlowProofs
+pub mod OrderProofs

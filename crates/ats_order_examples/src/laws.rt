@@ -1,0 +1,14 @@
+//! Orders of frames at each kind of port, and of flows.
+
+ghost use Rattle.ats_order_examples.specs.Flows.{FlowsAreKept};
+ghost use Rattle.ats_order_examples.specs.Orders.{OrdersAreKept};
+
+/// A run by an order keeps it at ports that leave a station and at ports between bridges; a legal run need not.
+pub fn orders_are_kept()
+    ensures { OrdersAreKept }
+{}
+
+/// Frames of flows are sent and arrive in their order, and by an order's key and pace, as frames of streams do.
+pub fn flows_are_kept()
+    ensures { FlowsAreKept }
+{}

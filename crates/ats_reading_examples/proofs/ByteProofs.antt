@@ -1,0 +1,48 @@
+use Rattle.std.proofs.Common.{refl}
+use Rattle.ats_pcap.specs.Capture.{form_of, is_whole, order_of, position_of, record_of}
+use Rattle.ats_pcap.specs.Capture.{header_fault as of_header, record_fault as of_record}
+use Rattle.ats_pcap.specs.Identity.{address_of, identity_of}
+use Rattle.ats_pcap.specs.Numbers.{number16, number32}
+use Rattle.ats_reading_examples.specs.Bytes.{CapturesHaveAllBits, HeadersHaveAllBits, RecordsHaveAllBits}
+
+-- Captures by computation.
+
+headers_have_all_bits : HeadersHaveAllBits
+unfolding form_of of_header is_whole order_of position_of of_record record_of address_of identity_of number16 number32
+headers_have_all_bits = record {
+  none = refl;
+  second = refl;
+  third = refl;
+  fourth = refl;
+  major = refl;
+  minor = refl;
+  none_high = refl;
+  second_high = refl;
+  third_high = refl;
+  fourth_high = refl;
+  major_high = refl;
+  minor_high = refl;
+}
+
+records_have_all_bits : RecordsHaveAllBits
+unfolding form_of of_header is_whole order_of position_of of_record record_of address_of identity_of number16 number32
+records_have_all_bits = record {
+  octets_second = refl;
+  octets_third = refl;
+  octets_fourth = refl;
+  seconds_fourth = refl;
+  fraction_fourth = refl;
+  captured_fourth = refl;
+  octets_second_high = refl;
+  octets_third_high = refl;
+  octets_fourth_high = refl;
+  seconds_fourth_high = refl;
+  fraction_fourth_high = refl;
+  captured_fourth_high = refl;
+}
+
+pub captures_have_all_bits : CapturesHaveAllBits
+captures_have_all_bits = record {
+  headers = headers_have_all_bits;
+  records = records_have_all_bits;
+}

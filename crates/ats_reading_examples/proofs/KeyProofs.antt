@@ -1,0 +1,34 @@
+use Rattle.std.proofs.Common.{refl}
+use Rattle.ats_reading_examples.specs.Keys.{KeysAreExact, NearlyAreUnknown, OthersAreUnknown}
+
+-- Keys by computation.
+
+nearly_are_unknown : NearlyAreUnknown
+nearly_are_unknown = record {
+  station = refl;
+  bridge = refl;
+  plain_bridge = refl;
+  link = refl;
+  flow = refl;
+  stream_route = refl;
+  stream_numbers = refl;
+  stream_others = refl;
+  top = refl;
+}
+
+others_are_unknown : OthersAreUnknown
+others_are_unknown = record {
+  station = refl;
+  bridge = refl;
+  plain_bridge = refl;
+  link = refl;
+  flow = refl;
+  stream = refl;
+  top = refl;
+}
+
+pub keys_are_exact : KeysAreExact
+keys_are_exact = record {
+  nearly = nearly_are_unknown;
+  others = others_are_unknown;
+}

@@ -1,0 +1,3 @@
+pub mod KeyProofs
+pub mod ByteProofs
+pub mod LineProofs

@@ -1,0 +1,2 @@
+mod CapturedProofs
+mod MeasuredProofs

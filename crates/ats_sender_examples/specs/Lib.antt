@@ -1,0 +1,3 @@
+pub mod Senders
+pub mod Captured
+pub mod Measured

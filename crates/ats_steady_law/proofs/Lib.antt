@@ -1,0 +1,4 @@
+pub mod RestProofs
+pub mod SteadyGroup
+pub mod SteadyTalker
+pub mod SteadyRuns

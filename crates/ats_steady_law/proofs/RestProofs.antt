@@ -1,0 +1,82 @@
+use Rattle.std.proofs.Common.{ℕ, zero, suc, ◌<◌, ◌≤◌, [], ◌∷◌, length, All, None, arith, lit<}
+use Rattle.std.proofs.Common.{lit≤}
+use Rattle.std.proofs.lemmas.List.Elements.{All-nil, All-cons}
+use Rattle.ats_group.specs.declared.verdict.Verdict.TheVariants.{Late}
+use Rattle.ats_trace.specs.Eligibility.{declared_by}
+use Rattle.ats_trace.specs.Journey.{Travel}
+use Rattle.ats_trace.specs.Stored.{no_travel}
+use Rattle.ats_trace.specs.declared.journey.Ending.TheVariants.{Discard}
+use Rattle.ats_trace.specs.declared.journey.HopRecord.{HopRecord}
+use Rattle.ats_examples.specs.Networks.{line}
+use Rattle.ats_examples.specs.Runs.{hop, one_frame, sunk}
+use Rattle.ats_legal_law.specs.Rest.{FillsBy, IsOverBy, IsRecordBy, RestsUntil}
+use Rattle.ats_steady_law.specs.Resting.{RestsAreExact}
+
+-- When a run is over and a network has rested, to the picosecond.
+
+-- the frames of the runs
+abbrev arrived : Travel
+arrived = sunk 0 0 1522 (hop 0 0 0 12336000 ∷ hop 13836000 13836000 13836000 26172000 ∷ []) 26672000
+
+abbrev discarded : Travel
+discarded = record {
+  release = record { at = record { 0 = 0 }; sender = 0; octets = 1522 };
+  hops = hop 0 0 12336000 24672000
+      ∷ record { arrival = record { 0 = 26172000 }; verdict = Late (record { 0 = 137196000 }); sent = None } ∷ [];
+  ending = Discard;
+}
+
+line_rests : RestsUntil line 26672000 150032000
+line_rests = record { after = lit< tt; filled = filled }
+  where
+    filled : (i : ℕ) → i < length line.streams → FillsBy 26672000 150032000 (declared_by line i)
+    filled zero within = lit≤ tt
+    filled (suc i) within = absurd (omega arith)
+
+not_earlier : ¬ RestsUntil line 26672000 150031999
+not_earlier rests =
+    let full : 15003200000000000 ≤ 15003199900000000 = rests.filled 0 (lit< tt) in
+    absurd (omega arith)
+
+-- a record that is over by then, and a frame that arrives
+sent_over : (a e s t : ℕ) → a ≤ 26672000 → e ≤ 26672000 → t ≤ 26672000 → IsRecordBy 26672000 (hop a e s t)
+sent_over a e s t arrival eligible sent = record { arrival = arrival; eligible = eligible; sent = sent }
+
+first_over : IsOverBy 26672000 arrived
+first_over = record {
+  released = lit≤ tt;
+  hops = All-cons (IsRecordBy 26672000) (hop 0 0 0 12336000) (hop 13836000 13836000 13836000 26172000 ∷ [])
+      (sent_over 0 0 0 12336000 (lit≤ tt) (lit≤ tt) (lit≤ tt))
+      (All-cons (IsRecordBy 26672000) (hop 13836000 13836000 13836000 26172000) []
+      (sent_over 13836000 13836000 13836000 26172000 (lit≤ tt) (lit≤ tt) (lit≤ tt)) (All-nil (IsRecordBy 26672000)));
+  ending = lit≤ tt;
+}
+
+-- the verdict of the second frame tells a later time
+abbrev late_record : HopRecord
+late_record = record { arrival = record { 0 = 26172000 }; verdict = Late (record { 0 = 137196000 }); sent = None }
+
+second_over : IsOverBy 26672000 discarded
+second_over = record {
+  released = lit≤ tt;
+  hops = All-cons (IsRecordBy 26672000) (hop 0 0 12336000 24672000) (late_record ∷ [])
+      (sent_over 0 0 12336000 24672000 (lit≤ tt) (lit≤ tt) (lit≤ tt))
+      (All-cons (IsRecordBy 26672000) late_record []
+      (record { arrival = lit≤ tt; eligible = tt; sent = tt }) (All-nil (IsRecordBy 26672000)));
+  ending = tt;
+}
+
+not_before : ¬ All (IsOverBy 26671999) one_frame
+not_before over =
+    let arrives : 26672000 ≤ 26671999 = (over 0 no_travel (lit< tt)).ending in
+    absurd (omega arith)
+
+pub rests_are_exact : RestsAreExact
+rests_are_exact = record {
+  rests = line_rests;
+  not_earlier = not_earlier;
+  over = All-cons (IsOverBy 26672000) arrived [] first_over (All-nil (IsOverBy 26672000));
+  not_before = not_before;
+  over_late = All-cons (IsOverBy 26672000) arrived (discarded ∷ []) first_over
+      (All-cons (IsOverBy 26672000) discarded [] second_over (All-nil (IsOverBy 26672000)));
+}

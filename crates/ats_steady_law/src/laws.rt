@@ -1,0 +1,15 @@
+//! Legal runs in which a network never rests, and when it has rested.
+
+ghost use Rattle.ats_steady_law.specs.Resting.{RestsAreExact};
+ghost use Rattle.ats_steady_law.specs.Steady.{SteadyIsLegal};
+
+/// For each number there is a legal run of a stream with exactly so many frames that a bridge sends without a pause:
+/// a legal run need not have a rest.
+pub fn steady_is_legal()
+    ensures { SteadyIsLegal }
+{}
+
+/// By when a run is over, and from when on a network has rested, to the picosecond.
+pub fn rests_are_exact()
+    ensures { RestsAreExact }
+{}

@@ -1,0 +1,4 @@
+//! Legal runs in which a network never rests.
+#![tactic(auto)]
+
+pub mod laws;

@@ -1,0 +1,4 @@
+pub mod Greatest
+pub mod Bursting
+pub mod Summed
+pub mod GapAnswered

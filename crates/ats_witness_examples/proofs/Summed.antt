@@ -1,0 +1,11 @@
+use Rattle.std.proofs.Common.{refl}
+use Rattle.ats_witness_examples.specs.Sums.{SumsAreOwn}
+
+-- The sums by computation.
+
+pub sums_are_own : SumsAreOwn
+sums_are_own = record {
+  first = refl;
+  second = refl;
+  of_bound = λ network stream. record { is_within = λ delay most. most; at_most = λ delay most. most };
+}

@@ -1,0 +1,5 @@
+pub mod Networks
+pub mod Delays
+pub mod Bursts
+pub mod Sums
+pub mod Gap
