@@ -10,14 +10,8 @@ stamp=$built.stamp
 # commit of its sources.
 origin=$program.origin
 
-# That checksum, and the state of the files at which it was last found right.
+# The state of the sources, the program and the kit at which the program was last found to be theirs.
 seen=$program.seen
-
-# What find prints of a file: for its checksum, and for its state. Who writes a file or puts another in its place can
-# keep its size and the time of its contents (%T), but not the time of its last change (%C), but by setting the clock;
-# both are in nanoseconds where the file system has them. One that tells neither (as some over a network) hides an edit.
-contents='-exec sha256sum {} +'
-states='-printf %C@:%T@:%s:%D:%i:%p\n'
 
 # The lines of a crates.txt of the crates that the program stands on, itself included.
 needed_lines() {
@@ -40,12 +34,11 @@ names_of() {
     printf '%s\n' "$1" | sed 's/[ :].*//'
 }
 
-# What find prints of all that the program in a tree is built from, and of the files named: listed TREE ACTION FILE..
-# It fails where any of it cannot be read.
-listed() (
+# The checksum of what the program in a tree is built from, and of the files named: sum_of TREE FILE.. Times, places
+# and other files count nothing. It fails where any of it cannot be read.
+sum_of() (
     cd "$1" || exit 1
-    action=$2
-    shift 2
+    shift
     needed=$(needed_lines crates.txt) && [ -n "$needed" ] || exit 1
     set -- HANDLES "$@"
     for name in $(names_of "$needed"); do
@@ -53,55 +46,113 @@ listed() (
             [ ! -d "crates/$name/$part" ] || set -- "$@" "crates/$name/$part"
         done
     done
-    printf '%s\n' "$needed"
-    LC_ALL=C find -L "$@" -type f \( -name '*.rt' -o -name '*.antt' -o -name HANDLES -o -name ats_cli \) $action
+    sums=$(
+        LC_ALL=C find -L "$@" -type f \( -name '*.rt' -o -name '*.antt' -o -name HANDLES -o -name ats_cli \) \
+            -exec sha256sum {} +
+    ) && sum=$(printf '%s\n' "$needed" "$sums" | LC_ALL=C sort | sha256sum) && echo "${sum%% *}"
 )
 
-# The checksum of lines, in whatever order.
-digest() {
-    sum=$(printf '%s\n' "$1" | LC_ALL=C sort | sha256sum) || return 1
-    echo "${sum%% *}"
+# Notes as `rt` the path of that command, empty where there is none, and as `kit_file` the file that names its kit,
+# empty where that is not in its place.
+find_kit() {
+    rt=$(command -v rt)
+    kit_file=
+    case $rt in
+        /*)
+            kit_file=$(readlink -f -- "$rt")
+            kit_file=${kit_file%/*/*}/KIT-ID
+            [ -f "$kit_file" ] || kit_file=
+            ;;
+    esac
 }
 
-# The checksum of what the program in a tree is built from, and of the files named: sum_of TREE FILE.. Times, places
-# and other files count nothing. It fails where any of it cannot be read.
-sum_of() (
-    tree=$1
-    shift
-    lines=$(listed "$tree" "$contents" "$@") && digest "$lines"
-)
+# Notes as `kit` what the kit of `rt` calls itself, empty where there is none.
+read_kit() {
+    kit=
+    if [ -n "$kit_file" ]; then
+        { IFS= read -r kit <"$kit_file"; } 2>/dev/null
+    elif [ -n "$rt" ]; then
+        kit=$(rt version </dev/null 2>/dev/null)
+    fi
+}
 
-# Whether the program is there and is the one of these sources. Where that cannot be told, it is not run. The checksum
-# is reckoned only where the state of the files is not one at which it was found right.
+# Notes as `crates` the names of the crates that the program stands on, in one line. It fails where there are none.
+find_crates() {
+    lines=$(needed_lines "$top/crates.txt") && crates=$(names_of "$lines") && [ -n "$crates" ] && crates=$(echo $crates)
+}
+
+# Prints the kit, and the state of all files that decide whether the program is right: those of the sources with their
+# folders, the program, and what is noted of it. The state of a file is when it was last changed in any way (%C) and
+# when its contents were (%T), its size, device and number, and its name.
+print_state() (
+    printf '%s\n' "$crates" "$rt" "$kit_file" "$kit"
+    cd "$top" || exit 1
+    parts=
+    for name in $crates; do
+        for part in src specs proofs; do
+            [ ! -d "crates/$name/$part" ] || parts="$parts crates/$name/$part"
+        done
+    done
+    export LC_ALL=C
+    exec find -L HANDLES crates.txt $parts "$built" "$built.origin" ${rt:+"$rt"} -printf '%C@:%T@:%s:%D:%i:%p\n'
+) 2>/dev/null
+
+# Whether the state is the one at which the program was last found right.
+is_seen() {
+    {
+        { IFS= read -r crates && IFS= read -r rt && IFS= read -r kit_file; } <"$seen"
+    } 2>/dev/null || return 1
+    [ "$(command -v rt)" = "$rt" ] || return 1
+    read_kit
+    print_state | cmp -s - "$seen" 2>/dev/null
+}
+
+# Whether no later change can hide behind a state, which was written to this file before the checksum was reckoned.
+#
+# On the file systems below whatever changes the contents of a file sets the time of its last change, to that of the
+# clock, and no call sets it otherwise; another file that is put in its place has another number. And one machine alone
+# writes there. Others may keep no such time, or tell of another machine's writing only after a while. These times have
+# to be over two seconds before the state was written: then what is changed from there on gets a time that is none of
+# them, also where they are counted in ticks or whole seconds. What is left is a file that stays mapped into memory,
+# which may be written through it without a new time, and a clock that is set back to the very tick. The command rt may
+# lie elsewhere, since the name of its kit is read at each call.
+is_lasting() {
+    case $(stat -f -c %T -- "$1" 2>/dev/null) in
+        ext2/ext3 | xfs | btrfs | tmpfs | zfs | f2fs | bcachefs | overlayfs) ;;
+        *) return 1 ;;
+    esac
+    LC_ALL=C awk -F: -v written="$(stat -c %Y -- "$1")" -v device="$(stat -c %d -- "$1")" '
+        FNR < 5 || $6 ~ /^\// { next }
+        $1 + 0 >= written - 2 || $4 != device { fleeting = 1; exit }
+        END { exit fleeting }
+    ' "$1"
+}
+
+# Whether the program is there and is the one of these sources, and of the kit where there is one. Where that cannot be
+# told, it is not run. The checksum is reckoned only where the state is not one at which it was found right.
 is_built() {
     [ -x "$program" ] && [ -f "$origin" ] || return 1
-    noted= was= state=
-    { IFS= read -r noted <"$origin"; IFS= read -r was <"$seen"; } 2>/dev/null
-    files=$(listed "$top" "$states" "$built" 2>/dev/null) && state=$(digest "$files")
-    [ -z "$state" ] || [ "$was" != "$noted $state" ] || return 0
-    mark=$seen.$$
-    { : >"$mark"; } 2>/dev/null
+    ! is_seen || return 0
+    find_kit
+    read_kit
+    new=$seen.$$
+    { find_crates && print_state >"$new" && whole=yes || whole=; } 2>/dev/null
     if ! sum=$(sum_of "$top" "$built") || [ -z "$sum" ]; then
-        rm -f "$mark"
+        rm -f "$new"
         say 'the sources could not be read (by find and sha256sum), so it is not known whether the program is theirs'
         exit 8
     fi
-    [ "$sum" != "$noted" ] || [ -z "$state" ] || note_state
-    rm -f "$mark"
-    [ "$sum" = "$noted" ]
-}
-
-# Notes the state of the files, of which `files` tells: the checksum was reckoned after the mark was made, and is that
-# of the program. It is noted only where all times are two seconds before the mark, or more. What was written before
-# the mark was reckoned, and what is written after it gets a time that is none of these, also where a file system
-# counts in ticks or whole seconds.
-note_state() {
-    printf '%s\n' "$files" | LC_ALL=C awk -F: -v mark="$(stat -c %Y "$mark" 2>/dev/null)" '
-        $1 + 0 > newest { newest = $1 + 0 }
-        $2 + 0 > newest { newest = $2 + 0 }
-        END { exit !(newest < mark - 2) }
-    ' || return 0
-    { printf '%s\n' "$noted $state" >"$mark" && mv -f "$mark" "$seen"; } 2>/dev/null
+    noted= noted_kit= other_kit=
+    { IFS= read -r noted && IFS= read -r noted_kit; } <"$origin"
+    right=no
+    if [ "$sum" = "$noted" ] && { [ -z "$rt" ] || [ "$kit" = "$noted_kit" ]; }; then
+        right=yes
+        [ -z "$whole" ] || ! is_lasting "$new" || mv -fT -- "$new" "$seen" 2>/dev/null
+    elif [ "$sum" = "$noted" ]; then
+        other_kit=yes
+    fi
+    rm -f "$new"
+    [ "$right" = yes ]
 }
 
 # The commit of the sources of the program in a tree, and whether they were changed since.
@@ -130,7 +181,9 @@ commit_of() (
 # Without a commit it is that of the tree.
 note_origin() {
     sum=$(sum_of "$1" "$built") && [ -n "$sum" ] || return 1
-    printf '%s\n%s\n%s\n' "$sum" "$(rt version </dev/null)" "${2:-$(commit_of "$1")}" >"$1/$built.origin"
+    find_kit
+    read_kit
+    printf '%s\n%s\n%s\n' "$sum" "$kit" "${2:-$(commit_of "$1")}" >"$1/$built.origin"
 }
 
 # Which program this is: the commit and the kit that it was built from.
@@ -256,8 +309,10 @@ stand_alone() {
     flock 9
 }
 
-# Proves and builds the program, unless another call has done so meanwhile.
+# Proves and builds the program, unless another call has done so meanwhile. It says so where the environment names one.
 build() {
+    [ -z "${ATS_PROGRAM-}" ] ||
+        say 'ATS_PROGRAM is set, by which scripts and tools run another program; this one goes by its sources alone'
     if ! command -v rt >/dev/null; then
         say 'the program is missing or not that of these sources, and the command rt, which proves and builds it,' \
             'was not found'
@@ -277,6 +332,7 @@ build_alone() {
     tree=$notes/tree working= needed=
     trap put_back EXIT
     trap 'stop_working; say "the build was stopped; the next call goes on with it"; exit 8' HUP INT TERM
+    [ -z "${other_kit-}" ] || say "rt is of the kit $kit, and ${noted_kit:-an unknown one} built the program"
     say 'proving and building the program, crate by crate; from nothing this takes 25 to 40 minutes on four processors'
     began=$(date +%s)
     commit=$(commit_of "$top")

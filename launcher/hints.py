@@ -94,7 +94,8 @@ def line_of(text, number, column=1):
 def strange(raw):
     """What a file is that is no text, where that shows."""
     if raw[:4] in MAGIC:
-        return "the file is a capture, which ats capture NET STATION FILE ORDER runs"
+        runs = "which ats capture NET STATION FILE ORDER runs"
+        return f"the file is a capture, {runs}, and of which ats releases NET STATION FILE makes a schedule"
     if raw[:2] in (b"\xff\xfe", b"\xfe\xff"):
         return "the file is UTF-16: save it as UTF-8"
     try:
@@ -196,7 +197,8 @@ def missing_format(document):
                 due = "put it before the first table"
                 return f"format stands behind [[{table}]] and so belongs to {table} {number}: {due}"
     due = "the file begins with format = 1, or 2 where bridges have two processing times"
-    return unknown_key(document, "top", 0) or due
+    empty = "" if document else "nothing is declared, as where what was to write the file did not; "
+    return unknown_key(document, "top", 0) or empty + due
 
 
 DUE = {
@@ -490,11 +492,21 @@ def record_hint(kind, raw, fault, number, net):
     return f"record {number} is {shown(','.join(record))}{due_of_record(kind, fault, record, number, net)}"
 
 
-def refused_frames(raw, words):
+def refused_frames(raw, fault, words, net):
     """The records of the frames that a refusal of `conform` names; frame 0 is record 2."""
     records = records_of(text_of(raw))
     frames = dict.fromkeys(int(word) for word in words)
-    return "; ".join(f"frame {frame} is record {frame + 2}: {shown(','.join(records[frame + 1]))}" for frame in frames)
+    told = [f"frame {frame} is record {frame + 2}: {shown(','.join(records[frame + 1]))}" for frame in frames]
+    if fault == "size":
+        told.append(f"declared are {sizes_of(records[int(words[0]) + 1][1], network_of(net))}")
+    return "; ".join(told)
+
+
+def sizes_of(name, document):
+    """The octets that frames of a stream or flow may have."""
+    senders = [sender for table in ("stream", "flow") for sender in document.get(table, [])]
+    sender = next(sender for sender in senders if sender["name"] == name)
+    return f"{sender.get('min_octets', RANGES['max_octets'][0])} to {sender['max_octets']} octets"
 
 
 def request_hint(line, fault, net):
@@ -571,7 +583,7 @@ def hint(kind, raw, words, net):
     if kind == "NET":
         return network_hint(raw, words)
     if words[0] == "refused":
-        return refused_frames(raw, words[2:])
+        return refused_frames(raw, words[1], words[2:], net)
     if kind == "CAPTURE":
         return capture_hint(raw, words)
     number = int(words[-1])
