@@ -241,9 +241,10 @@ def padded_name(name, length):
     return name + "_" * (length - len(name))
 
 
-def long_line(streams, length=0, flows=0, rate=1_000_000, octets=2000):
+def long_line(streams, length=0, flows=0, rate=1_000_000, octets=2000, mbps=1000, frames=1, more=0):
     """A maker of a line of 15 bridges with streams and flows from end to end: 16 ports, as many as a path may have.
-    All names have at least this length, frames at most so many octets."""
+    All names have at least this length, frames at most so many octets, those of each second stream so many more, and
+    bursts so many of them."""
     nodes = [padded_name(name, length) for name in ["t"] + [f"b{k}" for k in range(15)] + ["u"]]
     ends = f'from = "{nodes[0]}"\nto = "{nodes[-1]}"\n'
 
@@ -252,12 +253,13 @@ def long_line(streams, length=0, flows=0, rate=1_000_000, octets=2000):
         for name in nodes[1:-1]:
             yield f'[[bridge]]\nname = "{name}"\nprocessing_ns = 1000\nresidence_ns = 1000000000\n'
         for a, b in zip(nodes, nodes[1:]):
-            yield f'[[link]]\na = "{a}"\nb = "{b}"\nmbps = 1000\npropagation_ns = 500\n'
+            yield f'[[link]]\na = "{a}"\nb = "{b}"\nmbps = {mbps}\npropagation_ns = 500\n'
         for k in range(streams // share):
+            most = octets + more * (k % 2)
             yield (
                 f'[[stream]]\nname = "{padded_name(f"stream_{k}", length)}"\n{ends}'
                 f"class = {6 if rate > 100_000 else 1 + k % 7}\nrate_bps = {rate}\n"
-                f"burst_bits = {8 * (octets + 20)}\nmin_octets = 64\nmax_octets = {octets}\n"
+                f"burst_bits = {frames * 8 * (most + 20)}\nmin_octets = 64\nmax_octets = {most}\n"
                 f'address = "02:00:00:00:{k >> 8:02x}:{k & 255:02x}"\nvlan = 1\n'
             )
         for k in range(flows // share):
