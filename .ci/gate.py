@@ -37,6 +37,12 @@ def read(path, absent=b""):
         return absent
 
 
+def due_in(folder, absent=b""):
+    """The bytes that are due to a row of rows/, or `absent` where none are there."""
+    digits = read(os.path.join(folder, "hex"), None)
+    return read(os.path.join(folder, "stdout"), absent) if digits is None else bytes.fromhex(digits.decode())
+
+
 def write(path, text):
     """Writes a file of this text."""
     with open(path, "w", encoding="ascii") as file:

@@ -95,6 +95,38 @@ def sums_one_less(words, status, text):
     return status, re.sub(named, lambda found: f"{found[1]} {int(found[2]) - 1}", text, flags=re.M)
 
 
+def never_over(words, status, text):
+    """A `fit` by which nothing is over what is declared."""
+    return status, re.sub(r" over \d+$", " over 0", text, flags=re.M) if is_about(words, "fit") else text
+
+
+def bursts_one_less(words, status, text):
+    """A `fit` whose bursts are less by one."""
+    less = re.sub(r" burst ([1-9]\d*) of", lambda found: f" burst {int(found[1]) - 1} of", text)
+    return status, less if is_about(words, "fit") else text
+
+
+def always_tight(words, status, text):
+    """A `witness` that prints the bound as the delay."""
+    named = r"^(witness \S+ delay) \d+ (bound (\d+) gap) \d+$"
+    return status, re.sub(named, r"\1 \3 \2 0", text, flags=re.M) if is_about(words, "witness") else text
+
+
+def without_rivals(words, status, text):
+    """A `witness` that leaves the last release out."""
+    return status, re.sub(r"^release .*\n(?=witness)", "", text, flags=re.M) if is_about(words, "witness") else text
+
+
+def octets_whole(words, status, text):
+    """A `record` whose original lengths count the check sequence."""
+    data, at = bytearray(text.encode("utf-8", "surrogateescape")), 24
+    while is_about(words, "record") and status == 0 and at < len(data):
+        length = int.from_bytes(data[at + 12 : at + 16], "little") + 4
+        data[at + 12 : at + 16] = length.to_bytes(4, "little")
+        at += 16 + data[at + 8]
+    return status, bytes(data).decode("utf-8", "surrogateescape")
+
+
 def status_of_success(words, status, text):
     """The status is always 0."""
     return 0, text
@@ -157,7 +189,8 @@ def short_waits(program, words):
 
 def slow_links(program, words):
     """Links of 5, 40 and 50 Gb/s count as such of 2.5 Gb/s, but for `show`."""
-    if is_about(words, "bound", "explain", "check", "buffers", "conform", "replay", "capture", "generate", "admit"):
+    verbs = "bound explain check buffers conform replay capture generate admit record witness releases fit".split()
+    if is_about(words, *verbs):
         rate = r"^mbps = (5000|40000|50000)$"
         words = (words[0], other_file(words[1], lambda text: re.sub(rate, "mbps = 2500", text, flags=re.M)), *words[2:])
     return call(program, words)
@@ -166,6 +199,11 @@ def slow_links(program, words):
 def orders_early(program, words):
     """A `capture` whose order is `early`, whatever is asked."""
     return call(program, (*words[:-1], "early") if is_about(words, "capture") else words)
+
+
+def records_early(program, words):
+    """A `record` whose order is `early`, whatever is asked."""
+    return call(program, (*words[:3], "early", *words[4:]) if is_about(words, "record") else words)
 
 
 def seeds_as_1(program, words):
@@ -203,7 +241,9 @@ def one_less_of(verb):
 # What answers for the wrong programs that ask the right one otherwise, or look into its files.
 ASKS = {
     it.__name__.replace("_", "-"): it
-    for it in (short_waits, slow_links, orders_early, seeds_as_1, lrq_as_declared, lrq_by_buckets, worst_halved)
+    for it in (
+        short_waits, slow_links, orders_early, records_early, seeds_as_1, lrq_as_declared, lrq_by_buckets, worst_halved,
+    )
 }  # fmt: skip
 
 # What each other wrong program makes of the words, the status and the text of the right one.
@@ -212,14 +252,15 @@ WRONGS = {
     "output-lost": lambda words, status, text: (status, text),
     **{
         f"one-less-{verb}": one_less_of(verb)
-        for verb in ("show", "explain", "shape", "conform", "settings", "buffers", "lrq")
+        for verb in "show explain shape conform settings buffers lrq releases fit".split()
     },
     **{
         it.__name__.replace("_", "-"): it
         for it in (
             without_frames, without_releases, always_refused, always_accepted, never_late, never_full,
             always_conforming, latest_excess, worst_of_nothing, worst_one_less, one_less, always_admitted,
-            sums_one_less, status_of_success, nothing_printed, read_as_done, routes_back, arrivals_late,
+            sums_one_less, status_of_success, nothing_printed, read_as_done, routes_back, arrivals_late, never_over,
+            bursts_one_less, always_tight, without_rivals, octets_whole,
         )
     },
 }  # fmt: skip

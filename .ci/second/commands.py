@@ -5,13 +5,16 @@ from second.bounds import bounded, certificate_of, checked, explained
 from second.buffers import buffered
 from second.captures import captured, traffic_of
 from second.common import MOST_FRAMES, Fault, Refusal, Unread, number
+from second.fitting import fitted
 from second.generator import generated
 from second.lrq import Regulator, narrowed
 from second.networks import network_of, shown
+from second.recording import port_called, recorded
 from second.runs import EARLY, LATEST, departed, mixed
-from second.schedules import conformed, releases_of
+from second.schedules import conformed, releases_of, scheduled
 from second.settings import told
 from second.shapes import shape_of, shaped
+from second.witnesses import stream_called, witnessed
 
 
 def order_of(word):
@@ -83,12 +86,21 @@ class Call:
         network, rows = self.certified(name, certificate)
         if schedule is None:
             return buffered(network, rows)
-        return buffered(network, rows, self.read(schedule, lambda data: releases_of(network, data)), order)
+        return buffered(network, rows, self.released(network, schedule), order)
+
+    def released(self, network, schedule):
+        """The releases that a file declares for a network."""
+        return self.read(schedule, lambda data: releases_of(network, data))
 
     def conform(self, name, schedule):
         """The lines that `conform` prints."""
         network = self.read(name, network_of)
-        return conformed(network, self.read(schedule, lambda data: releases_of(network, data)))
+        return conformed(network, self.released(network, schedule))
+
+    def fit(self, name, schedule):
+        """The lines that `fit` prints."""
+        network = self.read(name, network_of)
+        return fitted(network, self.released(network, schedule))
 
     def admit(self, name, requests):
         """The lines that `admit` prints."""
@@ -98,14 +110,34 @@ class Call:
     def replay(self, name, schedule, order):
         """The lines that `replay` prints."""
         network = self.read(name, network_of)
-        return departed(network, self.read(schedule, lambda data: releases_of(network, data)), order)
+        return departed(network, self.released(network, schedule), order)
 
-    def capture(self, name, station, capture, order):
-        """The lines that `capture` prints."""
+    def record(self, name, schedule, order, port):
+        """The bytes that `record` prints."""
+        network = self.read(name, network_of)
+        place = port_called(network, port)
+        return recorded(network, place, self.released(network, schedule), order)
+
+    def seen(self, name, station, capture):
+        """The network of a file, and what a capture comes to at one of its stations."""
         network = self.read(name, network_of)
         if station not in network.topology.stations:
             raise Refusal(f"station {station}")
-        return captured(network, self.read(capture, lambda data: traffic_of(network, station, data)), order)
+        return network, self.read(capture, lambda data: traffic_of(network, station, data))
+
+    def capture(self, name, station, capture, order):
+        """The lines that `capture` prints."""
+        return captured(*self.seen(name, station, capture), order)
+
+    def releases(self, name, station, capture):
+        """The lines that `releases` prints."""
+        network, traffic = self.seen(name, station, capture)
+        return scheduled(network, traffic.releases)
+
+    def witness(self, name, stream):
+        """The lines that `witness` prints."""
+        network = self.read(name, network_of)
+        return witnessed(network, stream_called(network, stream))
 
     def generate(self, name, seed, count):
         """The lines that `generate` prints."""
@@ -136,9 +168,13 @@ WORDS = {
     ("check",): (Call.check, [(str, str)]),
     ("buffers",): (Call.buffers, [(str, str), (str, str, str, order_of)]),
     ("conform",): (Call.conform, [(str, str)]),
+    ("fit",): (Call.fit, [(str, str)]),
     ("admit",): (Call.admit, [(str, str)]),
     ("replay",): (Call.replay, [(str, str, order_of)]),
+    ("record",): (Call.record, [(str, str, order_of, str)]),
+    ("witness",): (Call.witness, [(str, str)]),
     ("capture",): (Call.capture, [(str, str, str, order_of)]),
+    ("releases",): (Call.releases, [(str, str, str)]),
     ("generate",): (Call.generate, [(str, SEED, COUNT)]),
     ("lrq", "shape"): (Call.lrq_shape, [(str,)]),
     ("lrq", "bound"): (Call.lrq_bound, [(str,)]),
@@ -157,21 +193,26 @@ def meant(words):
     return None if None in meanings else (answer, meanings)
 
 
+def text_of(answer):
+    """The bytes of an answer, which is lines, or bytes already."""
+    return answer if isinstance(answer, bytes) else "".join(f"{line}\n" for line in answer).encode()
+
+
 def due(words, files):
-    """The status and the text that are due to a call: to words of bytes, over files of a folder."""
+    """The status and the text that are due to a call, both words and text in bytes, over files of a folder."""
     try:
         texts = [word.decode("utf-8") for word in words]
     except UnicodeDecodeError:
-        return 1, ""
+        return 1, b""
     asked = meant(texts)
     if asked is None:
-        return 1, "words\n"
+        return 1, b"words\n"
     answer, meanings = asked
     try:
-        return 0, "".join(f"{line}\n" for line in answer(Call(files), *meanings))
+        return 0, text_of(answer(Call(files), *meanings))
     except Fault as fault:
-        return 2, f"input {fault}\n"
+        return 2, text_of([f"input {fault}"])
     except Refusal as refusal:
-        return 3, f"refused {refusal}\n"
+        return 3, text_of([f"refused {refusal}"])
     except Unread:
-        return 4, ""
+        return 4, b""

@@ -13,7 +13,7 @@ from typing import NamedTuple
 
 from second.common import Unread
 
-PARTS = ("words", "stdout", "status", "changes", "make")
+PARTS = ("words", "stdout", "hex", "status", "changes", "make")
 STATUSES = {"words": 1, "input": 2, "refused": 3}
 LARGE = 2**26
 
@@ -37,13 +37,13 @@ class Files:
 
 
 class Case(NamedTuple):
-    """A call with what is due; a text of None may be any."""
+    """A call with what is due, in bytes; a text of None may be any."""
 
     what: str
     words: list
     files: Files
     status: int
-    text: str | None
+    text: bytes | None
 
 
 class Row:
@@ -55,8 +55,9 @@ class Row:
         if words is None:
             raise ValueError("its words are missing")
         self.words = words.split(b"\n")[:-1]
-        stdout, status = self.part("stdout"), self.part("status")
-        self.text = None if stdout is None else stdout.decode("utf-8")
+        self.text, digits, status = (self.part(name) for name in ("stdout", "hex", "status"))
+        if digits is not None:
+            self.text = bytes.fromhex(digits.decode())
         self.status = 0 if status is None else int(status)
 
     def part(self, name):
@@ -71,7 +72,7 @@ class Row:
         """The row, and each line of its changes."""
         changes = self.part("changes")
         if changes is None or self.text is not None:
-            yield Case("", self.words, Files(self.room, {}), self.status, self.text or "")
+            yield Case("", self.words, Files(self.room, {}), self.status, self.text or b"")
         if changes is not None:
             yield from self.changed_cases(changes.decode("utf-8").splitlines())
 
@@ -102,8 +103,10 @@ class Row:
     def due(self, text):
         """The status and the text that are due where a line of changes ends so."""
         if text in ("well", "same"):
-            return 0, None if text == "well" else self.text or ""
-        return STATUSES.get(text.split(" ")[0], 0), f"{text}\n"
+            return 0, None if text == "well" else self.text or b""
+        if text.startswith("hex "):
+            return 0, bytes.fromhex(text.removeprefix("hex "))
+        return STATUSES.get(text.split(" ")[0], 0), f"{text}\n".encode()
 
 
 def cut(data, words):

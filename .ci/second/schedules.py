@@ -1,4 +1,5 @@
-"""Schedules: the releases that a file declares, or its first fault; whether every talker keeps its buckets by them."""
+"""Schedules: the releases that a file declares, or its first fault; whether every talker keeps its buckets by them; and
+the schedule of some releases."""
 
 from typing import NamedTuple
 
@@ -74,3 +75,9 @@ def conformed(network, releases):
         if since is not None:
             raise Refusal(f"bucket {since} {frame}")
     yield f"conforms {len(releases)}"
+
+
+def scheduled(network, releases):
+    """The schedule of these releases, which `releases` prints."""
+    yield HEADER
+    yield from (f"{release.at},{network.senders[release.sender].name},{release.octets}" for release in releases)
