@@ -104,8 +104,6 @@ replaced_network network n it is within keeps same_name same_ports same_branches
   few_streams = omega (arith, length-set network.streams n it, is.few_streams);
   few_flows = is.few_flows;
   few_ports = omega (arith, sum_by-set many network.streams n it no_stream within, ap length same_ports, is.few_ports);
-  one_listener = All-set (λ (s : DeclaredStream). s.branches ≡ []) network.streams n it
-      (same_branches ∙ is.one_listener n no_stream within) is.one_listener;
 }
   where
     streams : List Sender
@@ -200,7 +198,6 @@ less_network network n is within = record {
       omega (arith, less, is.few_streams);
   few_flows = is.few_flows;
   few_ports = omega (arith, sum_by-remove many network.streams n no_stream within, is.few_ports);
-  one_listener = all_remove (λ (s : DeclaredStream). s.branches ≡ []) network.streams n within is.one_listener;
 }
   where
     streams : List Sender

@@ -1,7 +1,7 @@
 -- Least walks from one station to different ones make a tree.
 use Rattle.std.proofs.Common.{◌≡◌, ◌≢◌, ℕ, zero, suc, ◌+◌, ◌-◌, ◌<◌, ◌≤◌, Bool, true, false, List, [], ◌∷◌, ◌++◌}
 use Rattle.std.proofs.Common.{length, take, drop}
-use Rattle.std.proofs.Common.{◌⊎◌, get_or, map, refl, sym, ap, subst, ◌∙◌, arith, eqb, inl, inr, length-append}
+use Rattle.std.proofs.Common.{◌⊎◌, get_or, refl, sym, ap, subst, ◌∙◌, arith, inl, inr, length-append}
 use Rattle.std.proofs.Common.{length-drop, append_assoc}
 use Rattle.std.specs.List.{All, AllPairs}
 use Rattle.std.proofs.Math.Seq.{get_or-append_seam, take-append-add}
@@ -19,7 +19,7 @@ use Rattle.ats_streams.proofs.OneListener.{no_branches}
 use Rattle.ats_streams.proofs.RouteLemmas.{each_on_routes}
 use Rattle.ats_topology.specs.Port.{port_at, no_port, leaves}
 use Rattle.ats_topology.specs.Topology.{DeclaredTopology, HasLawfulPorts, HasOnePort, IsStationAt, IsTopology}
-use Rattle.ats_topology.specs.Walks.{ArePorts, IsLeastWalk, IsWalk}
+use Rattle.ats_topology.specs.Walks.{IsLeastWalk, IsWalk}
 use Rattle.ats_topology.specs.declared.port.Port.{Port}
 use Rattle.ats_topology.proofs.LawLemmas.{walk_is_one}
 use Rattle.ats_topology.proofs.Rules.{ports_are_lawful}
@@ -36,7 +36,7 @@ use Rattle.ats_network.proofs.LeastWalkLemmas.{walk_upto}
 use Rattle.ats_network.proofs.Parts.{IsPart, part_later, part_same}
 use Rattle.ats_network.proofs.PathLemmas.{away, nodes_to, walk_ports}
 use Rattle.ats_network.proofs.TreeLemmas.{tree_ports}
-use Rattle.ats_network.proofs.ValidRoutes.{at_last, each_route_is_a_path, from_talker, nodes_apart, part_apart}
+use Rattle.ats_network.proofs.ValidRoutes.{each_route_is_a_path, from_talker, nodes_apart, part_apart}
 use Rattle.ats_network.proofs.ValidRoutes.{trunk_some, walk_first}
 
 abbrev route_at : List ℕ → List Branch → ℕ → List ℕ

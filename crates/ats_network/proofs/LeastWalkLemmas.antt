@@ -1,9 +1,9 @@
 -- The first ports of a least walk are one, and what is first of a walk leads into a tree by the tree's own ports.
-use Rattle.std.proofs.Common.{◌≡◌, ℕ, zero, suc, ◌+◌, ◌<◌, ◌≤◌, Bool, true, false, ◌||◌, List, [], ◌∷◌, ◌++◌, length}
+use Rattle.std.proofs.Common.{◌≡◌, ℕ, zero, suc, ◌<◌, ◌≤◌, true, ◌||◌, List, [], ◌∷◌, ◌++◌, length}
 use Rattle.std.proofs.Common.{take, drop}
 use Rattle.std.proofs.Common.{get_or, refl, sym, ap, subst, ◌∙◌, arith, eqb, inl, inr, length-append}
 use Rattle.std.specs.Prelude.{IsTrue}
-use Rattle.std.specs.List.{All, slice_range}
+use Rattle.std.specs.List.{slice_range}
 use Rattle.std.specs.Ordering.{nat_cmp, is_le, ordering_then}
 use Rattle.std.specs.Cmp.Lexicographic.{slice_cmp}
 use Rattle.std.specs.declared.cmp.Ordering.{Ordering}

@@ -10,6 +10,7 @@ pub mod PathTests
 pub mod TreeLemmas
 pub mod Parts
 pub mod ValidRoutes
+pub mod RoutePorts
 pub mod Grown
 pub mod LeastWalkLemmas
 pub mod LeastTrees

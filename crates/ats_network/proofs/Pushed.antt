@@ -46,10 +46,10 @@ flow_names-push flows flow = map-append (λ (f : DeclaredFlow). f.name) flows (f
 
 -- a network with one stream more keeps what a network keeps
 pub pushed_stream : (network : DeclaredNetwork) (stream : DeclaredStream) → IsNetwork network → IsStream stream
-    → IsTree network.topology stream.ports stream.branches → stream.branches ≡ []
+    → IsTree network.topology stream.ports stream.branches
     → place_of stream.name (names_of (senders_of network)) ≡ None → is_identity_taken network.streams stream.identity
     ≡ false → is_full network.streams stream.ports ≡ false → IsNetwork (with_stream network stream)
-pushed_stream network stream is keeps tree alone absent free room = record {
+pushed_stream network stream is keeps tree absent free room = record {
   topology = is.topology;
   streams = All-push IsStream network.streams stream is.streams keeps;
   flows = is.flows;
@@ -70,7 +70,6 @@ pushed_stream network stream is keeps tree alone absent free room = record {
     sum_by_push (λ (s : DeclaredStream). length s.ports) network.streams
         stream,
   );
-  one_listener = All-push (λ (s : DeclaredStream). s.branches ≡ []) network.streams stream is.one_listener alone;
 }
   where
     streams : List Sender
@@ -104,7 +103,6 @@ pushed_flow network flow is keeps valid absent room = record {
   few_streams = is.few_streams;
   few_flows = omega (arith, length-append network.flows (flow ∷ []));
   few_ports = is.few_ports;
-  one_listener = is.one_listener;
 }
   where
     streams : List Sender

@@ -16,13 +16,15 @@ use Rattle.ats_topology.specs.Topology.{DeclaredTopology, IsTopology}
 use Rattle.ats_network.specs.Sender.{Sender, stream_sender, flow_sender}
 use Rattle.ats_network.specs.Class.{class_at}
 use Rattle.ats_network.specs.Path.{IsTree, IsValidPath, nodes_along}
-use Rattle.ats_network.specs.Network.{DeclaredNetwork, IsNetwork, senders_of}
-use Rattle.ats_network.specs.Senders.{IsSender, sender_at, no_sender}
-use Rattle.ats_network.specs.Laws.{EachIsSender}
+use Rattle.ats_network.specs.Network.{DeclaredNetwork, IsNetwork, HasOneListener, senders_of}
+use Rattle.ats_network.specs.Bridges.{MeetAtBridge}
+use Rattle.ats_network.specs.Senders.{AllNeighbours, IsSender, HasPath, sender_at, no_sender}
+use Rattle.ats_network.specs.Laws.{EachIsSender, EachSenderHasPath}
 use Rattle.ats_network.proofs.ClassLemmas.{class_at-flow}
 use Rattle.ats_network.proofs.PathLemmas.{nodes_to}
 use Rattle.ats_network.proofs.BridgeLemmas.{meet_at_bridges}
 use Rattle.ats_network.proofs.TreeLemmas.{path_of_tree, tree_ports}
+use Rattle.ats_network.proofs.ValidRoutes.{each_route_is_a_path}
 
 -- numbers with different values are different
 pairs_unmap : (f : ℕ → ℕ) (xs : List ℕ) → AllPairs (λ a b. a ≢ b) (map f xs) → AllPairs (λ a b. a ≢ b) xs
@@ -31,53 +33,56 @@ pairs_unmap f xs pairs i j d below within same =
     (get_or-map f xs i d (f d) (omega arith) ∙ ap f same ∙ sym (get_or-map f xs j d (f d) within))
 
 -- ports along which no node occurs twice are different
-ports_apart : (topology : DeclaredTopology) (ports : List ℕ)
+pub ports_apart : (topology : DeclaredTopology) (ports : List ℕ)
     → AllPairs (λ m n. m ≢ n) (nodes_along topology.ports ports) → AllPairs (λ p q. p ≢ q) ports
 ports_apart topology [] apart = λ i j d below within. absurd (omega arith)
 ports_apart topology (p ∷ ports) apart =
     pairs_unmap (λ q. (port_at topology.ports q).to) (p ∷ ports)
     (pairs_tail (λ m n. m ≢ n) (port_at topology.ports p).from (nodes_to topology.ports (p ∷ ports)) apart)
 
-is_sender : (topology : DeclaredTopology) (s : Sender) → IsTopology topology → s.branches ≡ []
+-- the ports of each of these paths meet at bridges
+routes_meet : (topology : DeclaredTopology) (routes : List (List ℕ)) → IsTopology topology
+    → All (IsValidPath topology) routes → All (AllNeighbours (MeetAtBridge topology)) routes
+routes_meet topology routes is valid =
+    All-weaker (IsValidPath topology) (AllNeighbours (MeetAtBridge topology))
+    (λ route h. meet_at_bridges topology route is h) routes valid
+
+is_sender : (topology : DeclaredTopology) (s : Sender) → IsTopology topology
     → AreBranches s.ports s.branches → All IsPath (routes_of s.ports s.branches)
     → IsTree topology s.ports s.branches → length s.classes ≡ length s.ports
     → All (λ class. class ≤ MAX_CLASS) s.classes → AreSizes s.min_octets s.max_octets
     → ((port : ℕ) → 1 ≤ class_at s port → KeepsRules s.rate s.burst_bits s.min_octets s.max_octets)
     → IsSender topology s
-is_sender topology s is alone branches routes tree each_port classes sizes shaped = record {
+is_sender topology s is branches routes tree each_port classes sizes shaped = record {
   branches = branches;
   routes = routes;
   tree = tree;
   ports = tree_ports topology s.ports s.branches branches tree;
   apart = ports_apart topology s.ports tree.apart;
-  one_listener = alone;
-  path = alone_path s.ports s.branches alone routes;
   valid = valid;
-  bridges = meet_at_bridges topology s.ports is valid;
+  bridges = routes_meet topology (routes_of s.ports s.branches) is valid;
   each_port = each_port;
   classes = classes;
   sizes = sizes;
   shaped = shaped;
 }
   where
-    valid : IsValidPath topology s.ports
-    valid = path_of_tree topology s.ports s.branches alone tree
+    valid : All (IsValidPath topology) (routes_of s.ports s.branches)
+    valid = each_route_is_a_path topology s.ports s.branches branches tree
 
 streams_are : (topology : DeclaredTopology) (streams : List DeclaredStream) → IsTopology topology
-    → All IsStream streams → All (λ (s : DeclaredStream). s.branches ≡ []) streams
-    → All (λ (s : Sender). IsTree topology s.ports s.branches) (map stream_sender streams)
+    → All IsStream streams → All (λ (s : Sender). IsTree topology s.ports s.branches) (map stream_sender streams)
     → All (IsSender topology) (map stream_sender streams)
-streams_are topology [] is keep alone trees = All-nil (IsSender topology)
-streams_are topology (s ∷ streams) is keep alone trees =
+streams_are topology [] is keep trees = All-nil (IsSender topology)
+streams_are topology (s ∷ streams) is keep trees =
     let rules : IsStream s = All-head IsStream s streams keep in
     All-cons (IsSender topology) (stream_sender s) (map stream_sender streams)
-    (is_sender topology (stream_sender s) is (All-head (λ (s : DeclaredStream). s.branches ≡ []) s streams alone)
-    rules.branches rules.routes (All-head (λ (s : Sender). IsTree topology s.ports s.branches) (stream_sender s)
-    (map stream_sender streams) trees) rules.each_port
+    (is_sender topology (stream_sender s) is rules.branches rules.routes
+    (All-head (λ (s : Sender). IsTree topology s.ports s.branches) (stream_sender s) (map stream_sender streams) trees)
+    rules.each_port
     (All-weaker IsClass (λ class. class ≤ MAX_CLASS) (λ class h. h.most) s.classes rules.classes)
     rules.rules.sizes (λ port _. rules.rules))
     (streams_are topology streams is (All-tail IsStream s streams keep)
-    (All-tail (λ (s : DeclaredStream). s.branches ≡ []) s streams alone)
     (All-tail (λ (s : Sender). IsTree topology s.ports s.branches) (stream_sender s) (map stream_sender streams) trees))
 
 no_classes : (path : List ℕ) → All (λ class. class ≤ MAX_CLASS) (map (λ port. 0) path)
@@ -95,7 +100,7 @@ flows_are topology [] is keep trees = All-nil (IsSender topology)
 flows_are topology (f ∷ flows) is keep trees =
     let rules : IsFlow f = All-head IsFlow f flows keep in
     All-cons (IsSender topology) (flow_sender f) (map flow_sender flows)
-    (is_sender topology (flow_sender f) is refl (no_branches f.path)
+    (is_sender topology (flow_sender f) is (no_branches f.path)
     (All-cons IsPath f.path [] rules.path (All-nil IsPath))
     (All-head (λ (s : Sender). IsTree topology s.ports s.branches) (flow_sender f) (map flow_sender flows) trees)
     (length-map f.path (λ port. 0)) (no_classes f.path)
@@ -110,9 +115,52 @@ each_is_sender network is =
     let streams : List Sender = map stream_sender network.streams in
     let flows : List Sender = map flow_sender network.flows in
     All-append (IsSender network.topology) streams flows
-    (streams_are network.topology network.streams is.topology is.streams is.one_listener
+    (streams_are network.topology network.streams is.topology is.streams
     (all_left Goes streams flows is.trees))
     (flows_are network.topology network.flows is.topology is.flows (all_right Goes streams flows is.trees))
+
+-- a sender with one listener goes along a path
+pub has_path : (topology : DeclaredTopology) (s : Sender) → IsTopology topology → IsSender topology s → s.branches ≡ []
+    → HasPath topology s
+has_path topology s is sender alone = record {
+  one_listener = alone;
+  path = alone_path s.ports s.branches alone sender.routes;
+  valid = valid;
+  bridges = meet_at_bridges topology s.ports is valid;
+}
+  where
+    valid : IsValidPath topology s.ports
+    valid = path_of_tree topology s.ports s.branches alone sender.tree
+
+streams_alone : (streams : List DeclaredStream) → All (λ (s : DeclaredStream). s.branches ≡ []) streams
+    → All (λ (s : Sender). s.branches ≡ []) (map stream_sender streams)
+streams_alone [] alone = All-nil (λ (s : Sender). s.branches ≡ [])
+streams_alone (s ∷ streams) alone =
+    All-cons (λ (s : Sender). s.branches ≡ []) (stream_sender s) (map stream_sender streams)
+    (All-head (λ (s : DeclaredStream). s.branches ≡ []) s streams alone)
+    (streams_alone streams (All-tail (λ (s : DeclaredStream). s.branches ≡ []) s streams alone))
+
+flows_alone : (flows : List DeclaredFlow) → All (λ (s : Sender). s.branches ≡ []) (map flow_sender flows)
+flows_alone [] = All-nil (λ (s : Sender). s.branches ≡ [])
+flows_alone (f ∷ flows) =
+    All-cons (λ (s : Sender). s.branches ≡ []) (flow_sender f) (map flow_sender flows) refl (flows_alone flows)
+
+-- where each stream has one listener, each sender has one
+pub senders_alone : (network : DeclaredNetwork) → HasOneListener network
+    → All (λ (s : Sender). s.branches ≡ []) (senders_of network)
+senders_alone network alone =
+    All-append (λ (s : Sender). s.branches ≡ []) (map stream_sender network.streams) (map flow_sender network.flows)
+    (streams_alone network.streams alone) (flows_alone network.flows)
+
+pub each_sender_has_path : EachSenderHasPath
+each_sender_has_path network is alone n d h =
+    has_path network.topology (get_or (senders_of network) n d) is.topology (each_is_sender network is n d h)
+    (senders_alone network alone n d h)
+
+-- the sender with a number has a path
+pub sender_path : (network : DeclaredNetwork) (n : ℕ) → IsNetwork network → HasOneListener network
+    → n < length (senders_of network) → HasPath network.topology (sender_at network n)
+sender_path network n is alone within = each_sender_has_path network is alone n no_sender within
 
 -- the sender with a number keeps a sender's rules
 pub sender_keeps : (network : DeclaredNetwork) (n : ℕ) → IsNetwork network → n < length (senders_of network)

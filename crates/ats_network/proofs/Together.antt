@@ -1,5 +1,5 @@
-use Rattle.std.proofs.Common.{◌≡◌, ℕ, ◌+◌, ◌*◌, ◌≤◌, Bool, true, false, ◌||◌, List, [], ◌∷◌, length, refl, sym, ap}
-use Rattle.std.proofs.Common.{◌∙◌, arith}
+use Rattle.std.proofs.Common.{◌≡◌, ℕ, ◌+◌, ◌*◌, ◌≤◌, Bool, true, false, ◌||◌, List, [], ◌∷◌, length, refl}
+use Rattle.std.proofs.Common.{arith}
 use Rattle.std.specs.Prelude.{nat_le, nat_lt}
 use Rattle.std.specs.List.{All}
 use Rattle.std.proofs.lemmas.Bool.{leb-false, le-ltb}
@@ -8,7 +8,7 @@ use Rattle.std.proofs.lemmas.List.Sums.{sum_by-cons}
 use Rattle.ats_streams.proofs.OneListener.{alone_path}
 use Rattle.ats_streams.specs.Path.{IsPath}
 use Rattle.ats_streams.specs.Stream.{DeclaredStream, IsStream}
-use Rattle.ats_network.specs.Network.{DeclaredNetwork, IsNetwork, ports_together}
+use Rattle.ats_network.specs.Network.{DeclaredNetwork, IsNetwork, HasOneListener, ports_together}
 use Rattle.ats_network.specs.Pushes.{is_full}
 use Rattle.ats_network.specs.declared.network.TheConstants.{MAX_STREAMS, MAX_PORTS_TOGETHER}
 
@@ -42,7 +42,7 @@ full_where_few streams ports few path = by (nat_le MAX_STREAMS (length streams))
     by false e = le-ltb MAX_PORTS_TOGETHER (ports_together streams + length ports)
         (omega (arith, few, path.most, leb-false MAX_STREAMS (length streams) e))
 
-pub full_by_streams : (network : DeclaredNetwork) (ports : List ℕ) → IsNetwork network → IsPath ports
-    → is_full network.streams ports ≡ nat_le MAX_STREAMS (length network.streams)
-full_by_streams network ports is path =
-    full_where_few network.streams ports (few_each network.streams is.streams is.one_listener) path
+pub full_by_streams : (network : DeclaredNetwork) (ports : List ℕ) → IsNetwork network → HasOneListener network
+    → IsPath ports → is_full network.streams ports ≡ nat_le MAX_STREAMS (length network.streams)
+full_by_streams network ports is alone path =
+    full_where_few network.streams ports (few_each network.streams is.streams alone) path

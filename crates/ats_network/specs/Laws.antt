@@ -8,13 +8,18 @@ use Rattle.ats_network.specs.Path.{IsTree, IsValidPath}
 use Rattle.ats_network.specs.Bridges.{MeetAtBridge}
 use Rattle.ats_network.specs.Sender.{Sender}
 use Rattle.ats_network.specs.Class.{class_at}
-use Rattle.ats_network.specs.Network.{DeclaredNetwork, IsNetwork, senders_of}
-use Rattle.ats_network.specs.Senders.{AllNeighbours, IsSender}
+use Rattle.ats_network.specs.Network.{DeclaredNetwork, IsNetwork, HasOneListener, senders_of}
+use Rattle.ats_network.specs.Senders.{AllNeighbours, IsSender, HasPath}
 use Rattle.ats_network.specs.Shortest.{shortest_of}
 
 -- each sender of a network keeps a sender's rules
 abbrev pub EachIsSender : Type 0
 EachIsSender = (network : DeclaredNetwork) → IsNetwork network → All (IsSender network.topology) (senders_of network)
+
+-- where each stream of a network has one listener, each sender's ports are a path
+abbrev pub EachSenderHasPath : Type 0
+EachSenderHasPath = (network : DeclaredNetwork) → IsNetwork network → HasOneListener network
+    → All (HasPath network.topology) (senders_of network)
 
 -- a sender's class at one of its ports is the class at the port's place among them
 abbrev pub ClassIsByHop : Type 0

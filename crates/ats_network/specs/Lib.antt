@@ -13,3 +13,4 @@ pub mod Edits
 pub mod PathSteps
 pub mod Shortest
 pub mod Laws
+pub mod Listeners

@@ -38,7 +38,7 @@ AreIdentified streams = AllPairs (λ (s t : DeclaredStream). (identity : ℕ × 
 abbrev pub ports_together : List DeclaredStream → ℕ
 ports_together streams = sum_by (λ (s : DeclaredStream). length s.ports) streams
 
--- what each network keeps; as long as runs know of no branch, no stream has one
+-- what each network keeps
 pub record IsNetwork (network : DeclaredNetwork) : Type 0 where
   pub topology : IsTopology network.topology
   pub streams : All IsStream network.streams
@@ -49,4 +49,7 @@ pub record IsNetwork (network : DeclaredNetwork) : Type 0 where
   pub few_streams : length network.streams ≤ MAX_STREAMS
   pub few_flows : length network.flows ≤ MAX_FLOWS
   pub few_ports : ports_together network.streams ≤ MAX_PORTS_TOGETHER
-  pub one_listener : All (λ (s : DeclaredStream). s.branches ≡ []) network.streams
+
+-- each stream has one listener: no stream has a branch
+abbrev pub HasOneListener : DeclaredNetwork → Type 0
+HasOneListener network = All (λ (s : DeclaredStream). s.branches ≡ []) network.streams

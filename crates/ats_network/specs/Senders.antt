@@ -35,22 +35,26 @@ AllNeighbours R [] = Unit {0}
 AllNeighbours R (p ∷ []) = Unit {0}
 AllNeighbours R (p ∷ q ∷ path) = R p q × AllNeighbours R (q ∷ path)
 
--- what each sender of a network keeps: legs that make a tree of different ports of the topology, routes of 1 to 16
--- ports, a class of at most 7 for each port, and sizes of frames; and, where its class at a port is not 0, a rate and a
--- burst as a declared stream has them. As yet each sender has one listener, so its ports are a valid path, and they
--- meet at bridges
+-- what each sender of a network keeps: legs that make a tree of different ports of the topology; routes of 1 to 16
+-- ports, each of them a valid path whose ports meet at bridges; a class of at most 7 for each port, and sizes of
+-- frames; and, where its class at a port is not 0, a rate and a burst as a declared stream has them
 pub record IsSender (topology : DeclaredTopology) (sender : Sender) : Type 0 where
   pub branches : AreBranches sender.ports sender.branches
   pub routes : All IsPath (routes_of sender.ports sender.branches)
   pub tree : IsTree topology sender.ports sender.branches
   pub ports : ArePorts topology.ports sender.ports
   pub apart : AllPairs (λ p q. p ≢ q) sender.ports
-  pub one_listener : sender.branches ≡ []
-  pub path : IsPath sender.ports
-  pub valid : IsValidPath topology sender.ports
-  pub bridges : AllNeighbours (MeetAtBridge topology) sender.ports
+  pub valid : All (IsValidPath topology) (routes_of sender.ports sender.branches)
+  pub bridges : All (AllNeighbours (MeetAtBridge topology)) (routes_of sender.ports sender.branches)
   pub each_port : length sender.classes ≡ length sender.ports
   pub classes : All (λ class. class ≤ MAX_CLASS) sender.classes
   pub sizes : AreSizes sender.min_octets sender.max_octets
   pub shaped : (port : ℕ) → 1 ≤ class_at sender port
       → KeepsRules sender.rate sender.burst_bits sender.min_octets sender.max_octets
+
+-- what a sender with one listener keeps besides: its ports are a valid path of 1 to 16, and they meet at bridges
+pub record HasPath (topology : DeclaredTopology) (sender : Sender) : Type 0 where
+  pub one_listener : sender.branches ≡ []
+  pub path : IsPath sender.ports
+  pub valid : IsValidPath topology sender.ports
+  pub bridges : AllNeighbours (MeetAtBridge topology) sender.ports

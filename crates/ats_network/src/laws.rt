@@ -1,11 +1,17 @@
 //! Laws of the definitions.
 
-ghost use Rattle.ats_network.specs.Laws.{ClassIsByHop, EachIsSender, EachRouteIsAPath, OneListenerIsAPath};
+ghost use Rattle.ats_network.specs.Laws.{ClassIsByHop, EachIsSender, EachRouteIsAPath, EachSenderHasPath};
+ghost use Rattle.ats_network.specs.Laws.{OneListenerIsAPath};
 ghost use Rattle.ats_network.specs.Laws.{LeastWalksMakeATree, PathsMeetAtBridges, ShortestIsLeast};
 
 /// A law: each sender of a network keeps a sender's rules.
 pub fn each_is_sender()
     ensures { EachIsSender }
+{}
+
+/// A law: where each stream of a network has one listener, each sender's ports are a path.
+pub fn each_sender_has_path()
+    ensures { EachSenderHasPath }
 {}
 
 /// A law: a sender's class at one of its ports is the class at the port's place among them, since

@@ -1,13 +1,16 @@
 //! Networks.
 
 ghost use Rattle.std.specs.Prelude.{◌≡◌, ◌↔◌, ◌<◌, ◌≤◌, [], length, None, IsTrue, IsNone, IfSome, IfErr, IsErrOf, OnOk};
-ghost use Rattle.std.specs.Prelude.{OnErr, nat_lt, slice_index_or};
+ghost use Rattle.std.specs.Prelude.{All, OnErr, nat_lt, slice_index_or};
 ghost use Rattle.ats_num.specs.Failure.{IsDue};
 ghost use Rattle.ats_num.specs.Places.{place_of};
-ghost use Rattle.ats_streams.specs.Branches.{leg_at, legs_of};
+ghost use Rattle.ats_streams.specs.Branches.{leg_at, legs_of, routes_of};
+ghost use Rattle.ats_streams.specs.Path.{IsPath};
 ghost use Rattle.ats_streams.specs.Rules.{CoversLongest, IsBurst};
-ghost use Rattle.ats_streams.specs.Stream.{IsClass};
-ghost use Rattle.ats_network.specs.Network.{IsNetwork, declared_network, senders_of, names_of, ports_together};
+ghost use Rattle.ats_streams.specs.Stream.{DeclaredStream, IsClass};
+ghost use Rattle.ats_network.specs.Listeners.{station_of};
+ghost use Rattle.ats_network.specs.Network.{HasOneListener, IsNetwork, declared_network, senders_of, names_of};
+ghost use Rattle.ats_network.specs.Network.{ports_together};
 ghost use Rattle.ats_network.specs.Path.{IsTree, IsValidPath};
 ghost use Rattle.ats_network.specs.Class.{class_at};
 ghost use Rattle.ats_network.specs.Senders.{IsSender, sender_at};
@@ -19,11 +22,11 @@ ghost use Rattle.ats_network.specs.Edits.{IsLess, no_stream, with_burst_at, with
 
 use crate::fault::PushFault;
 use crate::flow_table::FlowTable;
-use crate::paths::is_valid_path;
+use crate::paths::{is_valid_path, station_of};
 use crate::sender::Sender;
 use crate::stream_table::StreamTable;
 use ats_num::{Failure, Name};
-use ats_streams::{Flow, Stream};
+use ats_streams::{Flow, Route, Stream};
 use ats_topology::{Kind, Topology};
 use std::alloc::Global;
 use std::marker::Model;
@@ -171,6 +174,18 @@ impl Network {
         self.sender(sender).leg(leg)
     }
 
+    /// The numbers of the ports from a sender's talker to the listener of one leg, counted from 0. It takes no memory.
+    pub fn sender_route(&self, sender: u32, leg: u32) -> Route
+        requires sender { sender < length (senders_of self.now) }
+        requires leg { leg ≤ length (sender_at self.now sender).branches }
+        ensures value { result
+            ≡ leg_at (routes_of (sender_at self.now sender).ports (sender_at self.now sender).branches) leg }
+        ensures path { IsPath result }
+        ensures rules { IsNetwork self.now }
+    {
+        self.sender(sender).route(leg)
+    }
+
     /// A sender's class at one of its ports, by the port's place among them, counted from 0: 1 to 7 for a stream, 0 for
     /// a flow. No port is there twice, so it is the sender's class at this port.
     pub fn sender_class(&self, sender: u32, place: u32) -> u8
@@ -190,6 +205,27 @@ impl Network {
         ensures rules { IsNetwork self.now }
     {
         self.sender(sender).name()
+    }
+
+    /// The name of the station of the listener to which one leg of a stream leads, counted from 0.
+    pub fn listener(&self, stream: u32, leg: u32) -> Name
+        requires stream { stream < length self.now.streams }
+        requires leg { leg ≤ length (slice_index_or self.now.streams stream no_stream).branches }
+        ensures value { result ≡ station_of self.now.topology
+            (leg_at (routes_of (slice_index_or self.now.streams stream no_stream).ports
+            (slice_index_or self.now.streams stream no_stream).branches) leg) }
+        ensures rules { IsNetwork self.now }
+    {
+        let route = self.streams()[stream as usize].route(leg);
+        station_of(&self.shape, route.as_slice())
+    }
+
+    /// Whether each stream has one listener: none has a branch.
+    pub fn has_one_listener(&self) -> bool
+        ensures value { IsTrue result ↔ HasOneListener self.now }
+        ensures rules { IsNetwork self.now }
+    {
+        have_one_listener(self.streams())
     }
 
     /// Whether a stream or a flow of this network may have these ports as its path: each exists and
@@ -219,7 +255,7 @@ impl Network {
     }
 
     /// Adds a stream whose legs make a tree as the last of the streams, of which there may be 4096, with 65,536 ports
-    /// together. All else stays. As yet the stream has no branch.
+    /// together. All else stays.
     ///
     /// # Errors
     ///
@@ -230,7 +266,6 @@ impl Network {
     /// memory runs out.
     pub fn push_stream(&mut self, stream: Stream) -> Result<(), Failure<PushFault>>
         requires tree { IsTree self.old.topology stream.ports stream.branches }
-        requires one_listener { stream.branches ≡ [] }
         ensures ok { OnOk result (self.new ≡ with_stream self.old stream) }
         ensures sound { OnOk result (stream_push_fault self.old stream ≡ None) }
         ensures fault { IfErr result (λ fault. IsDue fault (stream_push_fault self.old stream)) }
@@ -336,4 +371,16 @@ fn ports_of(streams: &[Stream]) -> usize
         ports += stream.ports().len();
     }
     ports
+}
+
+// Whether no stream has a branch.
+fn have_one_listener(streams: &[Stream]) -> bool
+    ensures { IsTrue result ↔ All (λ (s : DeclaredStream). s.branches ≡ []) streams.now }
+{
+    for stream in streams {
+        if stream.legs() != 1 {
+            return false;
+        }
+    }
+    true
 }

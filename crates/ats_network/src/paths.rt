@@ -1,11 +1,13 @@
 //! Paths along the ports of a topology.
 
-ghost use Rattle.std.specs.Prelude.{◌≡◌, ◌↔◌, IsTrue};
+ghost use Rattle.std.specs.Prelude.{◌≡◌, ◌↔◌, ◌<◌, length, IsTrue};
 ghost use Rattle.ats_topology.specs.Walks.{ArePorts};
 ghost use Rattle.ats_topology.specs.Topology.{IsStationAt};
+ghost use Rattle.ats_network.specs.Listeners.{station_of};
 ghost use Rattle.ats_network.specs.Path.{IsValidPath};
 ghost use Rattle.ats_network.specs.PathSteps.{walk_end, ends_of, comes_to, part_ways};
 
+use ats_num::Name;
 use ats_topology::{Port, Topology};
 
 /// Whether these are the numbers of the ports of a valid path: each exists and leaves the node to
@@ -84,4 +86,16 @@ fn part_ways(ports: &[Port], path: &[u32]) -> bool
         }
     }
     true
+}
+
+/// The name of the station at which a route ends, or of the node there.
+pub fn station_of(topology: &Topology, route: &[u32]) -> Name
+    requires some { 0 < length route.now }
+    requires ports { ArePorts topology.now.ports route.now }
+    ensures { result ≡ station_of topology.now route.now }
+{
+    let ports = topology.ports();
+    let last = route[route.len() - 1];
+    let node = ports[last as usize].to;
+    topology.nodes()[node as usize].name
 }

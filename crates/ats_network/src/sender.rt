@@ -1,14 +1,15 @@
 //! A sender: a stream or a flow.
 
 ghost use Rattle.std.specs.Prelude.{◌≡◌, ◌<◌, ◌≤◌, length, slice_index_or};
-ghost use Rattle.ats_streams.specs.Branches.{leg_at, legs_of};
+ghost use Rattle.ats_streams.specs.Branches.{leg_at, legs_of, routes_of};
+ghost use Rattle.ats_streams.specs.Path.{IsPath};
 ghost use Rattle.ats_streams.specs.Traffic.{is_declared_size};
 ghost use Rattle.ats_network.specs.Sender.{declared_of};
 ghost use Rattle.ats_network.specs.SenderView.{sender_of, is_stream, deadline_of};
 
 use ats_num::wire::MIN_OCTETS;
 use ats_num::{Name, Ps};
-use ats_streams::{Flow, Stream};
+use ats_streams::{Flow, Route, Stream};
 
 /// One of the senders of a network.
 #[derive(Clone, Copy)]
@@ -69,6 +70,18 @@ impl<'a> Sender<'a> {
         match self {
             Sender::Stream(stream) => stream.leg(leg),
             Sender::Flow(flow) => flow.path(),
+        }
+    }
+
+    /// The numbers of the ports from the talker to the listener of one leg, counted from 0. It takes no memory.
+    pub fn route(&self, leg: u32) -> Route
+        requires { leg ≤ length (sender_of self.now).branches }
+        ensures value { result ≡ leg_at (routes_of (sender_of self.now).ports (sender_of self.now).branches) leg }
+        ensures path { IsPath result }
+    {
+        match self {
+            Sender::Stream(stream) => stream.route(leg),
+            Sender::Flow(flow) => Route::of(flow.path()),
         }
     }
 

@@ -1,4 +1,5 @@
 pub mod BranchLemmas
 pub mod RouteLemmas
 pub mod OneListener
+pub mod WalkedRoutes
 pub mod ClassLemmas

@@ -1,10 +1,7 @@
-use Rattle.std.proofs.Common.{◌≡◌, ℕ, zero, suc, ◌-◌, ◌≤◌, List, [], ◌∷◌, ◌++◌, length, take, drop, subst, sym, arith}
-use Rattle.std.proofs.Common.{length-take}
+use Rattle.std.proofs.Common.{ℕ, zero, suc, ◌-◌, List, [], ◌∷◌, ◌++◌, take, drop}
 use Rattle.std.specs.List.{All, slice_range}
 use Rattle.std.proofs.lemmas.List.Elements.{All-append, All-cons, All-drop, All-head, All-nil, All-tail, All-take}
-use Rattle.ats_streams.specs.Branches.{joined, lead_to, leads_from, leads_of, leg_at, legs_from, legs_of, routes_of}
-use Rattle.ats_streams.specs.Path.{IsPath}
-use Rattle.ats_streams.specs.Stream.{DeclaredStream, IsStream}
+use Rattle.ats_streams.specs.Branches.{joined, leads_from, leads_of, leg_at, legs_from, legs_of, routes_of}
 use Rattle.ats_streams.specs.declared.branch.Branch.{Branch}
 
 -- what holds of each port of each list holds of each port of one of them

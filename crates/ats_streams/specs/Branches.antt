@@ -1,6 +1,6 @@
 use Rattle.std.specs.Prelude.{ℕ, zero, suc, ◌+◌, ◌<◌, ◌≤◌, Bool, ◌||◌, nat_lt, List, [], ◌∷◌, ◌++◌, length, take, drop}
 use Rattle.std.specs.Prelude.{slice_index_or}
-use Rattle.std.specs.List.{slice_range}
+use Rattle.std.specs.List.{slice_range, zip}
 use Rattle.ats_streams.specs.declared.branch.Branch.{Branch}
 use Rattle.ats_streams.specs.declared.branch.TheConstants.{MAX_BRANCHES}
 use Rattle.ats_streams.specs.declared.path.TheConstants.{MAX_PORTS}
@@ -24,32 +24,44 @@ abbrev pub first_from : ℕ → List Branch → ℕ → ℕ
 first_from at branches zero = at
 first_from at branches (suc n) = (slice_index_or branches n no_branch).first
 
--- of lists of ports, leg by leg, that of the leg with a number
-abbrev pub leg_at : List (List ℕ) → ℕ → List ℕ
+-- of lists, leg by leg, that of the leg with a number: as of the ports of each leg, or of the records of a frame there
+abbrev pub leg_at : {X : Type 0} → List (List X) → ℕ → List X
 leg_at lists leg = slice_index_or lists leg []
 
--- the ports that lead to the node where a branch begins: those in front of its leg, and those of this leg in front of
--- its hop
-abbrev pub lead_to : List (List ℕ) → List (List ℕ) → Branch → List ℕ
+-- the ports of the trunk, which lead to the first listener
+abbrev pub trunk_of : List ℕ → List Branch → List ℕ
+trunk_of ports branches = leg_at (legs_of ports branches) 0
+
+-- each branch with its ports
+abbrev pub branches_of : List ℕ → List Branch → List (Branch × List ℕ)
+branches_of ports branches = zip branches (drop 1 (legs_of ports branches))
+
+-- what leads to the node where a branch begins: what is in front of its leg, and what is of this leg in front of its
+-- hop
+abbrev pub lead_to : {X : Type 0} → List (List X) → List (List X) → Branch → List X
 lead_to legs leads b = leg_at leads b.leg ++ take b.hop (leg_at legs b.leg)
 
--- the ports in front of each leg, where those in front of the first legs are known
-abbrev pub leads_from : List (List ℕ) → List (List ℕ) → List Branch → List (List ℕ)
+-- what is in front of each leg, where that in front of the first legs is known
+abbrev pub leads_from : {X : Type 0} → List (List X) → List (List X) → List Branch → List (List X)
 leads_from legs leads [] = leads
 leads_from legs leads (b ∷ branches) = leads_from legs (leads ++ lead_to legs leads b ∷ []) branches
 
--- the ports in front of each leg, from the talker on: the trunk has none
-abbrev pub leads_of : List ℕ → List Branch → List (List ℕ)
-leads_of ports branches = leads_from (legs_of ports branches) ([] ∷ []) branches
-
 -- lists joined one by one
-abbrev pub joined : List (List ℕ) → List (List ℕ) → List (List ℕ)
+abbrev pub joined : {X : Type 0} → List (List X) → List (List X) → List (List X)
 joined (lead ∷ leads) (leg ∷ legs) = (lead ++ leg) ∷ joined leads legs
 joined leads legs = []
 
+-- each leg with what is in front of it, from the talker on: the trunk has nothing
+abbrev pub with_leads : {X : Type 0} → List (List X) → List Branch → List (List X)
+with_leads legs branches = joined (leads_from legs ([] ∷ []) branches) legs
+
+-- the ports in front of each leg
+abbrev pub leads_of : List ℕ → List Branch → List (List ℕ)
+leads_of ports branches = leads_from (legs_of ports branches) ([] ∷ []) branches
+
 -- the route to each listener, leg by leg: the ports in front of the leg, and those of the leg
 abbrev pub routes_of : List ℕ → List Branch → List (List ℕ)
-routes_of ports branches = joined (leads_of ports branches) (legs_of ports branches)
+routes_of ports branches = with_leads (legs_of ports branches) branches
 
 -- the ports of branches begin at places that ascend, behind this one and in front of the end
 abbrev pub Ascend : ℕ → List Branch → ℕ → Type 0

@@ -15,6 +15,7 @@ ghost use Rattle.ats_streams.specs.Traffic.{IsRuled, traffic_of};
 use crate::branch::{Branch, has_bad_route, leg_of};
 use crate::classes::{are_bad_classes, classes_for};
 use crate::fault::StreamFault;
+use crate::route::{Route, route_of};
 use crate::traffic::Declared;
 use ats_num::time::PS_PER_NS;
 use ats_num::{Failure, Name, Ps, Rate};
@@ -158,6 +159,17 @@ impl Stream {
         ensures rules { IsStream self.now }
     {
         leg_of(&self.ports, &self.branches, leg as usize)
+    }
+
+    /// The numbers of the ports from the talker to the listener of one leg, counted from 0: those in front of the leg,
+    /// and those of the leg. It takes no memory.
+    pub fn route(&self, leg: u32) -> Route
+        requires { leg ≤ length self.now.branches }
+        ensures value { result ≡ leg_at (routes_of self.now.ports self.now.branches) leg }
+        ensures path { IsPath result }
+        ensures rules { IsStream self.now }
+    {
+        route_of(&self.ports, &self.branches, leg as usize)
     }
 
     /// The branch that is a leg, 1 or more.

@@ -1,6 +1,5 @@
-use Rattle.std.proofs.Common.{◌≡◌, ℕ, length, subst, sym, arith}
-use Rattle.ats_streams.specs.Branches.{first_from}
-use Rattle.ats_streams.proofs.BranchLemmas.{Spans, spans_here, spans_end}
+use Rattle.std.proofs.Common.{arith}
+use Rattle.ats_streams.proofs.BranchLemmas.{spans_here, spans_end}
 use Rattle.ats_streams.proofs.branch.places_of.Goals as goal
 
 pub returns-then-leg-branches-clause-ordered : goal.returns-then-leg-branches-clause-ordered

@@ -5,7 +5,7 @@ use Rattle.ats_network.specs.Path.{IsTree}
 use Rattle.ats_network.specs.Network.{DeclaredNetwork, declared_network, names_of, senders_of}
 use Rattle.ats_network.specs.Pushes.{is_full, is_identity_taken}
 use Rattle.ats_network.proofs.NameLemmas.{none_first}
-use Rattle.ats_network.proofs.Pushed.{Fits, not_full, pushed_stream, not_found}
+use Rattle.ats_network.proofs.Pushed.{not_full, pushed_stream, not_found}
 use Rattle.ats_network.proofs.network.Network.push_stream.Goals as goal
 
 pub push-requires-clause-absent : goal.push-requires-clause-absent
@@ -43,4 +43,4 @@ invariant_of-self-2 c =
     ap (λ (n : DeclaredNetwork). is_full n.streams c.args.stream.ports) c.self.view_is
     ∙ sym (c.is_full.ensures ∙ ap (is_full c.args.self.now.streams) c.ports.ensures.value) ∙ c.if-is_full.false in
     rw c.in_ok-push.ensures.ok
-    (pushed_stream inside c.args.stream c.self.invariant keeps tree c.requires.one_listener absent free room)
+    (pushed_stream inside c.args.stream c.self.invariant keeps tree absent free room)
