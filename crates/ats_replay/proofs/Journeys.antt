@@ -9,8 +9,10 @@ use Rattle.ats_topology.specs.Topology.{DeclaredTopology}
 use Rattle.ats_group.specs.declared.verdict.Verdict.{Verdict}
 use Rattle.ats_group.specs.declared.verdict.Verdict.TheVariants.{Eligible, Late, Size}
 use Rattle.ats_network.specs.Network.{DeclaredNetwork}
+use Rattle.ats_streams.proofs.BranchLemmas.{trunk_within}
+use Rattle.ats_network.specs.Sender.{Sender}
 use Rattle.ats_network.specs.Senders.{sender_at}
-use Rattle.ats_trace.specs.Journey.{IsJourney, IsSentOrEnds, IsWay, Travel}
+use Rattle.ats_trace.specs.Journey.{IsJourney, IsSentOrEnds, IsWay, Travel, trunk_at}
 use Rattle.ats_trace.specs.Stored.{journey_of, no_travel, travel_at}
 use Rattle.ats_trace.specs.declared.journey.Journey.{Journey}
 use Rattle.ats_trace.specs.declared.journey.HopRecord.{HopRecord}
@@ -75,7 +77,10 @@ way_fits (p ∷ path) (hop ∷ hops) ending way =
     by Size (Some times) none further = absurd none
     by Size None last further = let none = ap (λ (rest : List HopRecord). length rest) last.0 in omega (arith, none)
 
--- so has a journey
+-- so a journey has no more along the trunk than its sender has ports
 pub journey_fits : (network : DeclaredNetwork) (j : Travel) → IsJourney network j
     → length j.hops ≤ length (sender_at network j.release.sender).ports
-journey_fits network j is = way_fits (sender_at network j.release.sender).ports j.hops j.ending is.way
+journey_fits network j is =
+    let s : Sender = sender_at network j.release.sender in
+    let fits = way_fits (trunk_at network j.release.sender) j.hops j.ending is.way in
+    omega (arith, fits, trunk_within s.ports s.branches)

@@ -56,10 +56,11 @@ with_sent progress start end = record progress {
 abbrev pub with_ending : Progress → Ending → Progress
 with_ending progress ending = record progress { ending = Some ending }
 
--- the whole journey of a frame that has an ending
+-- the whole journey of a frame that has an ending. Its sender has one listener: there are no copies
 abbrev pub finished : Progress → Travel
 finished progress = record {
   release = progress.release;
   hops = progress.hops;
   ending = unwrap_or progress.ending Discard;
+  copies = [];
 }

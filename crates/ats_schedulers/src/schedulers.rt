@@ -3,6 +3,7 @@
 ghost use Rattle.std.specs.Prelude.{◌≡◌, ℕ, ◌-◌, ◌*◌, ◌<◌, ◌≤◌, length, All, IfOk, slice_index_or};
 ghost use Rattle.ats_group.specs.GroupsState.{AreMembers, member_at};
 ghost use Rattle.ats_group.specs.declared.member.TheConstants.{MAX_RESIDENCE_NS};
+ghost use Rattle.ats_network.specs.Network.{HasOneListener};
 ghost use Rattle.ats_network.specs.Senders.{sender_at};
 ghost use Rattle.ats_schedulers.specs.Schedulers.{IsHop, member_behind, members_of, residences_of, scheduler_of};
 
@@ -36,9 +37,10 @@ impl<'a> Model for Schedulers<'a> {
 }
 
 impl<'a> Schedulers<'a> {
-    /// The schedulers of a network. It takes time and memory linear in the number of ports and the
-    /// number of the streams' ports. `AllocError` where there is no memory for them.
+    /// The schedulers of a network in which each stream has one listener. It takes time and memory linear in the number
+    /// of ports and the sum of the paths' lengths. `AllocError` where there is no memory for them.
     pub fn new(alloc: Global, network: &'a Network) -> Result<Self, AllocError>
+        requires one_listener { HasOneListener network.now }
         ensures { IfOk result (λ schedulers. schedulers ≡ network.now) }
     {
         let residence_list = residences_of(alloc, network)?;
@@ -61,7 +63,7 @@ impl<'a> Schedulers<'a> {
         self.residence_list.as_slice()
     }
 
-    /// The members of all groups: for each stream, and for each of its ports but the last, the
+    /// The members of all groups: for each stream, and for each port of its path but the last, the
     /// scheduler behind this port, with what the stream declares.
     pub fn members(&self) -> &[Member]
         ensures value { result.now ≡ members_of self.now }

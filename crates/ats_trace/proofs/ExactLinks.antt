@@ -1,31 +1,39 @@
-use Rattle.std.proofs.Common.{◌≡◌, ℕ, ◌+◌, ◌<◌, List, [], ◌∷◌, length, get_or, All, refl, ap, subst, arith}
+use Rattle.std.proofs.Common.{◌≡◌, ℕ, ◌+◌, ◌<◌, List, [], ◌∷◌, ◌++◌, length, drop, get_or, All, refl, sym, ap, subst}
+use Rattle.std.proofs.Common.{arith}
 use Rattle.std.specs.Prelude.{◌==◌, Option, Some, None}
+use Rattle.std.specs.List.{AllZip, zip}
 use Rattle.std.proofs.lemmas.Bool.{eqb-true, eq-eqb}
 use Rattle.std.proofs.lemmas.List.Elements.{All-nil, All-cons, All-head, All-tail, All-append, All-filter}
 use Rattle.std.proofs.lemmas.List.Elements.{filter_passes}
 use Rattle.ats_facts.proofs.Lists.{all_left, all_right, All-from_filter}
 use Rattle.ats_num.specs.declared.time.Ps.{Ps}
 use Rattle.ats_topology.specs.Port.{port_at, no_port}
+use Rattle.ats_topology.specs.Walks.{ArePorts}
 use Rattle.ats_topology.specs.declared.port.Port.{Port}
+use Rattle.ats_streams.specs.Branches.{branches_of, legs_of, trunk_of}
+use Rattle.ats_streams.specs.declared.branch.Branch.{Branch}
 use Rattle.ats_network.specs.Sender.{Sender}
 use Rattle.ats_network.specs.Network.{DeclaredNetwork, IsNetwork}
 use Rattle.ats_network.specs.Senders.{sender_at, no_sender, IsSender}
 use Rattle.ats_network.proofs.SenderLemmas.{each_is_sender}
 use Rattle.ats_group.specs.declared.verdict.Verdict.{Verdict}
 use Rattle.ats_group.specs.declared.verdict.Verdict.TheVariants.{Eligible, Late, Size}
-use Rattle.ats_trace.specs.Journey.{Travel, IsSentOrEnds, IsWay, IsReleased, IsJourney, class_at}
+use Rattle.ats_trace.specs.Journey.{Leg, Travel, IsSentOrEnds, IsWay, IsReleased, BeginsAs, IsCopy, IsJourney}
+use Rattle.ats_trace.specs.Journey.{class_at, legs_in, record_at}
 use Rattle.ats_trace.specs.Projections.{Crossing, transmission_by, transmission_of, crossing_at, crossings_along}
+use Rattle.ats_trace.specs.Projections.{crossings_over}
 use Rattle.ats_trace.specs.Projections.{journey_crossings, crossings_from, crossings_by}
 use Rattle.ats_trace.specs.Links.{ArrivesWithin, KeepsLinkRule}
 use Rattle.ats_trace.specs.Run.{IsLegal}
 use Rattle.ats_trace.specs.ExactLinks.{HaveOneLatency, arrival_after, IsSentOrEndsAt, IsWayAt, IsEligibleAtRelease}
-use Rattle.ats_trace.specs.ExactLinks.{IsJourneyAt}
+use Rattle.ats_trace.specs.ExactLinks.{IsJourneyAt, IsJudgedAs, IsCopyAt}
 use Rattle.ats_trace.specs.ExactLinks.{IsLegalAt}
 use Rattle.ats_trace.specs.ExactLinks.{LinksAreExact}
 use Rattle.ats_trace.specs.declared.journey.Release.{Release}
 use Rattle.ats_trace.specs.declared.journey.HopRecord.{HopRecord}
 use Rattle.ats_trace.specs.declared.journey.Ending.{Ending}
 use Rattle.ats_trace.specs.declared.journey.Ending.TheVariants.{Sink, Discard}
+use Rattle.ats_trace.proofs.Legs.{legs_cons, legs_keep}
 
 -- a frame takes exactly the latency of the port, where that is one of these
 abbrev IsExact : List Port → Crossing → Type 0
@@ -91,17 +99,94 @@ eligible_first : (release : Release) (hops : List HopRecord) → IsReleased rele
 eligible_first release [] released = absurd released
 eligible_first release (hop ∷ hops) released = released.1
 
+comes_forwarded : (start : HopRecord) (hops : List HopRecord) (ending : Ending) → BeginsAs start hops
+    → comes_at hops ending ≡ start.arrival.0
+comes_forwarded start [] ending forwarded = absurd forwarded
+comes_forwarded start (hop ∷ hops) ending forwarded = ap (λ (t : Ps). t.0) forwarded.0
+
+judged_first : (start : HopRecord) (hops : List HopRecord) → BeginsAs start hops → IsJudgedAs start hops
+judged_first start [] forwarded = absurd forwarded
+judged_first start (hop ∷ hops) forwarded = forwarded.1
+
+exact_copy : (ports : List Port) (frame : ℕ) (release : Release) (sender : Sender) (start : Option HopRecord)
+    (path : List ℕ) (leg : Leg) → ArePorts ports path
+    → All (IsExact ports) (crossings_along frame release sender path leg.hops leg.ending)
+    → IsCopy start path leg → IsCopyAt ports start path leg
+exact_copy ports frame release sender (Some start) path leg within all copy = (
+  judged_first start leg.hops copy.0,
+  exact_way ports frame release sender path leg.hops leg.ending start.arrival.0 within all copy.1
+      (comes_forwarded start leg.hops leg.ending copy.0),
+)
+exact_copy ports frame release sender None path leg within all copy = copy
+
+exact_copies : (ports : List Port) (frame : ℕ) (release : Release) (sender : Sender) (legs : List Leg)
+    (branches : List Branch) (paths : List (List ℕ)) (copies : List Leg) → All (ArePorts ports) paths
+    → All (IsExact ports) (crossings_over frame release sender paths copies)
+    → AllZip (λ (branch : Branch × List ℕ) (leg : Leg). IsCopy (record_at legs branch.0) branch.1 leg)
+    (zip branches paths) copies
+    → AllZip (λ (branch : Branch × List ℕ) (leg : Leg). IsCopyAt ports (record_at legs branch.0) branch.1 leg)
+    (zip branches paths) copies
+exact_copies ports frame release sender legs [] paths [] within all copied = tt
+exact_copies ports frame release sender legs [] paths (c ∷ copies) within all copied = absurd copied
+exact_copies ports frame release sender legs (b ∷ branches) [] [] within all copied = tt
+exact_copies ports frame release sender legs (b ∷ branches) [] (c ∷ copies) within all copied = absurd copied
+exact_copies ports frame release sender legs (b ∷ branches) (path ∷ paths) [] within all copied = absurd copied
+exact_copies ports frame release sender legs (b ∷ branches) (path ∷ paths) (c ∷ copies) within all copied =
+    let here : List Crossing = crossings_along frame release sender path c.hops c.ending in
+    let later : List Crossing = crossings_over frame release sender paths copies in (
+      exact_copy ports frame release sender (record_at legs b) path c (All-head (ArePorts ports) path paths within)
+          (all_left (IsExact ports) here later all) copied.0,
+      exact_copies ports frame release sender legs branches paths copies
+          (All-tail (ArePorts ports) path paths within) (all_right (IsExact ports) here later all) copied.1,
+    )
+
+-- the crossings of a journey are those along the trunk, and those of the copies
+along_trunk : (P : Crossing → Type 0) (frame : ℕ) (sender : Sender) (j : Travel)
+    → All P (crossings_over frame j.release sender (legs_of sender.ports sender.branches) (legs_in j))
+    → All P (crossings_along frame j.release sender (trunk_of sender.ports sender.branches) j.hops j.ending
+    ++ crossings_over frame j.release sender (drop 1 (legs_of sender.ports sender.branches)) j.copies)
+along_trunk P frame sender j all =
+    subst (λ (legs : List (List ℕ)). All P (crossings_over frame j.release sender legs (legs_in j)))
+    (legs_cons sender.ports sender.branches) all
+
+over_legs : (P : Crossing → Type 0) (frame : ℕ) (sender : Sender) (j : Travel)
+    → All P (crossings_along frame j.release sender (trunk_of sender.ports sender.branches) j.hops j.ending
+    ++ crossings_over frame j.release sender (drop 1 (legs_of sender.ports sender.branches)) j.copies)
+    → All P (crossings_over frame j.release sender (legs_of sender.ports sender.branches) (legs_in j))
+over_legs P frame sender j all =
+    subst (λ (legs : List (List ℕ)). All P (crossings_over frame j.release sender legs (legs_in j)))
+    (sym (legs_cons sender.ports sender.branches)) all
+
+-- the ports of the trunk, and those of each branch, are ports
+each_leg : (ports : List Port) (sender : Sender) → ArePorts ports sender.ports
+    → All (ArePorts ports)
+    (trunk_of sender.ports sender.branches ∷ drop 1 (legs_of sender.ports sender.branches))
+each_leg ports sender within =
+    subst (All (ArePorts ports)) (legs_cons sender.ports sender.branches)
+    (legs_keep (λ p. p < length ports) 0 sender.ports sender.branches within)
+
 exact_journey : (network : DeclaredNetwork) → IsNetwork network → (n : ℕ) (j : Travel) → IsJourney network j
     → All (IsExact network.topology.ports) (journey_crossings network n j) → IsJourneyAt network j
 exact_journey network net n j is all =
     let s : Sender = sender_at network j.release.sender in
+    let ports : List Port = network.topology.ports in
+    let Exact : Crossing → Type 0 = IsExact network.topology.ports in
     let keeps : IsSender network.topology s = each_is_sender network net j.release.sender no_sender is.sender in
+    let trunk : List ℕ = trunk_of s.ports s.branches in
+    let rest : List (List ℕ) = drop 1 (legs_of s.ports s.branches) in
+    let within : All (ArePorts ports) (trunk ∷ rest) = each_leg ports s keeps.ports in
+    let here : List Crossing = crossings_along n j.release s trunk j.hops j.ending in
+    let later : List Crossing = crossings_over n j.release s rest j.copies in
+    let both : All Exact (here ++ later) = along_trunk Exact n s j all in
     record {
       sender = is.sender;
       octets = is.octets;
-      way = exact_way network.topology.ports n j.release s s.ports j.hops j.ending j.release.at.0 keeps.ports all is.way
+      way = exact_way ports n j.release s trunk j.hops j.ending j.release.at.0
+          (All-head (ArePorts ports) trunk rest within) (all_left Exact here later both) is.way
           (comes_first j.release j.hops j.ending is.released);
       released = eligible_first j.release j.hops is.released;
+      copies = exact_copies ports n j.release s (legs_in j) s.branches rest j.copies
+          (All-tail (ArePorts ports) trunk rest within) (all_right Exact here later both) is.copies;
     }
 
 exact_journeys : (network : DeclaredNetwork) → IsNetwork network → (n : ℕ) (run : List Travel)
@@ -217,14 +302,44 @@ crossed_along ports frame release sender (p ∷ path) (hop ∷ hops) ending due 
     (crossed_on ports frame release sender p path hop.verdict hop.sent hops ending
     (crossed_along ports frame release sender path hops ending) way.1)
 
+crossed_copy : (ports : List Port) (frame : ℕ) (release : Release) (sender : Sender) (start : Option HopRecord)
+    (path : List ℕ) (leg : Leg) → IsCopyAt ports start path leg
+    → All (IsExact ports) (crossings_along frame release sender path leg.hops leg.ending)
+crossed_copy ports frame release sender (Some start) path leg copy =
+    crossed_along ports frame release sender path leg.hops leg.ending start.arrival.0 copy.1
+crossed_copy ports frame release sender None path leg copy =
+    none_crossed (IsExact ports) frame release sender path leg.hops leg.ending copy.0
+
+crossed_copies : (ports : List Port) (frame : ℕ) (release : Release) (sender : Sender) (legs : List Leg)
+    (branches : List Branch) (paths : List (List ℕ)) (copies : List Leg)
+    → AllZip (λ (branch : Branch × List ℕ) (leg : Leg). IsCopyAt ports (record_at legs branch.0) branch.1 leg)
+    (zip branches paths) copies
+    → All (IsExact ports) (crossings_over frame release sender paths copies)
+crossed_copies ports frame release sender legs [] [] [] copied = All-nil (IsExact ports)
+crossed_copies ports frame release sender legs [] (path ∷ paths) [] copied = All-nil (IsExact ports)
+crossed_copies ports frame release sender legs [] paths (c ∷ copies) copied = absurd copied
+crossed_copies ports frame release sender legs (b ∷ branches) [] copies copied = All-nil (IsExact ports)
+crossed_copies ports frame release sender legs (b ∷ branches) (path ∷ paths) [] copied = absurd copied
+crossed_copies ports frame release sender legs (b ∷ branches) (path ∷ paths) (c ∷ copies) copied =
+    All-append (IsExact ports) (crossings_along frame release sender path c.hops c.ending)
+    (crossings_over frame release sender paths copies)
+    (crossed_copy ports frame release sender (record_at legs b) path c copied.0)
+    (crossed_copies ports frame release sender legs branches paths copies copied.1)
+
 crossed : (network : DeclaredNetwork) (n : ℕ) (run : List Travel) → All (IsJourneyAt network) run
     → All (IsExact network.topology.ports) (crossings_from network n run)
 crossed network n [] all = All-nil (IsExact network.topology.ports)
 crossed network n (j ∷ run) all =
     let s : Sender = sender_at network j.release.sender in
     let is : IsJourneyAt network j = All-head (IsJourneyAt network) j run all in
-    All-append (IsExact network.topology.ports) (journey_crossings network n j) (crossings_from network (n + 1) run)
-    (crossed_along network.topology.ports n j.release s s.ports j.hops j.ending j.release.at.0 is.way)
+    let ports : List Port = network.topology.ports in
+    let trunk : List ℕ = trunk_of s.ports s.branches in
+    let rest : List (List ℕ) = drop 1 (legs_of s.ports s.branches) in
+    All-append (IsExact ports) (journey_crossings network n j) (crossings_from network (n + 1) run)
+    (over_legs (IsExact ports) n s j (All-append (IsExact ports)
+    (crossings_along n j.release s trunk j.hops j.ending) (crossings_over n j.release s rest j.copies)
+    (crossed_along ports n j.release s trunk j.hops j.ending j.release.at.0 is.way)
+    (crossed_copies ports n j.release s (legs_in j) s.branches rest j.copies is.copies)))
     (crossed network (n + 1) run (All-tail (IsJourneyAt network) j run all))
 
 released_from : (ports : List Port) (release : Release) (path : List ℕ) (hops : List HopRecord) (ending : Ending)
@@ -234,14 +349,42 @@ released_from ports release [] (hop ∷ hops) ending way eligible = absurd way
 released_from ports release (p ∷ path) (hop ∷ hops) ending way eligible =
     (ap (λ (n : ℕ). record { 0 = n }) way.0, eligible)
 
+forwarded_from : (ports : List Port) (start : HopRecord) (path : List ℕ) (hops : List HopRecord) (ending : Ending)
+    → IsWayAt ports start.arrival.0 path hops ending → IsJudgedAs start hops → BeginsAs start hops
+forwarded_from ports start path [] ending way judged = absurd judged
+forwarded_from ports start [] (hop ∷ hops) ending way judged = absurd way
+forwarded_from ports start (p ∷ path) (hop ∷ hops) ending way judged =
+    (ap (λ (n : ℕ). record { 0 = n }) way.0, judged)
+
+form_copy : (ports : List Port) (start : Option HopRecord) (path : List ℕ) (leg : Leg)
+    → IsCopyAt ports start path leg → IsCopy start path leg
+form_copy ports (Some start) path leg copy = (
+  forwarded_from ports start path leg.hops leg.ending copy.1 copy.0,
+  form_way ports start.arrival.0 path leg.hops leg.ending copy.1,
+)
+form_copy ports None path leg copy = copy
+
+form_copies : (ports : List Port) (legs : List Leg) (branches : List (Branch × List ℕ)) (copies : List Leg)
+    → AllZip (λ (branch : Branch × List ℕ) (leg : Leg). IsCopyAt ports (record_at legs branch.0) branch.1 leg)
+    branches copies
+    → AllZip (λ (branch : Branch × List ℕ) (leg : Leg). IsCopy (record_at legs branch.0) branch.1 leg) branches copies
+form_copies ports legs [] [] copied = tt
+form_copies ports legs [] (c ∷ copies) copied = absurd copied
+form_copies ports legs (b ∷ branches) [] copied = absurd copied
+form_copies ports legs (b ∷ branches) (c ∷ copies) copied =
+    (form_copy ports (record_at legs b.0) b.1 c copied.0, form_copies ports legs branches copies copied.1)
+
 form_journey : (network : DeclaredNetwork) (j : Travel) → IsJourneyAt network j → IsJourney network j
 form_journey network j is =
     let s : Sender = sender_at network j.release.sender in
+    let ports : List Port = network.topology.ports in
+    let trunk : List ℕ = trunk_of s.ports s.branches in
     record {
       sender = is.sender;
       octets = is.octets;
-      way = form_way network.topology.ports j.release.at.0 s.ports j.hops j.ending is.way;
-      released = released_from network.topology.ports j.release s.ports j.hops j.ending is.way is.released;
+      way = form_way ports j.release.at.0 trunk j.hops j.ending is.way;
+      released = released_from ports j.release trunk j.hops j.ending is.way is.released;
+      copies = form_copies ports (legs_in j) (branches_of s.ports s.branches) j.copies is.copies;
     }
 
 -- exact arrivals are in time, and in the order of the ends

@@ -1,3 +1,6 @@
 pub mod ExactLinks
+pub mod Legs
+pub mod OneListener
+pub mod OneVerdict
 pub mod PartProofs
 pub mod RowLemmas

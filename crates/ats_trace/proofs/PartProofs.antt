@@ -2,8 +2,8 @@ use Rattle.std.proofs.Common.{List}
 use Rattle.ats_network.specs.Network.{DeclaredNetwork}
 use Rattle.ats_trace.specs.Journey.{Travel}
 use Rattle.ats_trace.specs.Run.{IsLegal}
-use Rattle.ats_trace.specs.Parts.{Part, in_order, octets, way, released, links, waits, takes, apart, chosen, prompt}
-use Rattle.ats_trace.specs.Parts.{groups, flows, Keeps, LegalIsEachPart}
+use Rattle.ats_trace.specs.Parts.{Part, in_order, octets, way, released, copies, links, waits, takes, apart, chosen}
+use Rattle.ats_trace.specs.Parts.{prompt, groups, flows, Keeps, LegalIsEachPart}
 
 -- the parts of a legal run
 
@@ -13,6 +13,7 @@ part_of_legal network run h in_order = h.in_order
 part_of_legal network run h octets = λ k d within. (h.journeys k d within).octets
 part_of_legal network run h way = λ k d within. ((h.journeys k d within).sender, (h.journeys k d within).way)
 part_of_legal network run h released = λ k d within. (h.journeys k d within).released
+part_of_legal network run h copies = λ k d within. (h.journeys k d within).copies
 part_of_legal network run h links = h.links
 part_of_legal network run h waits = λ port within. (h.ports port within).waits
 part_of_legal network run h takes = λ port within. (h.ports port within).takes
@@ -32,6 +33,7 @@ legal_of_parts network run keeps =
         octets = keeps octets k d within;
         way = (keeps way k d within).1;
         released = keeps released k d within;
+        copies = keeps copies k d within;
       };
       ports = λ port within. record {
         waits = keeps waits port within;

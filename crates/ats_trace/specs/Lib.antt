@@ -1,10 +1,13 @@
 pub mod Journey
+pub mod Ways
 pub mod Projections
 pub mod Links
 pub mod Eligibility
 pub mod Releases
 pub mod Run
 pub mod ExactLinks
+pub mod OneVerdict
 pub mod Stored
 pub mod Talker
 pub mod Parts
+pub mod OneListener

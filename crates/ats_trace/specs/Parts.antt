@@ -6,7 +6,7 @@ use Rattle.ats_network.specs.Network.{DeclaredNetwork, senders_of}
 use Rattle.ats_network.specs.Senders.{sender_at}
 use Rattle.ats_port_rule.specs.Transmission.{Transmission}
 use Rattle.ats_port_rule.specs.PortRule.{AreApart, IsAhead, StartsAfterGap}
-use Rattle.ats_trace.specs.Journey.{Travel, IsWay, IsReleased}
+use Rattle.ats_trace.specs.Journey.{Travel, IsWay, IsReleased, AreCopies, trunk_at}
 use Rattle.ats_trace.specs.Projections.{sent_by, crossings_by, handed_by}
 use Rattle.ats_trace.specs.Links.{KeepsLinkRule}
 use Rattle.ats_group.specs.Judge.{ats_judge}
@@ -21,6 +21,7 @@ pub data Part : Type 0 where
   octets : Part
   way : Part
   released : Part
+  copies : Part
   links : Part
   waits : Part
   takes : Part
@@ -41,8 +42,9 @@ Keeps in_order network run = IsNonDecreasing (map (λ (r : Release). r.at.0) (re
 Keeps octets network run = All (λ (j : Travel). IsFrameSize j.release.octets) run
 Keeps way network run =
     All (λ (j : Travel). (j.release.sender < length (senders_of network))
-    × IsWay (sender_at network j.release.sender).ports j.hops j.ending) run
+    × IsWay (trunk_at network j.release.sender) j.hops j.ending) run
 Keeps released network run = All (λ (j : Travel). IsReleased j.release j.hops) run
+Keeps copies network run = All (λ (j : Travel). AreCopies (sender_at network j.release.sender) j) run
 Keeps links network run =
     (port : ℕ) → port < length network.topology.ports
     → KeepsLinkRule (port_at network.topology.ports port) (crossings_by network run port)

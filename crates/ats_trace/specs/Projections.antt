@@ -7,7 +7,7 @@ use Rattle.ats_network.specs.Senders.{sender_at}
 use Rattle.ats_group.specs.declared.verdict.Verdict.{Verdict}
 use Rattle.ats_group.specs.declared.verdict.Verdict.TheVariants.{Eligible}
 use Rattle.ats_port_rule.specs.Transmission.{Transmission}
-use Rattle.ats_trace.specs.Journey.{Travel, class_at}
+use Rattle.ats_trace.specs.Journey.{Leg, Travel, class_at, legs_at, legs_in}
 use Rattle.ats_trace.specs.declared.journey.Release.{Release}
 use Rattle.ats_trace.specs.declared.journey.HopRecord.{HopRecord}
 use Rattle.ats_trace.specs.declared.journey.Ending.{Ending}
@@ -19,7 +19,7 @@ pub record Hop : Type 0 where
   pub sent : Transmission
 
 -- a frame's way over a port and the link behind it: its octets, when it came to the node that the port leaves, its
--- transmission, and when it arrived behind the port, at the next node of its path or at its listener
+-- transmission, and when it arrived behind the port, at the next node of its leg or at its listener
 pub record Crossing : Type 0 where
   pub port : ℕ
   pub octets : ℕ
@@ -27,7 +27,8 @@ pub record Crossing : Type 0 where
   pub sent : Transmission
   pub arrival : ℕ
 
--- a frame that crossed a port to another one of its path, with its verdict there
+-- a frame that crossed a port to a bridge, with its verdict there: told once, of the port that comes next in the leg,
+-- however many ports it goes on from
 pub record Handed : Type 0 where
   pub crossing : Crossing
   pub verdict : Verdict
@@ -74,7 +75,7 @@ handed_at octets came port (Some sent) [] = []
 handed_at octets came port (Some sent) (next ∷ hops) =
     record { crossing = crossing_of octets came port sent next.arrival.0; verdict = next.verdict } ∷ []
 
--- the transmissions of a frame along what is left of its path
+-- the transmissions of a frame along what is left of a leg
 abbrev pub hops_along : ℕ → Release → Sender → List ℕ → List HopRecord → List Hop
 hops_along frame release sender [] hops = []
 hops_along frame release sender (p ∷ path) [] = []
@@ -97,19 +98,35 @@ handed_along frame release sender (p ∷ path) (hop ∷ hops) =
     handed_at release.octets hop.arrival.0 p (transmission_of frame release (class_at sender p) hop) hops
     ++ handed_along frame release sender path hops
 
--- of the journey with this number
+-- the same along legs, one after another: their ports, and what happened there
+abbrev pub hops_over : ℕ → Release → Sender → List (List ℕ) → List Leg → List Hop
+hops_over frame release sender (path ∷ paths) (leg ∷ legs) =
+    hops_along frame release sender path leg.hops ++ hops_over frame release sender paths legs
+hops_over frame release sender paths legs = []
+
+abbrev pub crossings_over : ℕ → Release → Sender → List (List ℕ) → List Leg → List Crossing
+crossings_over frame release sender (path ∷ paths) (leg ∷ legs) =
+    crossings_along frame release sender path leg.hops leg.ending
+    ++ crossings_over frame release sender paths legs
+crossings_over frame release sender paths legs = []
+
+abbrev pub handed_over : ℕ → Release → Sender → List (List ℕ) → List Leg → List Handed
+handed_over frame release sender (path ∷ paths) (leg ∷ legs) =
+    handed_along frame release sender path leg.hops ++ handed_over frame release sender paths legs
+handed_over frame release sender paths legs = []
+
+-- of the journey with this number, along all legs of its sender
 abbrev pub journey_hops : DeclaredNetwork → ℕ → Travel → List Hop
 journey_hops network frame j =
-    hops_along frame j.release (sender_at network j.release.sender) (sender_at network j.release.sender).ports j.hops
+    hops_over frame j.release (sender_at network j.release.sender) (legs_at network j.release.sender) (legs_in j)
 
 abbrev pub journey_crossings : DeclaredNetwork → ℕ → Travel → List Crossing
 journey_crossings network frame j =
-    crossings_along frame j.release (sender_at network j.release.sender)
-    (sender_at network j.release.sender).ports j.hops j.ending
+    crossings_over frame j.release (sender_at network j.release.sender) (legs_at network j.release.sender) (legs_in j)
 
 abbrev pub journey_handed : DeclaredNetwork → ℕ → Travel → List Handed
 journey_handed network frame j =
-    handed_along frame j.release (sender_at network j.release.sender) (sender_at network j.release.sender).ports j.hops
+    handed_over frame j.release (sender_at network j.release.sender) (legs_at network j.release.sender) (legs_in j)
 
 -- of journeys that are numbered from this number on
 abbrev pub hops_from : DeclaredNetwork → ℕ → List Travel → List Hop

@@ -1,4 +1,4 @@
-use Rattle.std.specs.Prelude.{ℕ, ◌<◌, ◌≤◌, List, length, map, All}
+use Rattle.std.specs.Prelude.{◌<◌, ◌≤◌, List, length, map, All}
 use Rattle.std.specs.List.Sorted.{IsNonDecreasing}
 use Rattle.ats_num.specs.Wire.{IsFrameSize}
 use Rattle.ats_network.specs.Network.{DeclaredNetwork, senders_of}

@@ -9,7 +9,12 @@ use Rattle.ats_trace.specs.declared.run.TheConstants.{MAX_FRAMES}
 
 -- for numbers past the last frame
 abbrev pub no_travel : Travel
-no_travel = record { release = record { at = record { 0 = 0 }; sender = 0; octets = 0 }; hops = []; ending = Discard }
+no_travel = record {
+  release = record { at = record { 0 = 0 }; sender = 0; octets = 0 };
+  hops = [];
+  ending = Discard;
+  copies = [];
+}
 
 -- what happened to the frame with a number
 abbrev pub travel_at : List Travel → ℕ → Travel
@@ -20,12 +25,13 @@ abbrev pub journey_of : Travel → Journey
 journey_of j = record { release = j.release; ending = j.ending }
 
 -- what a frame's row and its span tell, with the records of all frames in one list: `count` of them, from the one with
--- number `first` on, are its own
+-- number `first` on, are its own. As yet a run that is stored has no copies
 abbrev pub travel_of : List HopRecord → Journey × Span → Travel
 travel_of hops row = record {
   release = row.0.release;
   hops = slice_range hops row.1.first (row.1.first + row.1.count);
   ending = row.0.ending;
+  copies = [];
 }
 
 -- what rows, spans and records tell of all frames

@@ -11,12 +11,12 @@ use Rattle.ats_network.specs.Senders.{sender_at}
 use Rattle.ats_trace.specs.Eligibility.{declared_by}
 use Rattle.ats_trace.specs.declared.journey.Release.{Release}
 
--- the node at which a path begins
+-- the node that the first of these ports leaves
 abbrev pub start_of : List Port → List ℕ → ℕ
 start_of ports [] = 0
 start_of ports (p ∷ path) = (port_at ports p).from
 
--- the station of a sender
+-- the station of a sender: its first port is that of its trunk
 abbrev pub talker_of : DeclaredNetwork → ℕ → ℕ
 talker_of network i = start_of network.topology.ports (sender_at network i).ports
 

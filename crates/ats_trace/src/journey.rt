@@ -14,10 +14,10 @@ pub struct Release {
     pub octets: u32,
 }
 
-/// What happened to a frame at one port of its path.
+/// What happened to a frame at one port of its sender.
 #[derive(Clone, Copy, Debug, PartialEq, Eq)]
 pub struct HopRecord {
-    /// When it came to the node that the port leaves; at the first hop its release.
+    /// When it came to the node that the port leaves; at the first hop of the trunk its release.
     pub arrival: Ps,
     /// What the node decided on it.
     pub verdict: Verdict,
