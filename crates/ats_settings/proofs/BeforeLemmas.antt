@@ -1,44 +1,146 @@
--- The port before another one on a path is the one at the place before.
-use Rattle.std.proofs.Common.{◌≡◌, ◌≢◌, ℕ, zero, suc, ◌+◌, ◌-◌, ◌<◌, List, [], ◌∷◌, length, get_or, cond, Bool}
-use Rattle.std.proofs.Common.{Option, Some, refl, ap, ◌∙◌, arith}
-use Rattle.std.specs.Prelude.{unwrap_or}
-use Rattle.std.specs.List.{AllPairs}
-use Rattle.std.proofs.lemmas.Bool.{eq-eqb, ne_eqb}
-use Rattle.ats_facts.proofs.Lists.{pairs_head, pairs_tail}
-use Rattle.ats_network.specs.Network.{DeclaredNetwork, IsNetwork}
-use Rattle.ats_network.specs.Senders.{IsSender, sender_at}
-use Rattle.ats_network.proofs.ClassLemmas.{port_before-one}
+-- The port from which a sender's frames come, by its place.
+use Rattle.std.proofs.Common.{◌≡◌, ◌≢◌, ℕ, zero, suc, ◌+◌, ◌-◌, ◌<◌, ◌≤◌, ◌⊎◌, inl, inr, List, [], ◌∷◌, length, get_or}
+use Rattle.std.proofs.Common.{map, Some, refl, sym, ap, ◌∙◌, arith, length-append}
+use Rattle.std.specs.List.{All}
+use Rattle.std.proofs.lemmas.Bool.{cases_eq}
+use Rattle.std.proofs.lemmas.List.Elements.{All-append, All-map}
+use Rattle.std.proofs.lemmas.List.Sums.{get_or-le-sum_by}
+use Rattle.ats_streams.specs.Branches.{BeginsEarlier, first_from, leads_of, leg_at, legs_of, no_branch, routes_of}
+use Rattle.ats_streams.proofs.BranchLemmas.{begins_at, lead_of_trunk, route-at, routes-length, trunk_within}
+use Rattle.ats_streams.specs.Flow.{DeclaredFlow, IsFlow}
+use Rattle.ats_streams.specs.Path.{IsPath}
+use Rattle.ats_streams.specs.Stream.{DeclaredStream, IsStream}
+use Rattle.ats_streams.specs.declared.branch.Branch.{Branch}
+use Rattle.ats_network.specs.Class.{port_before}
+use Rattle.ats_network.specs.Network.{DeclaredNetwork, IsNetwork, ports_together, senders_of}
+use Rattle.ats_network.specs.Sender.{Sender, stream_sender, flow_sender}
+use Rattle.ats_network.specs.Senders.{IsSender, sender_at, no_sender}
 use Rattle.ats_network.proofs.SenderLemmas.{sender_keeps}
-use Rattle.ats_network.specs.Class.{before_along, port_before}
-use Rattle.ats_settings.specs.Settings.{LeavesBridge, port_of_hop}
+use Rattle.ats_route_law.proofs.Standing.{LeadsTo, before_branch, before_place, leads_to}
+use Rattle.ats_settings.specs.Before.{IsBefore}
+use Rattle.ats_settings.specs.Settings.{LeavesBridge, port_at_place}
 
--- where a path has no port twice
-before_along-next : (path : List ℕ) (n : ℕ) → AllPairs (λ p q. p ≢ q) path → n + 1 < length path
-    → before_along (get_or path (suc n) 0) path ≡ Some (get_or path n 0)
-before_along-next [] n apart within = absurd (omega arith)
-before_along-next (p ∷ []) n apart within = absurd (omega arith)
-before_along-next (p ∷ q ∷ path) zero apart within =
-    ap (λ (t : Bool). cond t (Some p) (before_along q (q ∷ path))) (eq-eqb q q refl)
-before_along-next (p ∷ q ∷ path) (suc n) apart within =
-    let rest = pairs_tail (λ p q. p ≢ q) p (q ∷ path) apart in
-    let other : q ≢ get_or path n 0 = pairs_head (λ p q. p ≢ q) q path rest n 0 (omega arith) in
-    ap (λ (t : Bool). cond t (Some p) (before_along (get_or path n 0) (q ∷ path))) (ne_eqb q (get_or path n 0) other)
-    ∙ before_along-next (q ∷ path) n rest (omega arith)
+-- a place of a sender's ports, with that of the port before
+pub record ComesFrom (network : DeclaredNetwork) (sender place before : ℕ) : Type 0 where
+  pub within : before < length (sender_at network sender).ports
+  pub is : port_before (sender_at network sender) (port_at_place network sender place)
+      ≡ Some (port_at_place network sender before)
 
--- the port before that of a hop is that of the hop before
-pub before_hop : (network : DeclaredNetwork) (sender hop : ℕ) → IsNetwork network → LeavesBridge network sender hop
-    → port_before (sender_at network sender) (port_of_hop network sender hop)
-    ≡ Some (port_of_hop network sender (hop - 1))
-before_hop network sender hop is at =
-    let keeps : IsSender network.topology (sender_at network sender) = sender_keeps network sender is at.exists in
-    let path : List ℕ = (sender_at network sender).ports in
-    let next : hop ≡ suc (hop - 1) = omega (arith, at.later) in
-    port_before-one (sender_at network sender) (port_of_hop network sender hop) keeps.one_listener
-    ∙ ap (λ (h : ℕ). before_along (get_or path h 0) path) next
-    ∙ before_along-next path (hop - 1) keeps.apart (omega (arith, at.later, at.within))
+pub comes_from : (network : DeclaredNetwork) (sender place before : ℕ) → IsNetwork network
+    → LeavesBridge network sender place → IsBefore (sender_at network sender).branches place before
+    → ComesFrom network sender place before
+comes_from network sender place before is at (inl begins) =
+    let s : Sender = sender_at network sender in
+    let keeps : IsSender network.topology s = sender_keeps network sender is at.exists in
+    let b : Branch = get_or s.branches begins.branch no_branch in
+    let leads : LeadsTo s b (first_from 0 s.branches b.leg + b.hop - 1) =
+    leads_to network.topology s begins.branch keeps begins.exists in
+    record {
+      within = omega (arith, leads.within, begins.is);
+      is = ap (λ (p : ℕ). port_before s (get_or s.ports p 0)) (sym begins.begins)
+          ∙ before_branch network.topology s begins.branch keeps begins.exists
+          ∙ ap (λ (p : ℕ). Some p) (sym leads.at ∙ ap (λ (p : ℕ). get_or s.ports p 0) (sym begins.is));
+    }
+comes_from network sender place before is at (inr goes) =
+    let s : Sender = sender_at network sender in
+    let keeps : IsSender network.topology s = sender_keeps network sender is at.exists in
+    record {
+      within = omega (arith, goes.is, at.within);
+      is = before_place network.topology s place keeps at.later at.within goes.elsewhere
+          ∙ ap (λ (p : ℕ). Some (get_or s.ports p 0)) (sym goes.is);
+    }
 
--- so that is where frames come from
-pub comes_from : (network : DeclaredNetwork) (sender hop : ℕ) → IsNetwork network → LeavesBridge network sender hop
-    → unwrap_or (port_before (sender_at network sender) (port_of_hop network sender hop)) 0
-    ≡ port_of_hop network sender (hop - 1)
-comes_from network sender hop is at = ap (λ (o : Option ℕ). unwrap_or o 0) (before_hop network sender hop is at)
+-- at a place the ports of some branch begin, or those of none
+begins_or_not : (branches : List Branch) (place : ℕ)
+    → ((n : ℕ) × (n < length branches) × ((get_or branches n no_branch).first ≡ place))
+    ⊎ ((n : ℕ) → n < length branches → (get_or branches n no_branch).first ≢ place)
+begins_or_not [] place = inr (λ n within. absurd (omega arith))
+begins_or_not (b ∷ branches) place = by (cases_eq b.first place) (begins_or_not branches place)
+  where
+    by : (b.first ≡ place) ⊎ (b.first ≢ place)
+        → ((n : ℕ) × (n < length branches) × ((get_or branches n no_branch).first ≡ place))
+        ⊎ ((n : ℕ) → n < length branches → (get_or branches n no_branch).first ≢ place)
+        → ((n : ℕ) × (n < length (b ∷ branches)) × ((get_or (b ∷ branches) n no_branch).first ≡ place))
+        ⊎ ((n : ℕ) → n < length (b ∷ branches) → (get_or (b ∷ branches) n no_branch).first ≢ place)
+    by (inl here) further = inl (0, omega arith, here)
+    by (inr other) (inl later) = inl (suc later.0, omega (arith, later.1), later.2)
+    by (inr other) (inr none) = inr (λ n. elim n as (λ k. k < length (b ∷ branches)
+        → (get_or (b ∷ branches) k no_branch).first ≢ place) [
+          | zero ↦ λ within. other
+          | suc k ↦ λ within. none k (omega arith)
+        ])
+
+-- so each place but the first has a port before it
+pub record HasBefore (network : DeclaredNetwork) (sender place : ℕ) : Type 0 where
+  pub before : ℕ
+  pub from : ComesFrom network sender place before
+
+pub has_before : (network : DeclaredNetwork) (sender place : ℕ) → IsNetwork network
+    → LeavesBridge network sender place → HasBefore network sender place
+has_before network sender place is at = by (begins_or_not (sender_at network sender).branches place)
+  where
+    branches : List Branch
+    branches = (sender_at network sender).branches
+
+    by : ((n : ℕ) × (n < length branches) × ((get_or branches n no_branch).first ≡ place))
+        ⊎ ((n : ℕ) → n < length branches → (get_or branches n no_branch).first ≢ place)
+        → HasBefore network sender place
+    by (inl begins) =
+        let b : Branch = get_or branches begins.0 no_branch in
+        record {
+          before = first_from 0 branches b.leg + b.hop - 1;
+          from = comes_from network sender place (first_from 0 branches b.leg + b.hop - 1) is at
+              (inl (record { branch = begins.0; exists = begins.1; begins = begins.2; is = refl }));
+        }
+    by (inr elsewhere) = record {
+      before = place - 1;
+      from = comes_from network sender place (place - 1) is at (inr (record { elsewhere = elsewhere; is = refl }));
+    }
+
+streams_few : (streams : List DeclaredStream) → ports_together streams ≤ 65536
+    → All (λ (s : Sender). length s.ports ≤ 65536) (map stream_sender streams)
+streams_few streams few = All-map (λ (s : Sender). length s.ports ≤ 65536) stream_sender streams
+    (λ k d h. omega (arith, few, get_or-le-sum_by (λ (s : DeclaredStream). length s.ports) streams k d h))
+
+flows_few : (flows : List DeclaredFlow) → All IsFlow flows
+    → All (λ (s : Sender). length s.ports ≤ 65536) (map flow_sender flows)
+flows_few flows keep = All-map (λ (s : Sender). length s.ports ≤ 65536) flow_sender flows
+    (λ k d h. (let path : IsPath (get_or flows k d).path = (keep k d h).path in omega (arith, path.most)))
+
+-- a sender has at most as many ports as the streams of a network together
+pub few_ports : (network : DeclaredNetwork) (n : ℕ) → IsNetwork network → n < length (senders_of network)
+    → length (sender_at network n).ports ≤ 65536
+few_ports network n is within =
+    All-append (λ (s : Sender). length s.ports ≤ 65536) (map stream_sender network.streams)
+    (map flow_sender network.flows) (streams_few network.streams is.few_ports) (flows_few network.flows is.flows)
+    n no_sender within
+
+-- a sender has a port
+pub some_port_of : (network : DeclaredNetwork) (n : ℕ) → IsNetwork network → n < length (senders_of network)
+    → 1 ≤ length (sender_at network n).ports
+some_port_of network n is within =
+    let s : Sender = sender_at network n in
+    let keeps : IsSender network.topology s = sender_keeps network n is within in
+    let path : IsPath (get_or (routes_of s.ports s.branches) 0 []) =
+    keeps.routes 0 [] (omega (arith, routes-length s.ports s.branches)) in
+    omega (
+      arith,
+      path.least,
+      ap (λ (l : List ℕ). length l) (route-at s.ports s.branches 0 [] (omega arith)),
+      length-append (leg_at (leads_of s.ports s.branches) 0) (leg_at (legs_of s.ports s.branches) 0),
+      ap (λ (l : List ℕ). length l) (lead_of_trunk s.ports s.branches),
+      trunk_within s.ports s.branches,
+    )
+
+-- its ports are the topology's
+pub port_below : (network : DeclaredNetwork) (sender place : ℕ) → IsNetwork network
+    → sender < length (senders_of network) → place < length (sender_at network sender).ports
+    → port_at_place network sender place < length network.topology.ports
+port_below network sender place is exists within =
+    let keeps : IsSender network.topology (sender_at network sender) = sender_keeps network sender is exists in
+    keeps.ports place 0 within
+
+-- a branch of a stream begins at an earlier leg
+pub begins_of : (s : DeclaredStream) (n : ℕ) → IsStream s → n < length s.branches
+    → BeginsEarlier (legs_of s.ports s.branches) (1 + n) (get_or s.branches n no_branch)
+begins_of s n is within = begins_at (legs_of s.ports s.branches) 1 s.branches n is.branches.begin within

@@ -1,2 +1,4 @@
 pub mod BeforeLemmas
-pub mod Hops
+pub mod Behind
+pub mod Places
+pub mod Told

@@ -4,21 +4,20 @@ use Rattle.std.specs.List.{flat_map, range_with_len}
 use Rattle.std.specs.List.Sorted.{IsSortedByKey, IsStableByKey}
 use Rattle.std.specs.Ordering.{nat_cmp, ordering_then}
 use Rattle.std.specs.declared.cmp.Ordering.{Ordering}
-use Rattle.ats_group.specs.GroupsState.{member_at}
 use Rattle.ats_group.specs.declared.member.Member.{Member}
 use Rattle.ats_topology.specs.Port.{port_at}
 use Rattle.ats_network.specs.Class.{class_at, port_before}
 use Rattle.ats_network.specs.Network.{DeclaredNetwork, senders_of}
 use Rattle.ats_network.specs.Senders.{sender_at}
-use Rattle.ats_schedulers.specs.Schedulers.{members_of, residences_of, scheduler_of}
+use Rattle.ats_schedulers.specs.Schedulers.{member_behind, residences_of}
 use Rattle.ats_settings.specs.declared.setting.Setting.{Setting}
 use Rattle.ats_settings.specs.declared.setting.Shaping.{Shaping}
 
--- a hop of a sender's path at which its frames leave a bridge: any but the first, which leaves its station
-pub record LeavesBridge (network : DeclaredNetwork) (sender hop : ℕ) : Type 0 where
+-- a place of a sender's ports at which is one that leaves a bridge: any but the first, which leaves its station
+pub record LeavesBridge (network : DeclaredNetwork) (sender place : ℕ) : Type 0 where
   pub exists : sender < length (senders_of network)
-  pub later : 1 ≤ hop
-  pub within : hop < length (sender_at network sender).ports
+  pub later : 1 ≤ place
+  pub within : place < length (sender_at network sender).ports
 
 -- what is told of the scheduler of a member of the network's groups: what is declared of it there, and the maximum
 -- residence time of its group
@@ -29,36 +28,36 @@ shaping_of network member = record {
   residence_ns = slice_index_or (residences_of network) member.group 0;
 }
 
--- the same of the scheduler that a sender's frame meets before it comes to a hop; a flow has none
-abbrev pub scheduler_at : DeclaredNetwork → ℕ → ℕ → Option Shaping
-scheduler_at network sender hop =
+-- the same of the scheduler behind the port from which a stream's frames come; a flow has none
+abbrev pub scheduler_behind : DeclaredNetwork → ℕ → ℕ → Option Shaping
+scheduler_behind network sender port =
     if nat_lt sender (length network.streams)
-    then Some (shaping_of network (member_at (members_of network) (scheduler_of network sender hop)))
+    then Some (shaping_of network (member_behind (sender_at network sender) port))
     else None
 
--- the port of a hop of a sender's path
-abbrev pub port_of_hop : DeclaredNetwork → ℕ → ℕ → ℕ
-port_of_hop network sender hop = slice_index_or (sender_at network sender).ports hop 0
+-- the port at a place of a sender's ports
+abbrev pub port_at_place : DeclaredNetwork → ℕ → ℕ → ℕ
+port_at_place network sender place = slice_index_or (sender_at network sender).ports place 0
 
--- what the bridge that a sender's frames leave at a hop is told of them: they come through the port before on their
--- path, and go on by the port of the hop
+-- what the bridge that a sender's frames leave by the port at a place is told of them: they come through the port
+-- before it on their routes, and go on by it
 abbrev pub setting_at : DeclaredNetwork → ℕ → ℕ → Setting
-setting_at network sender hop =
+setting_at network sender place =
     let s = sender_at network sender in
-    let sent_to = port_of_hop network sender hop in
+    let sent_to = port_at_place network sender place in
     let received_from = unwrap_or (port_before s sent_to) 0 in
     record {
       bridge = (port_at network.topology.ports received_from).to;
       received_from = received_from;
       class = class_at s received_from;
       sender = sender;
-      scheduler = scheduler_at network sender hop;
+      scheduler = scheduler_behind network sender received_from;
       max_octets = s.max_octets;
       sent_to = sent_to;
       class_there = class_at s sent_to;
     }
 
--- the settings of a sender, one for each hop of its path at which its frames leave a bridge
+-- the settings of a sender, one for each of its ports that leaves a bridge
 abbrev pub sender_settings : DeclaredNetwork → ℕ → List Setting
 sender_settings network sender =
     map (setting_at network sender) (range_with_len 1 (length (sender_at network sender).ports - 1))
@@ -81,7 +80,7 @@ pub record AreInOrder (earlier settings : List Setting) : Type 0 where
   pub by_place : IsSortedByKey place_of place_cmp settings
   pub ties : IsStableByKey place_of place_cmp earlier settings
 
--- the settings of a network: those of all hops by bridge, then by port of reception, then by class there, then by
+-- the settings of a network: those of all ports by bridge, then by port of reception, then by class there, then by
 -- sender
 abbrev pub AreSettings : DeclaredNetwork → List Setting → Type 0
 AreSettings network settings = AreInOrder (hop_settings network) settings

@@ -1,7 +1,8 @@
-//! What to set in each bridge of a network: for each stream and flow at each bridge of its path, where
-//! its frames come from, which scheduler judges them, how long they may be, and where they go on.
+//! What to set in each bridge of a network: for each stream and flow and each port by which its frames leave a bridge,
+//! where they come from, which scheduler judges them, how long they may be, and where they go on.
 #![tactic(auto)]
 
+mod before;
 pub mod laws;
 pub mod listing;
 pub mod setting;

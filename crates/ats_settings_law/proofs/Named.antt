@@ -1,20 +1,18 @@
--- Each hop at which frames leave a bridge is named by one of the settings.
-use Rattle.std.proofs.Common.{◌≡◌, ℕ, zero, suc, ◌+◌, ◌-◌, ◌<◌, ◌≤◌, Bool, true, false, cond, List, [], ◌∷◌, ◌++◌}
-use Rattle.std.proofs.Common.{length, map, get_or, Some, refl, sym, ap, ◌∙◌, subst, arith}
-use Rattle.std.specs.Prelude.{◌==◌}
+-- Each port by which frames leave a bridge is named by one of the settings.
+use Rattle.std.proofs.Common.{◌≡◌, ℕ, zero, suc, ◌+◌, ◌-◌, ◌<◌, List, ◌∷◌, [], length, map, refl, ap, ◌∙◌, subst, arith}
+use Rattle.std.proofs.Common.{Option}
+use Rattle.std.specs.Prelude.{unwrap_or}
 use Rattle.std.specs.List.{Contains, flat_map, range_with_len}
-use Rattle.std.proofs.lemmas.Bool.{eqb-true}
-use Rattle.std.proofs.lemmas.Option.{none-some, same_Some}
 use Rattle.std.proofs.lemmas.List.Elements.{Contains-append_left, Contains-append_right}
 use Rattle.std.proofs.lemmas.List.Sorted.{Contains-permutation}
-use Rattle.ats_network.specs.Class.{before_along}
-use Rattle.ats_network.specs.Network.{DeclaredNetwork, senders_of}
+use Rattle.ats_network.specs.Class.{port_before}
+use Rattle.ats_network.specs.Network.{senders_of}
+use Rattle.ats_network.specs.Sender.{Sender}
 use Rattle.ats_network.specs.Senders.{IsSender, sender_at}
-use Rattle.ats_network.proofs.ClassLemmas.{port_before-one}
 use Rattle.ats_network.proofs.SenderLemmas.{sender_keeps}
+use Rattle.ats_route_law.proofs.Standing.{StandsBehind, stands_behind}
 use Rattle.ats_settings.specs.Settings.{LeavesBridge, hop_settings, sender_settings, setting_at}
 use Rattle.ats_settings.specs.declared.setting.Setting.{Setting}
-use Rattle.ats_settings.proofs.BeforeLemmas.{comes_from}
 use Rattle.ats_settings_law.specs.Laws.{EachHopIsNamed}
 
 -- what belongs to a number of a range is among what belongs to all
@@ -40,52 +38,29 @@ among_along f (suc n) a (suc j) x within has =
     Contains-append_right (f a) (flat_map f (range_with_len (a + 1) n)) x
     (among_along f n (a + 1) j x (omega arith) (subst (λ (k : ℕ). Contains (f k) x) later has))
 
--- a port and the one before it stand side by side on a path
-pub record StandTogether (path : List ℕ) (before port : ℕ) : Type 0 where
-  place : ℕ
-  within : suc place < length path
-  first : get_or path place 0 ≡ before
-  second : get_or path (suc place) 0 ≡ port
-
-stand_together : (port before : ℕ) (path : List ℕ) → before_along port path ≡ Some before
-    → StandTogether path before port
-stand_together port before [] h = absurd (none-some before h)
-stand_together port before (p ∷ []) h = absurd (none-some before h)
-stand_together port before (p ∷ q ∷ path) h = by (q == port) refl (stand_together port before (q ∷ path)) h
-  where
-    by : (t : Bool) → (q == port) ≡ t
-        → (before_along port (q ∷ path) ≡ Some before → StandTogether (q ∷ path) before port)
-        → cond t (Some p) (before_along port (q ∷ path)) ≡ Some before → StandTogether (p ∷ q ∷ path) before port
-    by true same further k =
-        record { place = 0; within = omega arith; first = same_Some p before k; second = eqb-true q port same }
-    by false other further k = let rest = further k in
-        record { place = suc rest.place; within = omega (arith, rest.within); first = rest.first; second = rest.second }
-
 pub each_hop_is_named : EachHopIsNamed
 each_hop_is_named network settings is are sender exists before port h =
-    let path : List ℕ = (sender_at network sender).ports in
-    let keeps : IsSender network.topology (sender_at network sender) = sender_keeps network sender is exists in
-    let at : StandTogether path before port = stand_together port before path
-    (sym (port_before-one (sender_at network sender) port keeps.one_listener) ∙ h) in
-    let hop : ℕ = suc at.place in
-    let leaves : LeavesBridge network sender hop =
-    record { exists = exists; later = omega arith; within = at.within } in
-    let x : Setting = setting_at network sender hop in
-    let next : 1 + at.place ≡ hop = omega arith in
+    let s : Sender = sender_at network sender in
+    let keeps : IsSender network.topology s = sender_keeps network sender is exists in
+    let at : StandsBehind s port = stands_behind network.topology s port before keeps h in
+    let leaves : LeavesBridge network sender at.place =
+    record { exists = exists; later = at.later; within = at.within } in
+    let x : Setting = setting_at network sender at.place in
+    let next : 1 + (at.place - 1) ≡ at.place = omega (arith, at.later) in
     let in_sender : Contains (sender_settings network sender) x =
     subst (λ (k : ℕ). Contains (sender_settings network sender) (setting_at network sender k)) next
-    (among_at (setting_at network sender) (length path - 1) 1 at.place (omega (arith, at.within))) in
+    (among_at (setting_at network sender) (length s.ports - 1) 1 (at.place - 1)
+    (omega (arith, at.within, at.later))) in
     let own : sender ≡ 0 + sender = omega arith in
     let in_all : Contains (hop_settings network) x =
     among_along (sender_settings network) (length (senders_of network)) 0 sender x exists
     (subst (λ (k : ℕ). Contains (sender_settings network k) x) own in_sender) in
-    let back : hop - 1 ≡ at.place = omega arith in
     record {
       named = record {
         setting = x;
         among = Contains-permutation (hop_settings network) settings x are.same in_all;
         of_sender = refl;
-        behind = comes_from network sender hop is leaves ∙ ap (λ (k : ℕ). get_or path k 0) back ∙ at.first;
+        behind = ap (λ (o : Option ℕ). unwrap_or o 0) (ap (port_before s) at.is ∙ h);
       };
-      sent_to = at.second;
+      sent_to = at.is;
     }

@@ -4,10 +4,9 @@ use Rattle.std.specs.Cmp.{IsStrictWeakOrder, IsTotalOrder}
 use Rattle.std.specs.Ordering.{is_lt}
 use Rattle.std.proofs.lemmas.Cmp.{nat_cmp_total, on_total, then_total}
 use Rattle.std.proofs.lemmas.List.Sorted.{ranks_by}
-use Rattle.ats_network.specs.Network.{DeclaredNetwork}
-use Rattle.ats_settings.specs.Settings.{AreSettings, hop_settings, place_cmp, place_of}
+use Rattle.ats_settings.specs.Settings.{hop_settings, place_cmp, place_of}
 use Rattle.ats_settings.specs.declared.setting.Setting.{Setting}
-use Rattle.ats_settings_law.specs.Laws.{AreOnlySettings, SettingsAreOne}
+use Rattle.ats_settings_law.specs.Laws.{SettingsAreOne}
 use Rattle.ats_settings_law.proofs.InOrder.{in_order, keeps-ties, one-result, permutes, sorts}
 
 places_total : IsTotalOrder place_cmp

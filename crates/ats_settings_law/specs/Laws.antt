@@ -31,7 +31,7 @@ pub record IsTrueOf (network : DeclaredNetwork) (s : Setting) : Type 0 where
   pub shaped : IsSome s.scheduler ↔ (s.sender < length network.streams)
   pub scheduler : ForSome s.scheduler (IsSchedulerOf network s.sender s.received_from)
 
--- each of a network's settings tells what is so
+-- each setting of a network tells what is so
 abbrev pub EachSettingIsTrue : Type 0
 EachSettingIsTrue = (network : DeclaredNetwork) (settings : List Setting) → IsNetwork network
     → AreSettings network settings → All (IsTrueOf network) settings
@@ -56,7 +56,7 @@ pub record IsNamedBetween (settings : List Setting) (sender before port : ℕ) :
   pub named : IsNamed settings sender before
   pub sent_to : named.setting.sent_to ≡ port
 
--- wherever a sender's frames go on by a port from the one before on their path, one of the network's settings says so
+-- wherever a sender's frames go on by a port from the one before on their routes, one of the network's settings says so
 abbrev pub EachHopIsNamed : Type 0
 EachHopIsNamed = (network : DeclaredNetwork) (settings : List Setting) → IsNetwork network
     → AreSettings network settings → (sender : ℕ) → sender < length (senders_of network) → (before port : ℕ)

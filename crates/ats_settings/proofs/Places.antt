@@ -1,28 +1,25 @@
--- What holds of the setting at each hop holds of each setting.
+-- What holds of the setting at each place holds of each setting.
 use Rattle.std.proofs.Common.{◌≡◌, ℕ, zero, suc, ◌+◌, ◌-◌, ◌<◌, ◌≤◌, List, [], ◌∷◌, ◌++◌, length, map, ap, ◌∙◌, sym}
-use Rattle.std.proofs.Common.{append_assoc, arith, length-append, Option, subst}
+use Rattle.std.proofs.Common.{append_assoc, arith, Option, subst}
+use Rattle.std.specs.Prelude.{unwrap_or}
 use Rattle.std.specs.List.{All, flat_map, range_with_len}
-use Rattle.std.proofs.lemmas.List.{flat_map_more, length-map, map-id}
+use Rattle.std.proofs.lemmas.List.{flat_map_more, map-id}
 use Rattle.std.proofs.lemmas.List.FromFn.{map-range_with_len_more}
 use Rattle.std.proofs.lemmas.List.Elements.{All-append, All-cons, All-nil}
 use Rattle.std.proofs.lemmas.List.Sorted.{All-permutation}
-use Rattle.ats_group.specs.declared.member.Member.{Member}
 use Rattle.ats_network.specs.Class.{class_at}
 use Rattle.ats_network.specs.Network.{DeclaredNetwork, IsNetwork, senders_of}
-use Rattle.ats_network.specs.Sender.{Sender, stream_sender, flow_sender}
 use Rattle.ats_network.specs.Senders.{IsSender, sender_at}
 use Rattle.ats_network.proofs.SenderLemmas.{sender_keeps}
 use Rattle.ats_topology.specs.Port.{no_port, port_at}
 use Rattle.ats_topology.specs.Topology.{HasLawfulPorts, IsPort}
 use Rattle.ats_topology.proofs.Rules.{ports_are_lawful}
-use Rattle.ats_schedulers.specs.Schedulers.{IsHop, group_behind}
-use Rattle.ats_schedulers.proofs.Places.{scheduler_there}
-use Rattle.ats_settings.specs.Laws.{GroupsAreTold}
-use Rattle.ats_settings.specs.Settings.{AreInOrder, AreSettings, IsSettingOf, LeavesBridge, hop_settings, port_of_hop}
-use Rattle.ats_settings.specs.Settings.{scheduler_at, sender_settings, setting_at}
+use Rattle.ats_settings.specs.Settings.{AreInOrder, AreSettings, IsSettingOf, LeavesBridge, hop_settings}
+use Rattle.ats_settings.specs.Settings.{port_at_place}
+use Rattle.ats_settings.specs.Settings.{scheduler_behind, sender_settings, setting_at}
 use Rattle.ats_settings.specs.declared.setting.Setting.{Setting}
 use Rattle.ats_settings.specs.declared.setting.Shaping.{Shaping}
-use Rattle.ats_settings.proofs.BeforeLemmas.{comes_from}
+use Rattle.ats_settings.proofs.BeforeLemmas.{ComesFrom, HasBefore, has_before}
 
 all_mapped : (P : Setting → Type 0) (f : ℕ → Setting) (a n : ℕ) → ((k : ℕ) → a ≤ k → k < a + n → P (f k))
     → All P (map f (range_with_len a n))
@@ -39,68 +36,50 @@ all_along P f a (suc n) each =
     (all_along P f (a + 1) n (λ k least below. each k (omega arith) (omega arith)))
 
 -- of the settings in any order
-pub each_of_hops : (P : Setting → Type 0) (network : DeclaredNetwork)
-    → ((sender hop : ℕ) → LeavesBridge network sender hop → P (setting_at network sender hop))
+pub each_of_ports : (P : Setting → Type 0) (network : DeclaredNetwork)
+    → ((sender place : ℕ) → LeavesBridge network sender place → P (setting_at network sender place))
     → All P (hop_settings network)
-each_of_hops P network each = all_along P (sender_settings network) 0 (length (senders_of network))
+each_of_ports P network each = all_along P (sender_settings network) 0 (length (senders_of network))
     (λ sender least exists. all_mapped P (setting_at network sender) 1 (length (sender_at network sender).ports - 1)
-    (λ hop later within. each sender hop
+    (λ place later within. each sender place
     (record { exists = omega (arith, exists); later = later; within = omega (arith, within) })))
 
 -- and of those in order
 pub each_setting : (P : Setting → Type 0) (network : DeclaredNetwork) (settings : List Setting)
     → AreSettings network settings
-    → ((sender hop : ℕ) → LeavesBridge network sender hop → P (setting_at network sender hop)) → All P settings
+    → ((sender place : ℕ) → LeavesBridge network sender place → P (setting_at network sender place)) → All P settings
 each_setting P network settings are each =
-    All-permutation P (hop_settings network) settings are.same (each_of_hops P network each)
-
--- a hop of a stream that comes behind a scheduler leaves a bridge
-pub leaves : (network : DeclaredNetwork) (stream hop : ℕ) → IsHop network stream hop → LeavesBridge network stream hop
-leaves network stream hop is =
-    let streams : List Sender = map stream_sender network.streams in
-    let flows : List Sender = map flow_sender network.flows in
-    let long : length streams ≡ length network.streams = length-map network.streams stream_sender in
-    record {
-      exists = omega (arith, is.exists, long, length-append streams flows);
-      later = is.later;
-      within = is.within;
-    }
-
-pub groups_are_told : GroupsAreTold
-groups_are_told network stream hop is at =
-    let s : Sender = sender_at network stream in
-    ap (λ (m : Member). m.group) (scheduler_there network stream hop at)
-    ∙ sym (ap (λ (p : ℕ). group_behind p (class_at s p))
-    (comes_from network stream hop is (leaves network stream hop at)))
+    All-permutation P (hop_settings network) settings are.same (each_of_ports P network each)
 
 -- a setting by the port from which frames come to its bridge
 abbrev pub setting_from : DeclaredNetwork → ℕ → ℕ → ℕ → Setting
-setting_from network sender hop received_from =
+setting_from network sender place received_from =
     record {
       bridge = (port_at network.topology.ports received_from).to;
       received_from = received_from;
       class = class_at (sender_at network sender) received_from;
       sender = sender;
-      scheduler = scheduler_at network sender hop;
+      scheduler = scheduler_behind network sender received_from;
       max_octets = (sender_at network sender).max_octets;
-      sent_to = port_of_hop network sender hop;
-      class_there = class_at (sender_at network sender) (port_of_hop network sender hop);
+      sent_to = port_at_place network sender place;
+      class_there = class_at (sender_at network sender) (port_at_place network sender place);
     }
 
--- the setting at a hop, by the port of the hop before
-pub setting_is : (network : DeclaredNetwork) (sender hop : ℕ) → IsNetwork network → LeavesBridge network sender hop
-    → setting_at network sender hop ≡ setting_from network sender hop (port_of_hop network sender (hop - 1))
-setting_is network sender hop is at = ap (setting_from network sender hop) (comes_from network sender hop is at)
+-- the setting at a place, by the port before
+pub setting_is : (network : DeclaredNetwork) (sender place before : ℕ) → ComesFrom network sender place before
+    → setting_at network sender place ≡ setting_from network sender place (port_at_place network sender before)
+setting_is network sender place before from =
+    ap (λ (o : Option ℕ). setting_from network sender place (unwrap_or o 0)) from.is
 
 -- so it is where its parts are given under other names
-pub setting_made : (network : DeclaredNetwork) (sender hop : ℕ) → IsNetwork network → LeavesBridge network sender hop
+pub setting_made : (network : DeclaredNetwork) (sender place before : ℕ) → ComesFrom network sender place before
     → (bridge received_from class most sent_to there : ℕ) (scheduler : Option Shaping)
-    → bridge ≡ (port_at network.topology.ports (port_of_hop network sender (hop - 1))).to
-    → received_from ≡ port_of_hop network sender (hop - 1)
-    → class ≡ class_at (sender_at network sender) (port_of_hop network sender (hop - 1))
-    → scheduler ≡ scheduler_at network sender hop → most ≡ (sender_at network sender).max_octets
-    → sent_to ≡ port_of_hop network sender hop
-    → there ≡ class_at (sender_at network sender) (port_of_hop network sender hop)
+    → received_from ≡ port_at_place network sender before
+    → bridge ≡ (port_at network.topology.ports received_from).to
+    → class ≡ class_at (sender_at network sender) (port_at_place network sender before)
+    → scheduler ≡ scheduler_behind network sender received_from → most ≡ (sender_at network sender).max_octets
+    → sent_to ≡ port_at_place network sender place
+    → there ≡ class_at (sender_at network sender) (port_at_place network sender place)
     → record {
       bridge = bridge;
       received_from = received_from;
@@ -110,32 +89,33 @@ pub setting_made : (network : DeclaredNetwork) (sender hop : ℕ) → IsNetwork 
       max_octets = most;
       sent_to = sent_to;
       class_there = there;
-    } ≡ setting_at network sender hop
-setting_made network sender hop is at bridge received_from class most sent_to there scheduler b r c s m t d =
-    rw (b, r, c, s, m, t, d) (sym (setting_is network sender hop is at))
+    } ≡ setting_at network sender place
+setting_made network sender place before from bridge received_from class most sent_to there scheduler r b c s m t d =
+    rw (b, s, r, c, m, t, d) (sym (setting_is network sender place before from))
 
 -- the numbers in it are of the network
-pub setting_within : (network : DeclaredNetwork) → IsNetwork network → (sender hop : ℕ)
-    → LeavesBridge network sender hop → IsSettingOf network (setting_at network sender hop)
-setting_within network is sender hop at =
+pub setting_within : (network : DeclaredNetwork) → IsNetwork network → (sender place : ℕ)
+    → LeavesBridge network sender place → IsSettingOf network (setting_at network sender place)
+setting_within network is sender place at =
     let keeps : IsSender network.topology (sender_at network sender) = sender_keeps network sender is at.exists in
-    let from : ℕ = port_of_hop network sender (hop - 1) in
-    let below : from < length network.topology.ports = keeps.ports (hop - 1) 0 (omega (arith, at.within)) in
+    let has : HasBefore network sender place = has_before network sender place is at in
+    let from : ℕ = port_at_place network sender has.before in
+    let below : from < length network.topology.ports = keeps.ports has.before 0 has.from.within in
     let lawful : HasLawfulPorts network.topology = ports_are_lawful network.topology is.topology in
     let port : IsPort (length network.topology.nodes) (port_at network.topology.ports from) =
     lawful.each from no_port below in
-    subst (IsSettingOf network) (sym (setting_is network sender hop is at)) (record {
+    subst (IsSettingOf network) (sym (setting_is network sender place has.before has.from)) (record {
       bridge = port.between.to;
       received_from = below;
       sender = at.exists;
-      sent_to = keeps.ports hop 0 at.within;
+      sent_to = keeps.ports place 0 at.within;
     })
 
--- the settings of one hop more
-pub hop_more : (front : List Setting) (f : ℕ → Setting) (hop : ℕ) (x : Setting) (before after : List Setting) → 1 ≤ hop
-    → before ≡ front ++ map f (range_with_len 1 (hop - 1)) → x ≡ f hop → after ≡ before ++ x ∷ []
+-- the settings of one port more
+pub place_more : (front : List Setting) (f : ℕ → Setting) (hop : ℕ) (x : Setting) (before after : List Setting)
+    → 1 ≤ hop → before ≡ front ++ map f (range_with_len 1 (hop - 1)) → x ≡ f hop → after ≡ before ++ x ∷ []
     → after ≡ front ++ map f (range_with_len 1 (hop + 1 - 1))
-hop_more front f hop x before after later so_far is more =
+place_more front f hop x before after later so_far is more =
     let made : List Setting = map f (range_with_len 1 (hop - 1)) in
     more ∙ ap (λ (l : List Setting). l ++ x ∷ []) so_far
     ∙ append_assoc front made (x ∷ [])
@@ -156,11 +136,12 @@ sender_more f n before after so_far more =
 
 -- the settings that were made and put in order are of the network
 pub each_within : (network : DeclaredNetwork) (n : ℕ) (made settings : List Setting) → IsNetwork network
-    → n ≡ length (senders_of network) → made ≡ flat_map (sender_settings network) (range_with_len 0 n)
+    → n ≡ length (senders_of network)
+    → made ≡ flat_map (sender_settings network) (range_with_len 0 n)
     → AreInOrder made settings → All (IsSettingOf network) settings
 each_within network n made settings is all so_far order =
     let whole : made ≡ hop_settings network =
     so_far ∙ ap (λ (k : ℕ). flat_map (sender_settings network) (range_with_len 0 k)) all in
     All-permutation (IsSettingOf network) made settings order.same
     (subst (All (IsSettingOf network)) (sym whole)
-    (each_of_hops (IsSettingOf network) network (setting_within network is)))
+    (each_of_ports (IsSettingOf network) network (setting_within network is)))
