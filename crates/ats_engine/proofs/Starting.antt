@@ -7,8 +7,9 @@ use Rattle.std.proofs.lemmas.List.{get_or_append_left, get_or_push, length-map}
 use Rattle.std.proofs.lemmas.List.Elements.{All-map, All-weaker}
 use Rattle.ats_facts.proofs.Lists.{count_by-cons}
 use Rattle.ats_topology.specs.Port.{port_at}
-use Rattle.ats_network.specs.Network.{DeclaredNetwork, IsNetwork, senders_of}
+use Rattle.ats_network.specs.Network.{DeclaredNetwork, HasOneListener, IsNetwork, senders_of}
 use Rattle.ats_network.specs.Senders.{sender_at}
+use Rattle.ats_network.proofs.SenderLemmas.{sender_path}
 use Rattle.ats_events.specs.Contents.{Contents}
 use Rattle.ats_trace.specs.Releases.{AreReleases, IsRelease}
 use Rattle.ats_trace.specs.declared.journey.Release.{Release}
@@ -31,24 +32,25 @@ use Rattle.ats_engine_proofs.proofs.Entries.{holds-permuted}
 use Rattle.ats_engine_proofs.proofs.Opened.{opened-holds}
 use Rattle.ats_engine.specs.Starts.{AreReleased, IsStart}
 use Rattle.ats_engine.specs.declared.runner.Runner.{Runner}
-use Rattle.ats_engine.proofs.Counting.{sender-kept}
 
 -- a sender's path has 16 ports at most
 pub path-few : {sender : ℕ} (network : DeclaredNetwork) (path : List ℕ) → IsNetwork network
-    → path ≡ (sender_at network sender).ports → sender < length (senders_of network) → length path ≤ 16
-path-few {sender} network path rules is within =
-    let kept = sender-kept network sender rules within in
-    omega (arith, kept.path.most, ap (λ (l : List ℕ). length l) is)
+    → HasOneListener network → path ≡ (sender_at network sender).ports → sender < length (senders_of network)
+    → length path ≤ 16
+path-few {sender} network path rules alone is within =
+    let has = sender_path network sender rules alone within in
+    omega (arith, has.path.most, ap (λ (l : List ℕ). length l) is)
 
 -- no frame may get more than 16 hop records
 pub rooms-few : (network : DeclaredNetwork) (releases : List Release) (rooms : List ℕ) → IsNetwork network
-    → AreReleases network releases → rooms ≡ rooms_of network releases → All (λ (room : ℕ). room ≤ 16) rooms
-rooms-few network releases rooms rules are is =
+    → HasOneListener network → AreReleases network releases → rooms ≡ rooms_of network releases
+    → All (λ (room : ℕ). room ≤ 16) rooms
+rooms-few network releases rooms rules alone are is =
     subst (All (λ (room : ℕ). room ≤ 16)) (sym is)
     (All-map (λ (room : ℕ). room ≤ 16) (λ (r : Release). length (sender_at network r.sender).ports) releases
     (All-weaker (IsRelease network) (λ (r : Release). length (sender_at network r.sender).ports ≤ 16)
-    (λ r kept. path-few {sender = r.sender} network (sender_at network r.sender).ports rules refl kept.sender) releases
-    are.each))
+    (λ r kept. path-few {sender = r.sender} network (sender_at network r.sender).ports rules alone refl kept.sender)
+    releases are.each))
 
 -- a port's room is counted over records that were just opened as over their releases
 room-counted : (network : DeclaredNetwork) (releases : List Release) (rooms : List ℕ) (port class : ℕ)
@@ -131,7 +133,7 @@ pub ready-first : {T O P : Type 0} (key : T → ℕ → ℕ → ℕ) (wait : P �
     → AreReleased runner.network.now releases order agenda → IsFirst key wait runner agenda
 ready-first key wait releases order tie runner agenda are schedulers start released =
     let first = opened-holds key (wait runner.pace) runner.network.now releases (course_of runner.state)
-    (released_from 0 releases) start.rules are start.opened refl in
+    (released_from 0 releases) start.rules start.one_listener are start.opened refl in
     let entries : IsPermutation (released_from 0 releases) agenda.entries =
     subst (λ (l : List Release). IsPermutation (released_from 0 l) agenda.entries) (take-length releases)
     released.entries in
@@ -161,7 +163,7 @@ pub setting-first : {T O P : Type 0} (releases : List Release) (order : O) (tie 
     }
 setting-first {T} {O} {P} releases order tie runner agenda are start released =
     let first = opened-holds (λ (t : T) (sender frame : ℕ). 0) (λ (frame spread : ℕ). 0) runner.network.now releases
-    (course_of runner.state) (released_from 0 releases) start.rules are start.opened refl in
+    (course_of runner.state) (released_from 0 releases) start.rules start.one_listener are start.opened refl in
     let onto : List Release → T → O → Setting T O P = λ rs t o. record {
       network = runner.network.now;
       releases = rs;

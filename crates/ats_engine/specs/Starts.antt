@@ -1,6 +1,6 @@
 use Rattle.std.specs.Prelude.{◌≡◌, ℕ, ◌+◌, List, length, take, None, IsPermutation}
 use Rattle.ats_events.specs.Contents.{Contents}
-use Rattle.ats_network.specs.Network.{DeclaredNetwork, IsNetwork}
+use Rattle.ats_network.specs.Network.{DeclaredNetwork, HasOneListener, IsNetwork}
 use Rattle.ats_trace.specs.declared.journey.Release.{Release}
 use Rattle.ats_engine_steps.specs.Course.{Course}
 use Rattle.ats_engine_steps.specs.declared.event.Event.{Event}
@@ -10,6 +10,7 @@ use Rattle.ats_engine_proofs.specs.Opened.{IsOpened, released_from}
 pub record IsStart {T : Type 0} (network : DeclaredNetwork) (releases : List Release) (tie : T) (course : Course T)
     : Type 0 where
   pub rules : IsNetwork network
+  pub one_listener : HasOneListener network
   pub opened : IsOpened network releases course
   pub tied : course.tie ≡ tie
 

@@ -2,6 +2,7 @@
 
 ghost use Rattle.std.specs.Prelude.{◌≡◌, IfOk};
 ghost use Rattle.ats_engine_proofs.specs.InTime.{IsRunInTime};
+ghost use Rattle.ats_network.specs.Network.{HasOneListener};
 ghost use Rattle.ats_trace.specs.Releases.{AreReleases};
 ghost use Rattle.ats_trace.specs.Run.{IsRunBy, HasReleases};
 
@@ -38,9 +39,9 @@ impl<'a, T: Tie, O: TimeOrder, P: Pace> Model for Engine<'a, T, O, P> {
 }
 
 impl<'a, T: Tie, O: TimeOrder, P: Pace> Engine<'a, T, O, P> {
-    /// A run of the network for these releases, by frame number: at most 200,000, in the order of their times, which
-    /// are in picoseconds and at most 100,000 s, each of a sender of the network and of 64 to 2000 octets. All memory
-    /// of the run is taken here. `AllocError` where it runs out.
+    /// A run of the network, in which each stream has one listener, for these releases, by frame number: at most
+    /// 200,000, in the order of their times, which are in picoseconds and at most 100,000 s, each of a sender of the
+    /// network and of 64 to 2000 octets. All memory of the run is taken here. `AllocError` where it runs out.
     pub fn open(
         alloc: Global,
         net: &'a Network,
@@ -49,7 +50,8 @@ impl<'a, T: Tie, O: TimeOrder, P: Pace> Engine<'a, T, O, P> {
         order: O,
         pace: P,
     ) -> Result<Self, AllocError>
-        requires { AreReleases net.now releases.now }
+        requires one_listener { HasOneListener net.now }
+        requires releases { AreReleases net.now releases.now }
         ensures { IfOk result (λ engine. engine ≡ record {
           network = net.now;
           releases = releases.now;

@@ -1,6 +1,7 @@
 //! Where a run begins.
 
 ghost use Rattle.std.specs.Prelude.{◌≡◌, IfOk, map, length};
+ghost use Rattle.ats_network.specs.Network.{HasOneListener};
 ghost use Rattle.ats_trace.specs.declared.journey.Release.{Release};
 ghost use Rattle.ats_trace.specs.Releases.{AreReleases};
 ghost use Rattle.ats_engine_steps.specs.Seen.{course_of};
@@ -38,7 +39,8 @@ fn ports_of<T: Tie>(
     releases: &[Release],
     tie: T,
 ) -> Result<Vec<Port<T>>, AllocError>
-    requires { AreReleases net.now releases.now }
+    requires one_listener { HasOneListener net.now }
+    requires releases { AreReleases net.now releases.now }
     ensures { IfOk result (λ ports. AreOpened net.now releases.now tie ports.items) }
 {
     let counts = counts_of(alloc, net, releases)?;
@@ -60,6 +62,7 @@ pub(crate) fn state_of<'a, T: Tie>(
     tie: T,
 ) -> Result<State<T>, AllocError>
     requires schedulers { schedulers.now ≡ net.now }
+    requires one_listener { HasOneListener net.now }
     requires releases { AreReleases net.now releases.now }
     ensures { IfOk result (λ state. IsStart net.now releases.now tie (course_of state)) }
 {

@@ -1,7 +1,7 @@
 //! How many frames each port may be offered, and how many hop records each frame may get.
 
 ghost use Rattle.std.specs.Prelude.{◌≡◌, ◌+◌, ◌*◌, ◌<◌, ◌≤◌, length, IfOk};
-ghost use Rattle.ats_network.specs.Network.{senders_of};
+ghost use Rattle.ats_network.specs.Network.{HasOneListener, senders_of};
 ghost use Rattle.ats_trace.specs.declared.run.TheConstants.{MAX_FRAMES};
 ghost use Rattle.ats_trace.specs.Releases.{AreReleases};
 ghost use Rattle.ats_engine_proofs.specs.Opened.{rooms_of};
@@ -20,7 +20,8 @@ pub(crate) fn rooms_of(
     net: &Network,
     releases: &[Release],
 ) -> Result<Vec<u32>, AllocError>
-    requires { AreReleases net.now releases.now }
+    requires one_listener { HasOneListener net.now }
+    requires releases { AreReleases net.now releases.now }
     ensures { IfOk result (λ rooms. rooms.items ≡ rooms_of net.now releases.now) }
 {
     let mut rooms = Vec::with_capacity(alloc, releases.len())?;
@@ -33,6 +34,7 @@ pub(crate) fn rooms_of(
 /// Counts a sender's frame at each of its ports, in its class there. The count of a class at a
 /// port stands at eight times the port's number, and the class.
 fn count(net: &Network, sender: u32, counts: &mut Vec<u32>)
+    requires one_listener { HasOneListener net.now }
     requires sender { sender < length (senders_of net.now) }
     requires below { AreBelow net.now counts.old.items }
     ensures { Counts net.now sender counts.old.items counts.new.items }
@@ -51,7 +53,8 @@ pub(crate) fn counts_of(
     net: &Network,
     releases: &[Release],
 ) -> Result<Vec<u32>, AllocError>
-    requires { AreReleases net.now releases.now }
+    requires one_listener { HasOneListener net.now }
+    requires releases { AreReleases net.now releases.now }
     ensures { IfOk result (λ counts. AreCounts net.now releases.now counts.items) }
 {
     let ports = net.topology().ports().len();

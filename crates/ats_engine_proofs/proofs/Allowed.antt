@@ -11,7 +11,7 @@ use Rattle.ats_topology.proofs.Rules.{ports_are_lawful}
 use Rattle.ats_network.specs.Network.{DeclaredNetwork}
 use Rattle.ats_network.specs.Senders.{IsSender}
 use Rattle.ats_network.proofs.ClassLemmas.{class_at-le}
-use Rattle.ats_network.proofs.SenderLemmas.{sender_keeps, flow_class}
+use Rattle.ats_network.proofs.SenderLemmas.{sender_keeps, sender_path, flow_class}
 use Rattle.ats_group.specs.declared.verdict.Verdict.{Verdict}
 use Rattle.ats_transmit.specs.Picks.{IsFirstStart}
 use Rattle.ats_transmit.specs.Sending.{last_start}
@@ -86,8 +86,8 @@ may-come {T} {key} {wait} {network} {releases} {course} {now} {frame} {entries} 
     let at : IsAt network course frame stage =
     at_stage frame stage next.holds (next-coming next) (λ (e : Coming now.at ≡ Over). (cc)) in
     let progress : Progress = progress_at course.records frame in
-    let keeps : IsSender network.topology (sender_of network progress) =
-    sender_keeps network progress.release.sender next.holds.rules at.is.sender in
+    let path =
+    (sender_path network progress.release.sender next.holds.rules next.holds.one_listener at.is.sender).path in
     let goes : Goes (path_of network progress) progress.hops = at.is.stands.here.0 in
     let more : length progress.hops < length (path_of network progress) =
     goes-fewer (path_of network progress) progress.hops goes in
@@ -98,7 +98,7 @@ may-come {T} {key} {wait} {network} {releases} {course} {now} {frame} {entries} 
         within = at.within;
         sender = at.is.sender;
         path = at.is.room;
-        most = omega (arith, at.is.room, keeps.path.most);
+        most = omega (arith, at.is.room, path.most);
         more = omega (arith, at.is.room, more);
         known = next.holds.members.members;
         stream = λ one. elim (cases_lt progress.release.sender (length network.streams))
@@ -122,7 +122,7 @@ waiting-stands {T} {key} {wait} {network} {releases} {course} {entries} frame ho
     let progress : Progress = progress_at course.records frame in
     let is : IsFrame network progress Waiting =
     subst (IsFrame network progress) waiting (holds.frames frame within) in
-    record { rules = holds.rules; sender = is.sender; stands = is.stands.here.0 }
+    record { rules = holds.rules; one_listener = holds.one_listener; sender = is.sender; stands = is.stands.here.0 }
 
 -- a port has started no transmission at the time of an event before selections
 later-start : {T : Type 0} {key : T → ℕ → ℕ → ℕ} {wait : ℕ → ℕ → ℕ} {network : DeclaredNetwork}
@@ -154,8 +154,12 @@ may-be-offered {T} {key} {wait} {network} {releases} {course} {now} {frame} {ent
     let at : IsAt network course frame stage =
     at_stage frame stage next.holds (next-due next) (λ (e : Due now.at ≡ Over). (cc)) in
     let progress : Progress = progress_at course.records frame in
-    let here : IsStanding network (IsDueAt now.at) progress =
-    record { rules = next.holds.rules; sender = at.is.sender; stands = at.is.stands.here.0 } in
+    let here : IsStanding network (IsDueAt now.at) progress = record {
+      rules = next.holds.rules;
+      one_listener = next.holds.one_listener;
+      sender = at.is.sender;
+      stands = at.is.stands.here.0;
+    } in
     let place : ℕ = place_at network course frame in
     let within : place < length network.topology.ports = standing-place here in
     let standing : PortState T = port_state_at course place in
@@ -250,8 +254,12 @@ may-end {T} {key} {wait} {network} {releases} {course} {now} {frame} {entries} n
     at_stage frame stage next.holds (next-sending next) (λ (e : Sending now.at ≡ Over). (cc)) in
     let progress : Progress = progress_at course.records frame in
     let stands : Stands (IsSentUntil now.at) (path_of network progress) progress.hops = at.is.stands.here.0 in
-    let here : IsStanding network (IsSentUntil now.at) progress =
-    record { rules = next.holds.rules; sender = at.is.sender; stands = stands } in
+    let here : IsStanding network (IsSentUntil now.at) progress = record {
+      rules = next.holds.rules;
+      one_listener = next.holds.one_listener;
+      sender = at.is.sender;
+      stands = stands;
+    } in
     let place : ℕ = place_at network course frame in
     let within : place < length network.topology.ports = standing-place here in
     let kept : IsPortOf key network course place (port_state_at course place) = next.holds.ports place within in

@@ -6,10 +6,10 @@ use Rattle.std.specs.Prelude.{◌==◌, ◌&&◌}
 use Rattle.std.proofs.lemmas.List.{length-map}
 use Rattle.std.proofs.lemmas.List.Elements.{All-map}
 use Rattle.std.proofs.lemmas.List.Sums.{sum_by-le}
-use Rattle.ats_network.specs.Network.{DeclaredNetwork, IsNetwork}
+use Rattle.ats_network.specs.Network.{DeclaredNetwork, HasOneListener, IsNetwork}
 use Rattle.ats_network.specs.Sender.{Sender}
-use Rattle.ats_network.specs.Senders.{IsSender, sender_at}
-use Rattle.ats_network.proofs.SenderLemmas.{sender_keeps}
+use Rattle.ats_network.specs.Senders.{sender_at}
+use Rattle.ats_network.proofs.SenderLemmas.{sender_path}
 use Rattle.ats_events.specs.declared.moment.Moment.{Moment}
 use Rattle.ats_trace.specs.Journey.{Travel}
 use Rattle.ats_trace.specs.Projections.{Hop, Crossing, Handed, hops_along, crossings_along, handed_along, hops_from}
@@ -27,6 +27,7 @@ use Rattle.ats_engine_steps.specs.declared.event.Event.TheVariants.{Arrival}
 use Rattle.ats_engine_steps.specs.declared.stage.Stage.{Stage}
 use Rattle.ats_engine_steps.specs.declared.stage.Stage.TheVariants.{Coming}
 use Rattle.ats_engine_proofs.specs.Opened.{released_from, rooms_of}
+use Rattle.ats_engine_proofs.proofs.OnPaths.{hops_on_path, crossings_on_path, handed_on_path}
 
 -- for numbers past the last release
 abbrev pub no_release : Release
@@ -42,7 +43,7 @@ coming r = Coming r.at
 
 -- what has happened to it
 abbrev pub still : Release → Travel
-still r = record { release = r; hops = []; ending = Sink r.at }
+still r = record { release = r; hops = []; ending = Sink r.at; copies = [] }
 
 -- its entry, where it has this number
 abbrev pub entry_of : ℕ → Release → Moment × Event
@@ -84,53 +85,54 @@ none-handed_along frame r s [] = refl
 none-handed_along frame r s (p ∷ path) = refl
 
 -- so no frame was sent in such a run
-none-from : (network : DeclaredNetwork) (frame : ℕ) (releases : List Release)
+none-from : (network : DeclaredNetwork) → HasOneListener network → (frame : ℕ) (releases : List Release)
     → hops_from network frame (map still releases) ≡ []
-none-from network frame [] = refl
-none-from network frame (r ∷ releases) =
+none-from network alone frame [] = refl
+none-from network alone frame (r ∷ releases) =
     let s : Sender = sender_at network r.sender in
-    ap (λ (hs : List Hop). hs ++ hops_from network (frame + 1) (map still releases)) (none-along frame r s s.ports)
-    ∙ none-from network (frame + 1) releases
+    ap (λ (hs : List Hop). hs ++ hops_from network (frame + 1) (map still releases))
+    (hops_on_path network alone frame (still r) ∙ none-along frame r s s.ports)
+    ∙ none-from network alone (frame + 1) releases
 
 -- none has crossed a port
-none-crossed_from : (network : DeclaredNetwork) (frame : ℕ) (releases : List Release)
+none-crossed_from : (network : DeclaredNetwork) → HasOneListener network → (frame : ℕ) (releases : List Release)
     → crossings_from network frame (map still releases) ≡ []
-none-crossed_from network frame [] = refl
-none-crossed_from network frame (r ∷ releases) =
+none-crossed_from network alone frame [] = refl
+none-crossed_from network alone frame (r ∷ releases) =
     let s : Sender = sender_at network r.sender in
     ap (λ (xs : List Crossing). xs ++ crossings_from network (frame + 1) (map still releases))
-    (none-crossed_along frame r s s.ports (Sink r.at))
-    ∙ none-crossed_from network (frame + 1) releases
+    (crossings_on_path network alone frame (still r) ∙ none-crossed_along frame r s s.ports (Sink r.at))
+    ∙ none-crossed_from network alone (frame + 1) releases
 
 -- and none was handed on
-none-handed_from : (network : DeclaredNetwork) (frame : ℕ) (releases : List Release)
+none-handed_from : (network : DeclaredNetwork) → HasOneListener network → (frame : ℕ) (releases : List Release)
     → handed_from network frame (map still releases) ≡ []
-none-handed_from network frame [] = refl
-none-handed_from network frame (r ∷ releases) =
+none-handed_from network alone frame [] = refl
+none-handed_from network alone frame (r ∷ releases) =
     let s : Sender = sender_at network r.sender in
     ap (λ (hs : List Handed). hs ++ handed_from network (frame + 1) (map still releases))
-    (none-handed_along frame r s s.ports)
-    ∙ none-handed_from network (frame + 1) releases
+    (handed_on_path network alone frame (still r) ∙ none-handed_along frame r s s.ports)
+    ∙ none-handed_from network alone (frame + 1) releases
 
 -- so it is at each port: none was sent
-pub none-sent : (network : DeclaredNetwork) (releases : List Release) (port : ℕ)
+pub none-sent : (network : DeclaredNetwork) → HasOneListener network → (releases : List Release) (port : ℕ)
     → sent_by network (map still releases) port ≡ []
-none-sent network releases port =
+none-sent network alone releases port =
     ap (λ (hs : List Hop). map (λ (h : Hop). h.sent) (filter (λ (h : Hop). h.port == port) hs))
-    (none-from network 0 releases)
+    (none-from network alone 0 releases)
 
 -- none has crossed it
-pub none-crossed : (network : DeclaredNetwork) (releases : List Release) (port : ℕ)
+pub none-crossed : (network : DeclaredNetwork) → HasOneListener network → (releases : List Release) (port : ℕ)
     → crossings_by network (map still releases) port ≡ []
-none-crossed network releases port =
-    ap (filter (λ (x : Crossing). x.port == port)) (none-crossed_from network 0 releases)
+none-crossed network alone releases port =
+    ap (filter (λ (x : Crossing). x.port == port)) (none-crossed_from network alone 0 releases)
 
 -- and none was handed on in a class
-pub none-handed : (network : DeclaredNetwork) (releases : List Release) (port class : ℕ)
+pub none-handed : (network : DeclaredNetwork) → HasOneListener network → (releases : List Release) (port class : ℕ)
     → handed_by network (map still releases) port class ≡ []
-none-handed network releases port class =
+none-handed network alone releases port class =
     ap (filter (λ (h : Handed). h.crossing.port == port && h.crossing.sent.class == class))
-    (none-handed_from network 0 releases)
+    (none-handed_from network alone 0 releases)
 
 -- the entry of each release
 pub length-released : (first : ℕ) (releases : List Release) → length (released_from first releases) ≡ length releases
@@ -161,22 +163,20 @@ rows-opened network (r ∷ releases) =
     ap (λ (rows : List (Stage × Progress)). (coming r, start network r) ∷ rows) (rows-opened network releases)
 
 -- a frame has at most 16 hops to come
-most-one : (network : DeclaredNetwork) (r : Release) → IsNetwork network → IsRelease network r
-    → most_left (coming r, start network r) ≤ 16 * most_hop
-most-one network r rules is =
-    let sender : IsSender network.topology (sender_at network r.sender) =
-    sender_keeps network r.sender rules is.sender in
-    omega (arith, sender.path.most)
+most-one : (network : DeclaredNetwork) (r : Release) → IsNetwork network → HasOneListener network
+    → IsRelease network r → most_left (coming r, start network r) ≤ 16 * most_hop
+most-one network r rules alone is =
+    let path = (sender_path network r.sender rules alone is.sender).path in omega (arith, path.most)
 
 -- so all frames have at most 16 times as many as there are
 pub most-opened : (network : DeclaredNetwork) (releases : List Release) → IsNetwork network
-    → All (IsRelease network) releases
+    → HasOneListener network → All (IsRelease network) releases
     → sum_by most_left (zip (map coming releases) (map (start network) releases)) ≤ length releases * (16 * most_hop)
-most-opened network releases rules each =
+most-opened network releases rules alone each =
     let row : Release → Stage × Progress = λ (r : Release). (coming r, start network r) in
     let few : All (λ (x : Stage × Progress). most_left x ≤ 16 * most_hop) (map row releases) =
     All-map (λ (x : Stage × Progress). most_left x ≤ 16 * most_hop) row releases
-    (λ k d h. most-one network (get_or releases k d) rules (each k d h)) in
+    (λ k d h. most-one network (get_or releases k d) rules alone (each k d h)) in
     let sum = sum_by-le most_left (16 * most_hop) (map row releases) few in
     let long : length (map row releases) ≡ length releases = length-map releases row in
     let same : sum_by most_left (zip (map coming releases) (map (start network) releases))

@@ -7,7 +7,7 @@ use Rattle.std.proofs.lemmas.Bool.{cases_lt}
 use Rattle.std.proofs.lemmas.List.Elements.{All-head, All-tail, All-map, All-from_get_or}
 use Rattle.std.proofs.lemmas.List.Sorted.{IsPermutation-refl}
 use Rattle.ats_topology.specs.Port.{port_at}
-use Rattle.ats_network.specs.Network.{DeclaredNetwork}
+use Rattle.ats_network.specs.Network.{DeclaredNetwork, HasOneListener}
 use Rattle.ats_network.specs.Senders.{IsSender, sender_at}
 use Rattle.ats_network.proofs.SenderLemmas.{sender_keeps}
 use Rattle.ats_group.specs.Judge.{ats_judge}
@@ -24,6 +24,7 @@ use Rattle.ats_trace.specs.Run.{IsRunBy, HasReleases, releases_of}
 use Rattle.ats_trace.specs.declared.journey.Ending.{Ending}
 use Rattle.ats_trace.specs.declared.journey.Ending.TheVariants.{Discard}
 use Rattle.ats_trace.specs.declared.journey.Release.{Release}
+use Rattle.ats_trace.proofs.OneListener.{journey_alone, sender_alone}
 use Rattle.ats_run_records.specs.Progress.{Progress, progress_at, no_progress, finished}
 use Rattle.ats_engine_steps.specs.Course.{Course, stage_at, turn_at, travel_of, travels_of, travels, path_of, place_at}
 use Rattle.ats_engine_steps.specs.Course.{offer_at}
@@ -150,14 +151,12 @@ releases-finished [] = refl
 releases-finished (p ∷ records) = ap (λ (rs : List Release). p.release ∷ rs) (releases-finished records)
 
 -- the journey of a frame that is over is one
-journey-finished : (network : DeclaredNetwork) (p : Progress) → IsFrame network p Over → IsJourney network (finished p)
-journey-finished network p is = record {
-  sender = is.sender;
-  octets = is.octets;
-  way = subst (λ (o : Option Ending). IsWay (path_of network p) p.hops (unwrap_or o Discard)) (sym is.stands.ended)
-      is.stands.way;
-  released = is.stands.released;
-}
+journey-finished : (network : DeclaredNetwork) (p : Progress) → HasOneListener network → IsFrame network p Over
+    → IsJourney network (finished p)
+journey-finished network p alone is =
+    journey_alone network (finished p) (sender_alone network alone p.release.sender) refl is.sender is.octets
+    (subst (λ (o : Option Ending). IsWay (path_of network p) p.hops (unwrap_or o Discard)) (sym is.stands.ended)
+    is.stands.way) is.stands.released
 
 -- what a port has sent keeps its rule, and its tie
 port-rule : {T : Type 0} {key : T → ℕ → ℕ → ℕ} {network : DeclaredNetwork} {course : Course T} (port : ℕ)
@@ -208,7 +207,7 @@ all-judged {T} {key} {wait} {network} {releases} {course} holds known port class
       | inl low ↦ group-judged network course port class (holds.groups port class within least (omega arith))
       | inr high ↦ none-judged network (residence_of_groups network port)
           (handed_by network (travels course) port class)
-          (none-above network (travels course) port class holds.rules known high)
+          (none-above network (travels course) port class holds.rules holds.one_listener known high)
     ]
 
 -- the run so far is legal, and keeps its tie and its pace
@@ -263,7 +262,7 @@ ended-run {T} {key} {wait} {network} {releases} {course} holds =
     let has : HasReleases releases run = releases-finished course.records ∙ holds.shape.released in
     let journeys : All (IsJourney network) run =
     All-map (IsJourney network) finished course.records
-    (λ k d h. journey-finished network (get_or course.records k d) (whole k d h)) in (
+    (λ k d h. journey-finished network (get_or course.records k d) holds.one_listener (whole k d h)) in (
       λ k d h. has-ending (get_or course.records k d) (ended k d h),
       subst (IsRunBy (key course.tie) wait network) same
           (run-holds holds (subst (HasReleases releases) (sym same) has)

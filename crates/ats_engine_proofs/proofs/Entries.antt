@@ -424,6 +424,7 @@ holds-permuted {T} {key} {wait} {network} {releases} {course} {entries} {other} 
     } in
     record {
       rules = holds.rules;
+      one_listener = holds.one_listener;
       shape = holds.shape;
       frames = holds.frames;
       awaited = own;

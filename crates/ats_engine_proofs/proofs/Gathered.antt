@@ -6,11 +6,13 @@ use Rattle.std.proofs.lemmas.List.Elements.{All-nil, All-append, filter-append}
 use Rattle.std.proofs.lemmas.List.Sorted.{IsPermutation-append_left, IsPermutation-append_right, IsPermutation-middle}
 use Rattle.std.proofs.lemmas.List.Sorted.{IsPermutation-sym, IsPermutation-trans}
 use Rattle.std.specs.Prelude.{◌==◌, ◌&&◌}
-use Rattle.ats_network.specs.Network.{DeclaredNetwork}
+use Rattle.ats_network.specs.Network.{DeclaredNetwork, HasOneListener}
 use Rattle.ats_port_rule.specs.Transmission.{Transmission}
 use Rattle.ats_trace.specs.Journey.{Travel}
-use Rattle.ats_trace.specs.Projections.{Hop, Crossing, Handed, journey_hops, journey_crossings, journey_handed}
-use Rattle.ats_trace.specs.Projections.{hops_from, crossings_from, handed_from, sent_by, crossings_by, handed_by}
+use Rattle.ats_trace.specs.Projections.{Hop, Crossing, Handed, hops_from, crossings_from, handed_from, sent_by}
+use Rattle.ats_trace.specs.Projections.{crossings_by, handed_by}
+use Rattle.ats_engine_proofs.proofs.OnPaths.{path_hops, path_crossings, path_handed, hops_on_path, crossings_on_path}
+use Rattle.ats_engine_proofs.proofs.OnPaths.{handed_on_path}
 
 -- what each travel of a run gives by its number, in one list: the travels are numbered from this number on
 abbrev pub gather : {X : Type 0} → (ℕ → Travel → List X) → ℕ → List Travel → List X
@@ -77,25 +79,28 @@ gather-map {X} {Y} f part n (j ∷ run) =
     ∙ ap (λ (ys : List Y). map f (part n j) ++ ys) (gather-map f part (n + 1) run)
 
 -- the three projections of a run, before they are taken apart by port
-hops-gathered : (network : DeclaredNetwork) (n : ℕ) (run : List Travel)
-    → hops_from network n run ≡ gather (journey_hops network) n run
-hops-gathered network n [] = refl
-hops-gathered network n (j ∷ run) =
-    ap (λ (hs : List Hop). journey_hops network n j ++ hs) (hops-gathered network (n + 1) run)
+hops-gathered : (network : DeclaredNetwork) → HasOneListener network → (n : ℕ) (run : List Travel)
+    → hops_from network n run ≡ gather (path_hops network) n run
+hops-gathered network alone n [] = refl
+hops-gathered network alone n (j ∷ run) =
+    ap (λ (hs : List Hop). hs ++ hops_from network (n + 1) run) (hops_on_path network alone n j)
+    ∙ ap (λ (hs : List Hop). path_hops network n j ++ hs) (hops-gathered network alone (n + 1) run)
 
 -- the crossings
-crossings-gathered : (network : DeclaredNetwork) (n : ℕ) (run : List Travel)
-    → crossings_from network n run ≡ gather (journey_crossings network) n run
-crossings-gathered network n [] = refl
-crossings-gathered network n (j ∷ run) =
-    ap (λ (xs : List Crossing). journey_crossings network n j ++ xs) (crossings-gathered network (n + 1) run)
+crossings-gathered : (network : DeclaredNetwork) → HasOneListener network → (n : ℕ) (run : List Travel)
+    → crossings_from network n run ≡ gather (path_crossings network) n run
+crossings-gathered network alone n [] = refl
+crossings-gathered network alone n (j ∷ run) =
+    ap (λ (xs : List Crossing). xs ++ crossings_from network (n + 1) run) (crossings_on_path network alone n j)
+    ∙ ap (λ (xs : List Crossing). path_crossings network n j ++ xs) (crossings-gathered network alone (n + 1) run)
 
 -- and what was handed on
-handed-gathered : (network : DeclaredNetwork) (n : ℕ) (run : List Travel)
-    → handed_from network n run ≡ gather (journey_handed network) n run
-handed-gathered network n [] = refl
-handed-gathered network n (j ∷ run) =
-    ap (λ (hs : List Handed). journey_handed network n j ++ hs) (handed-gathered network (n + 1) run)
+handed-gathered : (network : DeclaredNetwork) → HasOneListener network → (n : ℕ) (run : List Travel)
+    → handed_from network n run ≡ gather (path_handed network) n run
+handed-gathered network alone n [] = refl
+handed-gathered network alone n (j ∷ run) =
+    ap (λ (hs : List Handed). hs ++ handed_from network (n + 1) run) (handed_on_path network alone n j)
+    ∙ ap (λ (hs : List Handed). path_handed network n j ++ hs) (handed-gathered network alone (n + 1) run)
 
 -- what one travel gives to the transmissions of a port
 abbrev pub hops_at : ℕ → List Hop → List Transmission
@@ -103,7 +108,7 @@ hops_at port hops = map (λ (h : Hop). h.sent) (filter (λ (h : Hop). h.port == 
 
 -- of a whole travel
 abbrev pub sent_part : DeclaredNetwork → ℕ → ℕ → Travel → List Transmission
-sent_part network port n j = hops_at port (journey_hops network n j)
+sent_part network port n j = hops_at port (path_hops network n j)
 
 -- to its crossings
 abbrev pub crossings_at : ℕ → List Crossing → List Crossing
@@ -111,7 +116,7 @@ crossings_at port crossings = filter (λ (c : Crossing). c.port == port) crossin
 
 -- of a whole travel
 abbrev pub crossings_part : DeclaredNetwork → ℕ → ℕ → Travel → List Crossing
-crossings_part network port n j = crossings_at port (journey_crossings network n j)
+crossings_part network port n j = crossings_at port (path_crossings network n j)
 
 -- and to the frames of a class that it has handed on
 abbrev pub handed_in : ℕ → ℕ → List Handed → List Handed
@@ -120,28 +125,28 @@ handed_in port class handed =
 
 -- of a whole travel
 abbrev pub handed_part : DeclaredNetwork → ℕ → ℕ → ℕ → Travel → List Handed
-handed_part network port class n j = handed_in port class (journey_handed network n j)
+handed_part network port class n j = handed_in port class (path_handed network n j)
 
 -- each projection of a run is gathered from what its travels give
-pub sent-gathered : (network : DeclaredNetwork) (run : List Travel) (port : ℕ)
+pub sent-gathered : (network : DeclaredNetwork) → HasOneListener network → (run : List Travel) (port : ℕ)
     → sent_by network run port ≡ gather (sent_part network port) 0 run
-sent-gathered network run port =
-    ap (hops_at port) (hops-gathered network 0 run)
-    ∙ ap (map (λ (h : Hop). h.sent)) (gather-filter (λ (h : Hop). h.port == port) (journey_hops network) 0 run)
+sent-gathered network alone run port =
+    ap (hops_at port) (hops-gathered network alone 0 run)
+    ∙ ap (map (λ (h : Hop). h.sent)) (gather-filter (λ (h : Hop). h.port == port) (path_hops network) 0 run)
     ∙ gather-map (λ (h : Hop). h.sent)
-    (λ (n : ℕ) (j : Travel). filter (λ (h : Hop). h.port == port) (journey_hops network n j)) 0 run
+    (λ (n : ℕ) (j : Travel). filter (λ (h : Hop). h.port == port) (path_hops network n j)) 0 run
 
 -- the crossings of a port
-pub crossed-gathered : (network : DeclaredNetwork) (run : List Travel) (port : ℕ)
+pub crossed-gathered : (network : DeclaredNetwork) → HasOneListener network → (run : List Travel) (port : ℕ)
     → crossings_by network run port ≡ gather (crossings_part network port) 0 run
-crossed-gathered network run port =
-    ap (crossings_at port) (crossings-gathered network 0 run)
-    ∙ gather-filter (λ (c : Crossing). c.port == port) (journey_crossings network) 0 run
+crossed-gathered network alone run port =
+    ap (crossings_at port) (crossings-gathered network alone 0 run)
+    ∙ gather-filter (λ (c : Crossing). c.port == port) (path_crossings network) 0 run
 
 -- and what it has handed on in a class
-pub handed_on-gathered : (network : DeclaredNetwork) (run : List Travel) (port class : ℕ)
+pub handed_on-gathered : (network : DeclaredNetwork) → HasOneListener network → (run : List Travel) (port class : ℕ)
     → handed_by network run port class ≡ gather (handed_part network port class) 0 run
-handed_on-gathered network run port class =
-    ap (handed_in port class) (handed-gathered network 0 run)
+handed_on-gathered network alone run port class =
+    ap (handed_in port class) (handed-gathered network alone 0 run)
     ∙ gather-filter (λ (h : Handed). h.crossing.port == port && h.crossing.sent.class == class)
-    (journey_handed network) 0 run
+    (path_handed network) 0 run

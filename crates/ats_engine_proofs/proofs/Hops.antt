@@ -11,7 +11,7 @@ use Rattle.ats_facts.proofs.Lists.{pairs_head, pairs_tail}
 use Rattle.ats_num.specs.declared.time.Ps.{Ps}
 use Rattle.ats_num.specs.Wire.{bits_of}
 use Rattle.ats_network.specs.Class.{class_at}
-use Rattle.ats_network.specs.Network.{DeclaredNetwork}
+use Rattle.ats_network.specs.Network.{DeclaredNetwork, HasOneListener}
 use Rattle.ats_network.specs.Sender.{Sender}
 use Rattle.ats_group.specs.declared.verdict.Verdict.{Verdict}
 use Rattle.ats_group.specs.declared.verdict.Verdict.TheVariants.{Eligible, Late, Size}
@@ -26,6 +26,7 @@ use Rattle.ats_engine_steps.specs.Course.{Course, stage_at, travels, travel_of, 
 use Rattle.ats_engine_steps.specs.Frames.{Stands}
 use Rattle.ats_engine_steps.specs.declared.stage.Stage.{Stage}
 use Rattle.ats_engine_steps.specs.declared.stage.Stage.TheVariants.{Over}
+use Rattle.ats_engine_proofs.proofs.OnPaths.{path_hops, hops_on_path}
 use Rattle.ats_engine_proofs.proofs.Placed.{stands-at_most}
 
 -- what holds of each transmission that a frame may make at a port
@@ -108,15 +109,18 @@ not_sent_last Last frame release sender (p ∷ path) (hop ∷ next ∷ hops) (su
     (pairs_tail (λ (p q : ℕ). p ≢ q) p path apart) stands.1)
 
 -- what holds of the transmissions of each journey holds of those of a run
-pub of_journeys : (P : Hop → Type 0) (network : DeclaredNetwork) (first : ℕ) (run : List Travel)
-    → ((k : ℕ) (d : Travel) → k < length run → All P (journey_hops network (first + k) (get_or run k d)))
+pub of_journeys : (P : Hop → Type 0) (network : DeclaredNetwork) → HasOneListener network → (first : ℕ)
+    (run : List Travel)
+    → ((k : ℕ) (d : Travel) → k < length run → All P (path_hops network (first + k) (get_or run k d)))
     → All P (hops_from network first run)
-of_journeys P network first [] each = All-nil P
-of_journeys P network first (j ∷ run) each =
+of_journeys P network alone first [] each = All-nil P
+of_journeys P network alone first (j ∷ run) each =
+    let own : All P (path_hops network first j) =
+    subst (λ (n : ℕ). All P (path_hops network n j)) (omega arith) (each 0 j (omega arith)) in
     All-append P (journey_hops network first j) (hops_from network (first + 1) run)
-    (subst (λ (n : ℕ). All P (journey_hops network n j)) (omega arith) (each 0 j (omega arith)))
-    (of_journeys P network (first + 1) run (λ k d h.
-    subst (λ (n : ℕ). All P (journey_hops network n (get_or run k d))) (omega arith) (each (suc k) d (omega arith))))
+    (subst (All P) (sym (hops_on_path network alone first j)) own)
+    (of_journeys P network alone (first + 1) run (λ k d h.
+    subst (λ (n : ℕ). All P (path_hops network n (get_or run k d))) (omega arith) (each (suc k) d (omega arith))))
 
 -- so of those of a port
 pub of_port : (Q : Transmission → Type 0) (network : DeclaredNetwork) (run : List Travel) (port : ℕ)
@@ -148,17 +152,17 @@ travels_long course same =
     ∙ omega (arith, length-zip course.stages course.records)
 
 -- what holds of each transmission of each frame holds of those of a port in the run so far
-pub of_frames : {T : Type 0} (Q : Transmission → Type 0) (network : DeclaredNetwork) (course : Course T) (port : ℕ)
-    → length course.stages ≡ length course.records
+pub of_frames : {T : Type 0} (Q : Transmission → Type 0) (network : DeclaredNetwork) → HasOneListener network
+    → (course : Course T) (port : ℕ) → length course.stages ≡ length course.records
     → ((frame : ℕ) → frame < length course.records
     → All (λ (h : Hop). h.port ≡ port → Q h.sent) (hops_along frame (progress_at course.records frame).release
     (sender_of network (progress_at course.records frame)) (path_of network (progress_at course.records frame))
     (progress_at course.records frame).hops))
     → All Q (sent_by network (travels course) port)
-of_frames Q network course port same each =
+of_frames Q network alone course port same each =
     let P : Hop → Type 0 = λ (h : Hop). h.port ≡ port → Q h.sent in
-    of_port Q network (travels course) port (of_journeys P network 0 (travels course) (λ k d h.
+    of_port Q network (travels course) port (of_journeys P network alone 0 (travels course) (λ k d h.
     let within : k < length course.records = omega (arith, travels_long course same) in
-    subst (λ (n : ℕ). All P (journey_hops network n (get_or (travels course) k d))) (omega arith)
-    (subst (λ (j : Travel). All P (journey_hops network k j)) (sym (travel_at course k d same within))
+    subst (λ (n : ℕ). All P (path_hops network n (get_or (travels course) k d))) (omega arith)
+    (subst (λ (j : Travel). All P (path_hops network k j)) (sym (travel_at course k d same within))
     (each k within))))

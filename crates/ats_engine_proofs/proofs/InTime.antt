@@ -9,7 +9,7 @@ use Rattle.ats_num.specs.declared.time.Ps.{Ps}
 use Rattle.ats_topology.specs.Port.{port_at, no_port}
 use Rattle.ats_topology.specs.Topology.{IsPort}
 use Rattle.ats_topology.proofs.Rules.{ports_are_lawful}
-use Rattle.ats_network.specs.Network.{DeclaredNetwork, IsNetwork}
+use Rattle.ats_network.specs.Network.{DeclaredNetwork, HasOneListener, IsNetwork}
 use Rattle.ats_network.specs.Class.{class_at}
 use Rattle.ats_network.specs.Sender.{Sender}
 use Rattle.ats_network.specs.Senders.{IsSender, sender_at}
@@ -27,6 +27,7 @@ use Rattle.ats_trace.specs.declared.journey.Ending.{Ending}
 use Rattle.ats_trace.specs.declared.journey.Ending.TheVariants.{Sink, Discard}
 use Rattle.ats_trace.specs.declared.journey.HopRecord.{HopRecord}
 use Rattle.ats_trace.specs.declared.journey.Release.{Release}
+use Rattle.ats_trace.proofs.OneListener.{sender_alone, way_alone}
 use Rattle.ats_events.specs.declared.moment.Moment.{Moment}
 use Rattle.ats_run_records.specs.Progress.{finished}
 use Rattle.ats_engine_steps.specs.Course.{Course, travels}
@@ -36,6 +37,7 @@ use Rattle.ats_engine_proofs.specs.InTime.{IsSentBefore, IsEndBefore, IsRunInTim
 use Rattle.ats_engine_proofs.proofs.Conclusion.{ended-run, run-finished}
 use Rattle.ats_engine_proofs.proofs.LateTimes.{IsEligibleBefore, IsHopDoneBefore, IsJourneyDoneBefore, after_all}
 use Rattle.ats_engine_proofs.proofs.LateTimes.{in-time-with-late}
+use Rattle.ats_engine_proofs.proofs.OnPaths.{path_hops, path_crossings, hops_on_path, crossings_on_path}
 
 -- a transmission starts when the frame is eligible or later, and ends when it starts or later
 record IsLater (x : Transmission) : Type 0 where
@@ -193,34 +195,40 @@ release-before time ports frame release sender (p ∷ path) (hop ∷ hops) endin
     subst (IsEligibleBefore time) released.1 done.eligible
 
 -- so a journey is before it
-journey-before : (network : DeclaredNetwork) (time n : ℕ) (j : Travel) → IsNetwork network → IsJourney network j
-    → All (IsLaterAt (length network.topology.ports)) (journey_hops network n j)
+journey-before : (network : DeclaredNetwork) (time n : ℕ) (j : Travel) → IsNetwork network → HasOneListener network
+    → IsJourney network j → All (IsLaterAt (length network.topology.ports)) (journey_hops network n j)
     → All (IsCrossedAt time (length network.topology.ports)) (journey_crossings network n j)
     → IsJourneyDoneBefore time j
-journey-before network time n j rules is later crossed =
+journey-before network time n j rules alone is later crossed =
     let s : Sender = sender_at network j.release.sender in
     let ports : ℕ = length network.topology.ports in
     let keeps : IsSender network.topology s = sender_keeps network j.release.sender rules is.sender in
+    let onward : IsWay s.ports j.hops j.ending =
+    way_alone network j (sender_alone network alone j.release.sender) is in
+    let sent : All (IsLaterAt ports) (path_hops network n j) =
+    subst (All (IsLaterAt ports)) (hops_on_path network alone n j) later in
+    let across : All (IsCrossedAt time ports) (path_crossings network n j) =
+    subst (All (IsCrossedAt time ports)) (crossings_on_path network alone n j) crossed in
     let release : j.release.at.0 < time = release-before time ports n j.release s s.ports j.hops j.ending keeps.ports
-    is.way later crossed is.released in
-    let way = way-before time ports n j.release s s.ports j.hops j.ending keeps.ports is.way later crossed
+    onward sent across is.released in
+    let way = way-before time ports n j.release s s.ports j.hops j.ending keeps.ports onward sent across
     (comes-released time j.release j.hops j.ending release is.released) in
     record { release = release; hops = way.hops; ending = way.ending }
 
 -- and each journey of a run
 run-before : (network : DeclaredNetwork) (time n : ℕ) (run : List Travel) → IsNetwork network
-    → All (IsJourney network) run
+    → HasOneListener network → All (IsJourney network) run
     → All (IsLaterAt (length network.topology.ports)) (hops_from network n run)
     → All (IsCrossedAt time (length network.topology.ports)) (crossings_from network n run)
     → All (IsJourneyDoneBefore time) run
-run-before network time n [] rules journeys later crossed = All-nil (IsJourneyDoneBefore time)
-run-before network time n (j ∷ run) rules journeys later crossed =
+run-before network time n [] rules alone journeys later crossed = All-nil (IsJourneyDoneBefore time)
+run-before network time n (j ∷ run) rules alone journeys later crossed =
     let ports : ℕ = length network.topology.ports in
     All-cons (IsJourneyDoneBefore time) j run
-    (journey-before network time n j rules (All-head (IsJourney network) j run journeys)
+    (journey-before network time n j rules alone (All-head (IsJourney network) j run journeys)
     (all_left (IsLaterAt ports) (journey_hops network n j) (hops_from network (n + 1) run) later)
     (all_left (IsCrossedAt time ports) (journey_crossings network n j) (crossings_from network (n + 1) run) crossed))
-    (run-before network time (n + 1) run rules (All-tail (IsJourney network) j run journeys)
+    (run-before network time (n + 1) run rules alone (All-tail (IsJourney network) j run journeys)
     (all_right (IsLaterAt ports) (journey_hops network n j) (hops_from network (n + 1) run) later)
     (all_right (IsCrossedAt time ports) (journey_crossings network n j) (crossings_from network (n + 1) run) crossed))
 
@@ -272,7 +280,7 @@ run-done : {T : Type 0} {key : T → ℕ → ℕ → ℕ} {wait : ℕ → ℕ �
     → Holds key wait network releases course entries → IsLegal network (travels course)
     → All (IsJourneyDoneBefore after_all) (travels course)
 run-done {T} {key} {wait} {network} {releases} {course} holds legal =
-    run-before network after_all 0 (travels course) holds.rules legal.journeys
+    run-before network after_all 0 (travels course) holds.rules holds.one_listener legal.journeys
     (each-later network (travels course) legal.ports) (each-crossed holds)
 
 -- so where nothing is to happen any more, all that the run tells was before the end of time
@@ -283,4 +291,5 @@ ended-in-time {T} {key} {wait} {network} {releases} {course} holds =
     let same : travels course ≡ map finished course.records = run-finished holds in
     let legal : IsLegal network (travels course) =
     subst (IsLegal network) (sym same) (ended-run holds).1.legal in
-    subst IsRunInTime same (in-time-with-late network (travels course) holds.rules legal (run-done holds legal))
+    subst IsRunInTime same
+    (in-time-with-late network (travels course) holds.rules holds.one_listener legal (run-done holds legal))

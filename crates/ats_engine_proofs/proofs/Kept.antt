@@ -27,6 +27,7 @@ pub comes-holds : {T : Type 0} {key : T → ℕ → ℕ → ℕ} {wait : ℕ →
 comes-holds next step =
     record {
       rules = next.holds.rules;
+      one_listener = next.holds.one_listener;
       shape = comes-shape next step;
       frames = comes-frames next step;
       awaited = comes-awaited next step;
@@ -47,6 +48,7 @@ pub offered-holds : {T : Type 0} {key : T → ℕ → ℕ → ℕ} {wait : ℕ �
 offered-holds next step =
     record {
       rules = next.holds.rules;
+      one_listener = next.holds.one_listener;
       shape = offered-shape next step;
       frames = offered-frames next step;
       awaited = offered-awaited next step;
@@ -66,6 +68,7 @@ pub selects-holds : {T : Type 0} {key : T → ℕ → ℕ → ℕ} {wait : ℕ �
 selects-holds next step =
     record {
       rules = next.holds.rules;
+      one_listener = next.holds.one_listener;
       shape = selects-shape next step;
       frames = selects-frames next step;
       awaited = selects-awaited next step;
@@ -85,6 +88,7 @@ pub ends-holds : {T : Type 0} {key : T → ℕ → ℕ → ℕ} {wait : ℕ → 
 ends-holds within next step =
     record {
       rules = next.holds.rules;
+      one_listener = next.holds.one_listener;
       shape = ends-shape next step;
       frames = ends-frames next step;
       awaited = ends-awaited next step;

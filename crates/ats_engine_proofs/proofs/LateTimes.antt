@@ -9,7 +9,7 @@ use Rattle.std.proofs.lemmas.List.Sorted.{All-permutation, IsPermutation-sym}
 use Rattle.ats_facts.proofs.Lists.{all_left, all_right, all_unmapped, All-from_filter}
 use Rattle.ats_num.specs.declared.time.Ps.{Ps}
 use Rattle.ats_num.specs.declared.time.TheConstants.{END}
-use Rattle.ats_network.specs.Network.{DeclaredNetwork, IsNetwork}
+use Rattle.ats_network.specs.Network.{DeclaredNetwork, HasOneListener, IsNetwork}
 use Rattle.ats_network.specs.Class.{class_at}
 use Rattle.ats_network.specs.Sender.{Sender}
 use Rattle.ats_network.specs.Senders.{IsSender, sender_at}
@@ -29,9 +29,11 @@ use Rattle.ats_trace.specs.declared.journey.Ending.{Ending}
 use Rattle.ats_trace.specs.declared.journey.Ending.TheVariants.{Sink, Discard}
 use Rattle.ats_trace.specs.declared.journey.HopRecord.{HopRecord}
 use Rattle.ats_trace.specs.declared.journey.Release.{Release}
+use Rattle.ats_trace.proofs.OneListener.{sender_alone, way_alone}
 use Rattle.ats_engine_steps.specs.Bounds.{horizon, most_latency}
 use Rattle.ats_engine_proofs.specs.InTime.{IsVerdictBefore, IsSentBefore, IsEndBefore, IsJourneyBefore}
 use Rattle.ats_engine_proofs.specs.InTime.{IsRunInTime}
+use Rattle.ats_engine_proofs.proofs.OnPaths.{path_handed, handed_on_path}
 
 -- an eligible frame is so before this time; that of a late one comes later
 abbrev pub IsEligibleBefore : ℕ → Verdict → Type 0
@@ -96,18 +98,19 @@ come-along network time frame release s (p ∷ path) (hop ∷ hops) within ruled
     (come-along network time frame release s path hops
     (All-tail (λ (p : ℕ). p < length network.topology.ports) p path within) ruled rest)
 
-come-run : (network : DeclaredNetwork) (time n : ℕ) (run : List Travel) → IsNetwork network
+come-run : (network : DeclaredNetwork) (time n : ℕ) (run : List Travel) → IsNetwork network → HasOneListener network
     → All (IsJourney network) run → All (IsJourneyDoneBefore time) run
     → All (IsCome network time) (handed_from network n run)
-come-run network time n [] rules journeys done = All-nil (IsCome network time)
-come-run network time n (j ∷ run) rules journeys done =
+come-run network time n [] rules alone journeys done = All-nil (IsCome network time)
+come-run network time n (j ∷ run) rules alone journeys done =
     let is : IsJourney network j = All-head (IsJourney network) j run journeys in
     let s : Sender = sender_at network j.release.sender in
     let keeps : IsSender network.topology s = sender_keeps network j.release.sender rules is.sender in
     All-append (IsCome network time) (journey_handed network n j) (handed_from network (n + 1) run)
+    (subst (All (IsCome network time)) (sym (handed_on_path network alone n j))
     (come-along network time n j.release s s.ports j.hops keeps.ports keeps.shaped
-    (All-head (IsJourneyDoneBefore time) j run done).hops)
-    (come-run network time (n + 1) run rules (All-tail (IsJourney network) j run journeys)
+    (All-head (IsJourneyDoneBefore time) j run done).hops))
+    (come-run network time (n + 1) run rules alone (All-tail (IsJourney network) j run journeys)
     (All-tail (IsJourneyDoneBefore time) j run done))
 
 -- a frame that came behind a port of a class that has a group
@@ -257,18 +260,23 @@ released-late : (limit : ℕ) (release : Release) (hops : List HopRecord) → Is
 released-late limit release [] released = tt
 released-late limit release (hop ∷ hops) released = subst (IsLateUntil limit) (sym released.1) tt
 
-late-run : (network : DeclaredNetwork) (limit n : ℕ) (run : List Travel) → All (IsJourney network) run
-    → All (IsLateHanded limit) (handed_from network n run) → All (λ (j : Travel). All (IsLateHop limit) j.hops) run
-late-run network limit n [] journeys late = All-nil (λ (j : Travel). All (IsLateHop limit) j.hops)
-late-run network limit n (j ∷ run) journeys late =
+late-run : (network : DeclaredNetwork) → HasOneListener network → (limit n : ℕ) (run : List Travel)
+    → All (IsJourney network) run → All (IsLateHanded limit) (handed_from network n run)
+    → All (λ (j : Travel). All (IsLateHop limit) j.hops) run
+late-run network alone limit n [] journeys late = All-nil (λ (j : Travel). All (IsLateHop limit) j.hops)
+late-run network alone limit n (j ∷ run) journeys late =
     let is : IsJourney network j = All-head (IsJourney network) j run journeys in
     let s : Sender = sender_at network j.release.sender in
     let own : List Handed = journey_handed network n j in
     let others : List Handed = handed_from network (n + 1) run in
+    let along : All (IsLateHanded limit) (path_handed network n j) =
+    subst (All (IsLateHanded limit)) (handed_on_path network alone n j)
+    (all_left (IsLateHanded limit) own others late) in
     All-cons (λ (j : Travel). All (IsLateHop limit) j.hops) j run
-    (late-along limit n j.release s s.ports j.hops j.ending (λ next rest e. is.way)
-    (released-late limit j.release j.hops is.released) (all_left (IsLateHanded limit) own others late))
-    (late-run network limit (n + 1) run (All-tail (IsJourney network) j run journeys)
+    (late-along limit n j.release s s.ports j.hops j.ending
+    (λ next rest e. way_alone network j (sender_alone network alone j.release.sender) is)
+    (released-late limit j.release j.hops is.released) along)
+    (late-run network alone limit (n + 1) run (All-tail (IsJourney network) j run journeys)
     (all_right (IsLateHanded limit) own others late))
 
 -- both together
@@ -306,10 +314,11 @@ journey-in-time j done late = record {
 }
 
 -- a legal run whose moments are all before that time tells no time that is not before the end of time
-pub in-time-with-late : (network : DeclaredNetwork) (run : List Travel) → IsNetwork network → IsLegal network run
-    → All (IsJourneyDoneBefore after_all) run → IsRunInTime run
-in-time-with-late network run rules legal done k d h =
+pub in-time-with-late : (network : DeclaredNetwork) (run : List Travel) → IsNetwork network
+    → HasOneListener network → IsLegal network run → All (IsJourneyDoneBefore after_all) run → IsRunInTime run
+in-time-with-late network run rules alone legal done k d h =
     let limit : ℕ = horizon + most_latency in
-    let come = come-run network after_all 0 run rules legal.journeys done in
-    let late = late-run network (limit + most_given) 0 run legal.journeys (all-late network limit run legal come) in
+    let come = come-run network after_all 0 run rules alone legal.journeys done in
+    let late =
+    late-run network alone (limit + most_given) 0 run legal.journeys (all-late network limit run legal come) in
     journey-in-time (get_or run k d) (done k d h) (late k d h)

@@ -22,6 +22,7 @@ pub mod Left
 pub mod Moving
 pub mod Now
 pub mod Offering
+pub mod OnPaths
 pub mod Opened
 pub mod OwnParts
 pub mod Paces

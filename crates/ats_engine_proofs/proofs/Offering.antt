@@ -11,7 +11,7 @@ use Rattle.std.proofs.lemmas.List.Sorted.{All-permutation, IsPermutation-sym}
 use Rattle.std.proofs.lemmas.List.Sums.{length-filter, sum_by-append}
 use Rattle.ats_facts.proofs.Lists.{all_unmapped, count_by-cons}
 use Rattle.ats_network.specs.Class.{class_at}
-use Rattle.ats_network.specs.Network.{DeclaredNetwork}
+use Rattle.ats_network.specs.Network.{DeclaredNetwork, HasOneListener}
 use Rattle.ats_network.specs.Senders.{IsSender}
 use Rattle.ats_network.proofs.SenderLemmas.{sender_keeps}
 use Rattle.ats_port_rule.specs.Transmission.{Transmission}
@@ -141,12 +141,13 @@ of_standing {T} {key} {network} {course} {port} {s} Q kept all =
 
 -- a frame that a port sent passes it
 sent-passes : {T : Type 0} {key : T → ℕ → ℕ → ℕ} {network : DeclaredNetwork} {course : Course T} {port : ℕ}
-    {s : PortState T} → length course.stages ≡ length course.records → IsPortOf key network course port s
+    {s : PortState T} → HasOneListener network → length course.stages ≡ length course.records
+    → IsPortOf key network course port s
     → All (λ (x : Sent). Passes network course.records port (x.frame, x.class)) s.sent
-sent-passes {T} {key} {network} {course} {port} {s} same kept =
+sent-passes {T} {key} {network} {course} {port} {s} alone same kept =
     let Q : Transmission → Type 0 = λ (x : Transmission). Passes network course.records port (x.frame, x.class) in
     let P : Hop → Type 0 = λ (h : Hop). h.port ≡ port → Q h.sent in
-    of_standing Q kept (of_frames Q network course port same (λ frame within. (
+    of_standing Q kept (of_frames Q network alone course port same (λ frame within. (
     let progress : Progress = progress_at course.records frame in
     let sender = sender_of network progress in
     let path : List ℕ = path_of network progress in
@@ -195,7 +196,7 @@ not-sent-here {T} {key} {network} {course} {port} {s} {Last} frame same kept pla
     (λ h other here. absurd (other (here ∙ sym place))) hops
     (not_sent_last Last frame progress.release (sender_of network progress) path progress.hops
     (length progress.hops - 1) (omega arith) none keeps.apart at.stands) in
-    of_standing Q kept (of_frames Q network course port same (λ f within.
+    of_standing Q kept (of_frames Q network at.one_listener course port same (λ f within.
     elim (cases_eq f frame) as (λ _. Along f) [
       | inl e ↦ subst Along (sym e) this
       | inr n ↦ all_hops P f (progress_at course.records f).release (sender_of network (progress_at course.records f))
@@ -224,7 +225,7 @@ room-here {T} {key} {network} {course} {port} {s} {Last} frame same kept place w
     room_for network course.records port frame class s kept.holding.apart
     (All-append Row (map of_offer s.held) (map of_sent s.sent)
     (All-map Row of_offer s.held (held-passes kept stand))
-    (All-map Row of_sent s.sent (sent-passes same kept)))
+    (All-map Row of_sent s.sent (sent-passes at.one_listener same kept)))
     (All-append Other (map of_offer s.held) (map of_sent s.sent) (All-map Other of_offer s.held not_held)
     (All-map Other of_sent s.sent not_sent))
     (record { within = within; there = standing-passes at port class place refl }) in

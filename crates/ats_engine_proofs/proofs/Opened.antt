@@ -12,9 +12,9 @@ use Rattle.ats_num.specs.declared.time.Ps.{Ps}
 use Rattle.ats_num.specs.declared.time.TheConstants.{END}
 use Rattle.ats_topology.specs.Port.{port_at}
 use Rattle.ats_topology.specs.declared.port.Port.{Port}
-use Rattle.ats_network.specs.Network.{DeclaredNetwork, IsNetwork}
-use Rattle.ats_network.specs.Senders.{IsSender, sender_at}
-use Rattle.ats_network.proofs.SenderLemmas.{sender_keeps}
+use Rattle.ats_network.specs.Network.{DeclaredNetwork, HasOneListener, IsNetwork}
+use Rattle.ats_network.specs.Senders.{sender_at}
+use Rattle.ats_network.proofs.SenderLemmas.{sender_path}
 use Rattle.ats_bucket.specs.Scheduler.{first_empty}
 use Rattle.ats_group.specs.Group.{State, first}
 use Rattle.ats_group.specs.GroupsState as groups
@@ -114,24 +114,25 @@ travels-are network releases course opened =
 
 -- so no port has sent
 sent-nothing : {T : Type 0} (network : DeclaredNetwork) (releases : List Release) (course : Course T) (port : ℕ)
-    → IsOpened network releases course → sent_by network (travels course) port ≡ []
-sent-nothing network releases course port opened =
+    → HasOneListener network → IsOpened network releases course → sent_by network (travels course) port ≡ []
+sent-nothing network releases course port alone opened =
     ap (λ (run : List Travel). sent_by network run port) (travels-are network releases course opened)
-    ∙ none-sent network releases port
+    ∙ none-sent network alone releases port
 
 -- no frame has crossed a port
 crossed-nothing : {T : Type 0} (network : DeclaredNetwork) (releases : List Release) (course : Course T) (port : ℕ)
-    → IsOpened network releases course → crossings_by network (travels course) port ≡ []
-crossed-nothing network releases course port opened =
+    → HasOneListener network → IsOpened network releases course → crossings_by network (travels course) port ≡ []
+crossed-nothing network releases course port alone opened =
     ap (λ (run : List Travel). crossings_by network run port) (travels-are network releases course opened)
-    ∙ none-crossed network releases port
+    ∙ none-crossed network alone releases port
 
 -- and none was handed on
 handed-nothing : {T : Type 0} (network : DeclaredNetwork) (releases : List Release) (course : Course T)
-    (port class : ℕ) → IsOpened network releases course → handed_by network (travels course) port class ≡ []
-handed-nothing network releases course port class opened =
+    (port class : ℕ) → HasOneListener network → IsOpened network releases course
+    → handed_by network (travels course) port class ≡ []
+handed-nothing network releases course port class alone opened =
     ap (λ (run : List Travel). handed_by network run port class) (travels-are network releases course opened)
-    ∙ none-handed network releases port class
+    ∙ none-handed network alone releases port class
 
 -- the lists fit the network and the releases
 opened-shape : {T : Type 0} (network : DeclaredNetwork) (releases : List Release) (course : Course T)
@@ -158,22 +159,21 @@ goes-at-first (p ∷ path) least = tt
 
 -- each frame is as far as its stage says
 opened-frames : {T : Type 0} (network : DeclaredNetwork) (releases : List Release) (course : Course T)
-    → IsNetwork network → AreReleases network releases → IsOpened network releases course
+    → IsNetwork network → HasOneListener network → AreReleases network releases → IsOpened network releases course
     → (frame : ℕ) → frame < length course.records
     → IsFrame network (progress_at course.records frame) (stage_at course frame)
-opened-frames network releases course rules are opened frame within =
+opened-frames network releases course rules alone are opened frame within =
     let records = length-records network releases course opened in
     let inside : frame < length releases = omega arith in
     let r : Release = get_or releases frame no_release in
     let is : IsRelease network r = are.each frame no_release inside in
-    let sender : IsSender network.topology (sender_at network r.sender) =
-    sender_keeps network r.sender rules is.sender in
+    let path = (sender_path network r.sender rules alone is.sender).path in
     let here : IsFrame network (start network r) (Coming r.at) = record {
       sender = is.sender;
       octets = is.octets;
       room = refl;
       stands = record {
-        here = (goes-at-first (sender_at network r.sender).ports sender.path.least, refl);
+        here = (goes-at-first (sender_at network r.sender).ports path.least, refl);
         unended = refl;
       };
     } in
@@ -256,11 +256,11 @@ opened-awaited network releases course opened =
 
 -- a port that was just opened holds, sends and has sent nothing
 fresh-port : {T : Type 0} (key : T → ℕ → ℕ → ℕ) (network : DeclaredNetwork) (releases : List Release)
-    (course : Course T) (port : ℕ) (rooms : List ℕ) → IsOpened network releases course
+    (course : Course T) (port : ℕ) (rooms : List ℕ) → HasOneListener network → IsOpened network releases course
     → ((class : ℕ) → class ≤ 7 → get_or rooms class 0 ≡ room_of network course.records port class)
     → IsPortOf key network course port
     (standing.opened (port_at network.topology.ports port).ps_per_bit rooms course.tie)
-fresh-port {T} key network releases course port rooms opened each =
+fresh-port {T} key network releases course port rooms alone opened each =
     let ps : ℕ = (port_at network.topology.ports port).ps_per_bit in
     let fresh : PortState T = standing.opened ps rooms course.tie in
     let nothing : List Transmission = [] in
@@ -272,7 +272,7 @@ fresh-port {T} key network releases course port rooms opened each =
       };
       past = record {
         lawful = lawful-open (key course.tie) ps;
-        sent = subst (IsPermutation nothing) (sym (sent-nothing network releases course port opened))
+        sent = subst (IsPermutation nothing) (sym (sent-nothing network releases course port alone opened))
             (IsPermutation-refl nothing);
       };
       holding = record {
@@ -316,12 +316,12 @@ fresh-port {T} key network releases course port rooms opened each =
 
 -- so each port is as it has to be
 opened-ports : {T : Type 0} (key : T → ℕ → ℕ → ℕ) (network : DeclaredNetwork) (releases : List Release)
-    (course : Course T) → IsOpened network releases course → (port : ℕ) → port < length network.topology.ports
-    → IsPortOf key network course port (port_state_at course port)
-opened-ports key network releases course opened port within =
+    (course : Course T) → HasOneListener network → IsOpened network releases course → (port : ℕ)
+    → port < length network.topology.ports → IsPortOf key network course port (port_state_at course port)
+opened-ports key network releases course alone opened port within =
     let is : IsFresh network course port = opened.ports port within in
     subst (IsPortOf key network course port) (sym is.fresh)
-    (fresh-port key network releases course port is.rooms opened is.each)
+    (fresh-port key network releases course port is.rooms alone opened is.each)
 
 -- behind no port has a frame arrived
 arrives-from-is : {T : Type 0} (network : DeclaredNetwork) (releases : List Release) (course : Course T) (port : ℕ)
@@ -333,12 +333,12 @@ arrives-from-is network releases course port opened within =
 
 -- what is kept of the last arrival behind each port is so
 opened-paces : {T : Type 0} (wait : ℕ → ℕ → ℕ) (network : DeclaredNetwork) (releases : List Release)
-    (course : Course T) → IsOpened network releases course → (port : ℕ) → port < length network.topology.ports
-    → IsPaced wait network course port
-opened-paces wait network releases course opened port within =
+    (course : Course T) → HasOneListener network → IsOpened network releases course → (port : ℕ)
+    → port < length network.topology.ports → IsPaced wait network course port
+opened-paces wait network releases course alone opened port within =
     let link : Port = port_at network.topology.ports port in
     let none : [] ≡ crossings_by network (travels course) port =
-    sym (crossed-nothing network releases course port opened) in
+    sym (crossed-nothing network releases course port alone opened) in
     record {
       rule = subst (KeepsLinkRule link) none (record {
         within = λ k d h. absurd (omega arith);
@@ -393,13 +393,14 @@ state-opened network port class = record {
 
 -- which is what nothing leaves
 opened-groups : {T : Type 0} (network : DeclaredNetwork) (releases : List Release) (course : Course T)
-    → IsOpened network releases course → (port class : ℕ) → IsGroupOf network course port class
-opened-groups network releases course opened port class =
+    → HasOneListener network → IsOpened network releases course → (port class : ℕ)
+    → IsGroupOf network course port class
+opened-groups network releases course alone opened port class =
     let nothing : List Handed = [] in
     record {
       arrivals = [];
       same = subst (λ (hs : List Handed). IsPermutation hs nothing)
-          (sym (handed-nothing network releases course port class opened)) (IsPermutation-refl nothing);
+          (sym (handed-nothing network releases course port class alone opened)) (IsPermutation-refl nothing);
       in_order = λ i j d less h. absurd (omega arith);
       verdicts = refl;
       state = subst (λ (g : GroupsState). IsStateOf network g port class (first (declared_by network)))
@@ -409,14 +410,14 @@ opened-groups network releases course opened port class =
 
 -- all is over in time
 opened-bounds : {T : Type 0} (network : DeclaredNetwork) (releases : List Release) (course : Course T)
-    → IsNetwork network → AreReleases network releases → IsOpened network releases course
+    → IsNetwork network → HasOneListener network → AreReleases network releases → IsOpened network releases course
     → EndsInTime course (released_from 0 releases)
-opened-bounds network releases course rules are opened =
+opened-bounds network releases course rules alone are opened =
     let left : all_left course ≡ sum_by most_left (zip (map coming releases) (map (start network) releases)) =
     ap (λ (ss : List Stage). sum_by most_left (zip ss course.records)) opened.stages
     ∙ ap (λ (ps : List Progress). sum_by most_left (zip (map coming releases) ps))
     (records-are network releases course opened) in
-    let most = most-opened network releases rules are.each in
+    let most = most-opened network releases rules alone are.each in
     let long = length-released 0 releases in
     let first : course.last.at.0 ≡ 0 = ap (λ (m : Moment). m.at.0) opened.last in
     record {
@@ -431,19 +432,20 @@ opened-bounds network releases course rules are opened =
 -- a run that is to begin: each frame comes at its release, nothing has happened yet
 pub opened-holds : {T : Type 0} (key : T → ℕ → ℕ → ℕ) (wait : ℕ → ℕ → ℕ) (network : DeclaredNetwork)
     (releases : List Release) (course : Course T) (entries : List (Moment × Event)) → IsNetwork network
-    → AreReleases network releases → IsOpened network releases course
+    → HasOneListener network → AreReleases network releases → IsOpened network releases course
     → entries ≡ released_from 0 releases → Holds key wait network releases course entries
-opened-holds key wait network releases course entries rules are opened entered =
+opened-holds key wait network releases course entries rules alone are opened entered =
     subst (Holds key wait network releases course) (sym entered) (record {
       rules = rules;
+      one_listener = alone;
       shape = opened-shape network releases course are opened;
-      frames = opened-frames network releases course rules are opened;
+      frames = opened-frames network releases course rules alone are opened;
       awaited = opened-awaited network releases course opened;
-      ports = opened-ports key network releases course opened;
-      paces = opened-paces wait network releases course opened;
+      ports = opened-ports key network releases course alone opened;
+      paces = opened-paces wait network releases course alone opened;
       members = subst (AreGroupsOf network) (sym opened.groups) (groups-opened network rules);
-      groups = λ port class within least most. opened-groups network releases course opened port class;
+      groups = λ port class within least most. opened-groups network releases course alone opened port class;
       flows = λ port within. subst (All (IsPassed network))
-          (sym (handed-nothing network releases course port 0 opened)) (All-nil (IsPassed network));
-      bounds = opened-bounds network releases course rules are opened;
+          (sym (handed-nothing network releases course port 0 alone opened)) (All-nil (IsPassed network));
+      bounds = opened-bounds network releases course rules alone are opened;
     })

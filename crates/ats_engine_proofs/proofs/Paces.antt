@@ -134,7 +134,7 @@ crossed_before {T} {key} {wait} {network} {releases} {old} {new} {now} {frame} {
     in
     All-contains Sooner (sent_by network (travels old) place)
     (get_or (crossings_by network (travels old) place) k d).sent all
-    (crossings-are-sent network (travels old) place k d h) (ends-others next step k d h)
+    (crossings-are-sent network next.holds.one_listener (travels old) place k d h) (ends-others next step k d h)
 
 -- the frame is the newest behind its port
 newest_here : {T : Type 0} {key : T → ℕ → ℕ → ℕ} {wait : ℕ → ℕ → ℕ} {network : DeclaredNetwork}

@@ -6,8 +6,8 @@ use Rattle.std.proofs.lemmas.Bool.{eq-eqb, and_from}
 use Rattle.std.proofs.lemmas.List.Elements.{All-head, All-tail, All-filter, All-map}
 use Rattle.std.proofs.lemmas.List.Folds.{list_any_at}
 use Rattle.ats_network.specs.Class.{class_at}
-use Rattle.ats_network.specs.Network.{DeclaredNetwork, IsNetwork, senders_of}
-use Rattle.ats_network.proofs.SenderLemmas.{sender_keeps}
+use Rattle.ats_network.specs.Network.{DeclaredNetwork, HasOneListener, IsNetwork, senders_of}
+use Rattle.ats_network.proofs.SenderLemmas.{sender_keeps, sender_path}
 use Rattle.ats_trace.specs.Links.{in_order_from}
 use Rattle.ats_trace.specs.Projections.{Crossing}
 use Rattle.ats_trace.specs.declared.journey.HopRecord.{HopRecord}
@@ -48,6 +48,7 @@ stands-last Last (p ∷ path) (hop ∷ next ∷ hops) (suc last) d many stands =
 -- a frame of a network that stands at a record
 pub record IsStanding (network : DeclaredNetwork) (Last : HopRecord → Type 0) (progress : Progress) : Type 0 where
   pub rules : IsNetwork network
+  pub one_listener : HasOneListener network
   pub sender : progress.release.sender < length (senders_of network)
   pub stands : Stands Last (path_of network progress) progress.hops
 
@@ -92,13 +93,13 @@ pub standing-placed : {network : DeclaredNetwork} {Last : HopRecord → Type 0} 
 standing-placed {network} {Last} records frame within at =
     let progress : Progress = progress_at records frame in
     let on_path = stands-at_most Last (path_of network progress) progress.hops at.stands in
-    let keeps = sender_keeps network progress.release.sender at.rules at.sender in
+    let path = (sender_path network progress.release.sender at.rules at.one_listener at.sender).path in
     record {
       within = within;
       sender = at.sender;
       came = stands-some Last (path_of network progress) progress.hops at.stands;
       on_path = on_path;
-      most = omega (arith, on_path, keeps.path.most);
+      most = omega (arith, on_path, path.most);
     }
 
 -- the greatest of numbers that are at most a bound is at most that

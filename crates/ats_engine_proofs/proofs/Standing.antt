@@ -205,7 +205,12 @@ module _ {T : Type 0} {old new : Course T} {frame : ℕ} {stage : Stage} {progre
 
 -- the travel of a frame at a stage, whose journey is not over
 pub travel-by : (stage at : Stage) (p : Progress) → stage ≡ at → p.ending ≡ None
-    → travel_of (stage, p) ≡ record { release = p.release; hops = p.hops; ending = ending_by at None }
+    → travel_of (stage, p) ≡ record { release = p.release; hops = p.hops; ending = ending_by at None; copies = [] }
 travel-by stage at p is unended =
     ap (λ (s : Stage). travel_of (s, p)) is
-    ∙ ap (λ (o : Option Ending). record { release = p.release; hops = p.hops; ending = ending_by at o }) unended
+    ∙ ap (λ (o : Option Ending). record {
+      release = p.release;
+      hops = p.hops;
+      ending = ending_by at o;
+      copies = [];
+    }) unended

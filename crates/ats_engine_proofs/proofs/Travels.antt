@@ -9,7 +9,7 @@ use Rattle.std.proofs.lemmas.List.Elements.{All-head, All-weaker, All-filter, fi
 use Rattle.std.proofs.lemmas.List.Sorted.{All-permutation}
 use Rattle.ats_num.specs.declared.time.Ps.{Ps}
 use Rattle.ats_num.specs.Wire.{bits_of}
-use Rattle.ats_network.specs.Network.{DeclaredNetwork, IsNetwork, senders_of}
+use Rattle.ats_network.specs.Network.{DeclaredNetwork, HasOneListener, IsNetwork, senders_of}
 use Rattle.ats_network.specs.Sender.{Sender}
 use Rattle.ats_network.specs.Senders.{no_sender, sender_at}
 use Rattle.ats_network.specs.Class.{class_at}
@@ -22,7 +22,7 @@ use Rattle.ats_transmit.specs.Sending.{begun}
 use Rattle.ats_transmit.specs.declared.offer.Offer.{Offer}
 use Rattle.ats_trace.specs.Journey.{Travel}
 use Rattle.ats_trace.specs.Projections.{Crossing, Handed, sent_by, crossings_by, handed_by, crossing_of}
-use Rattle.ats_trace.specs.Projections.{journey_crossings, journey_handed, journey_hops, crossings_along}
+use Rattle.ats_trace.specs.Projections.{crossings_along}
 use Rattle.ats_engine_steps.specs.Entries.{arrival_moment}
 use Rattle.ats_trace.specs.declared.journey.Ending.{Ending}
 use Rattle.ats_trace.specs.declared.journey.Ending.TheVariants.{Sink, Discard}
@@ -49,6 +49,7 @@ use Rattle.ats_engine_proofs.proofs.Standing.{travel-by}
 use Rattle.ats_engine_proofs.proofs.Standing.{arriving-within, arriving-frame, due-within, due-frame}
 use Rattle.ats_engine_proofs.proofs.Standing.{ending-within, ending-frame, selecting-within, stands-split}
 use Rattle.ats_engine_proofs.proofs.Standing.{goes-split}
+use Rattle.ats_engine_proofs.proofs.OnPaths.{path_hops, path_crossings, path_handed}
 use Rattle.ats_engine_proofs.proofs.OwnParts.{pushed, hops_at-more, hops_at-same, crossings_at-more, crossings_at-same}
 use Rattle.ats_engine_proofs.proofs.OwnParts.{handed_in-more, handed_in-same, sent-there, coming-hops, coming-crossings}
 use Rattle.ats_engine_proofs.proofs.OwnParts.{coming-first, coming-handed, selected-hops, selected-crossings}
@@ -65,7 +66,7 @@ permuted-by {X} x xs ys us vs same other more =
 
 -- what happened to a frame so far
 abbrev way : Progress → List HopRecord → Ending → Travel
-way p hops ending = record { release = p.release; hops = hops; ending = ending }
+way p hops ending = record { release = p.release; hops = hops; ending = ending; copies = [] }
 
 -- a frame that comes has one record more, and counts no longer as sunk
 comes-way : (frame : ℕ) (p : Progress) (at : Ps) (v : Verdict) → p.ending ≡ None
@@ -118,10 +119,10 @@ comes-sent {network = network} {old = old} {new = new} {now = now} {frame = fram
     let hop : HopRecord = came now.at (verdict_now network old.groups p now.at.0) in
     let own = coming-hops frame p.release (sender_of network p) (path_of network p) p.hops hop
     (arriving-frame next).stands.here.0 refl in
-    sent-gathered network (travels new) other
+    sent-gathered network next.holds.one_listener (travels new) other
     ∙ advances-same (sent_part network other) (way p p.hops (Sink now.at)) (way p (p.hops ++ hop ∷ []) Discard)
     (comes-advances next step) (comes-before next) (comes-after next step) (ap (hops_at other) own)
-    ∙ sym (sent-gathered network (travels old) other)
+    ∙ sym (sent-gathered network next.holds.one_listener (travels old) other)
 
 -- nor has it crossed another one: what it crossed last, it crossed with this arrival
 pub comes-crossings : {T : Type 0} {key : T → ℕ → ℕ → ℕ} {wait : ℕ → ℕ → ℕ} {network : DeclaredNetwork}
@@ -133,10 +134,10 @@ comes-crossings {network = network} {old = old} {new = new} {now = now} {frame =
     let hop : HopRecord = came now.at (verdict_now network old.groups p now.at.0) in
     let own = coming-crossings frame p.release (sender_of network p) (path_of network p) p.hops hop
     (arriving-frame next).stands.here.0 refl in
-    crossed-gathered network (travels new) other
+    crossed-gathered network next.holds.one_listener (travels new) other
     ∙ advances-same (crossings_part network other) (way p p.hops (Sink now.at)) (way p (p.hops ++ hop ∷ []) Discard)
     (comes-advances next step) (comes-before next) (comes-after next step) (ap (crossings_at other) own)
-    ∙ sym (crossed-gathered network (travels old) other)
+    ∙ sym (crossed-gathered network next.holds.one_listener (travels old) other)
 
 -- at its own station it arrives behind no port
 pub comes-first : {T : Type 0} {key : T → ℕ → ℕ → ℕ} {wait : ℕ → ℕ → ℕ} {network : DeclaredNetwork}
@@ -148,11 +149,11 @@ comes-first {network = network} {old = old} {new = new} {now = now} {frame = fra
     let p : Progress = progress_at old.records frame in
     let hop : HopRecord = came now.at (verdict_now network old.groups p now.at.0) in
     let own = coming-first frame p.release (sender_of network p) (path_of network p) p.hops hop none in
-    handed_on-gathered network (travels new) other class
+    handed_on-gathered network next.holds.one_listener (travels new) other class
     ∙ advances-same (handed_part network other class) (way p p.hops (Sink now.at))
     (way p (p.hops ++ hop ∷ []) Discard)
     (comes-advances next step) (comes-before next) (comes-after next step) (ap (handed_in other class) own)
-    ∙ sym (handed_on-gathered network (travels old) other class)
+    ∙ sym (handed_on-gathered network next.holds.one_listener (travels old) other class)
 
 -- a frame as it was handed on by the port where it stands, with the record of its arrival behind it
 abbrev came-behind : (network : DeclaredNetwork) (frame : ℕ) (p : Progress) → HopRecord
@@ -183,7 +184,7 @@ comes-here {network = network} {old = old} {new = new} {now = now} {frame = fram
     let place : at.port ≡ place_of network p = sym (port-of-last IsSent path p.hops at 0) in
     let h : Handed = came-behind network frame p hop at in
     let ranked : class_at sender at.port ≡ class_behind network p = ap (class_at sender) place in
-    let kept = handed_in-more (place_of network p) (class_behind network p) (journey_handed network frame
+    let kept = handed_in-more (place_of network p) (class_behind network p) (path_handed network frame
     (way p p.hops (Sink now.at))) h place ranked in
     let own = coming-handed frame p.release sender path p.hops hop at in
     let part = handed_part network (place_of network p) (class_behind network p) in (
@@ -200,8 +201,10 @@ comes-here {network = network} {old = old} {new = new} {now = now} {frame = fram
       permuted-by h (handed_by network (travels old) (place_of network p) (class_behind network p))
           (handed_by network (travels new) (place_of network p) (class_behind network p))
           (gather part 0 (travels old)) (gather part 0 (travels new))
-          (handed_on-gathered network (travels old) (place_of network p) (class_behind network p))
-          (handed_on-gathered network (travels new) (place_of network p) (class_behind network p))
+          (handed_on-gathered network next.holds.one_listener (travels old) (place_of network p)
+          (class_behind network p))
+          (handed_on-gathered network next.holds.one_listener (travels new) (place_of network p)
+          (class_behind network p))
           (advances-more part (way p p.hops (Sink now.at)) (way p (p.hops ++ hop ∷ []) Discard) h
           (comes-advances next step) (comes-before next) (comes-after next step)
           (pushed (part frame (way p p.hops (Sink now.at))) (part frame (way p (p.hops ++ hop ∷ []) Discard)) h
@@ -228,14 +231,14 @@ comes-elsewhere {network = network} {old = old} {new = new} {now = now} {frame =
           let at : IsLast IsSent path p.hops = goes-split path p.hops goes some in
           let place : at.port ≡ place_of network p = sym (port-of-last IsSent path p.hops at 0) in
           let h : Handed = came-behind network frame p hop at in
-          let kept = handed_in-same other class (journey_handed network frame (way p p.hops (Sink now.at))) h
+          let kept = handed_in-same other class (path_handed network frame (way p p.hops (Sink now.at))) h
           (λ both. apart (sym both.0 ∙ place, sym both.1 ∙ ap (class_at sender) place)) in
           let own = coming-handed frame p.release sender path p.hops hop at in
-          handed_on-gathered network (travels new) other class
+          handed_on-gathered network next.holds.one_listener (travels new) other class
           ∙ advances-same (handed_part network other class) (way p p.hops (Sink now.at))
           (way p (p.hops ++ hop ∷ []) Discard) (comes-advances next step) (comes-before next) (comes-after next step)
           (ap (handed_in other class) own ∙ kept)
-          ∙ sym (handed_on-gathered network (travels old) other class))
+          ∙ sym (handed_on-gathered network next.holds.one_listener (travels old) other class))
     ]
 
 -- a frame that becomes eligible changes nothing of the run so far
@@ -399,11 +402,12 @@ selects-here {network = network} {old = old} {new = new} {now = now} {port = por
     let part = sent_part network port in
     let own : part step.frame after ≡ part step.frame before ++ begins ∷ [] =
     ap (hops_at port) (selected-hops step.frame p.release sender path p.hops at (now.at, step.end))
-    ∙ hops_at-more port (journey_hops network step.frame before) (record { port = at.port; sent = t }) place
+    ∙ hops_at-more port (path_hops network step.frame before) (record { port = at.port; sent = t }) place
     ∙ ap (λ (x : Transmission). part step.frame before ++ x ∷ []) is in
     permuted-by begins (sent_by network (travels old) port) (sent_by network (travels new) port)
     (gather part 0 (travels old)) (gather part 0 (travels new))
-    (sent-gathered network (travels old) port) (sent-gathered network (travels new) port)
+    (sent-gathered network next.holds.one_listener (travels old) port)
+    (sent-gathered network next.holds.one_listener (travels new) port)
     (advances-more part before after begins (selects-advances next step) (selects-before next step) becomes
     (pushed (part step.frame before) (part step.frame after) begins own))
 
@@ -427,12 +431,12 @@ selects-elsewhere {network = network} {old = old} {new = new} {now = now} {port 
     let place : at.port ≡ port = sym (port-of-last IsUnsent path p.hops at 0) ∙ selects-place next step in
     let own : sent_part network other step.frame after ≡ sent_part network other step.frame before =
     ap (hops_at other) (selected-hops step.frame p.release sender path p.hops at (now.at, step.end))
-    ∙ hops_at-same other (journey_hops network step.frame before) (record { port = at.port; sent = t })
+    ∙ hops_at-same other (path_hops network step.frame before) (record { port = at.port; sent = t })
     (λ e. apart (sym e ∙ place)) in
-    sent-gathered network (travels new) other
+    sent-gathered network next.holds.one_listener (travels new) other
     ∙ advances-same (sent_part network other) before after (selects-advances next step) (selects-before next step)
     becomes own
-    ∙ sym (sent-gathered network (travels old) other)
+    ∙ sym (sent-gathered network next.holds.one_listener (travels old) other)
 
 -- nothing has crossed a port by it
 pub selects-crossings : {T : Type 0} {key : T → ℕ → ℕ → ℕ} {wait : ℕ → ℕ → ℕ} {network : DeclaredNetwork}
@@ -450,10 +454,10 @@ selects-crossings {network = network} {old = old} {new = new} {now = now} next s
     selects-way path p at now.at step.end (selects-frame next step).stands.unended in
     let own : crossings_part network other step.frame after ≡ crossings_part network other step.frame before =
     ap (crossings_at other) (selected-crossings step.frame p.release sender path p.hops at (now.at, step.end)) in
-    crossed-gathered network (travels new) other
+    crossed-gathered network next.holds.one_listener (travels new) other
     ∙ advances-same (crossings_part network other) before after (selects-advances next step) (selects-before next step)
     becomes own
-    ∙ sym (crossed-gathered network (travels old) other)
+    ∙ sym (crossed-gathered network next.holds.one_listener (travels old) other)
 
 -- or was handed on
 pub selects-handed : {T : Type 0} {key : T → ℕ → ℕ → ℕ} {wait : ℕ → ℕ → ℕ} {network : DeclaredNetwork}
@@ -472,10 +476,10 @@ selects-handed {network = network} {old = old} {new = new} {now = now} next step
     selects-way path p at now.at step.end (selects-frame next step).stands.unended in
     let own : handed_part network other class step.frame after ≡ handed_part network other class step.frame before =
     ap (handed_in other class) (selected-handed step.frame p.release sender path p.hops at (now.at, step.end)) in
-    handed_on-gathered network (travels new) other class
+    handed_on-gathered network next.holds.one_listener (travels new) other class
     ∙ advances-same (handed_part network other class) before after (selects-advances next step)
     (selects-before next step) becomes own
-    ∙ sym (handed_on-gathered network (travels old) other class)
+    ∙ sym (handed_on-gathered network next.holds.one_listener (travels old) other class)
 
 -- a frame that leaves a port for its listener, or else for the next port
 abbrev leaves-if : Bool → ℕ → Progress → Ps → Move
@@ -544,10 +548,10 @@ ends-sent {network = network} {old = old} {new = new} {frame = frame} next step 
     let p : Progress = progress_at old.records frame in
     let before : Travel = way p p.hops Discard in
     let after : Travel = way p p.hops (Sink step.arrival) in
-    sent-gathered network (travels new) other
+    sent-gathered network next.holds.one_listener (travels new) other
     ∙ advances-same (sent_part network other) before after (ends-advances next step) (ends-before next)
     (ends-after next step) refl
-    ∙ sym (sent-gathered network (travels old) other)
+    ∙ sym (sent-gathered network next.holds.one_listener (travels old) other)
 
 -- and hands nothing on
 pub ends-handed : {T : Type 0} {key : T → ℕ → ℕ → ℕ} {wait : ℕ → ℕ → ℕ} {network : DeclaredNetwork}
@@ -559,10 +563,10 @@ ends-handed {network = network} {old = old} {new = new} {frame = frame} next ste
     let p : Progress = progress_at old.records frame in
     let before : Travel = way p p.hops Discard in
     let after : Travel = way p p.hops (Sink step.arrival) in
-    handed_on-gathered network (travels new) other class
+    handed_on-gathered network next.holds.one_listener (travels new) other class
     ∙ advances-same (handed_part network other class) before after (ends-advances next step) (ends-before next)
     (ends-after next step) refl
-    ∙ sym (handed_on-gathered network (travels old) other class)
+    ∙ sym (handed_on-gathered network next.holds.one_listener (travels old) other class)
 
 -- the crossing of a frame whose transmission has ended at its last port
 abbrev crossed-last : (network : DeclaredNetwork) (frame : ℕ) (p : Progress) (until : Ps)
@@ -592,14 +596,14 @@ ends-here {network = network} {old = old} {new = new} {now = now} {frame = frame
     let part = crossings_part network (place_of network p) in
     let own : part frame after ≡ part frame before ++ x ∷ [] =
     ap (crossings_at (place_of network p)) one
-    ∙ crossings_at-more (place_of network p) (journey_crossings network frame before) x place in (
+    ∙ crossings_at-more (place_of network p) (path_crossings network frame before) x place in (
       x,
       record { named = refl; behind = place; ends = refl; arrives = refl },
       permuted-by x (crossings_by network (travels old) (place_of network p))
           (crossings_by network (travels new) (place_of network p))
           (gather part 0 (travels old)) (gather part 0 (travels new))
-          (crossed-gathered network (travels old) (place_of network p))
-          (crossed-gathered network (travels new) (place_of network p))
+          (crossed-gathered network next.holds.one_listener (travels old) (place_of network p))
+          (crossed-gathered network next.holds.one_listener (travels new) (place_of network p))
           (advances-more part before after x (ends-advances next step) (ends-before next) (ends-after next step)
           (pushed (part frame before) (part frame after) x own)),
     )
@@ -621,11 +625,11 @@ ends-elsewhere {network = network} {old = old} {new = new} {now = now} {frame = 
     let one = ended-crossings frame p.release (sender_of network p) path p.hops now.at step.arrival at in
     let own : crossings_part network other frame after ≡ crossings_part network other frame before =
     ap (crossings_at other) one
-    ∙ crossings_at-same other (journey_crossings network frame before) x (λ e. apart (sym e ∙ place)) in
-    crossed-gathered network (travels new) other
+    ∙ crossings_at-same other (path_crossings network frame before) x (λ e. apart (sym e ∙ place)) in
+    crossed-gathered network next.holds.one_listener (travels new) other
     ∙ advances-same (crossings_part network other) before after (ends-advances next step) (ends-before next)
     (ends-after next step) own
-    ∙ sym (crossed-gathered network (travels old) other)
+    ∙ sym (crossed-gathered network next.holds.one_listener (travels old) other)
 
 -- where no crossing is of a port, anything holds of those that are
 none-there : (P : Crossing → Type 0) (port : ℕ) (crossings : List Crossing)
@@ -662,9 +666,9 @@ numbered-others : (network : DeclaredNetwork) (port frame other : ℕ) (j : Trav
     → All (λ (x : Crossing). x.sent.frame ≢ frame) (crossings_part network port other j)
 numbered-others network port frame other j apart =
     All-filter (λ (x : Crossing). x.port == port) (λ (x : Crossing). x.sent.frame ≢ frame)
-    (journey_crossings network other j)
+    (path_crossings network other j)
     (All-weaker (λ (x : Crossing). x.sent.frame ≡ other) (λ (x : Crossing). x.sent.frame ≢ frame)
-    (λ x is e. apart (sym is ∙ e)) (journey_crossings network other j)
+    (λ x is e. apart (sym is ∙ e)) (path_crossings network other j)
     (crossings-numbered other j.release (sender_at network j.release.sender)
     (sender_at network j.release.sender).ports j.hops j.ending))
 
@@ -691,13 +695,14 @@ ends-others {network = network} {old = old} {now = now} {frame = frame} next ste
       | inl e ↦ subst (λ (n : ℕ). All Other (part n (get_or run n before))) (sym e) own
       | inr apart ↦ numbered-others network port frame k (get_or run k before) apart
     ]) in
-    subst (All Other) (sym (crossed-gathered network run port)) (gather-all Other part 0 run before each)
+    subst (All Other) (sym (crossed-gathered network next.holds.one_listener run port))
+    (gather-all Other part 0 run before each)
 
 -- whatever crossed a port was sent by it
-pub crossings-are-sent : (network : DeclaredNetwork) (run : List Travel) (port : ℕ)
+pub crossings-are-sent : (network : DeclaredNetwork) → HasOneListener network → (run : List Travel) (port : ℕ)
     → All (λ (x : Crossing). Contains (sent_by network run port) x.sent) (crossings_by network run port)
-crossings-are-sent network run port =
+crossings-are-sent network alone run port =
     let sent : List Transmission = sent_by network run port in
-    subst (All (λ (x : Crossing). Contains sent x.sent)) (sym (crossed-gathered network run port))
+    subst (All (λ (x : Crossing). Contains sent x.sent)) (sym (crossed-gathered network alone run port))
     (crossings-of-sent (Contains sent) network port 0 run
-    (subst (All (Contains sent)) (sent-gathered network run port) (All-contains_itself sent)))
+    (subst (All (Contains sent)) (sent-gathered network alone run port) (All-contains_itself sent)))

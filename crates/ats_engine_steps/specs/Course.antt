@@ -1,4 +1,4 @@
-use Rattle.std.specs.Prelude.{ℕ, ◌-◌, List, length, map, slice_index_or, Option, Some, None}
+use Rattle.std.specs.Prelude.{ℕ, ◌-◌, List, [], length, map, slice_index_or, Option, Some, None}
 use Rattle.std.specs.List.{zip}
 use Rattle.ats_num.specs.declared.time.Ps.{Ps}
 use Rattle.ats_network.specs.Network.{DeclaredNetwork}
@@ -82,11 +82,13 @@ ending_by stage (Some ending) = ending
 ending_by (Coming at) None = Sink at
 ending_by stage None = Discard
 
+-- what has happened to a frame so far. Its sender has one listener: there are no copies
 abbrev pub travel_of : Stage × Progress → Travel
 travel_of row = record {
   release = row.1.release;
   hops = row.1.hops;
   ending = ending_by row.0 row.1.ending;
+  copies = [];
 }
 
 -- the run so far

@@ -1,6 +1,6 @@
 use Rattle.std.specs.Prelude.{◌≡◌, ℕ, ◌<◌, ◌≤◌, List, length, map}
 use Rattle.std.specs.List.Sorted.{IsNonDecreasing}
-use Rattle.ats_network.specs.Network.{DeclaredNetwork, IsNetwork}
+use Rattle.ats_network.specs.Network.{DeclaredNetwork, HasOneListener, IsNetwork}
 use Rattle.ats_events.specs.declared.moment.Moment.{Moment}
 use Rattle.ats_trace.specs.declared.journey.Release.{Release}
 use Rattle.ats_trace.specs.declared.run.TheConstants.{MAX_FRAMES}
@@ -29,6 +29,7 @@ pub record IsShaped {T : Type 0} (network : DeclaredNetwork) (releases : List Re
 pub record Holds {T : Type 0} (key : T → ℕ → ℕ → ℕ) (wait : ℕ → ℕ → ℕ) (network : DeclaredNetwork)
     (releases : List Release) (course : Course T) (entries : List (Moment × Event)) : Type 0 where
   pub rules : IsNetwork network
+  pub one_listener : HasOneListener network
   pub shape : IsShaped network releases course
   pub frames : (frame : ℕ) → frame < length course.records
       → IsFrame network (progress_at course.records frame) (stage_at course frame)

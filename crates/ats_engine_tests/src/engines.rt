@@ -1,5 +1,6 @@
 //! Runs of the engine: of two frames in three orders, and of a thousand over eight bridges.
 
+ghost use Rattle.ats_network.specs.Network.{HasOneListener};
 ghost use Rattle.ats_trace.specs.Releases.{AreReleases};
 
 use ats_engine::Engine;
@@ -45,7 +46,8 @@ fn run_by<T: Tie, O: TimeOrder, P: Pace>(
     order: O,
     pace: P,
 ) -> Run
-    requires { AreReleases network.now releases.now }
+    requires one_listener { HasOneListener network.now }
+    requires releases { AreReleases network.now releases.now }
 {
     Engine::open(rt.alloc(), network, releases, tie, order, pace)
         .expect(rt, "room")

@@ -11,17 +11,19 @@ use Rattle.ats_num.specs.declared.time.Ps.{Ps}
 use Rattle.ats_topology.proofs.PositionLemmas.{IsFound, found, all_fail}
 use Rattle.ats_network.specs.Class.{class_at}
 use Rattle.ats_network.specs.Sender.{Sender}
-use Rattle.ats_network.specs.Network.{DeclaredNetwork, IsNetwork, senders_of}
+use Rattle.ats_network.specs.Network.{DeclaredNetwork, HasOneListener, IsNetwork, senders_of}
 use Rattle.ats_network.specs.Senders.{IsSender, no_sender, sender_at}
 use Rattle.ats_network.proofs.ClassLemmas.{class_at-le}
-use Rattle.ats_network.proofs.SenderLemmas.{each_is_sender}
+use Rattle.ats_network.proofs.SenderLemmas.{each_is_sender, sender_path}
 use Rattle.ats_trace.specs.Journey.{IsJourney, Travel}
 use Rattle.ats_trace.specs.Stored.{journey_of, no_travel, travel_at}
 use Rattle.ats_trace.specs.declared.journey.Journey.{Journey}
 use Rattle.ats_trace.specs.declared.journey.HopRecord.{HopRecord}
 use Rattle.ats_trace.specs.declared.journey.Release.{Release}
+use Rattle.ats_trace.proofs.OneListener.{hops_alone, sender_alone, way_alone}
 use Rattle.ats_port_capture.specs.Sightings.{IsWritable, sent_of, sighting_of}
-use Rattle.ats_port_capture.proofs.Along.{at_place, kept, kept_at, kept_there, none_along, way_agrees}
+use Rattle.ats_port_capture.proofs.Along.{at_place, kept, kept_at, kept_there, none_along, picked, sent_along}
+use Rattle.ats_port_capture.proofs.Along.{way_agrees}
 
 -- the rows of a run
 pub rows_long : (run : List Travel) (rows : List Journey) → rows ≡ map journey_of run → length rows ≡ length run
@@ -31,21 +33,31 @@ pub row_at : (run : List Travel) (rows : List Journey) (frame : ℕ) (d : Journe
     → frame < length run → get_or rows frame d ≡ journey_of (travel_at run frame)
 row_at run rows frame d e within = rw e (get_or-map journey_of run frame no_travel d within)
 
+-- what a port sends of a frame it sends along the frame's path
+on_path : (network : DeclaredNetwork) (port frame : ℕ) (j : Travel) → HasOneListener network
+    → sent_of network port frame j
+    ≡ sent_along port frame j.release (sender_at network j.release.sender)
+    (sender_at network j.release.sender).ports j.hops
+on_path network port frame j alone =
+    ap (picked port) (hops_alone frame j.release (sender_at network j.release.sender) j
+    (sender_alone network alone j.release.sender))
+
 -- a frame whose path does not have the port is not sent there
 pub nothing_kept : (network : DeclaredNetwork) (run : List Travel) (port frame : ℕ) (release : Release) (path : List ℕ)
-    → release ≡ (travel_at run frame).release → path ≡ (sender_at network release.sender).ports
+    → HasOneListener network → release ≡ (travel_at run frame).release → path ≡ (sender_at network release.sender).ports
     → position_from (λ p. eqb p port) 0 path ≡ None
     → map (sighting_of run) (sent_of network port frame (travel_at run frame)) ≡ []
-nothing_kept network run port frame release path same path_is none =
+nothing_kept network run port frame release path alone same path_is none =
     let j : Travel = travel_at run frame in
     let s : Sender = sender_at network j.release.sender in
     let is : path ≡ s.ports = path_is ∙ ap (λ (r : Release). (sender_at network r.sender).ports) same in
-    ap (map (sighting_of run)) (none_along port frame j.release s s.ports j.hops
+    ap (map (sighting_of run)) (on_path network port frame j alone
+    ∙ none_along port frame j.release s s.ports j.hops
     (subst (All (λ p. eqb p port ≡ false)) is (all_fail (λ p. eqb p port) 0 path none)))
 
 -- and of one whose path has it, the record there tells what is kept
 kept_of : (network : DeclaredNetwork) (run : List Travel) (port frame n : ℕ) → IsNetwork network
-    → IsJourney network (travel_at run frame)
+    → HasOneListener network → IsJourney network (travel_at run frame)
     → n < length (sender_at network (travel_at run frame).release.sender).ports
     → get_or (sender_at network (travel_at run frame).release.sender).ports n 0 ≡ port
     → map (sighting_of run) (sent_of network port frame (travel_at run frame))
@@ -53,18 +65,21 @@ kept_of : (network : DeclaredNetwork) (run : List Travel) (port frame n : ℕ) �
     (class_at (sender_at network (travel_at run frame).release.sender)
     (get_or (sender_at network (travel_at run frame).release.sender).ports n 0))
     (slice_get (travel_at run frame).hops n)
-kept_of network run port frame n net journey within is =
+kept_of network run port frame n net alone journey within is =
     let j : Travel = travel_at run frame in
     let s : Sender = sender_at network j.release.sender in
     let sender : IsSender network.topology s = each_is_sender network net j.release.sender no_sender journey.sender in
-    ap (map (sighting_of run)) (at_place port frame j.release s s.ports j.hops n sender.apart within is)
+    ap (map (sighting_of run)) (on_path network port frame j alone
+    ∙ at_place port frame j.release s s.ports j.hops n sender.apart within is)
     ∙ kept_at run frame j.release (class_at s (get_or s.ports n 0)) j.hops n
-    (way_agrees s.ports j.hops j.ending journey.way) refl
+    (way_agrees s.ports j.hops j.ending
+    (way_alone network j (sender_alone network alone j.release.sender) journey)) refl
 
 -- what is read of a frame of a run: its release, its sender's path, its records, and the place of a port on the path
 pub record IsRead (network : DeclaredNetwork) (run : List Travel) (port frame : ℕ) (release : Release) (path : List ℕ)
     (hops : List HopRecord) (n : ℕ) : Type 0 where
   pub net : IsNetwork network
+  pub one_listener : HasOneListener network
   pub journey : IsJourney network (travel_at run frame)
   pub same : release ≡ (travel_at run frame).release
   pub path_is : path ≡ (sender_at network release.sender).ports
@@ -90,7 +105,8 @@ kept_is {network} {run} {port} {frame} {release} {path} {hops} {n} read =
     let port_is : get_or s.ports n 0 ≡ port =
     ap (λ (l : List ℕ). get_or l n 0) (sym is) ∙ ap (λ (k : ℕ). get_or path k 0) place
     ∙ eqb-true (get_or path f.place 0) port f.passes in
-    kept_of network run port frame n read.net read.journey (omega (arith, f.within, place, long)) port_is
+    kept_of network run port frame n read.net read.one_listener read.journey (omega (arith, f.within, place, long))
+    port_is
     ∙ ap (λ (r : Release). kept_there r.octets r.sender (class_read network r n) (slice_get j.hops n)) (sym read.same)
     ∙ ap (λ (l : List HopRecord). kept_there release.octets release.sender (class_read network release n)
     (slice_get l n)) (sym read.hops_are)
@@ -146,9 +162,8 @@ pub place_short : {network : DeclaredNetwork} {run : List Travel} {port frame : 
     {hops : List HopRecord} {n : ℕ} → IsRead network run port frame release path hops n → n < length path → n < 16
 place_short {network} {run} {frame = frame} {path = path} read inside =
     let j : Travel = travel_at run frame in
-    let s : IsSender network.topology (sender_at network j.release.sender) =
-    each_is_sender network read.net j.release.sender no_sender read.journey.sender in
+    let has = sender_path network j.release.sender read.net read.one_listener read.journey.sender in
     let long : length path ≡ length (sender_at network j.release.sender).ports =
     ap (λ (l : List ℕ). length l)
     (read.path_is ∙ ap (λ (r : Release). (sender_at network r.sender).ports) read.same) in
-    omega (arith, s.path.most, long)
+    omega (arith, has.path.most, long)

@@ -2,6 +2,7 @@
 
 ghost use Rattle.std.specs.Prelude.{◌≡◌, ◌++◌, ◌<◌, ◌==◌, length, map, All, IfOk, IfSome, OnOk};
 ghost use Rattle.std.specs.List.{position_from};
+ghost use Rattle.ats_network.specs.Network.{HasOneListener};
 ghost use Rattle.ats_trace.specs.Journey.{IsJourney};
 ghost use Rattle.ats_trace.specs.Projections.{sent_by};
 ghost use Rattle.ats_trace.specs.Stored.{travel_at};
@@ -19,7 +20,8 @@ pub(crate) fn sent_by(
     run: &Run,
     port: u32,
 ) -> Result<Vec<Sighting>, AllocError>
-    requires { All (IsJourney network.now) run.now }
+    requires one_listener { HasOneListener network.now }
+    requires journeys { All (IsJourney network.now) run.now }
     ensures all { IfOk result (λ sent. sent.items
         ≡ map (sighting_of run.now) (sent_by network.now run.now port)) }
     ensures each { IfOk result (λ sent. All IsWritable sent.items) }
@@ -39,6 +41,7 @@ fn push_sent(
     port: u32,
     frame: u32,
 ) -> Result<(), AllocError>
+    requires one_listener { HasOneListener network.now }
     requires journeys { All (IsJourney network.now) run.now }
     requires frame { frame < length run.now }
     requires each { All IsWritable sent.old.items }
@@ -54,6 +57,7 @@ fn push_sent(
 
 // The transmission of a frame by a port, if it made one.
 fn sighting_of(network: &Network, run: &Run, port: u32, frame: u32) -> Option<Sighting>
+    requires one_listener { HasOneListener network.now }
     requires journeys { All (IsJourney network.now) run.now }
     requires frame { frame < length run.now }
     ensures all { listed result

@@ -3,7 +3,7 @@ use Rattle.std.proofs.Common.{◌≡◌, ℕ, ◌<◌, List, [], ◌∷◌, ◌+
 use Rattle.std.proofs.Common.{ap, refl, sym, subst, arith}
 use Rattle.std.proofs.lemmas.List.Elements.{All-cons}
 use Rattle.ats_group.specs.declared.verdict.Verdict.TheVariants.{Eligible, Late, Size}
-use Rattle.ats_network.specs.Network.{DeclaredNetwork, senders_of}
+use Rattle.ats_network.specs.Network.{DeclaredNetwork, HasOneListener, senders_of}
 use Rattle.ats_network.specs.Senders.{sender_at}
 use Rattle.ats_trace.specs.Journey.{IsJourney, IsWay, Travel}
 use Rattle.ats_trace.specs.Stored.{travels_of}
@@ -12,6 +12,7 @@ use Rattle.ats_trace.specs.declared.journey.Span.{Span}
 use Rattle.ats_trace.specs.declared.journey.HopRecord.{HopRecord}
 use Rattle.ats_trace.specs.declared.journey.Ending.{Ending}
 use Rattle.ats_trace.specs.declared.journey.Ending.TheVariants.{Sink, Discard}
+use Rattle.ats_trace.proofs.OneListener.{journey_alone, sender_alone}
 
 -- a way over any two ports is one over a path of two
 over_two : (path : List ℕ) (hops : List HopRecord) (ending : Ending) → length path ≡ 2
@@ -51,45 +52,42 @@ too_late arrival eligible =
 pub sent_goes : (network : DeclaredNetwork) (run : List Travel) (rows : List Journey) (spans : List Span)
     (hops : List HopRecord) → run ≡ travels_of rows spans hops
     → rows ≡ row 1522 (Sink (record { 0 = 26672000 })) ∷ [] → spans ≡ two 0 ∷ []
-    → hops ≡ passing 0 0 12336000 ∷ passing 13836000 13836000 26172000 ∷ []
+    → hops ≡ passing 0 0 12336000 ∷ passing 13836000 13836000 26172000 ∷ [] → HasOneListener network
     → 0 < length (senders_of network) → length (sender_at network 0).ports ≡ 2 → All (IsJourney network) run
-sent_goes network run rows spans hops is e f g sender path =
+sent_goes network run rows spans hops is e f g alone sender path =
     let row_there : Journey = row 1522 (Sink (record { 0 = 26672000 })) in
     let records : List HopRecord = passing 0 0 12336000 ∷ passing 13836000 13836000 26172000 ∷ [] in
     let all : run ≡ travels_of (row_there ∷ []) (two 0 ∷ []) records =
     is ∙ ap (λ r. travels_of r spans hops) e ∙ ap (λ s. travels_of (row_there ∷ []) s hops) f
     ∙ ap (λ h. travels_of (row_there ∷ []) (two 0 ∷ []) h) g in
-    subst (All (IsJourney network)) (sym all) (All-cons (IsJourney network)
-    (record { release = row_there.release; hops = records; ending = row_there.ending }) [] (record {
-      sender = sender;
-      octets = record { least = omega arith; most = omega arith };
-      way = over_two (sender_at network 0).ports records row_there.ending path (λ p q. tt);
-      released = (refl, refl);
-    }) (none network))
+    let journey : Travel =
+    record { release = row_there.release; hops = records; ending = row_there.ending; copies = [] } in
+    subst (All (IsJourney network)) (sym all) (All-cons (IsJourney network) journey []
+    (journey_alone network journey (sender_alone network alone 0) refl sender
+    (record { least = omega arith; most = omega arith })
+    (over_two (sender_at network 0).ports records row_there.ending path (λ p q. tt)) (refl, refl)) (none network))
 
 -- a frame of 1523 octets that is too long for its stream, and one of 64 that would be eligible too late
 pub discarded_go : (network : DeclaredNetwork) (run : List Travel) (rows : List Journey) (spans : List Span)
     (hops : List HopRecord) → run ≡ travels_of rows spans hops
     → rows ≡ row 1523 Discard ∷ row 64 Discard ∷ [] → spans ≡ two 0 ∷ two 2 ∷ []
     → hops ≡ passing 0 0 12344000 ∷ too_long 13844000 ∷ passing 0 12344000 13016000 ∷ too_late 14516000 33372000 ∷ []
-    → 0 < length (senders_of network) → length (sender_at network 0).ports ≡ 2 → All (IsJourney network) run
-discarded_go network run rows spans hops is e f g sender path =
+    → HasOneListener network → 0 < length (senders_of network) → length (sender_at network 0).ports ≡ 2
+    → All (IsJourney network) run
+discarded_go network run rows spans hops is e f g alone sender path =
     let both : List Journey = row 1523 Discard ∷ row 64 Discard ∷ [] in
     let one : List HopRecord = passing 0 0 12344000 ∷ too_long 13844000 ∷ [] in
     let other : List HopRecord = passing 0 12344000 13016000 ∷ too_late 14516000 33372000 ∷ [] in
     let all : run ≡ travels_of both (two 0 ∷ two 2 ∷ []) (one ++ other) =
     is ∙ ap (λ r. travels_of r spans hops) e ∙ ap (λ s. travels_of both s hops) f
     ∙ ap (λ h. travels_of both (two 0 ∷ two 2 ∷ []) h) g in
-    let first : Travel = record { release = (row 1523 Discard).release; hops = one; ending = Discard } in
-    let second : Travel = record { release = (row 64 Discard).release; hops = other; ending = Discard } in
-    subst (All (IsJourney network)) (sym all) (All-cons (IsJourney network) first (second ∷ []) (record {
-      sender = sender;
-      octets = record { least = omega arith; most = omega arith };
-      way = over_two (sender_at network 0).ports one Discard path (λ p q. (refl, refl));
-      released = (refl, refl);
-    }) (All-cons (IsJourney network) second [] (record {
-      sender = sender;
-      octets = record { least = omega arith; most = omega arith };
-      way = over_two (sender_at network 0).ports other Discard path (λ p q. (refl, refl));
-      released = (refl, refl);
-    }) (none network)))
+    let first : Travel = record { release = (row 1523 Discard).release; hops = one; ending = Discard; copies = [] } in
+    let second : Travel = record { release = (row 64 Discard).release; hops = other; ending = Discard; copies = [] } in
+    subst (All (IsJourney network)) (sym all) (All-cons (IsJourney network) first (second ∷ [])
+    (journey_alone network first (sender_alone network alone 0) refl sender
+    (record { least = omega arith; most = omega arith })
+    (over_two (sender_at network 0).ports one Discard path (λ p q. (refl, refl))) (refl, refl))
+    (All-cons (IsJourney network) second []
+    (journey_alone network second (sender_alone network alone 0) refl sender
+    (record { least = omega arith; most = omega arith })
+    (over_two (sender_at network 0).ports other Discard path (λ p q. (refl, refl))) (refl, refl)) (none network)))

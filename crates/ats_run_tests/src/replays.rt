@@ -1,7 +1,7 @@
 //! Runs of a line, written by hand, printed and captured, and its schedulers.
 
 ghost use Rattle.std.specs.Prelude.{◌≡◌, ◌<◌, length, All};
-ghost use Rattle.ats_network.specs.Network.{senders_of};
+ghost use Rattle.ats_network.specs.Network.{HasOneListener, senders_of};
 ghost use Rattle.ats_network.specs.Senders.{sender_at};
 ghost use Rattle.ats_trace.specs.Journey.{IsJourney};
 
@@ -78,6 +78,7 @@ fn hop(arrival: u64, verdict: Verdict, sent: Option<(Ps, Ps)>) -> HopRecord
 
 // The run of a frame that reaches its listener.
 fn sent(rt: &(impl Abort + AllocGlobal), network: &Network) -> Run
+    requires one_listener { HasOneListener network.now }
     requires sender { 0 < length (senders_of network.now) }
     requires path { length (sender_at network.now 0).ports ≡ 2 }
     ensures { All (IsJourney network.now) result }
@@ -98,6 +99,7 @@ fn sent(rt: &(impl Abort + AllocGlobal), network: &Network) -> Run
 
 // The run of a frame that is too long, and one that would be eligible too late.
 fn discarded(rt: &(impl Abort + AllocGlobal), network: &Network) -> Run
+    requires one_listener { HasOneListener network.now }
     requires sender { 0 < length (senders_of network.now) }
     requires path { length (sender_at network.now 0).ports ≡ 2 }
     ensures { All (IsJourney network.now) result }

@@ -13,8 +13,8 @@ use Rattle.ats_engine.proofs.opening.state_of.Goals as goal
 
 pub open-requires-clause-most : goal.open-requires-clause-most
 open-requires-clause-most g c =
-    rooms-few c.args.net.now c.args.releases.now c.deref.result.now c.topology.ensures.rules c.requires.releases
-    (c.deref.ensures.value ∙ c.in_ok-rooms.ensures)
+    rooms-few c.args.net.now c.args.releases.now c.deref.result.now c.topology.ensures.rules c.requires.one_listener
+    c.requires.releases (c.deref.ensures.value ∙ c.in_ok-rooms.ensures)
 
 pub returns : goal.returns
 returns g c =
@@ -27,6 +27,7 @@ returns g c =
     ∙ ap (opened c.args.releases.now) (c.deref.ensures.value ∙ c.in_ok-rooms.ensures) in
     record {
       rules = c.topology.ensures.rules;
+      one_listener = c.requires.one_listener;
       opened = record {
         stages = c.in_ok-stages_of.ensures;
         records = records;

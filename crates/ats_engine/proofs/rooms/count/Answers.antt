@@ -2,14 +2,16 @@ use Rattle.std.proofs.Common.{◌≡◌, ℕ, ◌+◌, ◌*◌, ◌<◌, List, l
 use Rattle.std.proofs.lemmas.List.{get_or_default}
 use Rattle.ats_network.specs.Class.{class_at}
 use Rattle.ats_network.specs.Senders.{sender_at}
+use Rattle.ats_network.proofs.SenderLemmas.{sender_path}
 use Rattle.ats_engine.specs.Rooms.{CountsOver}
-use Rattle.ats_engine.proofs.Counting.{sender-kept, at-hop, none-here, counts-more}
+use Rattle.ats_engine.proofs.Counting.{at-hop, none-here, counts-more}
 use Rattle.ats_engine.proofs.rooms.count.Goals as goal
 
 pub overflow_cast-hop : goal.overflow_cast-hop
 overflow_cast-hop c =
-    let kept = sender-kept c.args.net.now c.args.sender c.sender_ports-path.ensures.rules c.requires.sender in
-    omega (arith, kept.path.most, ap (λ (l : List ℕ). length l) c.sender_ports-path.ensures.value)
+    let has = sender_path c.args.net.now c.args.sender c.sender_ports-path.ensures.rules c.requires.one_listener
+    c.requires.sender in
+    omega (arith, has.path.most, ap (λ (l : List ℕ). length l) c.sender_ports-path.ensures.value)
 
 pub index_mut-requires : goal.index_mut-requires
 index_mut-requires c =

@@ -9,7 +9,7 @@ pub returns-in_err-hop-clause-all : goal.returns-in_err-hop-clause-all
 returns-in_err-hop-clause-all c =
     ap (λ (o : Option Sighting). listed o) c.from_residual.ensures
     ∙ sym (nothing_kept c.args.network.now c.args.run.now c.args.port c.args.frame c.release_of-release.result
-    c.sender_ports.result.now c.release_of-release.ensures c.sender_ports.ensures.value
+    c.sender_ports.result.now c.requires.one_listener c.release_of-release.ensures c.sender_ports.ensures.value
     (sym c.in_err-hop.ensures.place))
 
 pub returns-in_err-get-clause-all : goal.returns-in_err-get-clause-all
@@ -17,6 +17,7 @@ returns-in_err-get-clause-all c =
     let read : IsRead c.args.network.now c.args.run.now c.args.port c.args.frame c.release_of-release.result
     c.sender_ports.result.now c.hops_of.result.now c.in_ok-hop.hop = record {
       net = c.sender_ports.ensures.rules;
+      one_listener = c.requires.one_listener;
       journey = c.requires.journeys c.args.frame no_travel c.requires.frame;
       same = c.release_of-release.ensures;
       path_is = c.sender_ports.ensures.value;
@@ -31,6 +32,7 @@ returns-in_err-start-clause-all c =
     let read : IsRead c.args.network.now c.args.run.now c.args.port c.args.frame c.release_of-release.result
     c.sender_ports.result.now c.hops_of.result.now c.in_ok-hop.hop = record {
       net = c.sender_ports.ensures.rules;
+      one_listener = c.requires.one_listener;
       journey = c.requires.journeys c.args.frame no_travel c.requires.frame;
       same = c.release_of-release.ensures;
       path_is = c.sender_ports.ensures.value;
@@ -46,6 +48,7 @@ overflow_cast-hop c =
     let read : IsRead c.args.network.now c.args.run.now c.args.port c.args.frame c.release_of-release.result
     c.sender_ports.result.now c.hops_of.result.now c.in_ok-hop.hop = record {
       net = c.sender_ports.ensures.rules;
+      one_listener = c.requires.one_listener;
       journey = c.requires.journeys c.args.frame no_travel c.requires.frame;
       same = c.release_of-release.ensures;
       path_is = c.sender_ports.ensures.value;
@@ -60,6 +63,7 @@ returns-clause-all c =
     let read : IsRead c.args.network.now c.args.run.now c.args.port c.args.frame c.release_of-release.result
     c.sender_ports.result.now c.hops_of.result.now c.in_ok-hop.hop = record {
       net = c.sender_ports.ensures.rules;
+      one_listener = c.requires.one_listener;
       journey = c.requires.journeys c.args.frame no_travel c.requires.frame;
       same = c.release_of-release.ensures;
       path_is = c.sender_ports.ensures.value;
@@ -74,6 +78,7 @@ returns-clause-each c =
     let read : IsRead c.args.network.now c.args.run.now c.args.port c.args.frame c.release_of-release.result
     c.sender_ports.result.now c.hops_of.result.now c.in_ok-hop.hop = record {
       net = c.sender_ports.ensures.rules;
+      one_listener = c.requires.one_listener;
       journey = c.requires.journeys c.args.frame no_travel c.requires.frame;
       same = c.release_of-release.ensures;
       path_is = c.sender_ports.ensures.value;

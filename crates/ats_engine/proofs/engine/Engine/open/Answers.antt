@@ -6,7 +6,7 @@ use Rattle.ats_engine.proofs.engine.Engine.open.Goals as goal
 pub invariant_of-result : goal.invariant_of-result
 invariant_of-result g c =
     ready-first g.T.Tie.key g.P.Pace.wait c.args.releases.now c.args.order c.args.tie _
-    (agenda_told c.in_ok-agenda.agenda) c.requires
+    (agenda_told c.in_ok-agenda.agenda) c.requires.releases
     c.in_ok-schedulers.ensures c.in_ok-state.ensures c.in_ok-agenda.ensures
 
 pub returns : goal.returns
@@ -17,5 +17,5 @@ returns g c =
       pace = c.args.pace;
       state = c.in_ok-state.state;
     } in
-    setting-first c.args.releases.now c.args.order c.args.tie runner (agenda_told c.in_ok-agenda.agenda) c.requires
-    c.in_ok-state.ensures c.in_ok-agenda.ensures
+    setting-first c.args.releases.now c.args.order c.args.tie runner (agenda_told c.in_ok-agenda.agenda)
+    c.requires.releases c.in_ok-state.ensures c.in_ok-agenda.ensures
