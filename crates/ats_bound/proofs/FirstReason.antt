@@ -1,32 +1,51 @@
 -- A reason is found exactly where it is the first, so no more than one is.
-use Rattle.std.proofs.Common.{◌≡◌, ℕ, ◌*◌, ◌≤◌, true, List, Some, None, sym, ap, subst, ◌∙◌, inl, inr}
+use Rattle.std.proofs.Common.{◌≡◌, ℕ, ◌*◌, ◌≤◌, true, List, Option, Some, None, sym, ap, subst, ◌∙◌, inl, inr}
 use Rattle.std.proofs.Common.{get_or, arith}
 use Rattle.std.specs.Prelude.{nat_lt}
 use Rattle.std.specs.List.{All}
 use Rattle.std.proofs.lemmas.Option.{same_Some}
 use Rattle.ats_bound.proofs.Reasons.{stays_over}
 use Rattle.ats_num.specs.declared.time.TheConstants.{PS_PER_SECOND, PS_PER_NS}
+use Rattle.ats_network.specs.Listeners.{Listener, listeners_of}
 use Rattle.ats_network.specs.Network.{DeclaredNetwork, IsNetwork}
 use Rattle.ats_network.specs.Residence.{residence_after}
 use Rattle.ats_certificate.specs.PortSums.{is_used}
-use Rattle.ats_certificate.specs.Certificate.{IsInTime, bound_along, is_row_of, row_of}
+use Rattle.ats_certificate.specs.Certificate.{IsInTime, bound_on, is_row_of, row_of}
 use Rattle.ats_certificate.specs.Least.{IsLeastRow, IsLeastCertificate}
 use Rattle.ats_certificate.specs.Used.{places_of}
 use Rattle.ats_certificate.specs.declared.row.Row.{Row}
-use Rattle.ats_tally.specs.Reason.{first_some, overstay, row_need, late}
+use Rattle.ats_tally.specs.Reason.{first_some, overstay, row_need, late, late_for}
 use Rattle.ats_tally.specs.declared.reason.Reason.{Reason}
 use Rattle.ats_tally.specs.declared.reason.Reason.TheVariants.{Overloaded, Residence, Deadline}
 use Rattle.ats_tally.proofs.Lists.{All-found, IsFound, found_is, option_cases}
 use Rattle.ats_tally.proofs.Places.{Precedes, places_used}
-use Rattle.ats_bound.specs.First.{IsFirstOverload, IsFirstOverstay, IsFirstLate, IsFirstReason, RowMayStay}
+use Rattle.ats_bound.specs.First.{IsFirstOverdue, IsFirstOverload, IsFirstOverstay, IsFirstLate, IsFirstReason}
+use Rattle.ats_bound.specs.First.{RowMayStay}
 use Rattle.ats_bound.specs.Laws.{EachReasonIsTheFirst, FirstReasonIsOne}
 use Rattle.ats_bound.specs.Least.{least_certificate}
 use Rattle.ats_bound.specs.Reason.{load_at, overload, reason_of}
 use Rattle.ats_bound.proofs.Breaches.{none_given, given_at, at_some, or_past, true_if, not_less}
-use Rattle.ats_bound.proofs.FoundReason.{FitsAt, load_tests, stay_tests, time_tests, each_fits, of_load, found_is_first}
+use Rattle.ats_bound.proofs.FoundReason.{FitsAt, InTimeAt, each_fits, found_is_first, listener_tests, load_tests}
+use Rattle.ats_bound.proofs.FoundReason.{of_load, stay_tests, time_tests}
 use Rattle.ats_bound.proofs.NoneHolds.{no_none, row_at}
 use Rattle.ats_bound.proofs.OneLeast.{least_certificate_is_one}
 use Rattle.ats_bound.proofs.Waits.{Fits, load-is}
+
+-- the first stream that is late, and its first listener for which it is, are found
+pub by_overdue : (network : DeclaredNetwork) (rows : List Row) (name : List ℕ) (listener : Option (List ℕ)) (along : ℕ)
+    → IsFirstOverdue network rows name listener along
+    → first_some (late network.topology rows) network.streams ≡ Some (Deadline name listener along)
+by_overdue network rows name listener along o =
+    let listeners : List Listener = listeners_of network.topology o.stream in
+    let sum : ℕ = bound_on rows o.stream o.there.route in
+    given_at (late network.topology rows) (IsInTime rows) network.streams o.stream (Deadline name listener along)
+    (time_tests network rows) o.first
+    (λ _. given_at (late_for rows o.stream) (InTimeAt rows o.stream) listeners o.there (Deadline name listener along)
+    (listener_tests rows o.stream listeners) o.first_there
+    (λ some. true_if (nat_lt (PS_PER_NS * o.stream.deadline_ns) sum) (Deadline o.stream.name o.there.name sum) some
+    ∙ ap (λ (n : List ℕ). Some (Deadline n o.there.name sum)) o.name_is
+    ∙ ap (λ (l : Option (List ℕ)). Some (Deadline name l sum)) o.listener_is
+    ∙ ap (λ (n : ℕ). Some (Deadline name listener n)) o.along_is))
 
 module _ (network : DeclaredNetwork) (is : IsNetwork network) where
   -- of two places that are the first overloaded neither comes before the other
@@ -108,25 +127,21 @@ module _ (network : DeclaredNetwork) (is : IsNetwork network) where
       ap (λ (rs : List Row). first_some (overstay network) rs) (sym (least_certificate_is_one network rows is least))
       ∙ none_given (overstay network) (RowMayStay network) rows (stay_tests network rows) stay
 
-  by_late : (name : List ℕ) (along : ℕ) → IsFirstLate network name along
-      → first_some (late (least_certificate network)) network.streams ≡ Some (Deadline name along)
-  by_late name along l =
-      ap (λ (rows : List Row). first_some (late rows) network.streams)
+  by_late : (name : List ℕ) (listener : Option (List ℕ)) (along : ℕ) → IsFirstLate network name listener along
+      → first_some (late network.topology (least_certificate network)) network.streams
+      ≡ Some (Deadline name listener along)
+  by_late name listener along l =
+      ap (λ (rows : List Row). first_some (late network.topology rows) network.streams)
       (sym (least_certificate_is_one network l.rows is l.least))
-      ∙ given_at (late l.rows) (IsInTime l.rows) network.streams l.stream (Deadline name along)
-      (time_tests network l.rows) l.first
-      (λ some. true_if (nat_lt (PS_PER_NS * l.stream.deadline_ns) (bound_along l.rows l.stream))
-      (Deadline l.stream.name (bound_along l.rows l.stream)) some
-      ∙ ap (λ (n : List ℕ). Some (Deadline n (bound_along l.rows l.stream))) l.name_is
-      ∙ ap (λ (n : ℕ). Some (Deadline name n)) l.along_is)
+      ∙ by_overdue network l.rows name listener along l.overdue
 
   first_is_found : (reason : Reason) → IsFirstReason network reason → reason_of network ≡ Some reason
   first_is_found (Overloaded port class load) o = at_some _ _ _ (by_load port class load o)
   first_is_found (Residence port class need) o =
       or_past _ _ _ (no_load o.rows o.least) (at_some _ _ _ (by_stay port class need o))
-  first_is_found (Deadline name along) l =
+  first_is_found (Deadline name listener along) l =
       or_past _ _ _ (no_load l.rows l.least)
-      (or_past _ _ _ (no_stay l.rows l.least l.stay) (by_late name along l))
+      (or_past _ _ _ (no_stay l.rows l.least l.stay) (by_late name listener along l))
 
 pub each_reason_is_the_first : EachReasonIsTheFirst
 each_reason_is_the_first network reason is =

@@ -9,20 +9,22 @@ use Rattle.std.proofs.lemmas.List.Folds.{list_any-append}
 use Rattle.std.proofs.lemmas.Option.{none-some}
 use Rattle.ats_facts.proofs.Lists.{pairs_head}
 use Rattle.ats_num.specs.declared.time.TheConstants.{PS_PER_SECOND, PS_PER_NS}
+use Rattle.ats_streams.specs.Stream.{DeclaredStream}
+use Rattle.ats_network.specs.Listeners.{Listener, listeners_of}
 use Rattle.ats_network.specs.Network.{DeclaredNetwork, IsNetwork}
 use Rattle.ats_network.specs.Residence.{residence_after}
 use Rattle.ats_certificate.specs.PortSums.{is_used}
-use Rattle.ats_certificate.specs.Certificate.{IsInTime, bound_along}
+use Rattle.ats_certificate.specs.Certificate.{IsInTime, MeetsDeadline, bound_on}
 use Rattle.ats_certificate.specs.Least.{IsLeastCertificate}
 use Rattle.ats_certificate.specs.Used.{places_of}
 use Rattle.ats_certificate.specs.declared.row.Row.{Row}
-use Rattle.ats_tally.specs.Reason.{first_some, overstay_by, overstay, row_need, late}
+use Rattle.ats_tally.specs.Reason.{first_some, overstay_by, overstay, row_need, late, late_for}
 use Rattle.ats_tally.specs.declared.reason.Reason.{Reason}
 use Rattle.ats_tally.specs.declared.reason.Reason.TheVariants.{Overloaded, Residence, Deadline}
 use Rattle.ats_tally.proofs.Lists.{any_gives}
 use Rattle.ats_tally.proofs.Places.{IsUsedAt, Precedes, is_at, places_have, places_ordered, places_used}
-use Rattle.ats_tally.proofs.Reasons.{stays_by, by_stay, in_time_from, by_time}
-use Rattle.ats_bound.specs.First.{IsFirstOverload, IsFirstReason, RowMayStay}
+use Rattle.ats_tally.proofs.Reasons.{stays_by, by_met, by_stay, in_time_from, by_time, meets_by}
+use Rattle.ats_bound.specs.First.{IsFirstOverdue, IsFirstOverload, IsFirstReason, RowMayStay}
 use Rattle.ats_bound.specs.Least.{least_certificate}
 use Rattle.ats_bound.specs.Reason.{load_at, overload, reason_of}
 use Rattle.ats_bound.proofs.Breaches.{StandsAt, stands_at, it_keeps, Tests, all_kept, breach_at, or_else, if_true}
@@ -89,11 +91,47 @@ module _ (network : DeclaredNetwork) where
         λ stays. by_stay row (row_need network row) (residence_after network.topology row.port) stays,
       ))
 
-  pub time_tests : (rows : List Row) → Tests (late rows) (IsInTime rows) network.streams
+  pub time_tests : (rows : List Row) → Tests (late network.topology rows) (IsInTime rows) network.streams
   time_tests rows = λ k d h. (
-    λ none. in_time_from rows (get_or network.streams k d) none,
-    λ time. by_time rows (get_or network.streams k d) time,
+    λ none. in_time_from network.topology rows (get_or network.streams k d) none,
+    λ time. by_time network.topology rows (get_or network.streams k d) time,
   )
+
+-- the bounds along the route to a listener are within the deadline
+abbrev pub InTimeAt : List Row → DeclaredStream → Listener → Type 0
+InTimeAt rows stream l = MeetsDeadline stream (bound_on rows stream l.route)
+
+pub listener_tests : (rows : List Row) (stream : DeclaredStream) (listeners : List Listener)
+    → Tests (late_for rows stream) (InTimeAt rows stream) listeners
+listener_tests rows stream listeners = λ k d h. (
+    let l : Listener = get_or listeners k d in (
+      λ none. meets_by stream l.name (bound_on rows stream l.route) none,
+      λ met. by_met stream l.name (bound_on rows stream l.route) met,
+    ))
+
+-- a stream that is found late is the first that is, and so is its listener
+pub of_overdue : (network : DeclaredNetwork) (rows : List Row) (P : Reason → Type 0)
+    → ((name : List ℕ) (listener : Option (List ℕ)) (along : ℕ) → IsFirstOverdue network rows name listener along
+    → P (Deadline name listener along))
+    → (found : Reason) → first_some (late network.topology rows) network.streams ≡ Some found → P found
+of_overdue network rows P so found e =
+    let at = stands_at (late network.topology rows) network.streams found e in
+    let stream : DeclaredStream = at.it in
+    let listeners : List Listener = listeners_of network.topology stream in
+    let there = stands_at (late_for rows stream) listeners found at.gives in
+    let sum : ℕ = bound_on rows stream there.it.route in
+    if_true P (nat_lt (PS_PER_NS * stream.deadline_ns) sum) (Deadline stream.name there.it.name sum) found
+    (λ _. so stream.name there.it.name sum (record {
+      stream = stream;
+      name_is = refl;
+      first = breach_at (late network.topology rows) (IsInTime rows) network.streams found (time_tests network rows) at;
+      there = there.it;
+      listener_is = refl;
+      first_there = breach_at (late_for rows stream) (InTimeAt rows stream) listeners found
+          (listener_tests rows stream listeners) there;
+      along_is = refl;
+    }))
+    there.gives
 
 module _ (network : DeclaredNetwork) (is : IsNetwork network) where
   -- where no place is overloaded, each that is used fits
@@ -170,22 +208,17 @@ module _ (network : DeclaredNetwork) (is : IsNetwork network) where
 
   of_late : (found : Reason) → IsLeastCertificate network (least_certificate network)
       → All (RowMayStay network) (least_certificate network)
-      → first_some (late (least_certificate network)) network.streams ≡ Some found → IsFirstReason network found
-  of_late found least stay e =
-      let rows : List Row = least_certificate network in
-      let at = stands_at (late rows) network.streams found e in
-      if_true (IsFirstReason network) (nat_lt (PS_PER_NS * at.it.deadline_ns) (bound_along rows at.it))
-      (Deadline at.it.name (bound_along rows at.it)) found
-      (λ _. record {
-        rows = rows;
+      → first_some (late network.topology (least_certificate network)) network.streams ≡ Some found
+      → IsFirstReason network found
+  of_late found least stay =
+      of_overdue network (least_certificate network) (IsFirstReason network)
+      (λ name listener along overdue. record {
+        rows = least_certificate network;
         least = least;
         stay = stay;
-        stream = at.it;
-        name_is = refl;
-        along_is = refl;
-        first = breach_at (late rows) (IsInTime rows) network.streams found (time_tests network rows) at;
+        overdue = overdue;
       })
-      at.gives
+      found
 
   pub found_is_first : (found : Reason) → reason_of network ≡ Some found → IsFirstReason network found
   found_is_first found =

@@ -49,7 +49,7 @@ least_certificate_holds network is none =
     let second = option_or-none (first_some (overstay network) (least_certificate network)) _ first.1 in
     let loads = none_first (overload network) (places_of network) first.0 in
     let stays = none_first (overstay network) (least_certificate network) second.0 in
-    let times = none_first (late (least_certificate network)) network.streams second.1 in
+    let times = none_first (late network.topology (least_certificate network)) network.streams second.1 in
     let fits : EachFits network = λ k d h.
     fits_from network (get_or (places_of network) k d).0 (get_or (places_of network) k d).1 (loads k d h) in
     let rows : HasRows network (least_certificate network) = least_rows network is in
@@ -64,7 +64,8 @@ least_certificate_holds network is none =
               let row : Row = get_or (least_certificate network) k d in
               stays_by row (row_need network row) (residence_after network.topology row.port) (stays k d h));
         };
-        deadlines = λ k d h. in_time_from (least_certificate network) (get_or network.streams k d) (times k d h);
+        deadlines = λ k d h.
+            in_time_from network.topology (least_certificate network) (get_or network.streams k d) (times k d h);
       };
     }
 

@@ -7,6 +7,7 @@ use Rattle.std.proofs.lemmas.Bool.{and_parts, eqb-true, true≢false}
 use Rattle.std.proofs.lemmas.List.Elements.{All-map}
 use Rattle.std.proofs.lemmas.List.Sums.{sum_by-le-sum_by}
 use Rattle.std.proofs.lemmas.Option.{none-some}
+use Rattle.ats_streams.specs.Branches.{routes_of}
 use Rattle.ats_streams.specs.Stream.{DeclaredStream}
 use Rattle.ats_network.specs.Sender.{Sender, stream_sender}
 use Rattle.ats_network.specs.Class.{class_at}
@@ -135,20 +136,22 @@ bound_at-le network rows port class is h = elim (option_cases (row_of (least_cer
 
 in_time_held : (network : DeclaredNetwork) (rows : List Row) (stream : DeclaredStream) → IsNetwork network
     → Holds network rows → IsInTime rows stream → IsInTime (least_certificate network) stream
-in_time_held network rows stream is h late =
+in_time_held network rows stream is h time k d within =
     let sender : Sender = stream_sender stream in
-    let le = sum_by-le-sum_by (bound_of_hop (least_certificate network) sender) (bound_of_hop rows sender) stream.ports
+    let le = sum_by-le-sum_by (bound_of_hop (least_certificate network) sender) (bound_of_hop rows sender)
+    (get_or (routes_of stream.ports stream.branches) k d)
     (λ port. bound_at-le network rows port (class_at sender port) is h) in
-    omega (arith, le, late)
+    omega (arith, le, time k d within)
 
 -- no overload, no overstay and no late stream leave no reason
 pub reason_of-none : (network : DeclaredNetwork) → first_some (overload network) (places_of network) ≡ None
     → first_some (overstay network) (least_certificate network) ≡ None
-    → first_some (late (least_certificate network)) network.streams ≡ None → reason_of network ≡ None
+    → first_some (late network.topology (least_certificate network)) network.streams ≡ None → reason_of network ≡ None
 reason_of-none network loads stays times =
     ap (λ (o : Option Reason). option_or o (option_or (first_some (overstay network) (least_certificate network))
-    (first_some (late (least_certificate network)) network.streams))) loads
-    ∙ ap (λ (o : Option Reason). option_or o (first_some (late (least_certificate network)) network.streams)) stays
+    (first_some (late network.topology (least_certificate network)) network.streams))) loads
+    ∙ ap (λ (o : Option Reason). option_or o
+    (first_some (late network.topology (least_certificate network)) network.streams)) stays
     ∙ times
 
 -- a certificate that holds leaves no reason
@@ -167,9 +170,9 @@ no_reason_held network rows is h =
     let at = get_or (places_of network) k d in
     by_stay (least_row network at) (row_need network (least_row network at)) (residence_after network.topology at.0)
     (stays_held network rows at.0 at.1 is h (places_used network k d within))))) in
-    let times : first_some (late (least_certificate network)) network.streams ≡ None =
-    first_some-none (late (least_certificate network)) network.streams
-    (λ k d within. by_time (least_certificate network) (get_or network.streams k d)
+    let times : first_some (late network.topology (least_certificate network)) network.streams ≡ None =
+    first_some-none (late network.topology (least_certificate network)) network.streams
+    (λ k d within. by_time network.topology (least_certificate network) (get_or network.streams k d)
     (in_time_held network rows (get_or network.streams k d) is h (h.deadlines k d within))) in
     reason_of-none network loads stays times
 

@@ -1,9 +1,10 @@
-use Rattle.std.specs.Prelude.{◌≡◌, ◌⊎◌, ℕ, ◌<◌, ◌≤◌, IsTrue, List, ◌∷◌, ◌++◌, All}
+use Rattle.std.specs.Prelude.{◌≡◌, ◌⊎◌, ℕ, ◌<◌, ◌≤◌, IsTrue, List, ◌∷◌, ◌++◌, All, Option}
 use Rattle.ats_num.specs.declared.time.TheConstants.{PS_PER_SECOND}
 use Rattle.ats_streams.specs.Stream.{DeclaredStream}
 use Rattle.ats_network.specs.Network.{DeclaredNetwork}
+use Rattle.ats_network.specs.Listeners.{Listener, listeners_of}
 use Rattle.ats_certificate.specs.PortSums.{is_used}
-use Rattle.ats_certificate.specs.Certificate.{MayStay, IsInTime, bound_along}
+use Rattle.ats_certificate.specs.Certificate.{MayStay, MeetsDeadline, IsInTime, bound_on}
 use Rattle.ats_certificate.specs.Least.{IsLeastCertificate}
 use Rattle.ats_certificate.specs.declared.row.Row.{Row}
 use Rattle.ats_tally.specs.Reason.{row_need}
@@ -44,19 +45,31 @@ pub record IsFirstOverstay (network : DeclaredNetwork) (port class need : ℕ) :
   pub need_is : row_need network row ≡ need
   pub first : IsFirstBreach (RowMayStay network) rows row
 
--- there is the least certificate, and a frame may stay behind each row's port; the stream of this name is
--- the first whose bounds are together over its deadline, and this is their sum
-pub record IsFirstLate (network : DeclaredNetwork) (name : List ℕ) (along : ℕ) : Type 0 where
+-- of the streams the one of this name is the first that is not in time for each of its listeners by these rows; of its
+-- listeners the one of this name is the first for which the bounds along the route there are together over its
+-- deadline, and this is their sum
+pub record IsFirstOverdue (network : DeclaredNetwork) (rows : List Row) (name : List ℕ) (listener : Option (List ℕ))
+    (along : ℕ) : Type 0 where
+  pub stream : DeclaredStream
+  pub name_is : stream.name ≡ name
+  pub first : IsFirstBreach (IsInTime rows) network.streams stream
+  pub there : Listener
+  pub listener_is : there.name ≡ listener
+  pub first_there : IsFirstBreach (λ (l : Listener). MeetsDeadline stream (bound_on rows stream l.route))
+      (listeners_of network.topology stream) there
+  pub along_is : bound_on rows stream there.route ≡ along
+
+-- there is the least certificate, and a frame may stay behind each row's port; this stream and this listener of it are
+-- the first for which its bounds are together over the deadline
+pub record IsFirstLate (network : DeclaredNetwork) (name : List ℕ) (listener : Option (List ℕ)) (along : ℕ)
+    : Type 0 where
   pub rows : List Row
   pub least : IsLeastCertificate network rows
   pub stay : All (RowMayStay network) rows
-  pub stream : DeclaredStream
-  pub name_is : stream.name ≡ name
-  pub along_is : bound_along rows stream ≡ along
-  pub first : IsFirstBreach (IsInTime rows) network.streams stream
+  pub overdue : IsFirstOverdue network rows name listener along
 
 -- a reason is the first against a network
 abbrev pub IsFirstReason : DeclaredNetwork → Reason → Type 0
 IsFirstReason network (Overloaded port class load) = IsFirstOverload network port class load
 IsFirstReason network (Residence port class need) = IsFirstOverstay network port class need
-IsFirstReason network (Deadline stream sum) = IsFirstLate network stream sum
+IsFirstReason network (Deadline stream listener sum) = IsFirstLate network stream listener sum

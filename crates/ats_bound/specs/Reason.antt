@@ -17,9 +17,9 @@ overload network place = overload_by place.0 place.1 (load_at network place)
 
 -- why no certificate holds for a network, if none does: the first overloaded port and class; where there is none, the
 -- first row with the least wait whose need of residence is over the residence time behind its port; where there is none
--- either, the first stream that is late by the least bounds
+-- either, the first stream that is late by the least bounds, for its first listener of those for which it is
 abbrev pub reason_of : DeclaredNetwork → Option Reason
 reason_of network =
     option_or (first_some (overload network) (places_of network))
     (option_or (first_some (overstay network) (least_certificate network))
-    (first_some (late (least_certificate network)) network.streams))
+    (first_some (late network.topology (least_certificate network)) network.streams))

@@ -16,7 +16,7 @@ pub fn reason_leaves_none()
 /// A law: a reason is given against a network exactly where it is the first: the first port and class whose load is
 /// more than the link; where there is none, the first row of the least certificate by which a frame may have to stay
 /// behind its port longer than it may; where there is none either, the first stream that is late by the least
-/// certificate.
+/// certificate, and its first listener for which it is.
 pub fn each_reason_is_the_first()
     ensures { EachReasonIsTheFirst }
 {}

@@ -15,15 +15,15 @@ use ats_tally::{Delays, Reason, Tallies, first_late, first_overstay};
 use std::alloc::{AllocError, Global};
 
 /// The certificate of a network with the least waits, which holds. It takes time and memory linear
-/// in the number of ports and the sum of the paths' lengths.
+/// in the number of ports and the sum of the routes' lengths.
 ///
 /// # Errors
 ///
 /// A reason exactly where no certificate holds for the network: the first port and class, in the
 /// order of a certificate's rows, whose rates are more than the link can carry; where there is
 /// none, the first row whose least wait and port's spread are longer than the maximum residence time
-/// behind its port; where there is none either, the first stream whose least bounds are together over its
-/// deadline. `Failure::NoMemory` where memory runs out.
+/// behind its port; where there is none either, the first stream that is late, by its first listener for which its
+/// least bounds are together over its deadline. `Failure::NoMemory` where memory runs out.
 pub fn make(alloc: Global, network: &Network) -> Result<Certificate, Failure<Reason>>
     ensures value { IfOk result (λ certificate. certificate ≡ least_certificate network.now) }
     ensures sound { OnOk result (reason_of network.now ≡ None) }
@@ -47,7 +47,8 @@ fn late_by(
     network: &Network,
     certificate: &Certificate,
 ) -> Result<Option<Reason>, AllocError>
-    ensures { IfOk result (λ reason. reason ≡ first_some (late certificate.now) network.now.streams) }
+    ensures { IfOk result (λ reason. reason
+        ≡ first_some (late network.now.topology certificate.now) network.now.streams) }
 {
     let delays = Delays::new(alloc, network, certificate)?;
     Ok(first_late(&delays))

@@ -1,9 +1,10 @@
-use Rattle.std.specs.Prelude.{◌≡◌, ℕ, ◌+◌, ◌-◌, ◌*◌, ◌<◌, ◌≤◌, Bool, ◌&&◌, ◌==◌, ◌⊎◌, IsTrue, IsSome, List, find}
+use Rattle.std.specs.Prelude.{◌≡◌, ℕ, ◌+◌, ◌-◌, ◌*◌, ◌<◌, ◌≤◌, Bool, ◌&&◌, ◌==◌, ◌⊎◌, IsTrue, IsSome, List, find, map}
 use Rattle.std.specs.Prelude.{sum_by, All, AllPairs, Option, unwrap_or}
 use Rattle.std.specs.Option.{option_map, ForSome}
 use Rattle.ats_num.specs.declared.time.TheConstants.{PS_PER_SECOND, PS_PER_NS}
 use Rattle.ats_topology.specs.Port.{port_at, spread_of}
 use Rattle.ats_topology.specs.declared.port.Port.{Port}
+use Rattle.ats_streams.specs.Branches.{routes_of, trunk_of}
 use Rattle.ats_streams.specs.Stream.{DeclaredStream}
 use Rattle.ats_network.specs.Sender.{Sender, stream_sender}
 use Rattle.ats_network.specs.Class.{class_at}
@@ -28,9 +29,17 @@ bound_at rows port class = unwrap_or (option_map (λ (row : Row). row.bound) (ro
 abbrev pub bound_of_hop : List Row → Sender → ℕ → ℕ
 bound_of_hop rows sender port = bound_at rows port (class_at sender port)
 
--- the sum of the bounds at a stream's ports
+-- the sum of the bounds along a route of a stream
+abbrev pub bound_on : List Row → DeclaredStream → List ℕ → ℕ
+bound_on rows stream route = sum_by (bound_of_hop rows (stream_sender stream)) route
+
+-- that along its trunk: the sum for its first listener
 abbrev pub bound_along : List Row → DeclaredStream → ℕ
-bound_along rows stream = sum_by (bound_of_hop rows (stream_sender stream)) stream.ports
+bound_along rows stream = bound_on rows stream (trunk_of stream.ports stream.branches)
+
+-- the sum for each of its listeners, leg by leg
+abbrev pub sums_of : List Row → DeclaredStream → List ℕ
+sums_of rows stream = map (bound_on rows stream) (routes_of stream.ports stream.branches)
 
 -- the first row comes before the second: its port is lower, or the port is the same and its class is lower
 abbrev pub IsBefore : Row → Row → Type 0
@@ -81,9 +90,14 @@ pub record RowHolds (network : DeclaredNetwork) (row : Row) : Type 0 where
   pub covers : Covers network row
   pub residence : MayStay network row.port row.wait
 
--- a stream's bounds are within its deadline
+-- a sum of bounds is within a stream's deadline
+abbrev pub MeetsDeadline : DeclaredStream → ℕ → Type 0
+MeetsDeadline stream sum = sum ≤ PS_PER_NS * stream.deadline_ns
+
+-- for each of a stream's listeners the bounds along the route there are together within its deadline
 abbrev pub IsInTime : List Row → DeclaredStream → Type 0
-IsInTime rows stream = bound_along rows stream ≤ PS_PER_NS * stream.deadline_ns
+IsInTime rows stream = All (λ route. MeetsDeadline stream (bound_on rows stream route))
+    (routes_of stream.ports stream.branches)
 
 -- there is one row for each port and class that some stream uses, in ascending order of ports and then classes, and no
 -- other
@@ -93,7 +107,7 @@ pub record HasRows (network : DeclaredNetwork) (rows : List Row) : Type 0 where
   pub ordered : AllPairs IsBefore rows
 
 -- a certificate holds for a network: it has the rows of the network, each row keeps what it must, and each stream is in
--- time
+-- time for each of its listeners
 pub record Holds (network : DeclaredNetwork) (rows : List Row) : Type 0 where
   pub rows_of : HasRows network rows
   pub each : All (RowHolds network) rows

@@ -3,3 +3,4 @@ pub mod Certificate
 pub mod Least
 pub mod Used
 pub mod Form
+pub mod OneListener

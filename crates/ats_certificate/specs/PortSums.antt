@@ -44,7 +44,7 @@ least_of (n ∷ ns) = fold min n ns
 abbrev pub least_where : (PortSender → Bool) → (PortSender → ℕ) → List PortSender → ℕ
 least_where test amount senders = least_of (map amount (filter test senders))
 
--- the senders that have the port, as it sees them
+-- the senders that have the port, as it sees them: each once, however many listeners are behind
 abbrev pub senders_at : ℕ → List Sender → List PortSender
 senders_at port senders = map (seen_at port) (filter (uses port) senders)
 

@@ -2,6 +2,7 @@
 #![tactic(auto)]
 
 pub mod certificate;
+pub mod laws;
 pub mod row;
 
 pub use certificate::Certificate;

@@ -13,14 +13,15 @@ use Rattle.ats_topology.specs.Port.{port_at}
 use Rattle.ats_topology.specs.declared.port.Port.{Port}
 use Rattle.ats_streams.specs.Stream.{DeclaredStream}
 use Rattle.ats_network.specs.Class.{class_at, seen_at}
+use Rattle.ats_network.specs.Listeners.{Listener, listeners_of}
 use Rattle.ats_network.specs.Network.{DeclaredNetwork, IsNetwork}
 use Rattle.ats_network.specs.Residence.{residence_after}
 use Rattle.ats_network.specs.Sender.{stream_sender}
-use Rattle.ats_certificate.specs.Certificate.{Holds, bound_along, residence_needed}
+use Rattle.ats_certificate.specs.Certificate.{Holds, bound_on, residence_needed}
 use Rattle.ats_certificate.specs.PortSums.{is_of, is_used, uses}
 use Rattle.ats_certificate.specs.Used.{places_of}
 use Rattle.ats_certificate.specs.declared.row.Row.{Row}
-use Rattle.ats_tally.specs.Reason.{first_some, late, overstay, overstay_by}
+use Rattle.ats_tally.specs.Reason.{first_some, late, late_for, overstay, overstay_by}
 use Rattle.ats_tally.specs.declared.reason.Reason.TheVariants.{Deadline, Residence}
 use Rattle.ats_tally.proofs.Lists.{any_gives, first_some-none, none_first}
 use Rattle.ats_tally.proofs.Places.{is_at, places_have, places_used}
@@ -30,11 +31,12 @@ use Rattle.ats_bound.specs.Reason.{overload}
 use Rattle.ats_bound.proofs.LeastHolds.{least_certificate_holds}
 use Rattle.ats_bound.proofs.NoneHolds.{no_reason_held, reason_of-none}
 use Rattle.ats_explain.specs.Laws.{Carries, ClearWhereOneHolds, IsClear}
-use Rattle.ats_explain.specs.Margins.{is_late, margin_of}
+use Rattle.ats_explain.specs.Margins.{StreamListener, all_listeners, is_late, margin_of, with_listeners}
 use Rattle.ats_explain.specs.Parts.{HopIsUsed, is_over, parts_at, parts_of_hop, stay_by}
 use Rattle.ats_explain.specs.Totals.{over_among, over_count}
 use Rattle.ats_explain.specs.declared.margin.Margin.{Margin}
 use Rattle.ats_explain.proofs.Hops.{hops_used, is_user, used_by}
+use Rattle.ats_explain.proofs.Numbered.{all_joined, all_parted}
 
 -- none passes a test exactly where their count is 0
 count_none : {X : Type 0} (test : X → Bool) (xs : List X) → count_by test xs ≡ 0
@@ -125,18 +127,36 @@ hop_stays network port class is none used =
     ∙ each k d h))
     (places_have network port class is used))
 
--- a stream that is not late has no reason against it
-time_from : (network : DeclaredNetwork) (stream : DeclaredStream) → is_late (margin_of network stream) ≡ false
-    → late (least_certificate network) stream ≡ None
-time_from network stream h =
-    by_fail (nat_lt (PS_PER_NS * stream.deadline_ns) (bound_along (least_certificate network) stream))
-    (Deadline stream.name (bound_along (least_certificate network) stream)) h
+-- a stream that is late for no listener has no reason against it
+abbrev IsNotLate : DeclaredNetwork → StreamListener → Type 0
+IsNotLate network one = is_late (margin_of network one) ≡ false
 
-time_to : (network : DeclaredNetwork) (stream : DeclaredStream) → late (least_certificate network) stream ≡ None
-    → is_late (margin_of network stream) ≡ false
+time_from : (network : DeclaredNetwork) (stream : DeclaredStream)
+    → All (IsNotLate network) (with_listeners network stream)
+    → late network.topology (least_certificate network) stream ≡ None
+time_from network stream h =
+    let rows : List Row = least_certificate network in
+    let listeners : List Listener = listeners_of network.topology stream in
+    let each : All (λ (l : Listener). is_late (margin_of network (stream, l)) ≡ false) listeners =
+    all_unmapped (IsNotLate network) (λ (l : Listener). (stream, l)) listeners h in
+    first_some-none (late_for rows stream) listeners
+    (λ k d within. (
+    let l : Listener = get_or listeners k d in
+    by_fail (nat_lt (PS_PER_NS * stream.deadline_ns) (bound_on rows stream l.route))
+    (Deadline stream.name l.name (bound_on rows stream l.route)) (each k d within)))
+
+time_to : (network : DeclaredNetwork) (stream : DeclaredStream)
+    → late network.topology (least_certificate network) stream ≡ None
+    → All (IsNotLate network) (with_listeners network stream)
 time_to network stream h =
-    cond-none (nat_lt (PS_PER_NS * stream.deadline_ns) (bound_along (least_certificate network) stream))
-    (Deadline stream.name (bound_along (least_certificate network) stream)) h
+    let rows : List Row = least_certificate network in
+    let listeners : List Listener = listeners_of network.topology stream in
+    All-map (IsNotLate network) (λ (l : Listener). (stream, l)) listeners
+    (λ k d within. (
+    let l : Listener = get_or listeners k d in
+    cond-none (nat_lt (PS_PER_NS * stream.deadline_ns) (bound_on rows stream l.route))
+    (Deadline stream.name l.name (bound_on rows stream l.route))
+    (none_first (late_for rows stream) listeners h k d within)))
 
 some_holds : (network : DeclaredNetwork) → IsNetwork network → Carries network → IsClear network
     → (rows : List Row) × Holds network rows
@@ -146,12 +166,14 @@ some_holds network is carries clear =
     (All-map (λ (row : Row). overstay network row ≡ None) (least_row network) (places_of network)
     (λ k d h. row_stays network (get_or (places_of network) k d).0 (get_or (places_of network) k d).1 clear.stay
     (places_used network k d h))) in
-    let margins : All (λ (s : DeclaredStream). is_late (margin_of network s) ≡ false) network.streams =
-    all_unmapped (λ (m : Margin). is_late m ≡ false) (margin_of network) network.streams
-    (count_none is_late (map (margin_of network) network.streams) clear.in_time) in
-    let times : first_some (late (least_certificate network)) network.streams ≡ None =
-    first_some-none (late (least_certificate network)) network.streams
-    (λ k d h. time_from network (get_or network.streams k d) (margins k d h)) in (
+    let margins : All (IsNotLate network) (all_listeners network) =
+    all_unmapped (λ (m : Margin). is_late m ≡ false) (margin_of network) (all_listeners network)
+    (count_none is_late (map (margin_of network) (all_listeners network)) clear.in_time) in
+    let each : All (λ (s : DeclaredStream). All (IsNotLate network) (with_listeners network s)) network.streams =
+    all_parted (IsNotLate network) (with_listeners network) network.streams margins in
+    let times : first_some (late network.topology (least_certificate network)) network.streams ≡ None =
+    first_some-none (late network.topology (least_certificate network)) network.streams
+    (λ k d h. time_from network (get_or network.streams k d) (each k d h)) in (
       least_certificate network,
       (least_certificate_holds network is (reason_of-none network carries stays times)).holds,
     )
@@ -161,11 +183,12 @@ is_clear network rows is holds =
     let first = option_or-none (first_some (overload network) (places_of network)) _
     (no_reason_held network rows is holds) in
     let second = option_or-none (first_some (overstay network) (least_certificate network)) _ first.1 in
-    let times = none_first (late (least_certificate network)) network.streams second.1 in
+    let times = none_first (late network.topology (least_certificate network)) network.streams second.1 in
     record {
-      in_time = none_counts is_late (map (margin_of network) network.streams)
-          (All-map (λ (m : Margin). is_late m ≡ false) (margin_of network) network.streams
-          (λ k d h. time_to network (get_or network.streams k d) (times k d h)));
+      in_time = none_counts is_late (map (margin_of network) (all_listeners network))
+          (All-map (λ (m : Margin). is_late m ≡ false) (margin_of network) (all_listeners network)
+          (all_joined (IsNotLate network) (with_listeners network) network.streams
+          (λ k d h. time_to network (get_or network.streams k d) (times k d h))));
       stay = none_sums (λ (s : DeclaredStream). over_among network s s.ports) network.streams
           (λ k d h. (
           let stream : DeclaredStream = get_or network.streams k d in

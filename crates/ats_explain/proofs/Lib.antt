@@ -3,5 +3,6 @@ mod Rates
 mod Named
 mod PlacedRows
 mod Tightness
+pub mod Numbered
 mod Sums
 mod Clearance

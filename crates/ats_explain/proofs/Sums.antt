@@ -1,4 +1,4 @@
--- The parts of a bound add up to it, and the bounds along a path to its sum.
+-- The parts of a bound add up to it, and the bounds along a route to its sum.
 use Rattle.std.proofs.Common.{◌≡◌, ◌+◌, ◌-◌, ◌*◌, ◌≤◌, ℕ, Bool, true, false, cond, List, [], ◌∷◌, get_or, map, filter}
 use Rattle.std.proofs.Common.{fold, min, sum_by, Option, Some, None, sym, ap, subst, ◌∙◌, refl, inl, inr, eqb, arith}
 use Rattle.std.specs.Prelude.{◌||◌, unwrap_or}
@@ -11,8 +11,10 @@ use Rattle.std.proofs.lemmas.List.Sums.{sum_by-cons}
 use Rattle.std.proofs.lemmas.Option.{none-some, same_Some}
 use Rattle.ats_num.specs.declared.time.TheConstants.{PS_PER_SECOND}
 use Rattle.ats_topology.specs.Port.{port_at}
+use Rattle.ats_streams.specs.Branches.{routes_of}
 use Rattle.ats_streams.specs.Rules.{KeepsRules}
 use Rattle.ats_streams.specs.Stream.{DeclaredStream}
+use Rattle.ats_streams.proofs.RouteLemmas.{each_on_routes}
 use Rattle.ats_network.specs.Network.{DeclaredNetwork, IsNetwork, senders_of}
 use Rattle.ats_network.specs.Sender.{Sender, stream_sender}
 use Rattle.ats_network.specs.Class.{PortSender, class_at, seen_at}
@@ -246,6 +248,11 @@ same_sums f g (x ∷ xs) all =
     ∙ ap (λ (n : ℕ). g x + n) (same_sums f g xs (All-tail (λ x. f x ≡ g x) x xs all))
     ∙ sym (sum_by-cons g x xs)
 
+-- the parts of a hop add up to its bound
+abbrev AddsUpAt : DeclaredNetwork → DeclaredStream → ℕ → Type 0
+AddsUpAt network stream port = (parts_of_hop network stream port).bound
+    ≡ bound_of_hop (least_certificate network) (stream_sender stream) port
+
 pub each_stream_adds_up : EachStreamAddsUp
 each_stream_adds_up network is carries k d within =
     let stream : DeclaredStream = get_or network.streams k d in
@@ -254,8 +261,10 @@ each_stream_adds_up network is carries k d within =
       parts = λ hop e inside.
           parts_add network (get_or stream.ports hop e) (class_at (stream_sender stream) (get_or stream.ports hop e)) is
           carries (used hop e inside);
-      sum = same_sums (λ port. (parts_of_hop network stream port).bound)
-          (bound_of_hop (least_certificate network) (stream_sender stream)) stream.ports
+      sum = λ route d listed. same_sums (λ port. (parts_of_hop network stream port).bound)
+          (bound_of_hop (least_certificate network) (stream_sender stream))
+          (get_or (routes_of stream.ports stream.branches) route d)
+          (each_on_routes (AddsUpAt network stream) stream.ports stream.branches
           (λ hop e inside. sym (bound_is network (get_or stream.ports hop e)
-          (class_at (stream_sender stream) (get_or stream.ports hop e)) is (used hop e inside)));
+          (class_at (stream_sender stream) (get_or stream.ports hop e)) is (used hop e inside))) route d listed);
     }

@@ -1,5 +1,6 @@
 use Rattle.std.specs.Prelude.{◌≡◌, ◌↔◌, ℕ, ◌+◌, ◌*◌, ◌<◌, IsTrue, false, List, sum_by, All, Option, Some, None}
 use Rattle.ats_topology.specs.Port.{port_at}
+use Rattle.ats_streams.specs.Branches.{routes_of}
 use Rattle.ats_streams.specs.Stream.{DeclaredStream}
 use Rattle.ats_network.specs.Sender.{Sender, stream_sender}
 use Rattle.ats_network.specs.Class.{class_at, seen_at}
@@ -14,7 +15,7 @@ use Rattle.ats_bound.specs.First.{IsFirstBreach}
 use Rattle.ats_bound.specs.Reason.{overload}
 use Rattle.ats_explain.specs.Senders.{sends_lower}
 use Rattle.ats_explain.specs.Parts.{parts_of_hop}
-use Rattle.ats_explain.specs.Margins.{margin_of}
+use Rattle.ats_explain.specs.Margins.{margin_on}
 use Rattle.ats_explain.specs.Totals.{late_count, over_count}
 use Rattle.ats_explain.specs.declared.parts.Parts.{Parts}
 
@@ -61,18 +62,19 @@ pub record AreParts (network : DeclaredNetwork) (port class : ℕ) (parts : Part
   pub sender : IsOfLongest network port class parts.sender
 
 -- at each hop of a stream the parts are those of the port, in the class that the stream has there; they add up to the
--- bound, and the bounds to the stream's sum
+-- bound, and the bounds along the route to each listener to the sum for it
 pub record StreamAddsUp (network : DeclaredNetwork) (stream : DeclaredStream) : Type 0 where
   pub parts : All (λ port. AreParts network port (class_at (stream_sender stream) port)
       (parts_of_hop network stream port)) stream.ports
-  pub sum : sum_by (λ port. (parts_of_hop network stream port).bound) stream.ports ≡ (margin_of network stream).sum
+  pub sum : All (λ route. sum_by (λ port. (parts_of_hop network stream port).bound) route
+      ≡ (margin_on network stream route).sum) (routes_of stream.ports stream.branches)
 
 -- so for each stream of a network without an overload
 abbrev pub EachStreamAddsUp : Type 0
 EachStreamAddsUp = (network : DeclaredNetwork) → IsNetwork network → Carries network
     → All (StreamAddsUp network) network.streams
 
--- no stream is late, and no frame may have to stay at a hop longer than it may
+-- no stream is late for any of its listeners, and no frame may have to stay at a hop longer than it may
 pub record IsClear (network : DeclaredNetwork) : Type 0 where
   pub in_time : late_count network ≡ 0
   pub stay : over_count network ≡ 0

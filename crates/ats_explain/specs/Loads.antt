@@ -9,7 +9,7 @@ use Rattle.ats_certificate.specs.PortSums.{uses}
 abbrev pub has_stream : DeclaredNetwork → ℕ → Bool
 has_stream network port = list_any (uses port) (map stream_sender network.streams)
 
--- the rates of the streams that have the port, together
+-- the rates of the streams that have the port, together: of each once, however many listeners are behind
 abbrev pub rate_at : DeclaredNetwork → ℕ → ℕ
 rate_at network port = sum_by (λ (s : Sender). s.rate) (filter (uses port) (map stream_sender network.streams))
 

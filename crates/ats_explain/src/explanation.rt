@@ -1,9 +1,11 @@
 //! An explanation of the least bounds of a network.
 
 ghost use Rattle.std.specs.Prelude.{◌≡◌, ◌<◌, ◌≤◌, length, IfOk, IfErr, OnOk, IsTrue, None};
-ghost use Rattle.std.specs.Prelude.{◌≢◌, [], All, AllPairs};
+ghost use Rattle.std.specs.Prelude.{◌≢◌, slice_index_or, All, AllPairs};
 ghost use Rattle.std.specs.Option.{option_map};
 ghost use Rattle.ats_num.specs.Failure.{IsDue};
+ghost use Rattle.ats_streams.specs.Branches.{leg_at, routes_of};
+ghost use Rattle.ats_network.specs.Edits.{no_stream};
 ghost use Rattle.ats_network.specs.Network.{IsNetwork};
 ghost use Rattle.ats_certificate.specs.Form.{IsRow};
 ghost use Rattle.ats_certificate.specs.PortSums.{is_used};
@@ -12,12 +14,13 @@ ghost use Rattle.ats_tally.specs.Reason.{first_some};
 ghost use Rattle.ats_bound.specs.Least.{least_row};
 ghost use Rattle.ats_bound.specs.Reason.{overload};
 ghost use Rattle.ats_explain.specs.Parts.{parts_at, HopIsUsed};
-ghost use Rattle.ats_explain.specs.Margins.{margins_of, tightest_stream};
+ghost use Rattle.ats_explain.specs.Margins.{margin_on, margins_of, tightest_listener};
+ghost use Rattle.ats_explain.specs.Numbers.{listeners_before};
 ghost use Rattle.ats_explain.specs.Loads.{has_stream, port_load};
 ghost use Rattle.ats_explain.specs.Totals.{late_count, over_among, over_count, tightest_with, totals_of};
 
 use crate::loads::{load, uses};
-use crate::margin::{Margin, margins_of, tightest};
+use crate::margin::{Margin, listener_of, margins_of, tightest};
 use crate::names::names_of;
 use crate::parts::Parts;
 use crate::rows::places_of;
@@ -28,7 +31,7 @@ use ats_class_table::PortClassTable;
 use ats_network::Network;
 use ats_num::{Failure, Name};
 use ats_streams::Stream;
-use ats_tally::{Reason, Tallies};
+use ats_tally::{Reason, Tallies, listener_name};
 use std::alloc::Global;
 use std::marker::Model;
 
@@ -55,7 +58,7 @@ impl<'a> Model for Explanation<'a> {
 
 impl<'a> Explanation<'a> {
     /// An explanation of the least bounds of a network. It takes time and memory linear in the number of ports and the
-    /// sum of the paths' lengths.
+    /// sum of the routes' lengths.
     ///
     /// # Errors
     ///
@@ -89,11 +92,24 @@ impl<'a> Explanation<'a> {
         self.tallies.network()
     }
 
-    /// For each stream of the network, in order, the sum of its least bounds and its deadline.
+    /// For each listener, stream by stream, the sum of the least bounds along the route there, and the deadline.
     pub fn margins(&self) -> &[Margin]
         ensures { result.now ≡ margins_of self.now }
     {
         self.margin_list.as_slice()
+    }
+
+    /// The margin of a stream's listener, that of one leg counted from 0, where so many listeners are those of the
+    /// streams before it.
+    pub fn margin(&self, before: usize, stream: u32, leg: u32) -> Margin
+        requires before { before ≡ listeners_before self.now stream }
+        requires stream { stream < length self.now.streams }
+        requires leg { leg ≤ length (slice_index_or self.now.streams stream no_stream).branches }
+        ensures { result ≡ margin_on self.now (slice_index_or self.now.streams stream no_stream)
+            (leg_at (routes_of (slice_index_or self.now.streams stream no_stream).ports
+            (slice_index_or self.now.streams stream no_stream).branches) leg) }
+    {
+        self.margins()[before + leg as usize]
     }
 
     /// The parts of the least bound of a port and a class that some stream uses there. They are found at once.
@@ -136,14 +152,14 @@ impl<'a> Explanation<'a> {
         load(&self.tallies, port)
     }
 
-    /// The number of streams, how many are late, at how many hops a frame may have to stay longer than it may, and the
-    /// first stream of the least slack.
+    /// The number of streams, for how many listeners they are late, at how many hops a frame may have to stay longer
+    /// than it may, and the first listener of the least slack.
     pub fn totals(&self) -> Totals
         ensures { result ≡ totals_of self.now }
     {
         let margins = self.margins();
         Totals {
-            streams: margins.len(),
+            streams: self.network().streams().len(),
             late: margins.iter().filter(|margin| margin.is_late()).count(),
             over: self.over(),
             tightest: self.tightest(),
@@ -161,13 +177,12 @@ impl<'a> Explanation<'a> {
         over
     }
 
-    // At how many hops of a stream, which as yet has one listener.
+    // At how many hops of a stream.
     fn over_along(&self, stream: &Stream) -> usize
         requires used { All (HopIsUsed self.now stream.now) stream.now.ports }
         requires apart { AllPairs (λ p q. p ≢ q) stream.now.ports }
-        requires one_listener { stream.now.branches ≡ [] }
         ensures value { result ≡ over_among self.now stream.now stream.now.ports }
-        ensures most { result ≤ 16 }
+        ensures most { result ≤ length stream.now.ports }
     {
         let classes = stream.classes();
         let mut over = 0;
@@ -179,14 +194,17 @@ impl<'a> Explanation<'a> {
         over
     }
 
-    // The first stream of the least slack.
+    // The first listener of the least slack.
     fn tightest(&self) -> Option<Tightest>
-        ensures { result ≡ option_map (tightest_with self.now) (tightest_stream self.now) }
+        ensures { result ≡ option_map (tightest_with self.now) (tightest_listener self.now) }
     {
         let margins = self.margins();
         let place = tightest(margins)?;
+        let network = self.network();
+        let (stream, leg) = listener_of(network, place);
         Some(Tightest {
-            name: self.network().streams()[place].name(),
+            name: network.streams()[stream as usize].name(),
+            listener: listener_name(network, stream, leg),
             margin: margins[place],
         })
     }

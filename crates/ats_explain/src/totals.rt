@@ -8,19 +8,21 @@ use ats_num::Name;
 pub struct Totals {
     /// The number of streams.
     pub streams: usize,
-    /// How many of them are late.
+    /// For how many listeners their streams are late.
     pub late: usize,
     /// At how many hops of all streams a frame may have to stay longer than it may.
     pub over: usize,
-    /// The first stream of the least slack, if there are streams.
+    /// The first listener of the least slack, if there are streams.
     pub tightest: Option<Tightest>,
 }
 
-/// The stream that is closest to its deadline, or the latest.
+/// The listener whose stream is closest to its deadline, or the latest.
 #[derive(Clone, Copy)]
 pub struct Tightest {
-    /// Its name.
+    /// The stream's name.
     pub name: Name,
+    /// The name of the listener's station; `None` for the stream's first listener.
+    pub listener: Option<Name>,
     /// Its sum and its deadline.
     pub margin: Margin,
 }

@@ -12,5 +12,9 @@ pub mod Eight
 pub mod ShareLemmas
 pub mod Counted
 pub mod Placed
+pub mod Along
 pub mod Paths
+pub mod ListenerLemmas
+pub mod RouteSums
 pub mod Reasons
+pub mod OneSums

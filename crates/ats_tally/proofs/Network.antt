@@ -1,10 +1,15 @@
 use Rattle.std.proofs.Common.{ℕ, ◌+◌, ◌<◌, ◌≤◌, Bool, true, false, cond, List, [], ◌∷◌, ◌++◌, length, map, take}
-use Rattle.std.proofs.Common.{sym, subst, arith, length-append}
+use Rattle.std.proofs.Common.{get_or, sym, subst, arith, length-append}
+use Rattle.std.specs.List.{All}
 use Rattle.std.proofs.lemmas.List.{append-nil, length-map, length-take}
-use Rattle.std.proofs.lemmas.List.Elements.{All-take}
+use Rattle.std.proofs.lemmas.List.Elements.{All-append, All-map, All-take}
+use Rattle.std.proofs.lemmas.List.Sums.{get_or-le-sum_by}
+use Rattle.ats_streams.specs.Flow.{DeclaredFlow, IsFlow}
+use Rattle.ats_streams.specs.Path.{IsPath}
+use Rattle.ats_streams.specs.Stream.{DeclaredStream}
 use Rattle.ats_network.specs.Sender.{Sender, stream_sender, flow_sender}
 use Rattle.ats_network.specs.Class.{PortSender, seen_at}
-use Rattle.ats_network.specs.Network.{DeclaredNetwork, IsNetwork, senders_of}
+use Rattle.ats_network.specs.Network.{DeclaredNetwork, IsNetwork, ports_together, senders_of}
 use Rattle.ats_network.specs.Senders.{IsSender, sender_at, no_sender}
 use Rattle.ats_network.proofs.SenderLemmas.{each_is_sender}
 use Rattle.ats_certificate.specs.PortSums.{uses, senders_at}
@@ -63,3 +68,24 @@ count_more network port class i tally within h =
     by senders seen true h = tally_more class senders tally seen h
     by senders seen false h =
         subst (λ (ss : List PortSender). IsTally class ss tally) (sym (append-nil senders)) h
+
+-- a sender has no more ports than streams may have together
+streams_few : (streams : List DeclaredStream) → ports_together streams ≤ 65536
+    → All (λ (s : Sender). length s.ports ≤ 65536) (map stream_sender streams)
+streams_few streams few =
+    All-map (λ (s : Sender). length s.ports ≤ 65536) stream_sender streams
+    (λ k d h. (let mine : length (get_or streams k d).ports ≤ ports_together streams =
+    get_or-le-sum_by (λ (s : DeclaredStream). length s.ports) streams k d h in omega (arith, mine, few)))
+
+flows_few : (flows : List DeclaredFlow) → All IsFlow flows
+    → All (λ (s : Sender). length s.ports ≤ 65536) (map flow_sender flows)
+flows_few flows keep =
+    All-map (λ (s : Sender). length s.ports ≤ 65536) flow_sender flows
+    (λ k d h. (let path : IsPath (get_or flows k d).path = (keep k d h).path in omega (arith, path.most)))
+
+pub few_ports : (network : DeclaredNetwork) (n : ℕ) → IsNetwork network → n < length (senders_of network)
+    → length (sender_at network n).ports ≤ 65536
+few_ports network n is within =
+    All-append (λ (s : Sender). length s.ports ≤ 65536) (map stream_sender network.streams)
+    (map flow_sender network.flows) (streams_few network.streams is.few_ports) (flows_few network.flows is.flows)
+    n no_sender within

@@ -1,6 +1,7 @@
-use Rattle.std.specs.Prelude.{◌≡◌, ℕ, List, length, map}
+use Rattle.std.specs.Prelude.{◌≡◌, ℕ, List, length}
+use Rattle.std.specs.List.{flat_map}
 use Rattle.ats_network.specs.Network.{DeclaredNetwork, IsNetwork}
-use Rattle.ats_certificate.specs.Certificate.{bound_along}
+use Rattle.ats_certificate.specs.Certificate.{sums_of}
 use Rattle.ats_certificate.specs.declared.row.Row.{Row}
 use Rattle.ats_tally.specs.Bounds.{RowsAt}
 
@@ -12,9 +13,9 @@ pub record NetworkRows : Type 0 where
 abbrev pub rows_for : DeclaredNetwork → List Row → NetworkRows
 rows_for network rows = record { network = network; rows = rows }
 
--- the sum of its bounds for each stream, in order
+-- the sum of its bounds for each listener, stream by stream
 abbrev pub sums_for : DeclaredNetwork → List Row → List ℕ
-sums_for network rows = map (bound_along rows) network.streams
+sums_for network rows = flat_map (sums_of rows) network.streams
 
 -- bounds at the ports of a network, with such a list
 pub record AreDelays (network : DeclaredNetwork) (bounds : RowsAt) (sums : List ℕ) : Type 0 where

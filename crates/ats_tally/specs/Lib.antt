@@ -4,6 +4,8 @@ pub mod Shares
 pub mod Tallies
 pub mod ClassSums
 pub mod Bounds
+pub mod Listeners
 pub mod Delays
 pub mod Waits
 pub mod Reason
+pub mod OneListener

@@ -6,7 +6,8 @@ use Rattle.ats_topology.specs.Topology.{DeclaredTopology}
 use Rattle.ats_streams.specs.Stream.{DeclaredStream}
 use Rattle.ats_network.specs.Network.{DeclaredNetwork}
 use Rattle.ats_network.specs.Residence.{residence_after}
-use Rattle.ats_certificate.specs.Certificate.{bound_along, residence_needed}
+use Rattle.ats_network.specs.Listeners.{Listener, listeners_of}
+use Rattle.ats_certificate.specs.Certificate.{bound_on, residence_needed}
 use Rattle.ats_certificate.specs.declared.row.Row.{Row}
 use Rattle.ats_tally.specs.declared.reason.Reason.{Reason}
 use Rattle.ats_tally.specs.declared.reason.Reason.TheVariants.{Overloaded, Residence, Deadline}
@@ -37,15 +38,21 @@ row_need network row = residence_needed (port_at network.topology.ports row.port
 abbrev pub overstay : DeclaredNetwork → Row → Option Reason
 overstay network row = overstay_by row (row_need network row) (residence_after network.topology row.port)
 
--- a sum of bounds over a stream's deadline
-abbrev pub late_by : DeclaredStream → ℕ → Option Reason
-late_by stream sum = if nat_lt (PS_PER_NS * stream.deadline_ns) sum then Some (Deadline stream.name sum) else None
+-- a sum of bounds over a stream's deadline, for the listener of this name
+abbrev pub late_by : DeclaredStream → Option (List ℕ) → ℕ → Option Reason
+late_by stream listener sum =
+    if nat_lt (PS_PER_NS * stream.deadline_ns) sum then Some (Deadline stream.name listener sum) else None
 
-abbrev pub late : List Row → DeclaredStream → Option Reason
-late rows stream = late_by stream (bound_along rows stream)
+-- that along the route to a listener
+abbrev pub late_for : List Row → DeclaredStream → Listener → Option Reason
+late_for rows stream listener = late_by stream listener.name (bound_on rows stream listener.route)
+
+-- the first listener of a stream for which it is late
+abbrev pub late : DeclaredTopology → List Row → DeclaredStream → Option Reason
+late topology rows stream = first_some (late_for rows stream) (listeners_of topology stream)
 
 -- the port that a reason names, where it names one, is a port of the topology
 abbrev pub ReasonInside : DeclaredTopology → Reason → Type 0
 ReasonInside topology (Overloaded port class load) = port < length topology.ports
 ReasonInside topology (Residence port class need) = port < length topology.ports
-ReasonInside topology (Deadline stream sum) = Unit {0}
+ReasonInside topology (Deadline stream listener sum) = Unit {0}

@@ -1,7 +1,9 @@
 //! The bounds of a certificate, by port and class.
 
-ghost use Rattle.std.specs.Prelude.{◌≡◌, ◌≢◌, ◌<◌, ◌≤◌, [], length, All, AllPairs, IfOk};
-ghost use Rattle.ats_certificate.specs.Certificate.{bound_along};
+ghost use Rattle.std.specs.Prelude.{◌≡◌, ◌≢◌, ◌*◌, ◌^◌, ◌<◌, ◌≤◌, length, take, All, AllPairs, IfOk};
+ghost use Rattle.ats_streams.specs.Branches.{first_from, leg_at, legs_of, routes_of};
+ghost use Rattle.ats_streams.specs.declared.path.TheConstants.{MAX_PORTS};
+ghost use Rattle.ats_certificate.specs.Certificate.{bound_on};
 ghost use Rattle.ats_certificate.specs.Form.{AreRows};
 ghost use Rattle.ats_tally.specs.Bounds.{AreBounds, bound_given, rows_at};
 
@@ -68,21 +70,57 @@ impl<'a> Bounds<'a> {
         self.table.get(port, class)
     }
 
-    /// The sum, in picoseconds, of the bounds at a stream's ports, none of which is there twice: at each that of the
-    /// stream's class there. A port without a row adds nothing. As yet the stream has one listener.
-    pub fn along(&self, stream: &Stream) -> u128
+    /// The sum, in picoseconds, of the bounds along the route to a stream's listener, that of one leg counted from 0:
+    /// at each port that of the stream's class there. No port of the stream is there twice, and one without a row adds
+    /// nothing. It looks at the ports of the route alone.
+    pub fn along(&self, stream: &Stream, leg: u32) -> u128
         requires ports { All (λ p. p < self.now.ports) stream.now.ports }
         requires apart { AllPairs (λ p q. p ≢ q) stream.now.ports }
-        requires one_listener { stream.now.branches ≡ [] }
-        ensures { result ≡ bound_along self.now.rows stream.now }
+        requires leg { leg ≤ length stream.now.branches }
+        ensures { result ≡ bound_on self.now.rows stream.now
+            (leg_at (routes_of stream.now.ports stream.now.branches) leg) }
     {
-        let classes = stream.classes();
-        let mut sum = 0;
-        for (hop, port) in stream.ports().iter().enumerate() {
-            sum += self.given(*port, classes[hop]).unwrap_or(0);
+        let mut sum = self.on_leg(stream, leg, stream.leg(leg).len());
+        let mut at = leg;
+        while at > 0 {
+            let branch = stream.branch(at);
+            at = branch.leg;
+            sum += self.on_leg(stream, at, branch.hop as usize);
         }
         sum
     }
+
+    // The sum of the bounds at the first ports of a leg, as many as this.
+    fn on_leg(&self, stream: &Stream, leg: u32, hops: usize) -> u128
+        requires ports { All (λ p. p < self.now.ports) stream.now.ports }
+        requires apart { AllPairs (λ p q. p ≢ q) stream.now.ports }
+        requires leg { leg ≤ length stream.now.branches }
+        requires hops { hops ≤ length (leg_at (legs_of stream.now.ports stream.now.branches) leg) }
+        requires few { hops ≤ MAX_PORTS }
+        ensures value { result ≡ bound_on self.now.rows stream.now
+            (take hops (leg_at (legs_of stream.now.ports stream.now.branches) leg)) }
+        ensures most { result ≤ hops * 10 ^ 36 }
+    {
+        let first = first_place(stream, leg);
+        let (ports, classes) = (stream.ports(), stream.classes());
+        let mut sum = 0;
+        for hop in 0..hops {
+            let place = first + hop;
+            sum += self.given(ports[place], classes[place]).unwrap_or(0);
+        }
+        sum
+    }
+}
+
+// The place of the first port of a leg among the ports of its stream.
+fn first_place(stream: &Stream, leg: u32) -> usize
+    requires { leg ≤ length stream.now.branches }
+    ensures { result ≡ first_from 0 stream.now.branches leg }
+{
+    if leg == 0 {
+        return 0;
+    }
+    stream.branch(leg).first as usize
 }
 
 // The bounds of rows at so many ports. The last row comes first, so that of rows with one place the first one stays.

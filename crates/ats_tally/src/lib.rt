@@ -1,11 +1,12 @@
 //! What the senders of a network make of each port and class, the bounds of a certificate by port and class with their
-//! sums along the streams' paths, and the searches for the first load, wait or sum that a network can't bear.
+//! sums along the routes of streams, and the searches for the first load, wait or sum that a network can't bear.
 #![tactic(auto)]
 
 pub mod bounds;
 pub mod class_sums;
 pub mod class_tallies;
 pub mod delays;
+pub mod laws;
 pub mod reason;
 pub mod searches;
 pub mod seen;
@@ -20,7 +21,7 @@ pub use class_sums::ClassSums;
 pub use class_tallies::{tallies_at, tallies_of};
 pub use delays::Delays;
 pub use reason::Reason;
-pub use searches::{first_late, first_overload, first_overstay};
+pub use searches::{first_late, first_overload, first_overstay, listener_name};
 pub use seen::SeenSender;
 pub use share::Share;
 pub use shares::{enter_along, shares_of};

@@ -24,10 +24,12 @@ pub enum Reason {
         /// The wait plus the spread, in picoseconds.
         need: u128,
     },
-    /// The bounds at a stream's ports are together over its deadline.
+    /// The bounds along the route to a listener of a stream are together over the stream's deadline.
     Deadline {
         /// The stream's name.
         stream: Name,
+        /// The name of the listener's station; `None` for the stream's first listener.
+        listener: Option<Name>,
         /// Their sum, in picoseconds.
         sum: u128,
     },

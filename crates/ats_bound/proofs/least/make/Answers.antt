@@ -29,8 +29,8 @@ returns-clause-holds c =
     let least : c.rows.result.now ≡ least_certificate network = c.rows.ensures.value ∙ made in
     let stays : first_some (overstay network) (least_certificate network) ≡ None =
     sym (ap (first_some (overstay network)) least) ∙ sym c.first_overstay.ensures ∙ c.in_default.is in
-    let times : first_some (late (least_certificate network)) network.streams ≡ None =
-    sym (ap (λ (rows : List Row). first_some (late rows) network.streams) made)
+    let times : first_some (late network.topology (least_certificate network)) network.streams ≡ None =
+    sym (ap (λ (rows : List Row). first_some (late network.topology rows) network.streams) made)
     ∙ sym c.in_ok-reason.ensures ∙ c.in_default-2.is in
     (least_certificate_holds network (subst IsNetwork same c.in_ok-certificate.ensures.rules)
     (reason_of-none network fits stays times)).holds

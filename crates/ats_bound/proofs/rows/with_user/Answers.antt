@@ -1,19 +1,18 @@
 use Rattle.std.proofs.Common.{◌≡◌, ℕ, List, length, Some, None, sym, ap, ◌∙◌, eqb, arith}
 use Rattle.std.specs.List.{position_from}
 use Rattle.ats_network.specs.Class.{PortSender}
-use Rattle.ats_network.specs.Senders.{IsSender, sender_at}
-use Rattle.ats_network.proofs.SenderLemmas.{sender_keeps}
+use Rattle.ats_network.specs.Senders.{sender_at}
 use Rattle.ats_tally.specs.Tally.{tally_with}
+use Rattle.ats_tally.proofs.Network.{few_ports}
 use Rattle.ats_bound.proofs.Hops.{more_at, no_more}
 use Rattle.ats_bound.proofs.rows.with_user.Goals as goal
 
 pub overflow_cast-hop : goal.overflow_cast-hop
 overflow_cast-hop c =
-    let is : IsSender c.args.network.now.topology (sender_at c.args.network.now c.args.sender) =
-    sender_keeps c.args.network.now c.args.sender c.sender_ports.ensures.rules c.requires.sender in
     let long : length c.sender_ports.result.now ≡ length (sender_at c.args.network.now c.args.sender).ports =
     ap (λ (ports : List ℕ). length ports) c.sender_ports.ensures.value in
-    omega (arith, long, is.path.most, c.in-Some.ensures.within)
+    let few = few_ports c.args.network.now c.args.sender c.sender_ports.ensures.rules c.requires.sender in
+    omega (arith, long, few, c.in-Some.ensures.within)
 
 pub returns-in-Some : goal.returns-in-Some
 returns-in-Some c =

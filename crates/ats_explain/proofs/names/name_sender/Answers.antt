@@ -6,18 +6,18 @@ use Rattle.ats_network.specs.Sender.{Sender}
 use Rattle.ats_network.specs.Senders.{IsSender, sender_at, no_sender}
 use Rattle.ats_network.proofs.SenderLemmas.{each_is_sender}
 use Rattle.ats_tally.specs.SenderAtPort.{port_sender}
+use Rattle.ats_tally.proofs.Network.{few_ports}
 use Rattle.ats_explain.specs.Table.{NamesAt}
 use Rattle.ats_explain.proofs.Named.{NamesAlong, along_more, named_more}
 use Rattle.ats_explain.proofs.names.name_sender.Goals as goal
 
 pub overflow_cast-hop : goal.overflow_cast-hop
 overflow_cast-hop c =
-    let is : IsSender c.args.tallies.now.topology (sender_at c.args.tallies.now c.args.sender) = each_is_sender
-    c.args.tallies.now c.network-network.ensures.rules c.args.sender no_sender c.requires.sender in
+    let few = few_ports c.args.tallies.now c.args.sender c.network-network.ensures.rules c.requires.sender in
     let long : length c.sender_ports-port-items.result.now ≡ length (sender_at c.args.tallies.now c.args.sender).ports =
     ap (λ (ports : List ℕ). length ports) c.sender_ports-port-items.ensures.value
     ∙ ap (λ (n : DeclaredNetwork). length (sender_at n c.args.sender).ports) c.network-network.ensures.value in
-    omega (arith, long, is.path.most)
+    omega (arith, long, few)
 
 pub name_at-requires-clause-port : goal.name_at-requires-clause-port
 name_at-requires-clause-port c =

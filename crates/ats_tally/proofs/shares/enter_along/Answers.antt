@@ -1,18 +1,18 @@
 use Rattle.std.proofs.Common.{◌≤◌, ℕ, List, get_or, length, subst, ap, arith}
 use Rattle.std.proofs.lemmas.List.{take_all}
 use Rattle.ats_network.specs.Sender.{Sender}
-use Rattle.ats_network.specs.Senders.{IsSender, sender_at}
+use Rattle.ats_network.specs.Senders.{sender_at}
 use Rattle.ats_network.proofs.SenderLemmas.{sender_keeps}
 use Rattle.ats_tally.specs.SenderAtPort.{port_sender}
 use Rattle.ats_tally.proofs.Changed.{ChangesAlong}
+use Rattle.ats_tally.proofs.Network.{few_ports}
 use Rattle.ats_tally.proofs.Entries.{counted, entered_all, entry_counted, entry_is, entry_room}
 use Rattle.ats_tally.proofs.shares.enter_along.Goals as goal
 
 pub overflow_cast-hop : goal.overflow_cast-hop
 overflow_cast-hop c =
-    let keeps : IsSender c.args.network.now.topology (sender_at c.args.network.now c.args.sender) =
-    sender_keeps c.args.network.now c.args.sender c.sender_ports-port-items.ensures.rules c.requires.sender in
-    omega (arith, keeps.path.most, c.loop-hop-test.true, ap length c.sender_ports-port-items.ensures.value)
+    let few = few_ports c.args.network.now c.args.sender c.sender_ports-port-items.ensures.rules c.requires.sender in
+    omega (arith, few, c.loop-hop-test.true, ap length c.sender_ports-port-items.ensures.value)
 
 pub get-share-requires-clause-port : goal.get-share-requires-clause-port
 get-share-requires-clause-port c =

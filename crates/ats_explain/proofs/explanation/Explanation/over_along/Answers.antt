@@ -1,8 +1,6 @@
 use Rattle.std.proofs.Common.{◌≡◌, ◌<◌, ◌+◌, ℕ, List, length, length-take, take, slice_index_or, ap, sym, ◌∙◌, arith}
 use Rattle.std.proofs.lemmas.List.Sums.{count_by-le-length, count_by_more_no, count_by_more_yes}
-use Rattle.ats_streams.specs.Path.{IsPath}
 use Rattle.ats_streams.specs.Stream.{DeclaredStream}
-use Rattle.ats_streams.proofs.OneListener.{alone_path}
 use Rattle.ats_network.specs.Class.{class_at}
 use Rattle.ats_network.specs.Sender.{stream_sender}
 use Rattle.ats_network.proofs.ClassLemmas.{class_along-at}
@@ -61,13 +59,10 @@ loop-hop-preserved c =
 pub returns-clause-most : goal.returns-clause-most
 returns-clause-most c =
     let stream : DeclaredStream = c.args.stream.now in
-    let path : IsPath stream.ports =
-    alone_path stream.ports stream.branches c.requires.one_listener c.classes-classes.ensures.rules.routes in
     omega (
       arith,
       c.loop-hop.invariant,
       count_by-le-length (λ port. is_over (parts_of_hop c.args.self.now stream port).stay)
           (take c.loop-hop.hop stream.ports),
       length-take c.loop-hop.hop stream.ports,
-      path.most,
     )

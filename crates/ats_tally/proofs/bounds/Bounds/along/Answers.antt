@@ -1,50 +1,98 @@
-use Rattle.std.proofs.Common.{◌≡◌, ◌≤◌, ◌<◌, ◌+◌, ℕ, List, length, Option, sum_by, take, slice_index_or, ap, sym, ◌∙◌}
-use Rattle.std.proofs.Common.{arith}
-use Rattle.std.specs.Prelude.{unwrap_or}
-use Rattle.std.proofs.lemmas.List.Sums.{sum_by_more}
-use Rattle.ats_streams.specs.Path.{IsPath}
+use Rattle.std.proofs.Common.{◌≡◌, ◌+◌, ◌-◌, ◌≤◌, ◌*◌, ◌^◌, ℕ, length, take, get_or, refl, sym, ap, subst, ◌∙◌, arith}
+use Rattle.ats_streams.specs.Branches.{leg_at, legs_of, no_branch}
 use Rattle.ats_streams.specs.Stream.{DeclaredStream}
-use Rattle.ats_streams.proofs.OneListener.{alone_path}
+use Rattle.ats_streams.specs.declared.branch.Branch.{Branch}
+use Rattle.ats_streams.proofs.BranchLemmas.{leg_falls}
+use Rattle.ats_streams.proofs.WalkedRoutes.{hop_within}
 use Rattle.ats_network.specs.Sender.{stream_sender}
-use Rattle.ats_certificate.specs.Certificate.{bound_at, bound_of_hop}
-use Rattle.ats_tally.proofs.Paths.{hop_bound}
-use Rattle.ats_tally.proofs.Placed.{bound_most}
+use Rattle.ats_certificate.specs.Certificate.{bound_of_hop, bound_on}
+use Rattle.ats_tally.proofs.Along.{IsSummed, along_all, few_first, few_next, sum_small, summed_first, summed_next}
+use Rattle.ats_tally.proofs.bounds.Bounds.along.Goals.{After-on_leg-sum-in-loop-at}
 use Rattle.ats_tally.proofs.bounds.Bounds.along.Goals as goal
+
+pub on_leg-sum-requires-clause-few : goal.on_leg-sum-requires-clause-few
+on_leg-sum-requires-clause-few c =
+    let s : DeclaredStream = c.args.stream.now in
+    few_first (bound_of_hop c.args.self.now.rows (stream_sender s)) s.ports s.branches c.args.leg
+    c.leg.ensures.rules.branches c.leg.ensures.rules.routes c.requires.leg c.leg.result.now c.leg.ensures.value
+
+pub loop-at-init : goal.loop-at-init
+loop-at-init c =
+    let s : DeclaredStream = c.args.stream.now in
+    summed_first (bound_of_hop c.args.self.now.rows (stream_sender s)) s.ports s.branches c.args.leg
+    c.leg.ensures.rules.branches c.leg.ensures.rules.routes c.requires.leg c.leg.result.now
+    (length c.leg.result.now) c.on_leg-sum.result c.leg.ensures.value refl c.on_leg-sum.ensures.value
+    c.on_leg-sum.ensures.most
+
+pub on_leg-sum-requires-in-loop-at-clause-leg : goal.on_leg-sum-requires-in-loop-at-clause-leg
+on_leg-sum-requires-in-loop-at-clause-leg c =
+    let s : DeclaredStream = c.args.stream.now in
+    let falls = leg_falls s.ports s.branches c.loop-at.at c.leg.ensures.rules.branches
+    c.loop-at.invariant.behind.within c.loop-at-test.true in
+    omega (
+      arith,
+      ap (λ (b : Branch). b.leg) c.branch-branch.ensures.value,
+      falls,
+      c.loop-at.invariant.behind.within,
+    )
+
+pub on_leg-sum-requires-in-loop-at-clause-hops : goal.on_leg-sum-requires-in-loop-at-clause-hops
+on_leg-sum-requires-in-loop-at-clause-hops c =
+    let s : DeclaredStream = c.args.stream.now in
+    let b : Branch = get_or s.branches (c.loop-at.at - 1) no_branch in
+    let within = hop_within s.ports s.branches c.loop-at.at c.leg.ensures.rules.branches
+    c.loop-at.invariant.behind.within c.loop-at-test.true in
+    subst (λ (b : Branch). b.hop ≤ length (leg_at (legs_of s.ports s.branches) b.leg))
+    (sym c.branch-branch.ensures.value) (omega (arith, within))
+
+pub on_leg-sum-requires-in-loop-at-clause-few : goal.on_leg-sum-requires-in-loop-at-clause-few
+on_leg-sum-requires-in-loop-at-clause-few c =
+    let s : DeclaredStream = c.args.stream.now in
+    subst (λ (b : Branch). b.hop ≤ 16) (sym c.branch-branch.ensures.value)
+    (few_next (bound_of_hop c.args.self.now.rows (stream_sender s)) s.ports s.branches c.args.leg
+    c.leg.ensures.rules.branches c.leg.ensures.rules.routes c.requires.leg c.loop-at.at c.loop-at.sum
+    c.loop-at.invariant c.loop-at-test.true)
+
+-- the sum goes on at the leg where this one begins
+next : (c : After-on_leg-sum-in-loop-at)
+    → IsSummed (bound_of_hop c.args.self.now.rows (stream_sender c.args.stream.now)) c.args.stream.now.ports
+    c.args.stream.now.branches c.args.leg c.branch-branch.result.leg
+    (c.loop-at.sum + c.on_leg-sum-in-loop-at.result)
+next c =
+    let s : DeclaredStream = c.args.stream.now in
+    let rows = c.args.self.now.rows in
+    let b : Branch = get_or s.branches (c.loop-at.at - 1) no_branch in
+    let more : ℕ = c.on_leg-sum-in-loop-at.result in
+    let is : c.branch-branch.result ≡ b = c.branch-branch.ensures.value in
+    subst (λ (b : Branch). IsSummed (bound_of_hop rows (stream_sender s)) s.ports s.branches c.args.leg b.leg
+    (c.loop-at.sum + more)) (sym is)
+    (summed_next (bound_of_hop rows (stream_sender s)) s.ports s.branches c.args.leg
+    c.leg.ensures.rules.branches c.leg.ensures.rules.routes c.requires.leg c.loop-at.at c.loop-at.sum more
+    c.loop-at.invariant c.loop-at-test.true
+    (c.on_leg-sum-in-loop-at.ensures.value
+    ∙ ap (λ (b : Branch). bound_on rows s (take b.hop (leg_at (legs_of s.ports s.branches) b.leg))) is)
+    (subst (λ (b : Branch). more ≤ b.hop * 10 ^ 36) is c.on_leg-sum-in-loop-at.ensures.most))
 
 pub overflow_add-sum : goal.overflow_add-sum
 overflow_add-sum c =
-    let port : ℕ = slice_index_or c.ports-port-items.result.now c.loop-hop.hop 0 in
-    let class : ℕ = slice_index_or c.classes-classes.result.now c.loop-hop.hop 0 in
-    let value : c.unwrap_or-sum.result ≡ bound_at c.args.self.now.rows port class =
-    c.unwrap_or-sum.ensures ∙ ap (λ (o : Option ℕ). unwrap_or o 0) c.given.ensures.value in
-    let small = bound_most c.args.self.now.rows port class c.given.ensures.form.each in
-    let long : length c.ports-port-items.result.now ≡ length c.args.stream.now.ports =
-    ap (λ (ports : List ℕ). length ports) c.ports-port-items.ensures.value in
-    let path : IsPath c.args.stream.now.ports =
-    alone_path c.args.stream.now.ports c.args.stream.now.branches c.requires.one_listener
-    c.ports-port-items.ensures.rules.routes in
-    omega (arith, value, small, long, path.most)
+    let s : DeclaredStream = c.args.stream.now in
+    let small = sum_small (bound_of_hop c.args.self.now.rows (stream_sender s)) s.ports s.branches c.args.leg
+    c.leg.ensures.rules.branches c.leg.ensures.rules.routes c.requires.leg c.branch-branch.result.leg
+    (c.loop-at.sum + c.on_leg-sum-in-loop-at.result) (next c) in
+    omega (arith, small)
 
-pub loop-hop-preserved : goal.loop-hop-preserved
-loop-hop-preserved c =
-    let stream : DeclaredStream = c.args.stream.now in
-    let rows = c.args.self.now.rows in
-    let hop : ℕ = c.loop-hop.hop in
-    let port : ℕ = slice_index_or c.ports-port-items.result.now hop 0 in
-    let class : ℕ = slice_index_or c.classes-classes.result.now hop 0 in
-    let value : c.unwrap_or-sum.result ≡ bound_at rows port class =
-    c.unwrap_or-sum.ensures ∙ ap (λ (o : Option ℕ). unwrap_or o 0) c.given.ensures.value in
-    let small = bound_most rows port class c.given.ensures.form.each in
-    let long : length c.ports-port-items.result.now ≡ length stream.ports =
-    ap (λ (ports : List ℕ). length ports) c.ports-port-items.ensures.value in
-    let within : hop < length stream.ports = omega (arith, long) in
-    let here = hop_bound rows stream hop port class c.ports-port-items.ensures.rules c.requires.apart within
-    (ap (λ (ports : List ℕ). slice_index_or ports hop 0) c.ports-port-items.ensures.value)
-    (ap (λ (classes : List ℕ). slice_index_or classes hop 0) c.classes-classes.ensures.value) in
-    let so_far : ℕ = sum_by (bound_of_hop rows (stream_sender stream)) (take hop stream.ports) in
-    let more = sum_by_more (bound_of_hop rows (stream_sender stream)) stream.ports hop 0 within in
-    record {
-      sum = ap (λ (n : ℕ). n + c.unwrap_or-sum.result) c.loop-hop.invariant.sum
-          ∙ ap (λ (n : ℕ). so_far + n) (value ∙ here) ∙ sym more;
-      most = omega (arith, value, small);
-    }
+pub loop-at-smaller : goal.loop-at-smaller
+loop-at-smaller c =
+    let s : DeclaredStream = c.args.stream.now in
+    let falls = leg_falls s.ports s.branches c.loop-at.at c.leg.ensures.rules.branches
+    c.loop-at.invariant.behind.within c.loop-at-test.true in
+    omega (arith, ap (λ (b : Branch). b.leg) c.branch-branch.ensures.value, falls)
+
+pub loop-at-preserved : goal.loop-at-preserved
+loop-at-preserved c = next c
+
+pub returns : goal.returns
+returns c =
+    let s : DeclaredStream = c.args.stream.now in
+    along_all (bound_of_hop c.args.self.now.rows (stream_sender s)) s.ports s.branches c.args.leg c.loop-at.at
+    c.loop-at.sum c.loop-at.invariant (omega (arith, c.loop-at-test.false))
