@@ -16,18 +16,18 @@ use Rattle.ats_network.specs.Network.{DeclaredNetwork, IsNetwork}
 use Rattle.ats_network.specs.Residence.{residence_after}
 use Rattle.ats_certificate.specs.PortSums.{PortSums, port_sums, is_used}
 use Rattle.ats_certificate.specs.Used.{places_of}
-use Rattle.ats_certificate.specs.Certificate.{HasRows, HasSums, FitsLink, IsEnough, MayStay, Covers, RowHolds, IsInTime}
-use Rattle.ats_certificate.specs.Certificate.{IsBefore, is_row_of, row_of, bound_of, bound_along}
+use Rattle.ats_certificate.specs.Certificate.{HasRows, HasSums, FitsLink, IsEnough, MayStay, Covers, RowHolds}
+use Rattle.ats_certificate.specs.Certificate.{IsBefore, is_row_of, row_of, bound_of}
 use Rattle.ats_certificate.specs.Least.{IsLeastRow}
 use Rattle.ats_certificate.specs.declared.row.Row.{Row}
 use Rattle.ats_tally.specs.Waits.{least_wait}
 use Rattle.ats_tally.specs.Reason.{first_some, overload_in, overstay_by, overstay, row_need, late}
 use Rattle.ats_tally.specs.declared.reason.Reason.{Reason}
-use Rattle.ats_tally.specs.declared.reason.Reason.TheVariants.{Overloaded, Residence, Deadline}
+use Rattle.ats_tally.specs.declared.reason.Reason.TheVariants.{Overloaded, Residence}
 use Rattle.ats_tally.proofs.Places.{IsPlace, IsUsedAt, Precedes, is_at, is_place, places_used, places_ordered}
 use Rattle.ats_tally.proofs.Places.{places_have}
 use Rattle.ats_bound.proofs.Breaches.{StandsAt, stands_at, it_keeps, Tests, all_kept, breach_at, or_else, if_true}
-use Rattle.ats_bound.proofs.FoundReason.{not_from, stay_tests, time_tests}
+use Rattle.ats_bound.proofs.FoundReason.{not_from, of_overdue, stay_tests}
 use Rattle.ats_bound.proofs.Waits.{work-is, least_wait-is, least_wait-le}
 use Rattle.ats_checker.specs.First.{IsFirst, IsFirstReasonOfRows, IsUsed, IsRight, fields, said, due, IsMissing}
 use Rattle.ats_checker.specs.First.{IsRowAtFault}
@@ -178,20 +178,10 @@ module _ (network : DeclaredNetwork) (rows : List Row) (is : IsNetwork network) 
       at.gives
 
   pub of_late : (found : Reason) → HasRows network rows → All (RowHolds network) rows
-      → first_some (late rows) network.streams ≡ Some found → IsFirstReasonOfRows network rows found
-  of_late found rows_of holds e =
-      let at = stands_at (late rows) network.streams found e in
-      if_true (IsFirstReasonOfRows network rows) (nat_lt (PS_PER_NS * at.it.deadline_ns) (bound_along rows at.it))
-      (Deadline at.it.name (bound_along rows at.it)) found
-      (λ _. record {
-        rows_of = rows_of;
-        kept = holds;
-        stream = at.it;
-        named = refl;
-        first = breach_at (late rows) (IsInTime rows) network.streams found (time_tests network rows) at;
-        is = refl;
-      })
-      at.gives
+      → first_some (late network.topology rows) network.streams ≡ Some found → IsFirstReasonOfRows network rows found
+  of_late found rows_of holds =
+      of_overdue network rows (IsFirstReasonOfRows network rows)
+      (λ name listener along overdue. record { rows_of = rows_of; kept = holds; overdue = overdue }) found
 
   pub missing_where : (P : Refusal → Type 0) → ((p c : ℕ) → IsMissing network rows p c → P (RowMissing p c))
       → (found : Refusal) → first_some (missing rows) (places_of network) ≡ Some found → P found
@@ -312,5 +302,5 @@ module _ (network : DeclaredNetwork) (rows : List Row) (is : IsNetwork network) 
       let stays : first_some (overstay network) rows ≡ None =
       no_reason (first_some (overstay network) rows) no_overstay in
       let stay = all_kept (overstay network) (Stays network) rows (stay_tests network rows) stays in
-      by_network (IsFirst network rows) (first_some (late rows) network.streams) found
+      by_network (IsFirst network rows) (first_some (late network.topology rows) network.streams) found
       (λ reason. of_late reason rows_of (λ k d h. record { covers = covers k d h; residence = stay k d h }))))))))

@@ -1,17 +1,16 @@
 -- A refusal is given exactly where it is the first that is due.
-use Rattle.std.proofs.Common.{◌≡◌, ℕ, ◌+◌, ◌*◌, ◌≤◌, true, false, List, Option, Some, None, sym, ap, ◌∙◌, inl}
+use Rattle.std.proofs.Common.{◌≡◌, ℕ, ◌+◌, ◌≤◌, true, false, List, Option, Some, None, sym, ap, ◌∙◌, inl}
 use Rattle.std.proofs.Common.{inr, eqb, arith}
 use Rattle.std.specs.Prelude.{nat_lt, is_some}
 use Rattle.std.specs.List.{All}
 use Rattle.ats_bound.proofs.Reasons.{stays_over}
-use Rattle.ats_num.specs.declared.time.TheConstants.{PS_PER_SECOND, PS_PER_NS}
+use Rattle.ats_num.specs.declared.time.TheConstants.{PS_PER_SECOND}
 use Rattle.ats_topology.specs.Port.{port_at}
 use Rattle.ats_network.specs.Network.{DeclaredNetwork, IsNetwork}
 use Rattle.ats_network.specs.Residence.{residence_after}
 use Rattle.ats_certificate.specs.PortSums.{port_sums, is_used}
 use Rattle.ats_certificate.specs.Used.{places_of}
-use Rattle.ats_certificate.specs.Certificate.{HasRows, FitsLink, Covers, RowHolds, IsInTime, row_of, bound_of}
-use Rattle.ats_certificate.specs.Certificate.{bound_along}
+use Rattle.ats_certificate.specs.Certificate.{HasRows, FitsLink, Covers, RowHolds, row_of, bound_of}
 use Rattle.ats_certificate.specs.declared.row.Row.{Row}
 use Rattle.ats_tally.specs.Waits.{least_wait}
 use Rattle.ats_tally.specs.Reason.{first_some, overload_in, overstay, row_need, late}
@@ -19,7 +18,8 @@ use Rattle.ats_tally.specs.declared.reason.Reason.TheVariants.{Overloaded, Resid
 use Rattle.ats_tally.proofs.Lists.{option_cases}
 use Rattle.ats_tally.proofs.Places.{Precedes, is_place}
 use Rattle.ats_bound.proofs.Breaches.{none_given, given_at, or_past, at_some, true_if, not_less}
-use Rattle.ats_bound.proofs.FoundReason.{stay_tests, time_tests}
+use Rattle.ats_bound.proofs.FirstReason.{by_overdue}
+use Rattle.ats_bound.proofs.FoundReason.{stay_tests}
 use Rattle.ats_bound.proofs.Waits.{least_row-only}
 use Rattle.ats_checker.specs.First.{IsFirst, IsUsed, IsRight, fields, said, due, IsMissing, IsStray, IsWrong}
 use Rattle.ats_checker.specs.First.{IsOverload, IsShort, IsOverstay, IsLate}
@@ -123,15 +123,9 @@ module _ (network : DeclaredNetwork) (rows : List Row) (is : IsNetwork network) 
       ∙ place_is (λ p c. Some (Residence p c (row_need network o.row))) port class o.row o.fault.place
       ∙ ap (λ (n : ℕ). Some (Residence port class n)) (sym o.is))
 
-  by_late : (name : List ℕ) (along : ℕ) → IsLate network rows name along
-      → first_some (late rows) network.streams ≡ Some (Deadline name along)
-  by_late name along l =
-      given_at (late rows) (IsInTime rows) network.streams l.stream (Deadline name along)
-      (time_tests network rows) l.first
-      (λ some. true_if (nat_lt (PS_PER_NS * l.stream.deadline_ns) (bound_along rows l.stream))
-      (Deadline l.stream.name (bound_along rows l.stream)) some
-      ∙ ap (λ (n : List ℕ). Some (Deadline n (bound_along rows l.stream))) l.named
-      ∙ ap (λ (n : ℕ). Some (Deadline name n)) (sym l.is))
+  by_late : (name : List ℕ) (listener : Option (List ℕ)) (along : ℕ) → IsLate network rows name listener along
+      → first_some (late network.topology rows) network.streams ≡ Some (Deadline name listener along)
+  by_late name listener along l = by_overdue network rows name listener along l.overdue
 
   -- nothing is found before the rule that fails
   no_missing : HasRows network rows → first_some (missing rows) (places_of network) ≡ None
@@ -182,13 +176,14 @@ module _ (network : DeclaredNetwork) (rows : List Row) (is : IsNetwork network) 
       (or_past _ _ _ (ap of_network (no_overload (λ k d h. (o.fault.kept k d h).load)))
       (or_past _ _ _ (no_short o.fault.rows_of o.fault.kept)
       (at_some _ _ _ (ap of_network (by_overstay port class need o)))))))
-  refusal_by (Network (Deadline name along)) l =
+  refusal_by (Network (Deadline name listener along)) l =
       let covers : All (Covers network) rows = λ k d h. (l.kept k d h).covers in
       or_past _ _ _ (no_missing l.rows_of)
       (or_past _ _ _ (no_stray l.rows_of) (or_past _ _ _ (no_wrong (covers_right covers))
       (or_past _ _ _ (ap of_network (no_overload (λ k d h. (covers k d h).load)))
       (or_past _ _ _ (no_short l.rows_of covers)
-      (or_past _ _ _ (ap of_network (no_overstay l.kept)) (ap of_network (by_late name along l)))))))
+      (or_past _ _ _ (ap of_network (no_overstay l.kept))
+      (ap of_network (by_late name listener along l)))))))
 
 pub each_refusal_is_the_first : EachRefusalIsTheFirst
 each_refusal_is_the_first network rows refusal is ordered =

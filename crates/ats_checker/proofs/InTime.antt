@@ -1,6 +1,6 @@
 -- By sound bounds, and a certificate that holds, each frame of a talker that keeps its rule arrives within its stream's
 -- deadline.
-use Rattle.std.proofs.Common.{◌≡◌, ℕ, ◌+◌, ◌*◌, ◌≤◌, Some, List, sum_by, subst, ap, ◌∙◌, arith}
+use Rattle.std.proofs.Common.{◌≡◌, ℕ, ◌+◌, ◌*◌, ◌<◌, ◌≤◌, Some, List, [], subst, ap, ◌∙◌, arith}
 use Rattle.std.specs.Prelude.{All, slice_get}
 use Rattle.std.proofs.lemmas.Option.{slice_get_within, get_or_from_slice_get}
 use Rattle.ats_num.specs.declared.time.TheConstants.{PS_PER_NS}
@@ -11,12 +11,13 @@ use Rattle.ats_network.specs.Senders.{sender_at}
 use Rattle.ats_bucket.specs.Conforming.{Frame}
 use Rattle.ats_streams.specs.declared.traffic.Declared.{Declared}
 use Rattle.ats_group.specs.Judge.{ats_judge, bucket_rule}
-use Rattle.ats_certificate.specs.Certificate.{IsInTime, bound_along}
+use Rattle.ats_certificate.specs.Certificate.{IsInTime, bound_on}
 use Rattle.ats_certificate.specs.declared.row.Row.{Row}
+use Rattle.ats_trace.specs.Ways.{listener_count, route_to, way_to}
 use Rattle.ats_trace.specs.declared.journey.Ending.{Ending}
 use Rattle.ats_trace.specs.declared.journey.Ending.TheVariants.{Sink, Discard}
 use Rattle.ats_port_law.proofs.Senders.{no_stream, stream_at}
-use Rattle.ats_soundness_law.specs.Sound.{ArrivesBy, bounds_of}
+use Rattle.ats_soundness_law.specs.Sound.{ArrivesBy, IsServed}
 use Rattle.ats_soundness_law.proofs.Soundness.{certificate_is_sound}
 use Rattle.ats_checker.specs.InTime.{HoldingIsInTime, SoundIsInTime}
 
@@ -32,28 +33,32 @@ arrives_later : (early late : ℕ) (ending : Ending) → early ≤ late → Arri
 arrives_later early late (Sink at) after by = omega (arith, after, by)
 arrives_later early late Discard after by = by
 
--- a stream with a number is in time, where each is
-own_time : (network : DeclaredNetwork) (rows : List Row) (i : ℕ) (stream : DeclaredStream)
+-- a stream with a number is in time for each of its listeners, where each is
+own_time : (network : DeclaredNetwork) (rows : List Row) (i : ℕ) (stream : DeclaredStream) (m : ℕ)
     → slice_get network.streams i ≡ Some stream → All (IsInTime rows) network.streams
-    → bound_along rows stream ≤ PS_PER_NS * stream.deadline_ns
-own_time network rows i stream named all =
+    → m < listener_count (stream_sender stream)
+    → bound_on rows stream (route_to (stream_sender stream) m) ≤ PS_PER_NS * stream.deadline_ns
+own_time network rows i stream m named all within =
     subst (IsInTime rows) (get_or_from_slice_get network.streams i stream no_stream named)
-    (all i no_stream (slice_get_within network.streams i stream named))
+    (all i no_stream (slice_get_within network.streams i stream named)) m [] within
 
 pub sound_is_in_time : (rule : Declared → List Frame → Type 0) → SoundIsInTime rule
 sound_is_in_time rule judge network rows sound time run legal journey there stream named keeps =
     let i : ℕ = journey.release.sender in
     let at : ℕ = journey.release.at.0 in
-    let served = sound.served run legal journey there (slice_get_within network.streams i stream named) keeps in
-    let sum : ArrivesBy (at + bound_along rows stream) journey.ending =
-    subst (λ (s : Sender). ArrivesBy (at + sum_by (bounds_of rows s) s.ports) journey.ending)
-    (sender_of_stream network i stream named) served.arrives in
-    let kept = own_time network rows i stream named time in
+    let s : Sender = stream_sender stream in
+    let served : IsServed rows s journey =
+    subst (λ (s : Sender). IsServed rows s journey) (sender_of_stream network i stream named)
+    (sound.served run legal journey there (slice_get_within network.streams i stream named) keeps) in
+    λ m within. (
+    let ending : Ending = (way_to s journey m).ending in
+    let along : ℕ = bound_on rows stream (route_to s m) in
+    let kept = own_time network rows i stream m named time within in
     record {
-      sum = sum;
-      deadline = arrives_later (at + bound_along rows stream) (at + PS_PER_NS * stream.deadline_ns) journey.ending
-          (omega (arith, kept)) sum;
-    }
+      sum = (served m within).arrives;
+      deadline = arrives_later (at + along) (at + PS_PER_NS * stream.deadline_ns) ending (omega (arith, kept))
+          (served m within).arrives;
+    })
 
 pub holding_is_in_time : HoldingIsInTime
 holding_is_in_time network rows net holds =

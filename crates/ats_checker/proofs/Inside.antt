@@ -3,13 +3,14 @@ use Rattle.std.proofs.Common.{◌≡◌, ℕ, ◌+◌, ◌<◌, List, length, ge
 use Rattle.std.specs.Prelude.{is_some, ◌==◌}
 use Rattle.std.proofs.lemmas.Option.{none-some, same_Some}
 use Rattle.ats_streams.specs.Stream.{DeclaredStream}
+use Rattle.ats_network.specs.Listeners.{Listener, listeners_of}
 use Rattle.ats_network.specs.Network.{DeclaredNetwork, IsNetwork}
 use Rattle.ats_network.specs.Residence.{residence_after}
 use Rattle.ats_certificate.specs.PortSums.{PortSums, is_used}
-use Rattle.ats_certificate.specs.Certificate.{row_of, bound_along}
+use Rattle.ats_certificate.specs.Certificate.{row_of, bound_on}
 use Rattle.ats_certificate.specs.Used.{places_of}
 use Rattle.ats_certificate.specs.declared.row.Row.{Row}
-use Rattle.ats_tally.specs.Reason.{first_some, overload_in, overstay, row_need, late, ReasonInside}
+use Rattle.ats_tally.specs.Reason.{first_some, overload_in, overstay, row_need, late, late_for, ReasonInside}
 use Rattle.ats_tally.specs.declared.reason.Reason.{Reason}
 use Rattle.ats_tally.proofs.Firsts.{first_where, or_where, where_passed, where_failed}
 use Rattle.ats_tally.proofs.Reasons.{overload_inside, overstay_inside, late_inside}
@@ -68,11 +69,16 @@ module _ (network : DeclaredNetwork) (rows : List Row) (is : IsNetwork network) 
       overstay_inside network.topology row (row_need network row) (residence_after network.topology row.port) b
       (all k d h)))
 
-  of_late : (reason : Reason) → first_some (late rows) network.streams ≡ Some reason → Inside (Network reason)
-  of_late reason = first_where (late rows) (ReasonInside network.topology) network.streams reason
+  of_late : (reason : Reason) → first_some (late network.topology rows) network.streams ≡ Some reason
+      → Inside (Network reason)
+  of_late reason = first_where (late network.topology rows) (ReasonInside network.topology) network.streams reason
       (λ k d h b. (
       let stream : DeclaredStream = get_or network.streams k d in
-      late_inside network.topology stream (bound_along rows stream) b))
+      let listeners : List Listener = listeners_of network.topology stream in
+      first_where (late_for rows stream) (ReasonInside network.topology) listeners b
+      (λ n e w reason. (
+      let l : Listener = get_or listeners n e in
+      late_inside network.topology stream l.name (bound_on rows stream l.route) reason))))
 
   -- the port that is named is there, where the port of each row is
   pub refusal_inside : RowsInside network.topology rows → (found : Refusal) → refusal_of network rows ≡ Some found
@@ -89,4 +95,4 @@ module _ (network : DeclaredNetwork) (rows : List Row) (is : IsNetwork network) 
       (λ k d h b. where_failed Inside _ _ b (all k d h)))
       (or_where Inside _ _ found
       (by_network Inside (first_some (overstay network) rows) found (λ reason. of_stay reason all))
-      (by_network Inside (first_some (late rows) network.streams) found of_late))))))
+      (by_network Inside (first_some (late network.topology rows) network.streams) found of_late))))))

@@ -170,7 +170,7 @@ pub record AreClear (network : DeclaredNetwork) (rows : List Row) : Type 0 where
   pub overload : first_some overload_in rows ≡ None
   pub short : first_some (short network) rows ≡ None
   pub overstay : first_some (overstay network) rows ≡ None
-  pub late : first_some (late rows) network.streams ≡ None
+  pub late : first_some (late network.topology rows) network.streams ≡ None
 
 pub clear_none : (network : DeclaredNetwork) (rows : List Row) → AreClear network rows → refusal_of network rows ≡ None
 clear_none network rows clear =
@@ -193,7 +193,7 @@ none_clear network rows none =
       overload = no_reason (first_some overload_in rows) d.0;
       short = e.0;
       overstay = no_reason (first_some (overstay network) rows) f.0;
-      late = no_reason (first_some (late rows) network.streams) f.1;
+      late = no_reason (first_some (late network.topology rows) network.streams) f.1;
     }
 
 -- where no row is stray, each is used
@@ -212,7 +212,7 @@ clear_holds network rows is ordered clear =
     let fit = none_first overload_in rows clear.overload in
     let long = none_first (short network) rows clear.short in
     let stay = none_first (overstay network) rows clear.overstay in
-    let time = none_first (late rows) network.streams clear.late in
+    let time = none_first (late network.topology rows) network.streams clear.late in
     record {
       rows_of = record { complete = complete_from network rows is clear.missing; used = used; ordered = ordered };
       each = λ k d h. (
@@ -229,7 +229,7 @@ clear_holds network rows is ordered clear =
             };
             residence = stays_by row (row_need network row) (residence_after network.topology row.port) (stay k d h);
           });
-      deadlines = λ k d h. in_time_from rows (get_or network.streams k d) (time k d h);
+      deadlines = λ k d h. in_time_from network.topology rows (get_or network.streams k d) (time k d h);
     }
 
 pub holds_clear : (network : DeclaredNetwork) (rows : List Row) → IsNetwork network → Holds network rows
@@ -251,8 +251,8 @@ holds_clear network rows is holds =
       overstay = first_some-none (overstay network) rows
           (λ k d h. (let row : Row = get_or rows k d in
           by_stay row (row_need network row) (residence_after network.topology row.port) (holds.each k d h).residence));
-      late = first_some-none (late rows) network.streams
-          (λ k d h. by_time rows (get_or network.streams k d) (holds.deadlines k d h));
+      late = first_some-none (late network.topology rows) network.streams
+          (λ k d h. by_time network.topology rows (get_or network.streams k d) (holds.deadlines k d h));
     }
 
 pub refused_unless_holding : RefusedUnlessHolding

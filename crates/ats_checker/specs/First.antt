@@ -1,15 +1,14 @@
-use Rattle.std.specs.Prelude.{◌≡◌, ◌⊎◌, ℕ, ◌+◌, ◌<◌, IsTrue, IsSome, List, [], ◌∷◌, All, None}
+use Rattle.std.specs.Prelude.{◌≡◌, ◌⊎◌, ℕ, ◌+◌, ◌<◌, IsTrue, IsSome, List, [], ◌∷◌, All, Option, None}
 use Rattle.ats_topology.specs.Port.{port_at}
-use Rattle.ats_streams.specs.Stream.{DeclaredStream}
 use Rattle.ats_network.specs.Network.{DeclaredNetwork}
 use Rattle.ats_certificate.specs.PortSums.{port_sums, is_used}
-use Rattle.ats_certificate.specs.Certificate.{HasRows, HasSums, FitsLink, IsEnough, MayStay, Covers, RowHolds, IsInTime}
-use Rattle.ats_certificate.specs.Certificate.{is_row_of, row_of, bound_of, bound_along, residence_needed}
+use Rattle.ats_certificate.specs.Certificate.{HasRows, HasSums, FitsLink, IsEnough, MayStay, Covers, RowHolds}
+use Rattle.ats_certificate.specs.Certificate.{is_row_of, row_of, bound_of, residence_needed}
 use Rattle.ats_certificate.specs.Least.{IsLeastRow}
 use Rattle.ats_certificate.specs.declared.row.Row.{Row}
 use Rattle.ats_tally.specs.declared.reason.Reason.{Reason}
 use Rattle.ats_tally.specs.declared.reason.Reason.TheVariants.{Overloaded, Residence, Deadline}
-use Rattle.ats_bound.specs.First.{IsFirstBreach}
+use Rattle.ats_bound.specs.First.{IsFirstBreach, IsFirstOverdue}
 use Rattle.ats_checker.specs.declared.refusal.Field.{Field}
 use Rattle.ats_checker.specs.declared.refusal.Field.TheVariants.{Higher, Equal, Bursts, Lower, Least, Bound}
 use Rattle.ats_checker.specs.declared.refusal.Refusal.{Refusal}
@@ -100,20 +99,19 @@ pub record IsOverstay (network : DeclaredNetwork) (rows : List Row) (port class 
   pub fault : IsRowAtFault network rows (Covers network) (λ (r : Row). MayStay network r.port r.wait) port class row
   pub is : need ≡ residence_needed (port_at network.topology.ports row.port) row.wait
 
--- the rows are those of the network, and each holds; the stream of this name is the first that is not in time
-pub record IsLate (network : DeclaredNetwork) (rows : List Row) (name : List ℕ) (along : ℕ) : Type 0 where
+-- the rows are those of the network, and each holds; this stream and this listener of it are the first for which their
+-- bounds are together over the deadline
+pub record IsLate (network : DeclaredNetwork) (rows : List Row) (name : List ℕ) (listener : Option (List ℕ)) (along : ℕ)
+    : Type 0 where
   pub rows_of : HasRows network rows
   pub kept : All (RowHolds network) rows
-  pub stream : DeclaredStream
-  pub named : stream.name ≡ name
-  pub first : IsFirstBreach (IsInTime rows) network.streams stream
-  pub is : along ≡ bound_along rows stream
+  pub overdue : IsFirstOverdue network rows name listener along
 
 -- what each reason of the network says of rows
 abbrev pub IsFirstReasonOfRows : DeclaredNetwork → List Row → Reason → Type 0
 IsFirstReasonOfRows network rows (Overloaded port class load) = IsOverload network rows port class load
 IsFirstReasonOfRows network rows (Residence port class need) = IsOverstay network rows port class need
-IsFirstReasonOfRows network rows (Deadline stream sum) = IsLate network rows stream sum
+IsFirstReasonOfRows network rows (Deadline stream listener sum) = IsLate network rows stream listener sum
 
 -- what each refusal says of them
 abbrev pub IsFirst : DeclaredNetwork → List Row → Refusal → Type 0

@@ -1,21 +1,33 @@
-use Rattle.std.specs.Prelude.{◌≡◌, ◌+◌, ◌*◌, List, All, Some, slice_get, Contains}
+use Rattle.std.specs.Prelude.{◌≡◌, ℕ, ◌+◌, ◌*◌, ◌<◌, List, All, Some, slice_get, Contains}
 use Rattle.ats_num.specs.declared.time.TheConstants.{PS_PER_NS}
 use Rattle.ats_streams.specs.Stream.{DeclaredStream}
+use Rattle.ats_network.specs.Sender.{stream_sender}
 use Rattle.ats_network.specs.Network.{DeclaredNetwork, IsNetwork}
 use Rattle.ats_bucket.specs.Conforming.{Frame}
 use Rattle.ats_streams.specs.declared.traffic.Declared.{Declared}
 use Rattle.ats_group.specs.Judge.{Judge, ats_judge, bucket_rule}
-use Rattle.ats_certificate.specs.Certificate.{IsInTime, bound_along, Holds}
+use Rattle.ats_certificate.specs.Certificate.{IsInTime, bound_on, Holds}
 use Rattle.ats_certificate.specs.declared.row.Row.{Row}
 use Rattle.ats_trace.specs.Journey.{Travel}
+use Rattle.ats_trace.specs.Ways.{listener_count, route_to, way_to}
 use Rattle.ats_trace.specs.Run.{IsLegalBy, releases_of}
 use Rattle.ats_trace.specs.Talker.{talker_of, KeepsBucketsBy}
+use Rattle.ats_trace.specs.declared.journey.Release.{Release}
+use Rattle.ats_trace.specs.declared.journey.Ending.{Ending}
 use Rattle.ats_soundness_law.specs.Sound.{ArrivesBy, IsSoundBy}
 
--- a frame of a stream arrives within the sum of the bounds along its path since its release, and within the deadline
-pub record ArrivesInTime (rows : List Row) (stream : DeclaredStream) (journey : Travel) : Type 0 where
-  pub sum : ArrivesBy (journey.release.at.0 + bound_along rows stream) journey.ending
-  pub deadline : ArrivesBy (journey.release.at.0 + PS_PER_NS * stream.deadline_ns) journey.ending
+-- a frame of a stream, at the end of a route, arrives within the sum of the bounds along the route since its release,
+-- and within the deadline
+pub record ArrivesInTimeOn (rows : List Row) (stream : DeclaredStream) (release : Release) (route : List ℕ)
+    (ending : Ending) : Type 0 where
+  pub sum : ArrivesBy (release.at.0 + bound_on rows stream route) ending
+  pub deadline : ArrivesBy (release.at.0 + PS_PER_NS * stream.deadline_ns) ending
+
+-- so it arrives at each listener
+abbrev pub ArrivesInTime : List Row → DeclaredStream → Travel → Type 0
+ArrivesInTime rows stream journey = (listener : ℕ) → listener < listener_count (stream_sender stream)
+    → ArrivesInTimeOn rows stream journey.release (route_to (stream_sender stream) listener)
+    (way_to (stream_sender stream) journey listener).ending
 
 -- in each legal run, where groups judge so, each frame of a stream whose talker keeps this rule arrives so
 abbrev pub FramesAreInTimeBy : Judge → (Declared → List Frame → Type 0) → DeclaredNetwork → List Row → Type 0

@@ -59,7 +59,7 @@ abbrev pub of_network : Option Reason → Option Refusal
 of_network = option_map Network
 
 -- why rows do not hold for a network, if they don't: of the clauses the first that fails, and there the first place,
--- row, field or stream
+-- row, field or stream with its first late listener
 abbrev pub refusal_of : DeclaredNetwork → List Row → Option Refusal
 refusal_of network rows =
     option_or (first_some (missing rows) (places_of network))
@@ -68,4 +68,4 @@ refusal_of network rows =
     (option_or (of_network (first_some overload_in rows))
     (option_or (first_some (short network) rows)
     (option_or (of_network (first_some (overstay network) rows))
-    (of_network (first_some (late rows) network.streams)))))))
+    (of_network (first_some (late network.topology rows) network.streams)))))))

@@ -230,6 +230,7 @@ one_journey k = record {
   octets = record { least = lit≤ tt; most = lit≤ tt };
   way = tt;
   released = (refl, refl);
+  copies = tt;
 }
 
 all_at_once : (k n : ℕ) → All (λ (r : Release). r.at.0 ≡ 0) (releases_of (crowd_from k n))

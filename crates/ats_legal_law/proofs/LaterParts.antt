@@ -1,18 +1,26 @@
 use Rattle.std.proofs.Common.{◌≡◌, ℕ, ◌+◌, List, [], ◌∷◌, ◌++◌, append_assoc, length, map, filter, refl, sym, ap, ◌∙◌}
-use Rattle.std.proofs.Common.{arith}
-use Rattle.std.specs.Prelude.{◌==◌, ◌&&◌, Option, Some, None}
+use Rattle.std.proofs.Common.{arith, subst}
+use Rattle.std.specs.Prelude.{◌==◌, ◌&&◌, Option, Some, None, slice_get, slice_index_or}
+use Rattle.std.specs.List.{AllZip}
+use Rattle.std.specs.Option.{option_map}
+use Rattle.std.proofs.Math.ListN.{get_or-map}
 use Rattle.std.proofs.lemmas.List.{map-append}
+use Rattle.std.proofs.lemmas.Option.{slice_get-map}
 use Rattle.std.proofs.lemmas.Simd.{map-map}
 use Rattle.ats_num.specs.declared.time.Ps.{Ps}
+use Rattle.ats_streams.specs.Branches.{branches_of}
+use Rattle.ats_streams.specs.declared.branch.Branch.{Branch}
 use Rattle.ats_network.specs.Sender.{Sender}
 use Rattle.ats_network.specs.Network.{DeclaredNetwork}
 use Rattle.ats_network.specs.Senders.{sender_at}
 use Rattle.ats_group.specs.declared.verdict.Verdict.{Verdict}
 use Rattle.ats_group.specs.declared.verdict.Verdict.TheVariants.{Eligible, Late, Size}
 use Rattle.ats_port_rule.specs.Transmission.{Transmission}
-use Rattle.ats_trace.specs.Journey.{Travel, class_at, IsSentOrEnds, IsWay, IsReleased, IsJourney}
+use Rattle.ats_trace.specs.Journey.{Leg, Travel, class_at, IsSentOrEnds, IsWay, IsReleased, IsCopy, IsJourney, BeginsAs}
+use Rattle.ats_trace.specs.Journey.{legs_at, legs_in, no_leg, record_at, trunk_at}
 use Rattle.ats_trace.specs.Projections.{Hop, Crossing, Handed, transmission_by, transmission_of, hop_at, crossing_at}
-use Rattle.ats_trace.specs.Projections.{handed_at, hops_along, crossings_along, handed_along, journey_hops}
+use Rattle.ats_trace.specs.Projections.{handed_at, hops_along, crossings_along, handed_along, hops_over, crossings_over}
+use Rattle.ats_trace.specs.Projections.{handed_over, journey_hops}
 use Rattle.ats_trace.specs.Projections.{journey_crossings, journey_handed, hops_from, crossings_from, handed_from}
 use Rattle.ats_trace.specs.Projections.{sent_by, crossings_by, handed_by}
 use Rattle.ats_trace.specs.declared.journey.Release.{Release}
@@ -20,7 +28,7 @@ use Rattle.ats_trace.specs.declared.journey.HopRecord.{HopRecord}
 use Rattle.ats_trace.specs.declared.journey.Ending.{Ending}
 use Rattle.ats_trace.specs.declared.journey.Ending.TheVariants.{Sink, Discard}
 use Rattle.ats_legal_law.specs.Later.{later_time, later_verdict, later_times, later_record, later_ending, later_release}
-use Rattle.ats_legal_law.specs.Later.{later_travel, later_run}
+use Rattle.ats_legal_law.specs.Later.{later_leg, later_travel, later_run}
 use Rattle.ats_legal_law.proofs.ListFacts.{filter_behind}
 
 -- What a run tells that happens later, behind so many frames: the same, later, under the numbers behind theirs.
@@ -150,6 +158,49 @@ all_handed_later more by frame release sender (p ∷ path) (hop ∷ hops) =
     (handed_later more by frame release (class_at sender p) hop.arrival.0 p hop.verdict hop.sent hops)
     (all_handed_later more by frame release sender path hops)
 
+-- along legs
+
+legs_hops_later : (more by frame : ℕ) (release : Release) (sender : Sender) (paths : List (List ℕ)) (legs : List Leg)
+    → hops_over (frame + more) (later_release by release) sender paths (map (later_leg by) legs)
+    ≡ map (later_hop more by) (hops_over frame release sender paths legs)
+legs_hops_later more by frame release sender [] legs = refl
+legs_hops_later more by frame release sender (path ∷ paths) [] = refl
+legs_hops_later more by frame release sender (path ∷ paths) (leg ∷ legs) =
+    pieces (later_hop more by) (hops_along frame release sender path leg.hops)
+    (hops_over frame release sender paths legs)
+    (hops_along (frame + more) (later_release by release) sender path (map (later_record by) leg.hops))
+    (hops_over (frame + more) (later_release by release) sender paths (map (later_leg by) legs))
+    (hops_later more by frame release sender path leg.hops)
+    (legs_hops_later more by frame release sender paths legs)
+
+legs_crossings_later : (more by frame : ℕ) (release : Release) (sender : Sender) (paths : List (List ℕ))
+    (legs : List Leg)
+    → crossings_over (frame + more) (later_release by release) sender paths (map (later_leg by) legs)
+    ≡ map (later_crossing more by) (crossings_over frame release sender paths legs)
+legs_crossings_later more by frame release sender [] legs = refl
+legs_crossings_later more by frame release sender (path ∷ paths) [] = refl
+legs_crossings_later more by frame release sender (path ∷ paths) (leg ∷ legs) =
+    pieces (later_crossing more by) (crossings_along frame release sender path leg.hops leg.ending)
+    (crossings_over frame release sender paths legs)
+    (crossings_along (frame + more) (later_release by release) sender path (map (later_record by) leg.hops)
+    (later_ending by leg.ending))
+    (crossings_over (frame + more) (later_release by release) sender paths (map (later_leg by) legs))
+    (crossings_later more by frame release sender path leg.hops leg.ending)
+    (legs_crossings_later more by frame release sender paths legs)
+
+legs_handed_later : (more by frame : ℕ) (release : Release) (sender : Sender) (paths : List (List ℕ)) (legs : List Leg)
+    → handed_over (frame + more) (later_release by release) sender paths (map (later_leg by) legs)
+    ≡ map (later_handed more by) (handed_over frame release sender paths legs)
+legs_handed_later more by frame release sender [] legs = refl
+legs_handed_later more by frame release sender (path ∷ paths) [] = refl
+legs_handed_later more by frame release sender (path ∷ paths) (leg ∷ legs) =
+    pieces (later_handed more by) (handed_along frame release sender path leg.hops)
+    (handed_over frame release sender paths legs)
+    (handed_along (frame + more) (later_release by release) sender path (map (later_record by) leg.hops))
+    (handed_over (frame + more) (later_release by release) sender paths (map (later_leg by) legs))
+    (all_handed_later more by frame release sender path leg.hops)
+    (legs_handed_later more by frame release sender paths legs)
+
 -- of a run
 
 run_hops_later : (network : DeclaredNetwork) (more by n : ℕ) (run : List Travel)
@@ -160,7 +211,7 @@ run_hops_later network more by n (j ∷ run) =
     let next : n + more + 1 ≡ n + 1 + more = omega arith in
     pieces (later_hop more by) (journey_hops network n j) (hops_from network (n + 1) run)
     (journey_hops network (n + more) (later_travel by j)) (hops_from network (n + more + 1) (later_run by run))
-    (hops_later more by n j.release s s.ports j.hops)
+    (legs_hops_later more by n j.release s (legs_at network j.release.sender) (legs_in j))
     (ap (λ (m : ℕ). hops_from network m (later_run by run)) next ∙ run_hops_later network more by (n + 1) run)
 
 run_crossings_later : (network : DeclaredNetwork) (more by n : ℕ) (run : List Travel)
@@ -173,7 +224,7 @@ run_crossings_later network more by n (j ∷ run) =
     pieces (later_crossing more by) (journey_crossings network n j) (crossings_from network (n + 1) run)
     (journey_crossings network (n + more) (later_travel by j))
     (crossings_from network (n + more + 1) (later_run by run))
-    (crossings_later more by n j.release s s.ports j.hops j.ending)
+    (legs_crossings_later more by n j.release s (legs_at network j.release.sender) (legs_in j))
     (ap (λ (m : ℕ). crossings_from network m (later_run by run)) next
     ∙ run_crossings_later network more by (n + 1) run)
 
@@ -185,7 +236,7 @@ run_handed_later network more by n (j ∷ run) =
     let next : n + more + 1 ≡ n + 1 + more = omega arith in
     pieces (later_handed more by) (journey_handed network n j) (handed_from network (n + 1) run)
     (journey_handed network (n + more) (later_travel by j)) (handed_from network (n + more + 1) (later_run by run))
-    (all_handed_later more by n j.release s s.ports j.hops)
+    (legs_handed_later more by n j.release s (legs_at network j.release.sender) (legs_in j))
     (ap (λ (m : ℕ). handed_from network m (later_run by run)) next ∙ run_handed_later network more by (n + 1) run)
 
 -- what is listed of each frame with its number is listed of two runs one behind the other
@@ -296,11 +347,47 @@ released_later by release [] released = absurd released
 released_later by release (hop ∷ hops) released =
     (ap (later_time by) released.0, ap (later_verdict by) released.1)
 
+-- the record where a branch begins, later
+record_later : (by : ℕ) (legs : List Leg) (b : Branch)
+    → record_at (map (later_leg by) legs) b ≡ option_map (later_record by) (record_at legs b)
+record_later by legs b =
+    ap (λ (leg : Leg). slice_get leg.hops b.hop) (get_or-map (later_leg by) legs b.leg no_leg)
+    ∙ slice_get-map (later_record by) (slice_index_or legs b.leg no_leg).hops b.hop
+
+begins_later : (by : ℕ) (start : HopRecord) (hops : List HopRecord) → BeginsAs start hops
+    → BeginsAs (later_record by start) (map (later_record by) hops)
+begins_later by start [] begins = absurd begins
+begins_later by start (hop ∷ hops) begins = (ap (later_time by) begins.0, ap (later_verdict by) begins.1)
+
+copy_later : (by : ℕ) (start : Option HopRecord) (path : List ℕ) (leg : Leg) → IsCopy start path leg
+    → IsCopy (option_map (later_record by) start) path (later_leg by leg)
+copy_later by (Some start) path leg is =
+    (begins_later by start leg.hops is.0, way_later by path leg.hops leg.ending is.1)
+copy_later by None path leg is =
+    (ap (λ (l : List HopRecord). map (later_record by) l) is.0, ap (later_ending by) is.1)
+
+copies_later : (by : ℕ) (told : List Leg) (branches : List (Branch × List ℕ)) (legs : List Leg)
+    → AllZip (λ (branch : Branch × List ℕ) (leg : Leg). IsCopy (record_at told branch.0) branch.1 leg) branches legs
+    → AllZip
+    (λ (branch : Branch × List ℕ) (leg : Leg). IsCopy (record_at (map (later_leg by) told) branch.0) branch.1 leg)
+    branches (map (later_leg by) legs)
+copies_later by told [] [] are = tt
+copies_later by told [] (leg ∷ legs) are = absurd are
+copies_later by told (branch ∷ branches) [] are = absurd are
+copies_later by told (branch ∷ branches) (leg ∷ legs) are = (
+  subst (λ (start : Option HopRecord). IsCopy start branch.1 (later_leg by leg)) (sym (record_later by told branch.0))
+      (copy_later by (record_at told branch.0) branch.1 leg are.0),
+  copies_later by told branches legs are.1,
+)
+
 pub journey_later : (network : DeclaredNetwork) (by : ℕ) (j : Travel) → IsJourney network j
     → IsJourney network (later_travel by j)
-journey_later network by j is = record {
-  sender = is.sender;
-  octets = is.octets;
-  way = way_later by (sender_at network j.release.sender).ports j.hops j.ending is.way;
-  released = released_later by j.release j.hops is.released;
-}
+journey_later network by j is =
+    let s : Sender = sender_at network j.release.sender in
+    record {
+      sender = is.sender;
+      octets = is.octets;
+      way = way_later by (trunk_at network j.release.sender) j.hops j.ending is.way;
+      released = released_later by j.release j.hops is.released;
+      copies = copies_later by (legs_in j) (branches_of s.ports s.branches) j.copies is.copies;
+    }

@@ -11,3 +11,4 @@ pub mod OverParts
 pub mod Repeated
 pub mod RestedFold
 pub mod Rows
+pub mod ToldOnce

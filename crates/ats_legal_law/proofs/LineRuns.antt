@@ -17,7 +17,7 @@ use Rattle.ats_examples.proofs.LegalProofs.{examples_legal}
 use Rattle.ats_examples.proofs.NetworkProofs.{line_is}
 use Rattle.ats_examples.proofs.TalkerProofs.{talkers_of_examples}
 use Rattle.ats_legal_law.specs.Later.{later_release, later_travel}
-use Rattle.ats_legal_law.specs.Rest.{FillsBy, IsRecordBy, IsOverBy, RestsUntil}
+use Rattle.ats_legal_law.specs.Rest.{FillsBy, IsLegBy, IsRecordBy, IsOverBy, RestsUntil}
 use Rattle.ats_legal_law.specs.Line.{gap_ps, frames_over_line, spaced_release, RunsAreOfAnyLength}
 use Rattle.ats_legal_law.proofs.Repeated.{legal_when_repeated, kept_when_repeated, long_when_repeated}
 
@@ -37,6 +37,7 @@ one_over =
           (record { arrival = lit≤ tt; eligible = lit≤ tt; sent = lit≤ tt })
           (All-nil (IsRecordBy 26672000)));
       ending = lit≤ tt;
+      copies = All-nil (IsLegBy 26672000);
     })
     (All-nil (IsOverBy 26672000))
 

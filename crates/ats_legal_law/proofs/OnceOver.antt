@@ -9,13 +9,13 @@ use Rattle.ats_streams.specs.declared.traffic.Declared.{Declared}
 use Rattle.ats_group.specs.Judge.{OnEligible}
 use Rattle.ats_group.specs.declared.verdict.Verdict.{Verdict}
 use Rattle.ats_group.specs.declared.verdict.Verdict.TheVariants.{Eligible, Late, Size}
-use Rattle.ats_trace.specs.Journey.{Travel}
+use Rattle.ats_trace.specs.Journey.{Leg, Travel, legs_in}
 use Rattle.ats_trace.specs.Eligibility.{declared_by}
 use Rattle.ats_trace.specs.declared.journey.HopRecord.{HopRecord}
 use Rattle.ats_trace.specs.declared.journey.Ending.{Ending}
 use Rattle.ats_trace.specs.declared.journey.Ending.TheVariants.{Sink, Discard}
 use Rattle.ats_soundness_law.proofs.Streams.{stream_ruled}
-use Rattle.ats_legal_law.specs.Rest.{AreTimesBy, IsRecordBy, IsEndingBy, IsOverBy, FillsBy}
+use Rattle.ats_legal_law.specs.Rest.{AreTimesBy, IsRecordBy, IsEndingBy, IsLegBy, IsOverBy, FillsBy}
 use Rattle.ats_legal_law.specs.InTurn.{IsOnceOver}
 
 -- Each run is over at some time, and each bucket is full again some time later.
@@ -40,10 +40,13 @@ records_over [] = 0
 records_over (hop ∷ hops) =
     max (max (max hop.arrival.0 (verdict_over hop.verdict)) (times_over hop.sent)) (records_over hops)
 
+abbrev legs_over : List Leg → ℕ
+legs_over [] = 0
+legs_over (leg ∷ legs) = max (max (records_over leg.hops) (ending_over leg.ending)) (legs_over legs)
+
 abbrev run_over : List Travel → ℕ
 run_over [] = 0
-run_over (j ∷ run) =
-    max (max (max j.release.at.0 (records_over j.hops)) (ending_over j.ending)) (run_over run)
+run_over (j ∷ run) = max (max j.release.at.0 (legs_over (legs_in j))) (run_over run)
 
 verdict_by : (over : ℕ) (v : Verdict) → verdict_over v ≤ over → OnEligible v (λ e. e ≤ over)
 verdict_by over (Eligible e) h = h
@@ -69,6 +72,16 @@ records_by over (hop ∷ hops) h =
     })
     (records_by over hops (omega arith))
 
+legs_by : (over : ℕ) (legs : List Leg) → legs_over legs ≤ over → All (IsLegBy over) legs
+legs_by over [] h = All-nil (IsLegBy over)
+legs_by over (leg ∷ legs) h =
+    All-cons (IsLegBy over) leg legs
+    (record {
+      hops = records_by over leg.hops (omega arith);
+      ending = ending_by over leg.ending (omega arith);
+    })
+    (legs_by over legs (omega arith))
+
 run_by : (over : ℕ) (run : List Travel) → run_over run ≤ over → All (IsOverBy over) run
 run_by over [] h = All-nil (IsOverBy over)
 run_by over (j ∷ run) h =
@@ -77,6 +90,7 @@ run_by over (j ∷ run) h =
       released = omega arith;
       hops = records_by over j.hops (omega arith);
       ending = ending_by over j.ending (omega arith);
+      copies = legs_by over j.copies (omega arith);
     })
     (run_by over run (omega arith))
 

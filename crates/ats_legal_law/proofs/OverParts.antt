@@ -8,16 +8,17 @@ use Rattle.ats_network.specs.Senders.{sender_at}
 use Rattle.ats_group.specs.declared.verdict.Verdict.{Verdict}
 use Rattle.ats_group.specs.declared.verdict.Verdict.TheVariants.{Eligible, Late, Size}
 use Rattle.ats_group.specs.Judge.{OnEligible}
-use Rattle.ats_trace.specs.Journey.{Travel, class_at}
+use Rattle.ats_trace.specs.Journey.{Leg, Travel, class_at, legs_at, legs_in}
 use Rattle.ats_trace.specs.Projections.{Hop, Crossing, Handed, transmission_by, transmission_of, hop_at, crossing_at}
-use Rattle.ats_trace.specs.Projections.{handed_at, hops_along, crossings_along, handed_along, journey_hops}
-use Rattle.ats_trace.specs.Projections.{journey_crossings, journey_handed, hops_from, crossings_from, handed_from}
+use Rattle.ats_trace.specs.Projections.{handed_at, hops_along, crossings_along, handed_along, hops_over}
+use Rattle.ats_trace.specs.Projections.{crossings_over, handed_over, journey_hops, journey_crossings, journey_handed}
+use Rattle.ats_trace.specs.Projections.{hops_from, crossings_from, handed_from}
 use Rattle.ats_trace.specs.Projections.{sent_by, crossings_by, handed_by}
 use Rattle.ats_trace.specs.declared.journey.Release.{Release}
 use Rattle.ats_trace.specs.declared.journey.HopRecord.{HopRecord}
 use Rattle.ats_trace.specs.declared.journey.Ending.{Ending}
 use Rattle.ats_trace.specs.declared.journey.Ending.TheVariants.{Sink, Discard}
-use Rattle.ats_legal_law.specs.Rest.{AreTimesBy, IsRecordBy, IsEndingBy, IsOverBy}
+use Rattle.ats_legal_law.specs.Rest.{AreTimesBy, IsRecordBy, IsEndingBy, IsLegBy, IsOverBy}
 use Rattle.ats_legal_law.proofs.LaterRules.{HasEndedBy, HasArrivedBy}
 
 -- Where all of a run is over by a time, so is what it tells.
@@ -53,28 +54,28 @@ crossing_over over frame release class came port (Eligible e) None hops ending b
 crossing_over over frame release class came port (Late e) sent hops ending by each ended = All-nil (HasArrivedBy over)
 crossing_over over frame release class came port Size sent hops ending by each ended = All-nil (HasArrivedBy over)
 
-handed_over : (over frame : ℕ) (release : Release) (class came port : ℕ) (verdict : Verdict)
+frame_handed_over : (over frame : ℕ) (release : Release) (class came port : ℕ) (verdict : Verdict)
     (sent : Option (Ps × Ps)) (hops : List HopRecord) → All (IsRecordBy over) hops
     → All (IsHandedBy over)
     (handed_at release.octets came port (transmission_by frame release class verdict sent) hops)
-handed_over over frame release class came port (Eligible e) (Some times) (next ∷ hops) each =
+frame_handed_over over frame release class came port (Eligible e) (Some times) (next ∷ hops) each =
     let is : IsRecordBy over next = All-head (IsRecordBy over) next hops each in
     All-cons (IsHandedBy over) _ [] (is.arrival, is.eligible) (All-nil (IsHandedBy over))
-handed_over over frame release class came port (Eligible e) (Some times) [] each = All-nil (IsHandedBy over)
-handed_over over frame release class came port (Eligible e) None hops each = All-nil (IsHandedBy over)
-handed_over over frame release class came port (Late e) sent hops each = All-nil (IsHandedBy over)
-handed_over over frame release class came port Size sent hops each = All-nil (IsHandedBy over)
+frame_handed_over over frame release class came port (Eligible e) (Some times) [] each = All-nil (IsHandedBy over)
+frame_handed_over over frame release class came port (Eligible e) None hops each = All-nil (IsHandedBy over)
+frame_handed_over over frame release class came port (Late e) sent hops each = All-nil (IsHandedBy over)
+frame_handed_over over frame release class came port Size sent hops each = All-nil (IsHandedBy over)
 
-hops_over : (over frame : ℕ) (release : Release) (sender : Sender) (path : List ℕ) (hops : List HopRecord)
+all_hops_over : (over frame : ℕ) (release : Release) (sender : Sender) (path : List ℕ) (hops : List HopRecord)
     → All (IsRecordBy over) hops → All (EndsBy over) (hops_along frame release sender path hops)
-hops_over over frame release sender [] hops each = All-nil (EndsBy over)
-hops_over over frame release sender (p ∷ path) [] each = All-nil (EndsBy over)
-hops_over over frame release sender (p ∷ path) (hop ∷ hops) each =
+all_hops_over over frame release sender [] hops each = All-nil (EndsBy over)
+all_hops_over over frame release sender (p ∷ path) [] each = All-nil (EndsBy over)
+all_hops_over over frame release sender (p ∷ path) (hop ∷ hops) each =
     All-append (EndsBy over) (hop_at p (transmission_of frame release (class_at sender p) hop))
     (hops_along frame release sender path hops)
     (hop_over over frame release (class_at sender p) p hop.verdict hop.sent
     (All-head (IsRecordBy over) hop hops each).sent)
-    (hops_over over frame release sender path hops (All-tail (IsRecordBy over) hop hops each))
+    (all_hops_over over frame release sender path hops (All-tail (IsRecordBy over) hop hops each))
 
 all_crossings_over : (over frame : ℕ) (release : Release) (sender : Sender) (path : List ℕ) (hops : List HopRecord)
     (ending : Ending) → All (IsRecordBy over) hops → IsEndingBy over ending
@@ -99,8 +100,46 @@ all_handed_over over frame release sender (p ∷ path) (hop ∷ hops) each =
     All-append (IsHandedBy over)
     (handed_at release.octets hop.arrival.0 p (transmission_of frame release (class_at sender p) hop) hops)
     (handed_along frame release sender path hops)
-    (handed_over over frame release (class_at sender p) hop.arrival.0 p hop.verdict hop.sent hops later)
+    (frame_handed_over over frame release (class_at sender p) hop.arrival.0 p hop.verdict hop.sent hops later)
     (all_handed_over over frame release sender path hops later)
+
+-- along legs
+
+legs_over : (over : ℕ) (j : Travel) → IsOverBy over j → All (IsLegBy over) (legs_in j)
+legs_over over j is =
+    All-cons (IsLegBy over) (record { hops = j.hops; ending = j.ending }) j.copies
+    (record { hops = is.hops; ending = is.ending }) is.copies
+
+legs_hops_over : (over frame : ℕ) (release : Release) (sender : Sender) (paths : List (List ℕ)) (legs : List Leg)
+    → All (IsLegBy over) legs → All (EndsBy over) (hops_over frame release sender paths legs)
+legs_hops_over over frame release sender [] legs each = All-nil (EndsBy over)
+legs_hops_over over frame release sender (path ∷ paths) [] each = All-nil (EndsBy over)
+legs_hops_over over frame release sender (path ∷ paths) (leg ∷ legs) each =
+    All-append (EndsBy over) (hops_along frame release sender path leg.hops)
+    (hops_over frame release sender paths legs)
+    (all_hops_over over frame release sender path leg.hops (All-head (IsLegBy over) leg legs each).hops)
+    (legs_hops_over over frame release sender paths legs (All-tail (IsLegBy over) leg legs each))
+
+legs_crossings_over : (over frame : ℕ) (release : Release) (sender : Sender) (paths : List (List ℕ)) (legs : List Leg)
+    → All (IsLegBy over) legs → All (HasArrivedBy over) (crossings_over frame release sender paths legs)
+legs_crossings_over over frame release sender [] legs each = All-nil (HasArrivedBy over)
+legs_crossings_over over frame release sender (path ∷ paths) [] each = All-nil (HasArrivedBy over)
+legs_crossings_over over frame release sender (path ∷ paths) (leg ∷ legs) each =
+    let is : IsLegBy over leg = All-head (IsLegBy over) leg legs each in
+    All-append (HasArrivedBy over) (crossings_along frame release sender path leg.hops leg.ending)
+    (crossings_over frame release sender paths legs)
+    (all_crossings_over over frame release sender path leg.hops leg.ending is.hops is.ending)
+    (legs_crossings_over over frame release sender paths legs (All-tail (IsLegBy over) leg legs each))
+
+legs_handed_over : (over frame : ℕ) (release : Release) (sender : Sender) (paths : List (List ℕ)) (legs : List Leg)
+    → All (IsLegBy over) legs → All (IsHandedBy over) (handed_over frame release sender paths legs)
+legs_handed_over over frame release sender [] legs each = All-nil (IsHandedBy over)
+legs_handed_over over frame release sender (path ∷ paths) [] each = All-nil (IsHandedBy over)
+legs_handed_over over frame release sender (path ∷ paths) (leg ∷ legs) each =
+    All-append (IsHandedBy over) (handed_along frame release sender path leg.hops)
+    (handed_over frame release sender paths legs)
+    (all_handed_over over frame release sender path leg.hops (All-head (IsLegBy over) leg legs each).hops)
+    (legs_handed_over over frame release sender paths legs (All-tail (IsLegBy over) leg legs each))
 
 run_hops_over : (network : DeclaredNetwork) (over n : ℕ) (run : List Travel) → All (IsOverBy over) run
     → All (EndsBy over) (hops_from network n run)
@@ -108,7 +147,8 @@ run_hops_over network over n [] all = All-nil (EndsBy over)
 run_hops_over network over n (j ∷ run) all =
     let s : Sender = sender_at network j.release.sender in
     All-append (EndsBy over) (journey_hops network n j) (hops_from network (n + 1) run)
-    (hops_over over n j.release s s.ports j.hops (All-head (IsOverBy over) j run all).hops)
+    (legs_hops_over over n j.release s (legs_at network j.release.sender) (legs_in j)
+    (legs_over over j (All-head (IsOverBy over) j run all)))
     (run_hops_over network over (n + 1) run (All-tail (IsOverBy over) j run all))
 
 run_crossings_over : (network : DeclaredNetwork) (over n : ℕ) (run : List Travel) → All (IsOverBy over) run
@@ -116,9 +156,9 @@ run_crossings_over : (network : DeclaredNetwork) (over n : ℕ) (run : List Trav
 run_crossings_over network over n [] all = All-nil (HasArrivedBy over)
 run_crossings_over network over n (j ∷ run) all =
     let s : Sender = sender_at network j.release.sender in
-    let is : IsOverBy over j = All-head (IsOverBy over) j run all in
     All-append (HasArrivedBy over) (journey_crossings network n j) (crossings_from network (n + 1) run)
-    (all_crossings_over over n j.release s s.ports j.hops j.ending is.hops is.ending)
+    (legs_crossings_over over n j.release s (legs_at network j.release.sender) (legs_in j)
+    (legs_over over j (All-head (IsOverBy over) j run all)))
     (run_crossings_over network over (n + 1) run (All-tail (IsOverBy over) j run all))
 
 run_handed_over : (network : DeclaredNetwork) (over n : ℕ) (run : List Travel) → All (IsOverBy over) run
@@ -127,7 +167,8 @@ run_handed_over network over n [] all = All-nil (IsHandedBy over)
 run_handed_over network over n (j ∷ run) all =
     let s : Sender = sender_at network j.release.sender in
     All-append (IsHandedBy over) (journey_handed network n j) (handed_from network (n + 1) run)
-    (all_handed_over over n j.release s s.ports j.hops (All-head (IsOverBy over) j run all).hops)
+    (legs_handed_over over n j.release s (legs_at network j.release.sender) (legs_in j)
+    (legs_over over j (All-head (IsOverBy over) j run all)))
     (run_handed_over network over (n + 1) run (All-tail (IsOverBy over) j run all))
 
 pub sent_over : (network : DeclaredNetwork) (over : ℕ) (run : List Travel) (port : ℕ) → All (IsOverBy over) run

@@ -2,7 +2,7 @@ use Rattle.std.specs.Prelude.{ℕ, zero, suc, ◌+◌, List, [], ◌++◌, map, 
 use Rattle.ats_num.specs.declared.time.Ps.{Ps}
 use Rattle.ats_group.specs.declared.verdict.Verdict.{Verdict}
 use Rattle.ats_group.specs.declared.verdict.Verdict.TheVariants.{Eligible, Late, Size}
-use Rattle.ats_trace.specs.Journey.{Travel}
+use Rattle.ats_trace.specs.Journey.{Leg, Travel}
 use Rattle.ats_trace.specs.declared.journey.Release.{Release}
 use Rattle.ats_trace.specs.declared.journey.HopRecord.{HopRecord}
 use Rattle.ats_trace.specs.declared.journey.Ending.{Ending}
@@ -37,11 +37,15 @@ abbrev pub later_release : ℕ → Release → Release
 later_release by release =
     record { at = later_time by release.at; sender = release.sender; octets = release.octets }
 
+abbrev pub later_leg : ℕ → Leg → Leg
+later_leg by leg = record { hops = map (later_record by) leg.hops; ending = later_ending by leg.ending }
+
 abbrev pub later_travel : ℕ → Travel → Travel
 later_travel by j = record {
   release = later_release by j.release;
   hops = map (later_record by) j.hops;
   ending = later_ending by j.ending;
+  copies = map (later_leg by) j.copies;
 }
 
 abbrev pub later_run : ℕ → List Travel → List Travel

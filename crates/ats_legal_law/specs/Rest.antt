@@ -4,7 +4,7 @@ use Rattle.ats_num.specs.declared.time.Ps.{Ps}
 use Rattle.ats_group.specs.Judge.{OnEligible}
 use Rattle.ats_network.specs.Network.{DeclaredNetwork}
 use Rattle.ats_streams.specs.declared.traffic.Declared.{Declared}
-use Rattle.ats_trace.specs.Journey.{Travel}
+use Rattle.ats_trace.specs.Journey.{Leg, Travel}
 use Rattle.ats_trace.specs.Eligibility.{declared_by}
 use Rattle.ats_trace.specs.declared.journey.HopRecord.{HopRecord}
 use Rattle.ats_trace.specs.declared.journey.Ending.{Ending}
@@ -27,11 +27,17 @@ abbrev pub IsEndingBy : ℕ → Ending → Type 0
 IsEndingBy over (Sink at) = at.0 ≤ over
 IsEndingBy over Discard = Unit {0}
 
--- a frame's journey is over by this time
+-- nothing that is told of a frame along a leg is after this time
+pub record IsLegBy (over : ℕ) (leg : Leg) : Type 0 where
+  pub hops : All (IsRecordBy over) leg.hops
+  pub ending : IsEndingBy over leg.ending
+
+-- a frame's journey is over by this time, along each leg
 pub record IsOverBy (over : ℕ) (j : Travel) : Type 0 where
   pub released : j.release.at.0 ≤ over
   pub hops : All (IsRecordBy over) j.hops
   pub ending : IsEndingBy over j.ending
+  pub copies : All (IsLegBy over) j.copies
 
 -- what was empty at one time is full at the other: the rate has given the burst by then
 abbrev pub FillsBy : ℕ → ℕ → Declared → Type 0

@@ -1,9 +1,10 @@
-//! Legal runs, one behind another.
+//! Legal runs: one behind another, and what they tell of a frame at a port.
 
 ghost use Rattle.ats_legal_law.specs.Crowd.{CrowdsAreLegal};
 ghost use Rattle.ats_legal_law.specs.InTurn.{IsOnceOver, KeptInTurn, KeptWhenRepeated, LegalInTurn};
 ghost use Rattle.ats_legal_law.specs.InTurn.{LegalWhenRepeated, LongWhenRepeated};
 ghost use Rattle.ats_legal_law.specs.Line.{RunsAreOfAnyLength};
+ghost use Rattle.ats_legal_law.specs.Once.{FramesAreToldOnce};
 
 /// A law: where a legal run is over, and the network has rested until each bucket is full again, another legal run may
 /// begin, and the two are one legal run; a station that keeps its buckets in both keeps them in the whole. Each run is
@@ -31,4 +32,10 @@ pub fn runs_are_of_any_length()
 /// their station: a legal run may have any number of frames at one port.
 pub fn crowds_are_legal()
     ensures { CrowdsAreLegal }
+{}
+
+/// In a legal run a frame crosses a port at most once, and the port hands it on at most once, however many listeners
+/// are behind it.
+pub fn frames_are_told_once()
+    ensures { FramesAreToldOnce }
 {}

@@ -4,6 +4,7 @@ use Rattle.std.specs.Prelude.{◌==◌, ◌&&◌, if◌then◌else◌}
 use Rattle.std.proofs.Math.ListN.{get_or-map}
 use Rattle.std.proofs.lemmas.List.{length-map, map-append}
 use Rattle.std.proofs.lemmas.List.Elements.{All-weaker}
+use Rattle.ats_streams.specs.Branches.{legs_of, trunk_of}
 use Rattle.ats_streams.specs.Stream.{DeclaredStream}
 use Rattle.ats_streams.specs.Flow.{DeclaredFlow}
 use Rattle.ats_streams.specs.Traffic.{is_declared_size}
@@ -18,10 +19,11 @@ use Rattle.ats_port_rule.specs.PortRule.{KeepsPortRule}
 use Rattle.ats_group.specs.declared.verdict.Verdict.{Verdict}
 use Rattle.ats_group.specs.declared.verdict.Verdict.TheVariants.{Eligible, Size}
 use Rattle.ats_group.specs.Group.{Offer}
-use Rattle.ats_trace.specs.Journey.{Travel, IsJourney, IsWay, class_at}
+use Rattle.ats_trace.specs.Journey.{Leg, Travel, AreCopies, IsJourney, IsWay, class_at, legs_in, trunk_at}
 use Rattle.ats_trace.specs.Links.{KeepsLinkRule}
 use Rattle.ats_trace.specs.Projections.{Hop, Crossing, Handed, hop_at, crossing_at, handed_at, transmission_of}
-use Rattle.ats_trace.specs.Projections.{hops_along, crossings_along, handed_along}
+use Rattle.ats_trace.specs.Projections.{hops_along, crossings_along, handed_along, hops_over, crossings_over}
+use Rattle.ats_trace.specs.Projections.{handed_over}
 use Rattle.ats_trace.specs.Projections.{journey_hops, journey_crossings, journey_handed}
 use Rattle.ats_trace.specs.Projections.{hops_from, crossings_from, handed_from, handed_by}
 use Rattle.ats_trace.specs.Eligibility.{declared_by, offer_of, IsJudged, IsPassed, residence_of_groups}
@@ -92,6 +94,36 @@ handed_bare frame release s (p ∷ path) (hop ∷ hops) =
     ap (λ (xs : List Handed). handed_at release.octets hop.arrival.0 p
     (transmission_of frame release (class_at s p) hop) hops ++ xs) (handed_bare frame release s path hops)
 
+-- so along all legs
+hops_over_bare : (frame : ℕ) (release : Release) (s : Sender) (paths : List (List ℕ)) (legs : List Leg)
+    → hops_over frame release (bare s) paths legs ≡ hops_over frame release s paths legs
+hops_over_bare frame release s [] legs = refl
+hops_over_bare frame release s (path ∷ paths) [] = refl
+hops_over_bare frame release s (path ∷ paths) (leg ∷ legs) =
+    ap (λ (xs : List Hop). xs ++ hops_over frame release (bare s) paths legs) (hops_bare frame release s path leg.hops)
+    ∙ ap (λ (xs : List Hop). hops_along frame release s path leg.hops ++ xs)
+    (hops_over_bare frame release s paths legs)
+
+crossings_over_bare : (frame : ℕ) (release : Release) (s : Sender) (paths : List (List ℕ)) (legs : List Leg)
+    → crossings_over frame release (bare s) paths legs ≡ crossings_over frame release s paths legs
+crossings_over_bare frame release s [] legs = refl
+crossings_over_bare frame release s (path ∷ paths) [] = refl
+crossings_over_bare frame release s (path ∷ paths) (leg ∷ legs) =
+    ap (λ (xs : List Crossing). xs ++ crossings_over frame release (bare s) paths legs)
+    (crossings_bare frame release s path leg.hops leg.ending)
+    ∙ ap (λ (xs : List Crossing). crossings_along frame release s path leg.hops leg.ending ++ xs)
+    (crossings_over_bare frame release s paths legs)
+
+handed_over_bare : (frame : ℕ) (release : Release) (s : Sender) (paths : List (List ℕ)) (legs : List Leg)
+    → handed_over frame release (bare s) paths legs ≡ handed_over frame release s paths legs
+handed_over_bare frame release s [] legs = refl
+handed_over_bare frame release s (path ∷ paths) [] = refl
+handed_over_bare frame release s (path ∷ paths) (leg ∷ legs) =
+    ap (λ (xs : List Handed). xs ++ handed_over frame release (bare s) paths legs)
+    (handed_bare frame release s path leg.hops)
+    ∙ ap (λ (xs : List Handed). handed_along frame release s path leg.hops ++ xs)
+    (handed_over_bare frame release s paths legs)
+
 -- nor does a judge read the bursts
 verdicts_alike : (d e : ℕ → Declared) → ((i : ℕ) → bare_declared (d i) ≡ bare_declared (e i)) → (residence_ns : ℕ)
     (state : State) (offers : List Offer) → verdicts_of d residence_ns state offers
@@ -139,6 +171,9 @@ module _ (topology : DeclaredTopology) (flows : List DeclaredFlow) (streams othe
   same_path : (n : ℕ) → (sender_at network n).ports ≡ (sender_at other n).ports
   same_path n = same_of (λ (s : Sender). s.ports) (λ (s : Sender). refl) n
 
+  same_trunk : (n : ℕ) → trunk_at network n ≡ trunk_at other n
+  same_trunk n = same_of (λ (s : Sender). trunk_of s.ports s.branches) (λ (s : Sender). refl) n
+
   same_declared : (n : ℕ) → bare_declared (declared_by network n) ≡ bare_declared (declared_by other n)
   same_declared n = ap declared_of (same_at n)
 
@@ -158,8 +193,8 @@ module _ (topology : DeclaredTopology) (flows : List DeclaredFlow) (streams othe
   same_hops frame [] = refl
   same_hops frame (j ∷ run) =
       let one : journey_hops network frame j ≡ journey_hops other frame j =
-      same_of (λ (s : Sender). hops_along frame j.release s s.ports j.hops)
-      (λ (s : Sender). hops_bare frame j.release s s.ports j.hops) j.release.sender in
+      same_of (λ (s : Sender). hops_over frame j.release s (legs_of s.ports s.branches) (legs_in j))
+      (λ (s : Sender). hops_over_bare frame j.release s (legs_of s.ports s.branches) (legs_in j)) j.release.sender in
       ap (λ (xs : List Hop). xs ++ hops_from network (frame + 1) run) one
       ∙ ap (λ (xs : List Hop). journey_hops other frame j ++ xs) (same_hops (frame + 1) run)
 
@@ -167,8 +202,9 @@ module _ (topology : DeclaredTopology) (flows : List DeclaredFlow) (streams othe
   same_crossings frame [] = refl
   same_crossings frame (j ∷ run) =
       let one : journey_crossings network frame j ≡ journey_crossings other frame j =
-      same_of (λ (s : Sender). crossings_along frame j.release s s.ports j.hops j.ending)
-      (λ (s : Sender). crossings_bare frame j.release s s.ports j.hops j.ending) j.release.sender in
+      same_of (λ (s : Sender). crossings_over frame j.release s (legs_of s.ports s.branches) (legs_in j))
+      (λ (s : Sender). crossings_over_bare frame j.release s (legs_of s.ports s.branches) (legs_in j))
+      j.release.sender in
       ap (λ (xs : List Crossing). xs ++ crossings_from network (frame + 1) run) one
       ∙ ap (λ (xs : List Crossing). journey_crossings other frame j ++ xs) (same_crossings (frame + 1) run)
 
@@ -176,8 +212,9 @@ module _ (topology : DeclaredTopology) (flows : List DeclaredFlow) (streams othe
   same_handed frame [] = refl
   same_handed frame (j ∷ run) =
       let one : journey_handed network frame j ≡ journey_handed other frame j =
-      same_of (λ (s : Sender). handed_along frame j.release s s.ports j.hops)
-      (λ (s : Sender). handed_bare frame j.release s s.ports j.hops) j.release.sender in
+      same_of (λ (s : Sender). handed_over frame j.release s (legs_of s.ports s.branches) (legs_in j))
+      (λ (s : Sender). handed_over_bare frame j.release s (legs_of s.ports s.branches) (legs_in j))
+      j.release.sender in
       ap (λ (xs : List Handed). xs ++ handed_from network (frame + 1) run) one
       ∙ ap (λ (xs : List Handed). journey_handed other frame j ++ xs) (same_handed (frame + 1) run)
 
@@ -190,8 +227,9 @@ module _ (topology : DeclaredTopology) (flows : List DeclaredFlow) (streams othe
   journey_alike j i = record {
     sender = (let s = i.sender in omega (arith, same_senders));
     octets = i.octets;
-    way = subst (λ (path : List ℕ). IsWay path j.hops j.ending) (same_path j.release.sender) i.way;
+    way = subst (λ (path : List ℕ). IsWay path j.hops j.ending) (same_trunk j.release.sender) i.way;
     released = i.released;
+    copies = subst (λ (s : Sender). AreCopies s j) (same_at j.release.sender) i.copies;
   }
 
   judged_alike : (residence_ns : ℕ) (handed : List Handed) → IsJudged lrq_judge network residence_ns handed

@@ -99,7 +99,6 @@ narrowed_is_network network n =
       few_streams = (let few = n.few_streams in omega (arith, length-map network.streams narrowed_stream));
       few_flows = n.few_flows;
       few_ports = (let few = n.few_ports in omega (arith, narrowed_ports network.streams));
-      one_listener = All-map (λ (s : DeclaredStream). s.branches ≡ []) narrowed_stream network.streams n.one_listener;
     }
 
 pub runs_are_kept : RunsAreKept
@@ -126,9 +125,12 @@ sound_by_spacing network rows n keeps =
 served_like : (rows : List Row) (s t : Sender) (journey : Travel) → bare s ≡ bare t → IsServed rows s journey
     → IsServed rows t journey
 served_like rows s t journey e h =
-    let there : IsServed rows (bare s) journey = record { prompt = h.prompt; arrives = h.arrives } in
+    let there : IsServed rows (bare s) journey = λ m within. record {
+      prompt = (h m within).prompt;
+      arrives = (h m within).arrives;
+    } in
     let here : IsServed rows (bare t) journey = subst (λ (x : Sender). IsServed rows x journey) e there in
-    record { prompt = here.prompt; arrives = here.arrives }
+    λ m within. record { prompt = (here m within).prompt; arrives = (here m within).arrives }
 
 contained_like : (rows : List Row) (s t : Sender) (journey : Travel) → bare s ≡ bare t → IsContained rows s journey
     → IsContained rows t journey

@@ -6,13 +6,12 @@ use Rattle.std.specs.List.{list_any}
 use Rattle.std.proofs.lemmas.Bool.{cases_Bool, or_cases, eqb-true, false≢true}
 use Rattle.std.proofs.lemmas.List.{length-map}
 use Rattle.std.proofs.lemmas.List.Elements.{All-head, All-tail, All-from_get_or}
-use Rattle.ats_topology.specs.Walks.{IsWalk}
+use Rattle.ats_topology.specs.Walks.{ArePorts}
 use Rattle.ats_topology.specs.declared.port.Port.{Port}
 use Rattle.ats_streams.specs.Stream.{DeclaredStream}
 use Rattle.ats_network.specs.Sender.{Sender, stream_sender, flow_sender}
 use Rattle.ats_network.specs.Class.{PortSender, class_at, seen_at}
 use Rattle.ats_network.specs.Network.{DeclaredNetwork, IsNetwork, senders_of}
-use Rattle.ats_network.specs.Path.{IsValidPath}
 use Rattle.ats_network.proofs.ClassLemmas.{class_at-stream}
 use Rattle.ats_network.proofs.SenderLemmas.{sender_keeps}
 use Rattle.ats_certificate.specs.PortSums.{uses, is_of, is_used, senders_at}
@@ -27,13 +26,14 @@ pub record IsPlace (ports port class : ℕ) : Type 0 where
   pub ranked : 1 ≤ class
   pub within : port < ports
 
-on_walk : (ports : List Port) (port a b : ℕ) (path : List ℕ) → IsWalk ports a b path
-    → list_any (λ p. p == port) path ≡ true → port < length ports
-on_walk ports port a b [] walk on = absurd (false≢true on)
-on_walk ports port a b (p ∷ path) walk on =
-    elim (or_cases (p == port) (list_any (λ p. p == port) path) on) as (λ _. port < length ports) [
-      | inl same ↦ omega (arith, eqb-true p port same, walk.0.within)
-      | inr later ↦ on_walk ports port _ b path walk.1 later
+-- a port among ports of a topology is one
+among_ports : (ports : List Port) (port : ℕ) (numbers : List ℕ) → ArePorts ports numbers
+    → list_any (λ p. p == port) numbers ≡ true → port < length ports
+among_ports ports port [] are on = absurd (false≢true on)
+among_ports ports port (p ∷ numbers) are on =
+    elim (or_cases (p == port) (list_any (λ p. p == port) numbers) on) as (λ _. port < length ports) [
+      | inl same ↦ omega (arith, eqb-true p port same, All-head (λ q. q < length ports) p numbers are)
+      | inr later ↦ among_ports ports port numbers (All-tail (λ q. q < length ports) p numbers are) later
     ]
 
 used_by : (ports port class : ℕ) (streams : List DeclaredStream) → All (Allows ports port) streams
@@ -61,15 +61,14 @@ used_by ports port class (s ∷ ss) all used =
 allowed : (network : DeclaredNetwork) (port i : ℕ) → IsNetwork network → i < length network.streams
     → Allows (length network.topology.ports) port (get_or network.streams i no_stream)
 allowed network port i n h =
-    let Valid : Sender → Type 0 = λ (s : Sender). IsValidPath network.topology s.ports in
+    let Ports : Sender → Type 0 = λ (s : Sender). ArePorts network.topology.ports s.ports in
     let streams : List Sender = map stream_sender network.streams in
     let exists : i < length (senders_of network) = omega
     (arith, h, length-append streams (map flow_sender network.flows), length-map network.streams stream_sender) in
-    let valid = subst Valid (stream_at network i h) (sender_keeps network i n exists).valid in
+    let are = subst Ports (stream_at network i h) (sender_keeps network i n exists).ports in
     record {
       class = λ used. (class_at-stream (get_or network.streams i no_stream) port (n.streams i no_stream h) used).least;
-      within = λ used. on_walk network.topology.ports port valid.talker valid.listener
-          (get_or network.streams i no_stream).ports valid.walk used;
+      within = λ used. among_ports network.topology.ports port (get_or network.streams i no_stream).ports are used;
     }
 
 pub used_place : (network : DeclaredNetwork) (port class : ℕ) → IsNetwork network → is_used network port class ≡ true

@@ -16,11 +16,12 @@ use Rattle.ats_port_law.specs.PortLaw.{IsOffered}
 use Rattle.ats_port_law.proofs.Pairs.{TakesTime, eligible_no_later}
 use Rattle.ats_bucket.specs.Conforming.{Frame}
 use Rattle.ats_streams.specs.declared.traffic.Declared.{Declared}
-use Rattle.ats_trace.specs.Journey.{Travel}
+use Rattle.ats_trace.specs.Journey.{Travel, legs_at, legs_in}
 use Rattle.ats_trace.specs.Projections.{Hop, Crossing, Handed, hops_from, crossings_from, handed_from, sent_by}
 use Rattle.ats_trace.specs.Projections.{crossings_by, handed_by}
 use Rattle.ats_group.specs.Judge.{Judge}
-use Rattle.ats_soundness_law.proofs.Along.{hop_of, all_were_sent, all_have_crossed}
+use Rattle.ats_soundness_law.proofs.Along.{hop_of}
+use Rattle.ats_soundness_law.proofs.Journeys.{each_has_crossed, each_was_sent}
 use Rattle.ats_soundness_law.proofs.Known.{Case, IsTold, told}
 use Rattle.ats_soundness_law.proofs.Lifts.{run_were_sent, run_have_crossed}
 
@@ -42,8 +43,8 @@ crossed_there network run port k d h =
     let crossings : List Crossing = crossings_from network 0 run in
     let Sent : Hop → Type 0 = λ (g : Hop). g.port == port ≡ true → Contains (sent_by network run port) g.sent in
     let were_sent = run_were_sent Sent network 0 run
-    (λ n j. all_were_sent Sent n j.release (sender_at network j.release.sender)
-    (sender_at network j.release.sender).ports j.hops j.ending) (sent_there network run port) in
+    (λ n j. each_was_sent Sent n j.release (sender_at network j.release.sender) (legs_at network j.release.sender)
+    (legs_in j)) (sent_there network run port) in
     All-filter test (λ (c : Crossing). Sent (hop_of c)) crossings were_sent k d h (filter_passes test crossings k d h)
 
 -- and what is handed on is among the crossings of its port
@@ -53,8 +54,8 @@ handed_there network run port =
     let crossings : List Crossing = crossings_by network run port in
     let There : Crossing → Type 0 = λ (c : Crossing). c.port == port ≡ true → Contains crossings c in
     run_have_crossed There network 0 run
-    (λ n j. all_have_crossed There n j.release (sender_at network j.release.sender)
-    (sender_at network j.release.sender).ports j.hops j.ending)
+    (λ n j. each_has_crossed There n j.release (sender_at network j.release.sender) (legs_at network j.release.sender)
+    (legs_in j))
     (All-from_filter (λ (c : Crossing). c.port == port) (Contains crossings) (crossings_from network 0 run)
     (All-contains_itself crossings))
 

@@ -1,4 +1,4 @@
-use Rattle.std.proofs.Common.{◌≡◌, ℕ, ◌<◌, ◌≤◌, true, List, length, All, refl, arith}
+use Rattle.std.proofs.Common.{◌≡◌, ℕ, ◌<◌, ◌≤◌, true, List, [], length, All, refl, arith}
 use Rattle.std.specs.Prelude.{nat_le}
 use Rattle.std.proofs.lemmas.Bool.{and_parts, and_from, leb-true, le-leb}
 use Rattle.ats_num.specs.Wire.{bits_of}
@@ -9,16 +9,18 @@ use Rattle.ats_network.specs.Network.{DeclaredNetwork, IsNetwork, senders_of}
 use Rattle.ats_network.specs.Senders.{sender_at, IsSender}
 use Rattle.ats_certificate.specs.PortSums.{uses}
 use Rattle.ats_streams.specs.Traffic.{is_declared_size}
-use Rattle.ats_trace.specs.Journey.{Travel, IsJourney, class_at}
+use Rattle.ats_trace.specs.Journey.{Travel, IsJourney, class_at, legs_in}
 use Rattle.ats_trace.specs.Projections.{Hop, Handed, journey_hops, journey_handed, hops_from, handed_from}
 use Rattle.ats_trace.specs.Eligibility.{declared_by}
 use Rattle.ats_trace.specs.Run.{IsLegalBy, IsLegal}
+use Rattle.ats_trace.specs.Ways.{route_to, way_to}
 use Rattle.ats_group.specs.Judge.{Judge, ats_judge, bucket_rule}
 use Rattle.ats_group_law.specs.Regulator.{IsRule, IsRegulator}
 use Rattle.ats_group_law.proofs.Regulator.{ats_is_regulator}
 use Rattle.ats_bucket.specs.Conforming.{Frame}
 use Rattle.ats_streams.specs.declared.traffic.Declared.{Declared}
-use Rattle.ats_soundness_law.proofs.Along.{AtPorts, all_hops, all_handed}
+use Rattle.ats_soundness_law.proofs.Along.{AtPorts, all_handed}
+use Rattle.ats_soundness_law.proofs.Journeys.{each_hop, each_on_route, handed_by_routes, journey_route}
 use Rattle.ats_soundness_law.proofs.Lifts.{run_hops, run_handed}
 use Rattle.ats_soundness_law.proofs.Paths.{sender_is, uses_own, neighbours_with}
 
@@ -48,7 +50,7 @@ journey_known : (network : DeclaredNetwork) → IsNetwork network → (n : ℕ) 
 journey_known network net n j is =
     let s : Sender = sender_at network j.release.sender in
     let keeps : IsSender network.topology s = sender_is network net j.release.sender is.sender in
-    all_hops (IsKnown network) n j.release s s.ports j.hops
+    each_hop (IsKnown network) n j.release s (legs_in j)
     (λ k d h e times. record { exists = is.sender; within = keeps.ports k d h; used = uses_own s k d h; ranked = refl })
 
 pub known : {judge : Judge} {rule : Declared → List Frame → Type 0} (network : DeclaredNetwork) (run : List Travel)
@@ -70,13 +72,16 @@ journey_told : (network : DeclaredNetwork) → IsNetwork network → (n : ℕ) (
 journey_told network net n j is =
     let s : Sender = sender_at network j.release.sender in
     let keeps : IsSender network.topology s = sender_is network net j.release.sender is.sender in
-    all_handed (IsTold network) n j.release s s.ports j.hops j.ending
+    handed_by_routes (IsTold network) network n j net is
+    (λ m within.
+    all_handed (IsTold network) n j.release s (route_to s m) (way_to s j m).hops (way_to s j m).ending
     (neighbours_with (λ p. p < length network.topology.ports) (MeetAtBridge network.topology)
     (AtPorts (IsTold network) n j.release s)
     (λ a b within meet came e times arrival verdict.
     record { exists = is.sender; within = within; ranked = refl; bits = refl; bridge = meet.bridge })
-    s.ports keeps.ports keeps.bridges)
-    is.way
+    (route_to s m) (each_on_route (λ p. p < length network.topology.ports) s m keeps.ports within)
+    (keeps.bridges m [] within))
+    (journey_route network j m net is within).way)
 
 pub told : {judge : Judge} {rule : Declared → List Frame → Type 0} (network : DeclaredNetwork) (run : List Travel)
     → Case judge rule network run

@@ -4,11 +4,17 @@ pub mod Behind
 pub mod Bits
 pub mod Bridge
 pub mod EachRule
+pub mod Journeys
 pub mod Known
+pub mod Leads
 pub mod Lifts
 pub mod Offered
+pub mod OneListener
+pub mod Over
+pub mod Parts
 pub mod Passages
 pub mod Paths
+pub mod Routes
 pub mod Serving
 pub mod Shaping
 pub mod Sized
@@ -16,5 +22,7 @@ pub mod Sorting
 pub mod Soundness
 pub mod Station
 pub mod Streams
+pub mod Turns
 pub mod Way
+pub mod Weighed
 pub mod Weights

@@ -12,17 +12,17 @@ use Rattle.ats_network.specs.Senders.{sender_at}
 use Rattle.ats_group_law.specs.Shaping.{Passage, offers_of, frame_before, frames_before}
 use Rattle.ats_port_law.specs.PortLaw.{frames_by}
 use Rattle.ats_port_law.proofs.Sums.{sum_by-filter, sum_by-le-all}
-use Rattle.ats_trace.specs.Journey.{Travel}
+use Rattle.ats_trace.specs.Journey.{Travel, legs_at, legs_in}
 use Rattle.ats_trace.specs.Projections.{Handed, handed_from, sent_by, handed_by}
 use Rattle.ats_trace.specs.Eligibility.{declared_by, offer_of}
 use Rattle.ats_group.specs.Group.{Offer}
 use Rattle.ats_group.specs.Judge.{Judge}
 use Rattle.ats_soundness_law.proofs.Along.{hop_of}
 use Rattle.ats_soundness_law.proofs.Bits.{sum_by-map, hop_weight, frames_weight}
+use Rattle.ats_soundness_law.proofs.Journeys.{each_handed-le}
 use Rattle.ats_soundness_law.proofs.Known.{Case, IsTold, told}
 use Rattle.ats_soundness_law.proofs.Lifts.{run_handed-le}
 use Rattle.ats_soundness_law.proofs.Offered.{Kept}
-use Rattle.ats_soundness_law.proofs.Weights.{handed-le}
 
 -- a frame that a port hands on, with the time at which it was eligible there
 abbrev pub passage_of : Handed → Passage
@@ -77,8 +77,8 @@ passages-le network run port class c arrivals same i weight =
     (passage_weight i weight h) 0) (λ (h : Handed). hop_weight i port weight (hop_of h.crossing)) handed
     (λ k d h. passage_hop network i port class weight (get_or handed k d) (told k d h)) in
     let sent = run_handed-le (hop_weight i port weight) network 0 run
-    (λ n j. handed-le (hop_weight i port weight) n j.release (sender_at network j.release.sender)
-    (sender_at network j.release.sender).ports j.hops) in
+    (λ n j. each_handed-le (hop_weight i port weight) n j.release (sender_at network j.release.sender)
+    (legs_at network j.release.sender) (legs_in j)) in
     omega (arith, before, moved, chosen, le, sent, frames_weight network run i port weight)
 
 no_passage : Passage

@@ -15,13 +15,14 @@ use Rattle.ats_group.specs.declared.verdict.Verdict.{Verdict}
 use Rattle.ats_port_rule.specs.Transmission.{Transmission}
 use Rattle.ats_bucket.specs.Conforming.{Frame}
 use Rattle.ats_streams.specs.declared.traffic.Declared.{Declared}
-use Rattle.ats_trace.specs.Journey.{Travel, IsJourney, IsOfStream, IsReleased, IsWay, class_at}
+use Rattle.ats_trace.specs.Journey.{Leg, Travel, IsJourney, IsOfStream, IsReleased, IsWay, class_at}
 use Rattle.ats_trace.specs.Projections.{Hop, Crossing, Handed, crossings_along, handed_along, crossing_at, handed_at}
 use Rattle.ats_trace.specs.Projections.{transmission_of, crossings_from, handed_from, crossings_by, handed_by}
 use Rattle.ats_trace.specs.Run.{IsLegalBy, releases_of}
 use Rattle.ats_group.specs.Judge.{Judge, ats_judge, bucket_rule}
 use Rattle.ats_group_law.proofs.Regulator.{ats_is_regulator}
 use Rattle.ats_trace.specs.Talker.{start_of, talker_of, KeepsBucketsBy}
+use Rattle.ats_trace.specs.Ways.{route_to, way_to}
 use Rattle.ats_trace.specs.declared.journey.Release.{Release}
 use Rattle.ats_trace.specs.declared.journey.HopRecord.{HopRecord}
 use Rattle.ats_trace.specs.declared.journey.Ending.{Ending}
@@ -33,10 +34,13 @@ use Rattle.ats_soundness_law.proofs.Along.{hop_of, all_hops, all_were_sent, all_
 use Rattle.ats_soundness_law.proofs.Behind.{way_on}
 use Rattle.ats_soundness_law.proofs.Bridge.{bridge_fed}
 use Rattle.ats_soundness_law.proofs.EachRule.{rule_of_holding, each_row_holds}
+use Rattle.ats_soundness_law.proofs.Journeys.{crossings_on_route, each_on_route, handed_on_route, journey_route}
+use Rattle.ats_soundness_law.proofs.Journeys.{route_starts}
 use Rattle.ats_soundness_law.proofs.Offered.{IsFed}
 use Rattle.ats_soundness_law.proofs.Known.{Case, IsTold, told}
 use Rattle.ats_soundness_law.proofs.Lifts.{Numbered, numbered}
 use Rattle.ats_soundness_law.proofs.Paths.{sender_is, first_station, later_bridges, uses_own}
+use Rattle.ats_soundness_law.proofs.Routes.{OnRoute}
 use Rattle.ats_soundness_law.proofs.Serving.{RowsHold, Serves, serves}
 use Rattle.ats_soundness_law.proofs.Station.{station_fed}
 use Rattle.ats_soundness_law.proofs.Streams.{stream_used}
@@ -173,7 +177,7 @@ of_stream network run rows j c holds there stream =
           (all_given network run c);
     }
 
--- the ports of its path serve it where they are offered what they may be asked to send
+-- the ports of a path serve it where they are offered what they may be asked to send
 all_serve : {judge : Judge} {rule : Declared → List Frame → Type 0} (network : DeclaredNetwork) (run : List Travel)
     (rows : List Row) (j : Travel)
     → OfStream judge rule network run rows j → (path : List ℕ)
@@ -204,20 +208,32 @@ served {judge} {rule} network rows run c holds j there stream keeps =
     let r : Release = j.release in
     let s : Sender = sender_at network r.sender in
     let n : ℕ = o.numbered.number in
-    let serve = all_serve network run rows j o s.ports (uses_own s) o.keeps.ports
-    (all_offered network run c s.ports o.keeps.valid o.keeps.bridges keeps) in
-    let is_prompt : IsPrompt (bounds_of rows s) r.at.0 s.ports j.hops j.ending =
-    prompt (bounds_of rows s) n r s s.ports j.hops j.ending r.at.0 o.is.way
-    (arrive_within network run rows n r s s.ports j.hops j.ending serve o.numbered.crossings)
-    (eligible_within network run rows n r s s.ports j.hops j.ending serve o.numbered.handed)
-    (comes_first r s.ports j.hops j.ending o.keeps.path.least o.is.released) in
-    record { prompt = is_prompt; arrives = within_sum (bounds_of rows s) s.ports j.hops j.ending r.at.0 is_prompt }
+    λ m within. (
+    let route : List ℕ = route_to s m in
+    let way : Leg = way_to s j m in
+    let on : OnRoute s j m = journey_route network j m c.net o.is within in
+    let serve = all_serve network run rows j o route (each_on_route (λ q. uses q s ≡ true) s m (uses_own s) within)
+    (each_on_route (λ q. q < length network.topology.ports) s m o.keeps.ports within)
+    (all_offered network run c route (o.keeps.valid m [] within) (o.keeps.bridges m [] within)
+    (subst (KeepsBucketsBy rule network (releases_of run))
+    (sym (route_starts network.topology s m o.keeps within)) keeps)) in
+    let is_prompt : IsPrompt (bounds_of rows s) r.at.0 route way.hops way.ending =
+    prompt (bounds_of rows s) n r s route way.hops way.ending r.at.0 on.way
+    (arrive_within network run rows n r s route way.hops way.ending serve
+    (crossings_on_route (IsThere network run) network n j m on o.numbered.crossings))
+    (eligible_within network run rows n r s route way.hops way.ending serve
+    (handed_on_route (IsGiven network run) network n j m on o.numbered.handed))
+    (comes_first r route way.hops way.ending (o.keeps.routes m [] within).least on.released) in
+    record {
+      prompt = is_prompt;
+      arrives = within_sum (bounds_of rows s) route way.hops way.ending r.at.0 is_prompt;
+    })
 
 none_once : (bound : ℕ → ℕ) (path : List ℕ) (ending : Ending) → IsPromptIfEligible bound path [] ending
 none_once bound [] ending = tt
 none_once bound (p ∷ path) ending = tt
 
--- behind the first port of its path
+-- behind the first port of a path
 contained_behind : {judge : Judge} {rule : Declared → List Frame → Type 0} (network : DeclaredNetwork)
     (run : List Travel) (rows : List Row) (j : Travel)
     → OfStream judge rule network run rows j → (n : ℕ) (path : List ℕ) (hops : List HopRecord) (ending : Ending)
@@ -256,8 +272,16 @@ contained : {judge : Judge} {rule : Declared → List Frame → Type 0} (network
 contained {judge} {rule} network rows run c holds j there stream =
     let o : OfStream judge rule network run rows j = of_stream network run rows j c holds there stream in
     let s : Sender = sender_at network j.release.sender in
-    contained_behind network run rows j o o.numbered.number s.ports j.hops j.ending o.is.way o.keeps.bridges
-    (uses_own s) o.keeps.ports o.numbered.crossings o.numbered.handed
+    let n : ℕ = o.numbered.number in
+    λ m within. (
+    let route : List ℕ = route_to s m in
+    let way : Leg = way_to s j m in
+    let on : OnRoute s j m = journey_route network j m c.net o.is within in
+    contained_behind network run rows j o n route way.hops way.ending on.way (o.keeps.bridges m [] within)
+    (each_on_route (λ q. uses q s ≡ true) s m (uses_own s) within)
+    (each_on_route (λ q. q < length network.topology.ports) s m o.keeps.ports within)
+    (crossings_on_route (IsThere network run) network n j m on o.numbered.crossings)
+    (handed_on_route (IsGiven network run) network n j m on o.numbered.handed))
 
 -- what the rules say of the rows
 rows_hold : (network : DeclaredNetwork) (rows : List Row) → ((rule : Rule) → Keeps rule network rows)

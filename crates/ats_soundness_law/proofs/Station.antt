@@ -23,6 +23,7 @@ use Rattle.ats_trace.specs.Projections.{Hop, hops_along, journey_hops, sent_by, 
 use Rattle.ats_trace.specs.Eligibility.{declared_by}
 use Rattle.ats_trace.specs.Run.{releases_of}
 use Rattle.ats_trace.specs.Talker.{talker_of, start_of, KeepsBucketsBy, frames_of}
+use Rattle.ats_trace.specs.Ways.{route_to, way_to}
 use Rattle.ats_trace.specs.declared.journey.Release.{Release}
 use Rattle.ats_trace.specs.declared.journey.HopRecord.{HopRecord}
 use Rattle.ats_group.specs.Judge.{Judge}
@@ -31,11 +32,13 @@ use Rattle.ats_soundness_law.proofs.Along.{AtPort, hop_by, all_hops}
 use Rattle.ats_soundness_law.proofs.Bits.{hop_weight, frames_weight, release_weight, releases_weight, counted-none}
 use Rattle.ats_soundness_law.proofs.Bits.{counted-le}
 use Rattle.ats_soundness_law.proofs.Bits.{counted-neither}
+use Rattle.ats_soundness_law.proofs.Journeys.{each_on_route, hops_by_routes, journey_route, route_starts}
 use Rattle.ats_soundness_law.proofs.Known.{Case, ats_case, bits_of_size}
 use Rattle.ats_soundness_law.proofs.Lifts.{run_hops, run_travels-le}
 use Rattle.ats_soundness_law.proofs.Offered.{DeclaredAt, Kept, IsFed, fed}
 use Rattle.ats_soundness_law.proofs.Streams.{stream_ruled}
 use Rattle.ats_soundness_law.proofs.Paths.{sender_is, not_both, later_bridges, uses_own}
+use Rattle.ats_soundness_law.proofs.Weighed.{weighs_by_routes}
 use Rattle.ats_soundness_law.proofs.Weights.{first-le}
 
 -- a port that leaves a station, in a legal run
@@ -100,10 +103,14 @@ journey_declared : {judge : Judge} {rule : Declared → List Frame → Type 0} (
 journey_declared network run port a n j paced =
     let s : Sender = sender_at network j.release.sender in
     let keeps : IsSender network.topology s = sender_is network a.known.net j.release.sender paced.is.sender in
-    all_hops (DeclaredAt network port) n j.release s s.ports j.hops
-    (declared_along network run port a n j.release paced.is.sender s.ports keeps.bridges (uses_own s) paced.size)
+    hops_by_routes (DeclaredAt network port) network n j a.known.net paced.is
+    (λ m within.
+    all_hops (DeclaredAt network port) n j.release s (route_to s m) (way_to s j m).hops
+    (declared_along network run port a n j.release paced.is.sender (route_to s m) (keeps.bridges m [] within)
+    (each_on_route (λ p. uses p s ≡ true) s m (uses_own s) within)
+    (λ start. paced.size (sym (route_starts network.topology s m keeps within) ∙ start))))
 
--- a frame's weight at the port is that of its release, at the first port of its path
+-- a frame's weight at the port is that of its release, at the first port of its route
 weight_along : {judge : Judge} {rule : Declared → List Frame → Type 0} (network : DeclaredNetwork) (run : List Travel)
     (i port : ℕ) (weight : Frame → ℕ) (most : ℕ)
     → AtStation judge rule network run port → (n : ℕ) (r : Release) (s : Sender) (path : List ℕ) (hops : List HopRecord)
@@ -133,10 +140,13 @@ own_weight : {judge : Judge} {rule : Declared → List Frame → Type 0} (networ
     → sum_by weight (frames_by i (sent_by network run port)) ≤ sum_by weight (frames_of i (releases_of run))
 own_weight network run i port weight a =
     let each = run_travels-le (IsJourney network) (hop_weight i port weight) (release_weight i weight) network 0 run
-    (λ n j is. weight_along network run i port weight (release_weight i weight j) a n j.release
-    (sender_at network j.release.sender) (sender_at network j.release.sender).ports j.hops
-    (sender_is network a.known.net j.release.sender is.sender).bridges is.released
-    (λ p times start. counted-le (p == port) (release_weight i weight j)))
+    (λ n j is. weighs_by_routes network i port weight (release_weight i weight j) n j a.known.net is
+    (λ m within. weight_along network run i port weight (release_weight i weight j) a n j.release
+    (sender_at network j.release.sender) (route_to (sender_at network j.release.sender) m)
+    (way_to (sender_at network j.release.sender) j m).hops
+    ((sender_is network a.known.net j.release.sender is.sender).bridges m [] within)
+    (journey_route network j m a.known.net is within).released
+    (λ p times start. counted-le (p == port) (release_weight i weight j))))
     a.known.legal.journeys in
     omega (arith, each, frames_weight network run i port weight, releases_weight run i weight)
 
@@ -147,12 +157,16 @@ other_weight : {judge : Judge} {rule : Declared → List Frame → Type 0} (netw
     → sum_by weight (frames_by i (sent_by network run port)) ≤ 0
 other_weight network run i port weight a other =
     let each = run_travels-le (IsJourney network) (hop_weight i port weight) (λ (j : Travel). 0) network 0 run
-    (λ n j is. weight_along network run i port weight 0 a n j.release (sender_at network j.release.sender)
-    (sender_at network j.release.sender).ports j.hops
-    (sender_is network a.known.net j.release.sender is.sender).bridges is.released
+    (λ n j is. weighs_by_routes network i port weight 0 n j a.known.net is
+    (λ m within. weight_along network run i port weight 0 a n j.release (sender_at network j.release.sender)
+    (route_to (sender_at network j.release.sender) m) (way_to (sender_at network j.release.sender) j m).hops
+    ((sender_is network a.known.net j.release.sender is.sender).bridges m [] within)
+    (journey_route network j m a.known.net is within).released
     (λ p times start. counted-neither (p == port) (j.release.sender == i) _ (λ there own.
-    other (ap (talker_of network) (sym (eqb-true j.release.sender i own)) ∙ start
-    ∙ ap (λ (q : ℕ). (port_at network.topology.ports q).from) (eqb-true p port there)))))
+    other (ap (talker_of network) (sym (eqb-true j.release.sender i own))
+    ∙ sym (route_starts network.topology (sender_at network j.release.sender) m
+    (sender_is network a.known.net j.release.sender is.sender) within) ∙ start
+    ∙ ap (λ (q : ℕ). (port_at network.topology.ports q).from) (eqb-true p port there))))))
     a.known.legal.journeys in
     let none = sum_by-none (λ (j : Travel). 0) run (λ k d h. omega arith) in
     omega (arith, each, none, frames_weight network run i port weight)

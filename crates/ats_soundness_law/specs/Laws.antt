@@ -46,12 +46,13 @@ ShapingForFree = (network : DeclaredNetwork) (run : List Travel) (row : Row) →
     → RowHolds network row → IsOffered network row.port (sent_by network run row.port)
     → All (IsHandedOn row) (handed_by network run row.port row.class)
 
--- each frame of a stream whose talker keeps its buckets is served, by the rows of a certificate that holds
+-- each frame of a stream whose talker keeps its buckets is served at each listener, by the rows of a certificate that
+-- holds
 abbrev pub PathLaw : Type 0
 PathLaw = (network : DeclaredNetwork) (rows : List Row) → IsNetwork network → Holds network rows
     → AreServed ats_judge bucket_rule network rows
 
--- each frame of any stream is contained by them, whatever its talker does
+-- each frame of any stream is contained by them on its way to each listener, whatever its talker does
 abbrev pub Containment : Type 0
 Containment = (network : DeclaredNetwork) (rows : List Row) → IsNetwork network → Holds network rows
     → AreContained ats_judge network rows

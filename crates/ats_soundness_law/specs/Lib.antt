@@ -1,3 +1,4 @@
 pub mod Sound
 pub mod Rules
 pub mod Laws
+pub mod OneListener

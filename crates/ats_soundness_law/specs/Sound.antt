@@ -1,4 +1,4 @@
-use Rattle.std.specs.Prelude.{ℕ, ◌+◌, ◌≤◌, List, [], ◌∷◌, sum_by, Contains}
+use Rattle.std.specs.Prelude.{ℕ, ◌+◌, ◌<◌, ◌≤◌, List, [], ◌∷◌, sum_by, Contains}
 use Rattle.ats_network.specs.Sender.{Sender}
 use Rattle.ats_network.specs.Network.{DeclaredNetwork}
 use Rattle.ats_network.specs.Senders.{sender_at}
@@ -9,9 +9,11 @@ use Rattle.ats_streams.specs.declared.traffic.Declared.{Declared}
 use Rattle.ats_group.specs.declared.verdict.Verdict.{Verdict}
 use Rattle.ats_group.specs.declared.verdict.Verdict.TheVariants.{Eligible, Late, Size}
 use Rattle.ats_group.specs.Judge.{OnEligible, Judge, ats_judge, bucket_rule}
-use Rattle.ats_trace.specs.Journey.{Travel, IsOfStream}
+use Rattle.ats_trace.specs.Journey.{Leg, Travel, IsOfStream}
+use Rattle.ats_trace.specs.Ways.{listener_count, route_to, way_to}
 use Rattle.ats_trace.specs.Run.{IsLegalBy, releases_of}
 use Rattle.ats_trace.specs.Talker.{talker_of, KeepsBucketsBy}
+use Rattle.ats_trace.specs.declared.journey.Release.{Release}
 use Rattle.ats_trace.specs.declared.journey.HopRecord.{HopRecord}
 use Rattle.ats_trace.specs.declared.journey.Ending.{Ending}
 use Rattle.ats_trace.specs.declared.journey.Ending.TheVariants.{Sink, Discard}
@@ -37,15 +39,21 @@ abbrev pub ArrivesBy : ℕ → Ending → Type 0
 ArrivesBy limit (Sink at) = at.0 ≤ limit
 ArrivesBy limit Discard = ⊥
 
--- the bounds of the ports of a sender's path, by the rows of a certificate
+-- the bounds of a sender's ports, by the rows of a certificate
 abbrev pub bounds_of : List Row → Sender → ℕ → ℕ
 bounds_of rows sender port = bound_of_hop rows sender port
 
--- a frame is never discarded, is eligible at each next hop within the bound of the hop before, and arrives within the
--- sum
-pub record IsServed (rows : List Row) (sender : Sender) (journey : Travel) : Type 0 where
-  pub prompt : IsPrompt (bounds_of rows sender) journey.release.at.0 sender.ports journey.hops journey.ending
-  pub arrives : ArrivesBy (journey.release.at.0 + sum_by (bounds_of rows sender) sender.ports) journey.ending
+-- on this way along a route a frame is never discarded, is eligible at each next hop within the bound of the hop
+-- before, and arrives within the sum
+pub record IsServedOn (rows : List Row) (sender : Sender) (release : Release) (route : List ℕ) (way : Leg)
+    : Type 0 where
+  pub prompt : IsPrompt (bounds_of rows sender) release.at.0 route way.hops way.ending
+  pub arrives : ArrivesBy (release.at.0 + sum_by (bounds_of rows sender) route) way.ending
+
+-- so it is on its way to each listener
+abbrev pub IsServed : List Row → Sender → Travel → Type 0
+IsServed rows sender journey = (listener : ℕ) → listener < listener_count sender
+    → IsServedOn rows sender journey.release (route_to sender listener) (way_to sender journey listener)
 
 -- if a frame is eligible at the first of these ports, it is prompt behind it
 abbrev pub IsPromptIfEligible : (ℕ → ℕ) → List ℕ → List HopRecord → Ending → Type 0
@@ -59,12 +67,18 @@ abbrev pub all_but_first : {X : Type 0} → List X → List X
 all_but_first [] = []
 all_but_first (x ∷ xs) = xs
 
--- whatever its own talker does, a frame that the first bridge lets through is prompt from there on
-abbrev pub IsContained : List Row → Sender → Travel → Type 0
-IsContained rows sender journey =
-    IsPromptIfEligible (bounds_of rows sender) (all_but_first sender.ports) (all_but_first journey.hops) journey.ending
+-- on this way along a route a frame that the first bridge lets through is prompt from there on
+abbrev pub IsContainedOn : List Row → Sender → List ℕ → Leg → Type 0
+IsContainedOn rows sender route way =
+    IsPromptIfEligible (bounds_of rows sender) (all_but_first route) (all_but_first way.hops) way.ending
 
--- in each legal run, where groups judge so, each frame of a stream whose talker keeps this rule is served
+-- so it is on its way to each listener, whatever its own talker does
+abbrev pub IsContained : List Row → Sender → Travel → Type 0
+IsContained rows sender journey = (listener : ℕ) → listener < listener_count sender
+    → IsContainedOn rows sender (route_to sender listener) (way_to sender journey listener)
+
+-- in each legal run, where groups judge so, each frame of a stream whose talker keeps this rule is served at each
+-- listener
 abbrev pub AreServed : Judge → (Declared → List Frame → Type 0) → DeclaredNetwork → List Row → Type 0
 AreServed judge rule network rows = (run : List Travel) → IsLegalBy judge network run → (journey : Travel)
     → Contains run journey → IsOfStream network journey

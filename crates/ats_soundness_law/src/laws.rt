@@ -3,6 +3,7 @@
 ghost use Rattle.std.specs.Prelude.{List};
 ghost use Rattle.ats_bucket.specs.Conforming.{Frame};
 ghost use Rattle.ats_streams.specs.declared.traffic.Declared.{Declared};
+ghost use Rattle.ats_soundness_law.specs.OneListener.{OneListenerIsServedAlone};
 ghost use Rattle.ats_soundness_law.specs.Rules.{HoldsIsEachRule};
 ghost use Rattle.ats_soundness_law.specs.Laws.{StationIsOffered, BridgeIsOffered, ShapingForFree, PathLaw, Containment};
 ghost use Rattle.ats_soundness_law.specs.Laws.{SoundByRule, SoundByRules, CertificateIsSound};
@@ -33,15 +34,15 @@ pub fn shaping_for_free()
 {}
 
 /// The path law: where a certificate holds, each frame of a stream whose talker keeps its buckets
-/// is never discarded, is eligible at each next hop within the bound of the hop before, and arrives
-/// within the sum of the bounds.
+/// is never discarded on its way to any listener, is eligible at each next hop within the bound of
+/// the hop before, and arrives within the sum of the bounds of the route there.
 pub fn path_law()
     ensures { PathLaw }
 {}
 
 /// Containment: where a certificate holds, each frame of any stream that the first bridge lets
-/// through is never discarded from there on, and is eligible at each next hop within the bound of
-/// the hop before.
+/// through is never discarded from there on, on its way to any listener, and is eligible at each
+/// next hop within the bound of the hop before.
 pub fn containment()
     ensures { Containment }
 {}
@@ -69,4 +70,9 @@ pub fn certificate_is_sound()
 /// each stream is in time.
 pub fn holds_is_each_rule()
     ensures { HoldsIsEachRule }
+{}
+
+/// Where a frame's stream has one listener, it is served, and contained, on its way along the ports of the stream.
+pub fn one_listener_is_served_alone()
+    ensures { OneListenerIsServedAlone }
 {}
