@@ -83,7 +83,8 @@ set_waits n class between new kept is set_is =
 -- where the others are the same, a stream of the same path waits
 pub still_waits : (n : ℕ) (network : DeclaredNetwork) (old new : KeptState) → IsPending network n old
     → IsKeptBeside (without_at network n) (stream_at network n).ports new → IsPending network n new
-still_waits n network old new is beside = record { last = is.last; free = is.free; beside = beside }
+still_waits n network old new is beside =
+    record { last = is.last; free = is.free; beside = beside }
 
 -- the number of a name is that of a stream
 named_within : (network : DeclaredNetwork) (name : List ℕ) (n : ℕ)

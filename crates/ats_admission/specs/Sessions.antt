@@ -11,7 +11,7 @@ pub record IsSession (network : DeclaredNetwork) (state : KeptState) : Type 0 wh
   pub kept : IsKept network state
 
 -- the stream of this number is the last, a certificate holds for the network without it, and what is kept is that of
--- the network without it, but for the bounds along its ports
+-- the network without it, but for the bounds at its ports
 pub record IsPending (network : DeclaredNetwork) (n : ℕ) (kept : KeptState) : Type 0 where
   pub last : n + 1 ≡ length network.streams
   pub free : reason_of (without_at network n) ≡ None

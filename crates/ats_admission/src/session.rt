@@ -109,7 +109,7 @@ impl Session {
         admit_with_lowest(&mut self.network, &mut self.kept, stream)
     }
 
-    /// Takes out the stream with this name. The others keep their order. It takes no memory.
+    /// Takes out the stream with this name, with its branches. The others keep their order. It takes no memory.
     ///
     /// # Errors
     ///

@@ -9,13 +9,11 @@ use Rattle.std.proofs.lemmas.Bool.{true≢false, eq-eqb}
 use Rattle.std.proofs.lemmas.List.Elements.{All-cons, All-append, All-head, All-tail}
 use Rattle.ats_facts.proofs.Lists.{all_left, all_right}
 use Rattle.ats_facts.proofs.Options.{option_or-none}
-use Rattle.ats_streams.specs.Path.{IsPath}
 use Rattle.ats_streams.specs.Stream.{DeclaredStream, IsStream}
-use Rattle.ats_streams.proofs.OneListener.{alone_path}
+use Rattle.ats_streams.proofs.BranchLemmas.{some_port}
 use Rattle.ats_network.specs.Network.{DeclaredNetwork, IsNetwork}
 use Rattle.ats_network.specs.Residence.{residence_after}
 use Rattle.ats_certificate.specs.PortSums.{PortSums, is_used}
-use Rattle.ats_certificate.specs.Certificate.{IsInTime}
 use Rattle.ats_certificate.specs.Used.{places_of}
 use Rattle.ats_certificate.specs.declared.row.Row.{Row}
 use Rattle.ats_tally.specs.Reason.{first_some, overstay, row_need, late}
@@ -37,7 +35,7 @@ use Rattle.ats_admission_law.proofs.LeastRows.{may_stay}
 use Rattle.ats_admission_law.proofs.Lists.{all_one}
 use Rattle.ats_admission_law.proofs.Lowest.{path_finds_first}
 use Rattle.ats_admission_law.proofs.Networks.{Parts, less, more, parts_of, by_parts, less_is}
-use Rattle.ats_admission_law.proofs.Others.{stays_same, sum_stays}
+use Rattle.ats_admission_law.proofs.Others.{stays_same, time_stays}
 
 -- a search finds first what it finds among the elements that pass a test, where the others give nothing
 pub first_among : {A B : Type 0} (given : A → Option B) (test : A → Bool) (xs : List A)
@@ -80,7 +78,7 @@ module _ (p : Parts) (x : DeclaredStream) (is : IsNetwork (more p x)) (none : re
       let first = option_or-none (first_some (overload (less p)) (places_of (less p))) _ none in
       (option_or-none (first_some (overstay (less p)) (least_certificate (less p))) _ first.1).0
 
-  no_late : first_some (late (least_certificate (less p))) (less p).streams ≡ None
+  no_late : first_some (late p.topology (least_certificate (less p))) (less p).streams ≡ None
   no_late =
       let first = option_or-none (first_some (overload (less p)) (places_of (less p))) _ none in
       (option_or-none (first_some (overstay (less p)) (least_certificate (less p))) _ first.1).1
@@ -112,28 +110,26 @@ module _ (p : Parts) (x : DeclaredStream) (is : IsNetwork (more p x)) (none : re
       let same = ap (λ (r : Row). r.wait) s.row in
       omega (arith, stay, same)))))
 
-  times_along : first_some (late (least_certificate (more p x))) (more p x).streams
-      ≡ first_some (late (least_certificate (more p x))) (streams_on (more p x) x)
+  times_along : first_some (late p.topology (least_certificate (more p x))) (more p x).streams
+      ≡ first_some (late p.topology (least_certificate (more p x))) (streams_on (more p x) x)
   times_along =
       let rows : List Row = least_certificate (more p x) in
-      let Quiet : DeclaredStream → Type 0 = λ (s : DeclaredStream). shares x s ≡ false → late rows s ≡ None in
+      let before : List Row = least_certificate (less p) in
+      let Quiet : DeclaredStream → Type 0 =
+      λ (s : DeclaredStream). shares x s ≡ false → late p.topology rows s ≡ None in
       let rules : IsStream x = all_one IsStream p.front x p.back is.streams in
-      let path : IsPath x.ports = alone_path x.ports x.branches
-      (all_one (λ (s : DeclaredStream). s.branches ≡ []) p.front x p.back is.one_listener) rules.routes in
-      first_among (late rows) (shares x) (more p x).streams
+      first_among (late p.topology rows) (shares x) (more p x).streams
       (all_more Quiet p.front x p.back
-      (λ apart. absurd (true≢false (sym (own_port x.ports path.least) ∙ apart)))
+      (λ apart. absurd (true≢false (sym (own_port x.ports (some_port x rules)) ∙ apart)))
       (λ k d h apart. (
       let s : DeclaredStream = get_or (less p).streams k d in
-      let time : IsInTime (least_certificate (less p)) s =
-      in_time_from (least_certificate (less p)) s
-      (none_first (late (least_certificate (less p))) (less p).streams no_late k d h) in
-      by_time rows s (omega (arith, time, sum_stays p x is s apart)))))
+      by_time p.topology rows s (time_stays p x is s apart (in_time_from p.topology before s
+      (none_first (late p.topology before) (less p).streams no_late k d h))))))
 
   pub reason_is : reason_of (more p x) ≡ reason_along (more p x) x
   reason_is =
       let stay : Option Reason = first_some (overstay (more p x)) (least_certificate (more p x)) in
-      let time : Option Reason = first_some (late (least_certificate (more p x))) (more p x).streams in
+      let time : Option Reason = first_some (late p.topology (least_certificate (more p x))) (more p x).streams in
       let load : Option Reason = first_found (overload (more p x)) (more p x) x.ports in
       let row : Option Reason = first_found (overstay_at (more p x)) (more p x) x.ports in
       ap (λ (o : Option Reason). option_or o (option_or stay time)) loads_along

@@ -53,14 +53,14 @@ module _ (network : DeclaredNetwork) (x : DeclaredStream) (numbers : List ℕ) (
   found_near : (best : Option (ℕ × Reason)) → IsBest (late_at network) numbers best
       → late_near network x ≡ option_map (λ b. b.1) best
   found_near None none =
-      none_at (late (least_certificate network)) (shares x) network.streams (λ k d h near. (
+      none_at (late network.topology (least_certificate network)) (shares x) network.streams (λ k d h near. (
       let same = get_or_default network.streams k d no_stream h in
-      ap (late (least_certificate network)) same
+      ap (late network.topology (least_certificate network)) same
       ∙ quiet_near (λ n. late_at network n ≡ None) none k h (sym (ap (shares x) same) ∙ near)))
   found_near (Some best) is =
       let here : IsNear network x best.0 = of_one (IsNear network x) numbers best.0 are.near is.inside in
-      first_at (late (least_certificate network)) (shares x) network.streams best.0 no_stream best.1 here.within
-      here.shares is.is
+      first_at (late network.topology (least_certificate network)) (shares x) network.streams best.0 no_stream best.1
+      here.within here.shares is.is
       (λ k less near. quiet_near (λ n. n < best.0 → late_at network n ≡ None) is.least k
       (let within = here.within in omega (arith, less, within)) near less)
 

@@ -1,5 +1,5 @@
 -- A network less one stream is a network.
-use Rattle.std.proofs.Common.{◌≡◌, ◌≢◌, ℕ, List, [], ◌∷◌, ◌++◌, map, length, sym, ap, ◌∙◌, subst, arith}
+use Rattle.std.proofs.Common.{◌≡◌, ◌≢◌, ℕ, List, ◌∷◌, ◌++◌, map, length, sym, ap, ◌∙◌, subst, arith}
 use Rattle.std.proofs.Common.{append_assoc, length-append}
 use Rattle.std.specs.List.{All}
 use Rattle.std.proofs.lemmas.List.{map-append}
@@ -109,7 +109,6 @@ less_is p x is = record {
     sum_by-cons many x p.back,
     sum_by-append many p.front p.back,
   );
-  one_listener = all_less (λ (s : DeclaredStream). s.branches ≡ []) p.front x p.back is.one_listener;
 }
   where
     many : DeclaredStream → ℕ

@@ -1,5 +1,5 @@
 -- When a stream is taken out, no least wait, no least bound and no sum of them rises, so no reason comes.
-use Rattle.std.proofs.Common.{◌≡◌, ℕ, ◌+◌, ◌-◌, ◌*◌, ◌≤◌, true, get_or, None, ap, inl, inr, arith}
+use Rattle.std.proofs.Common.{◌≡◌, ℕ, ◌+◌, ◌-◌, ◌*◌, ◌≤◌, true, List, get_or, None, ap, inl, inr, arith}
 use Rattle.std.specs.List.{All}
 use Rattle.std.proofs.lemmas.Bool.{cases_Bool}
 use Rattle.std.proofs.lemmas.List.Elements.{All-map}
@@ -8,13 +8,14 @@ use Rattle.ats_facts.proofs.Options.{option_or-none}
 use Rattle.ats_num.specs.declared.time.TheConstants.{PS_PER_SECOND}
 use Rattle.ats_topology.specs.Port.{port_at}
 use Rattle.ats_topology.specs.declared.port.Port.{Port}
+use Rattle.ats_streams.specs.Branches.{routes_of}
 use Rattle.ats_streams.specs.Stream.{DeclaredStream}
 use Rattle.ats_network.specs.Sender.{Sender, stream_sender}
 use Rattle.ats_network.specs.Class.{class_at}
 use Rattle.ats_network.specs.Network.{DeclaredNetwork, IsNetwork}
 use Rattle.ats_network.specs.Residence.{residence_after}
 use Rattle.ats_certificate.specs.PortSums.{PortSums, port_sums, is_used}
-use Rattle.ats_certificate.specs.Certificate.{IsInTime, bound_at, bound_of_hop, bound_along}
+use Rattle.ats_certificate.specs.Certificate.{IsInTime, bound_at, bound_of_hop, bound_on}
 use Rattle.ats_certificate.specs.Used.{places_of}
 use Rattle.ats_certificate.specs.declared.row.Row.{Row}
 use Rattle.ats_tally.specs.Reason.{first_some, overstay, row_need, late}
@@ -88,13 +89,20 @@ module _ (p : Parts) (x : DeclaredStream) (is : IsNetwork (more p x)) where
         | inr unused ↦ (let zero = bound_unused (less p) port class unused in omega (arith, zero))
       ]
 
-  pub sum_falls : reason_of (more p x) ≡ None → (s : DeclaredStream)
-      → bound_along (least_certificate (less p)) s ≤ bound_along (least_certificate (more p x)) s
-  sum_falls none s =
+  pub sum_falls : reason_of (more p x) ≡ None → (s : DeclaredStream) (route : List ℕ)
+      → bound_on (least_certificate (less p)) s route ≤ bound_on (least_certificate (more p x)) s route
+  sum_falls none s route =
       let sender : Sender = stream_sender s in
       sum_by-le-sum_by (bound_of_hop (least_certificate (less p)) sender)
-      (bound_of_hop (least_certificate (more p x)) sender) s.ports
+      (bound_of_hop (least_certificate (more p x)) sender) route
       (λ port. bound_falls none port (class_at sender port))
+
+  -- a stream that is in time stays so
+  time_stays : reason_of (more p x) ≡ None → (s : DeclaredStream) → IsInTime (least_certificate (more p x)) s
+      → IsInTime (least_certificate (less p)) s
+  time_stays none s time k d h =
+      let route : List ℕ = get_or (routes_of s.ports s.branches) k d in
+      omega (arith, time k d h, sum_falls none s route)
 
   -- the searches over the others find nothing
   no_loads : reason_of (more p x) ≡ None → first_some (overload (less p)) (places_of (less p)) ≡ None
@@ -122,19 +130,19 @@ module _ (p : Parts) (x : DeclaredStream) (is : IsNetwork (more p x)) where
       omega (arith, stay, f.wait))))))
 
   no_lates : reason_of (more p x) ≡ None
-      → first_some (late (least_certificate (less p))) (less p).streams ≡ None
+      → first_some (late p.topology (least_certificate (less p))) (less p).streams ≡ None
   no_lates none =
       let first = option_or-none (first_some (overload (more p x)) (places_of (more p x))) _ none in
       let second =
       option_or-none (first_some (overstay (more p x)) (least_certificate (more p x))) _ first.1 in
-      let times : All (λ (s : DeclaredStream). late (least_certificate (more p x)) s ≡ None) (less p).streams =
-      all_less (λ (s : DeclaredStream). late (least_certificate (more p x)) s ≡ None) p.front x p.back
-      (none_first (late (least_certificate (more p x))) (more p x).streams second.1) in
-      first_some-none (late (least_certificate (less p))) (less p).streams (λ k d h. (
+      let Quiet : DeclaredStream → Type 0 =
+      λ (s : DeclaredStream). late p.topology (least_certificate (more p x)) s ≡ None in
+      let times : All Quiet (less p).streams = all_less Quiet p.front x p.back
+      (none_first (late p.topology (least_certificate (more p x))) (more p x).streams second.1) in
+      first_some-none (late p.topology (least_certificate (less p))) (less p).streams (λ k d h. (
       let s : DeclaredStream = get_or (less p).streams k d in
-      let time : IsInTime (least_certificate (more p x)) s =
-      in_time_from (least_certificate (more p x)) s (times k d h) in
-      by_time (least_certificate (less p)) s (omega (arith, time, sum_falls none s))))
+      by_time p.topology (least_certificate (less p)) s
+      (time_stays none s (in_time_from p.topology (least_certificate (more p x)) s (times k d h)))))
 
   pub no_reason_less : reason_of (more p x) ≡ None → reason_of (less p) ≡ None
   no_reason_less none = reason_of-none (less p) (no_loads none) (no_stays none) (no_lates none)
@@ -147,10 +155,10 @@ nothing_rises old new x port class is =
     (λ rules fits used. falls_at (parts_of old new x is) x rules port class fits used)
 
 pub no_sum_rises : NoSumRises
-no_sum_rises old new x s is =
+no_sum_rises old new x s route is =
     by_parts (λ (o n : DeclaredNetwork). IsNetwork o → reason_of o ≡ None
-    → bound_along (least_certificate n) s ≤ bound_along (least_certificate o) s) old new x is
-    (λ rules none. sum_falls (parts_of old new x is) x rules none s)
+    → bound_on (least_certificate n) s route ≤ bound_on (least_certificate o) s route) old new x is
+    (λ rules none. sum_falls (parts_of old new x is) x rules none s route)
 
 pub less_has_no_reason : LessHasNoReason
 less_has_no_reason old new x is =

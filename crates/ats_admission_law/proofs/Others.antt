@@ -9,14 +9,17 @@ use Rattle.std.proofs.lemmas.List.Elements.{All-nil, All-cons, All-head, All-tai
 use Rattle.std.proofs.lemmas.List.Sums.{sum_by-cons}
 use Rattle.ats_topology.specs.Port.{port_at}
 use Rattle.ats_topology.specs.declared.port.Port.{Port}
+use Rattle.ats_streams.specs.Branches.{routes_of}
 use Rattle.ats_streams.specs.Stream.{DeclaredStream}
+use Rattle.ats_streams.proofs.RouteLemmas.{each_on_routes}
 use Rattle.ats_network.specs.Sender.{Sender, stream_sender}
 use Rattle.ats_network.specs.Class.{PortSender, class_at}
 use Rattle.ats_network.specs.Network.{DeclaredNetwork, IsNetwork, senders_of}
 use Rattle.ats_certificate.specs.PortSums.{PortSums, uses, is_of, senders_at, sums_over, port_sums, is_used}
-use Rattle.ats_certificate.specs.Certificate.{bound_at, bound_of_hop, bound_along}
+use Rattle.ats_certificate.specs.Certificate.{IsInTime, bound_at, bound_of_hop, bound_on, sums_of}
 use Rattle.ats_tally.specs.Waits.{least_wait}
 use Rattle.ats_bound.specs.Least.{row_with, least_certificate}
+use Rattle.ats_admission_law.specs.Less.{IsLessBy}
 use Rattle.ats_admission_law.specs.Laws.{StaysSame, OtherPortsStay, OtherSumsStay}
 use Rattle.ats_admission_law.specs.Near.{shares}
 use Rattle.ats_admission_law.proofs.LeastRows.{bound_used, bound_unused}
@@ -44,6 +47,13 @@ sum_same {X} f g (x ∷ xs) all =
     let here : f x ≡ g x = All-head (λ (y : X). f y ≡ g y) x xs all in
     let later : sum_by f xs ≡ sum_by g xs = sum_same f g xs (All-tail (λ (y : X). f y ≡ g y) x xs all) in
     omega (arith, here, later, sum_by-cons f x xs, sum_by-cons g x xs)
+
+-- images that are the same one by one
+maps_same : {X Y : Type 0} (f g : X → Y) (xs : List X) → All (λ (x : X). f x ≡ g x) xs → map f xs ≡ map g xs
+maps_same f g [] all = refl
+maps_same {X} {Y} f g (x ∷ xs) all =
+    ap (λ (y : Y). y ∷ map f xs) (All-head (λ (y : X). f y ≡ g y) x xs all)
+    ∙ ap (λ (ys : List Y). g x ∷ ys) (maps_same f g xs (All-tail (λ (y : X). f y ≡ g y) x xs all))
 
 module _ (p : Parts) (x : DeclaredStream) where
   pub stays_same : (port class : ℕ) → uses port (stream_sender x) ≡ false
@@ -79,14 +89,34 @@ module _ (p : Parts) (x : DeclaredStream) where
             (sym s.used ∙ none))
       ]
 
-  pub sum_stays : IsNetwork (more p x) → (s : DeclaredStream) → shares x s ≡ false
-      → bound_along (least_certificate (less p)) s ≡ bound_along (least_certificate (more p x)) s
-  sum_stays is s apart =
+  -- so is the sum along a route with none of its ports
+  route_stays : IsNetwork (more p x) → (s : DeclaredStream) (route : List ℕ)
+      → All (λ port. uses port (stream_sender x) ≡ false) route
+      → bound_on (least_certificate (less p)) s route ≡ bound_on (least_certificate (more p x)) s route
+  route_stays is s route off =
       let sender : Sender = stream_sender s in
-      let off = none_pass (λ port. uses port (stream_sender x)) s.ports apart in
       sum_same (bound_of_hop (least_certificate (less p)) sender) (bound_of_hop (least_certificate (more p x)) sender)
-      s.ports
-      (λ k d h. bound_same is (get_or s.ports k d) (class_at sender (get_or s.ports k d)) (off k d h))
+      route (λ k d h. bound_same is (get_or route k d) (class_at sender (get_or route k d)) (off k d h))
+
+  -- and each sum of a stream that has none
+  routes_stay : IsNetwork (more p x) → (s : DeclaredStream) → shares x s ≡ false
+      → All (λ route. bound_on (least_certificate (less p)) s route ≡ bound_on (least_certificate (more p x)) s route)
+      (routes_of s.ports s.branches)
+  routes_stay is s apart k d h =
+      route_stays is s (get_or (routes_of s.ports s.branches) k d)
+      (each_on_routes (λ port. uses port (stream_sender x) ≡ false) s.ports s.branches
+      (none_pass (λ port. uses port (stream_sender x)) s.ports apart) k d h)
+
+  sums_stay : IsNetwork (more p x) → (s : DeclaredStream) → shares x s ≡ false
+      → sums_of (least_certificate (less p)) s ≡ sums_of (least_certificate (more p x)) s
+  sums_stay is s apart =
+      maps_same (bound_on (least_certificate (less p)) s) (bound_on (least_certificate (more p x)) s)
+      (routes_of s.ports s.branches) (routes_stay is s apart)
+
+  -- so it stays in time
+  pub time_stays : IsNetwork (more p x) → (s : DeclaredStream) → shares x s ≡ false
+      → IsInTime (least_certificate (less p)) s → IsInTime (least_certificate (more p x)) s
+  time_stays is s apart time k d h = omega (arith, time k d h, routes_stay is s apart k d h)
 
 -- the laws
 pub other_ports_stay : OtherPortsStay
@@ -97,5 +127,12 @@ other_ports_stay old new x port class is unused =
 pub other_sums_stay : OtherSumsStay
 other_sums_stay old new x s is =
     by_parts (λ (o n : DeclaredNetwork). IsNetwork o → shares x s ≡ false
-    → bound_along (least_certificate n) s ≡ bound_along (least_certificate o) s) old new x is
-    (λ rules apart. sum_stays (parts_of old new x is) x rules s apart)
+    → sums_of (least_certificate n) s ≡ sums_of (least_certificate o) s) old new x is
+    (λ rules apart. sums_stay (parts_of old new x is) x rules s apart)
+
+pub other_times_stay : (old new : DeclaredNetwork) (x s : DeclaredStream) → IsLessBy old new x → IsNetwork old
+    → shares x s ≡ false → IsInTime (least_certificate new) s → IsInTime (least_certificate old) s
+other_times_stay old new x s is =
+    by_parts (λ (o n : DeclaredNetwork). IsNetwork o → shares x s ≡ false → IsInTime (least_certificate n) s
+    → IsInTime (least_certificate o) s) old new x is
+    (λ rules apart. time_stays (parts_of old new x is) x rules s apart)

@@ -4,7 +4,7 @@ use Rattle.ats_streams.specs.Stream.{DeclaredStream}
 use Rattle.ats_network.specs.Sender.{stream_sender}
 use Rattle.ats_network.specs.Network.{DeclaredNetwork, IsNetwork}
 use Rattle.ats_certificate.specs.PortSums.{uses, port_sums, is_used}
-use Rattle.ats_certificate.specs.Certificate.{Holds, bound_along}
+use Rattle.ats_certificate.specs.Certificate.{Holds, bound_on, sums_of}
 use Rattle.ats_certificate.specs.declared.row.Row.{Row}
 use Rattle.ats_tally.specs.declared.reason.Reason.{Reason}
 use Rattle.ats_bound.specs.Least.{least_row, least_certificate}
@@ -32,11 +32,12 @@ NothingRises =
     (old new : DeclaredNetwork) (x : DeclaredStream) (port class : ℕ) → IsLessBy old new x → IsNetwork old
     → load_at old (port, class) ≤ PS_PER_SECOND → IsTrue (is_used new port class) → Falls old new (port, class)
 
--- and no stream's sum of least bounds rises
+-- and no sum of a stream's least bounds along a route rises
 abbrev pub NoSumRises : Type 0
 NoSumRises =
-    (old new : DeclaredNetwork) (x s : DeclaredStream) → IsLessBy old new x → IsNetwork old → reason_of old ≡ None
-    → bound_along (least_certificate new) s ≤ bound_along (least_certificate old) s
+    (old new : DeclaredNetwork) (x s : DeclaredStream) (route : List ℕ) → IsLessBy old new x → IsNetwork old
+    → reason_of old ≡ None
+    → bound_on (least_certificate new) s route ≤ bound_on (least_certificate old) s route
 
 -- where a network has no reason against it, it has none less one stream
 abbrev pub LessHasNoReason : Type 0
@@ -61,11 +62,11 @@ OtherPortsStay =
     (old new : DeclaredNetwork) (x : DeclaredStream) (port class : ℕ) → IsLessBy old new x
     → uses port (stream_sender x) ≡ false → StaysSame old new (port, class)
 
--- so is the sum of the least bounds of a stream that shares no port with it
+-- so is the sum of the least bounds along each route of a stream that shares no port with it
 abbrev pub OtherSumsStay : Type 0
 OtherSumsStay =
     (old new : DeclaredNetwork) (x s : DeclaredStream) → IsLessBy old new x → IsNetwork old → shares x s ≡ false
-    → bound_along (least_certificate new) s ≡ bound_along (least_certificate old) s
+    → sums_of (least_certificate new) s ≡ sums_of (least_certificate old) s
 
 -- where a network has no reason against it, the reason against the network with one stream more is the first along that
 -- stream's ports

@@ -26,7 +26,7 @@ overstay_at network place = overstay network (least_row network place)
 
 -- the first stream that is late by the least bounds, of those that use one of a stream's ports
 abbrev pub late_near : DeclaredNetwork → DeclaredStream → Option Reason
-late_near network x = first_some (late (least_certificate network)) (streams_on network x)
+late_near network x = first_some (late network.topology (least_certificate network)) (streams_on network x)
 
 -- the first reason that is found along a stream's ports: an overload at one of them; where there is none, a need of
 -- residence there; where there is none either, a stream that uses one of its ports and is late
@@ -55,9 +55,10 @@ pub record AreNear (network : DeclaredNetwork) (x : DeclaredStream) (numbers : L
   pub near : All (IsNear network x) numbers
   pub complete : (n : ℕ) → IsNear network x n → IsTrue (list_any (λ m. m == n) numbers)
 
--- the sum over its deadline of the stream with a number, where it is late by the least bounds
+-- the sum over its deadline of the stream with a number, where it is late by the least bounds, for its first listener
+-- of those for which it is
 abbrev pub late_at : DeclaredNetwork → ℕ → Option Reason
-late_at network n = late (least_certificate network) (slice_index_or network.streams n no_stream)
+late_at network n = late network.topology (least_certificate network) (slice_index_or network.streams n no_stream)
 
 -- of the streams with these numbers, the late one with the lowest number
 abbrev pub lowest_late : DeclaredNetwork → List ℕ → Option (ℕ × Reason)

@@ -7,9 +7,9 @@ use Rattle.ats_network.specs.Class.{PortSender, seen_at}
 use Rattle.ats_network.specs.Edits.{no_stream}
 use Rattle.ats_network.specs.Network.{DeclaredNetwork, IsNetwork, senders_of}
 use Rattle.ats_network.specs.Sender.{Sender, flow_sender, stream_sender}
-use Rattle.ats_network.specs.Senders.{IsSender, sender_at}
-use Rattle.ats_network.proofs.SenderLemmas.{sender_keeps}
+use Rattle.ats_network.specs.Senders.{sender_at}
 use Rattle.ats_certificate.specs.PortSums.{senders_at, uses}
+use Rattle.ats_tally.proofs.Network.{few_ports}
 use Rattle.ats_admission_users.specs.Users.{IsHop, has_port, users_from, users_of}
 use Rattle.ats_admission_users.proofs.Slots.{mapped}
 use Rattle.ats_admission_users.proofs.UserLemmas.{users_from-later, users_within}
@@ -50,7 +50,7 @@ many_users network port =
 pub record IsUserOf (network : DeclaredNetwork) (port place user hop : ℕ) : Type 0 where
   pub sender : user < length (senders_of network)
   pub within : hop < length (sender_at network user).ports
-  pub few : hop < 16
+  pub few : hop < 65536
   pub seen : (d : PortSender) → get_or (senders_at port (map stream_sender network.streams)) place d
       ≡ seen_at (get_or (sender_at network user).ports hop 0) (sender_at network user)
 
@@ -76,7 +76,6 @@ user_is network port place user hop rules inside same h =
       length-append (map stream_sender network.streams) (map flow_sender network.flows),
       length-map network.streams stream_sender,
     ) in
-    let keeps : IsSender network.topology (sender_at network user) = sender_keeps network user rules sender in
     let path : get_or (stream_paths network) n [] ≡ (sender_at network user).ports =
     get_or-map (λ (s : DeclaredStream). s.ports) network.streams n no_stream [] below
     ∙ sym (ap (λ (s : Sender). s.ports) one) in
@@ -86,7 +85,7 @@ user_is network port place user hop rules inside same h =
     record {
       sender = sender;
       within = within;
-      few = omega (arith, within, keeps.path.most);
+      few = omega (arith, within, few_ports network user rules sender);
       seen = λ d. ap (λ (l : List PortSender). get_or l place d) (seen_users port network.streams)
           ∙ get_or-map (λ k. seen_at port (stream_sender (get_or network.streams k no_stream))) users place 0 d inside
           ∙ ap (seen_at port) (sym one)

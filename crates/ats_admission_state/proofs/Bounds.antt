@@ -1,12 +1,11 @@
 -- The least bounds as the bounds of the least certificate, and how great they are.
-use Rattle.std.proofs.Common.{◌≡◌, ◌≢◌, ℕ, zero, suc, ◌+◌, ◌-◌, ◌*◌, ◌/◌, ◌%◌, ◌<◌, ◌≤◌, ◌^◌, Bool, cond, List, []}
+use Rattle.std.proofs.Common.{◌≡◌, ◌≢◌, ℕ, ◌+◌, ◌-◌, ◌*◌, ◌/◌, ◌%◌, ◌<◌, ◌≤◌, ◌^◌, Bool, cond, List, []}
 use Rattle.std.proofs.Common.{◌∷◌, length, map, filter, get_or, sum_by, Option, Some, refl, sym, ap, subst}
 use Rattle.std.proofs.Common.{◌∙◌, inl, inr, arith}
 use Rattle.std.specs.Prelude.{unwrap_or}
 use Rattle.std.specs.List.{All, AllPairs}
 use Rattle.std.proofs.lemmas.List.{get_or_default}
 use Rattle.std.proofs.lemmas.List.Elements.{All-head, All-tail}
-use Rattle.std.proofs.lemmas.List.Sums.{sum_by-cons}
 use Rattle.std.proofs.lemmas.Nat.{div-mul-add}
 use Rattle.std.proofs.Math.Nat.{div-le_self, mul-le-mul_left, mul-le-mul_right}
 use Rattle.std.proofs.lemmas.Bool.{cases_Bool, cases_eq}
@@ -15,13 +14,15 @@ use Rattle.ats_num.specs.declared.time.TheConstants.{PS_PER_SECOND}
 use Rattle.ats_num.specs.declared.wire.TheConstants.{MAX_WIRE_BITS}
 use Rattle.ats_num.proofs.Ceiling.{ceiling-is}
 use Rattle.ats_class_table.specs.Table.{Table, value_at}
+use Rattle.ats_streams.specs.Branches.{AreBranches, leg_at, routes_of}
+use Rattle.ats_streams.specs.Path.{IsPath}
 use Rattle.ats_streams.specs.Stream.{DeclaredStream, IsClass, IsStream}
 use Rattle.ats_topology.specs.Port.{port_at}
 use Rattle.ats_topology.specs.declared.port.Port.{Port}
 use Rattle.ats_network.specs.Class.{PortSender}
 use Rattle.ats_network.specs.Network.{DeclaredNetwork, IsNetwork, senders_of}
 use Rattle.ats_network.specs.Sender.{stream_sender}
-use Rattle.ats_certificate.specs.Certificate.{bound_along, bound_at, bound_of_hop}
+use Rattle.ats_certificate.specs.Certificate.{bound_at, bound_of_hop, bound_on}
 use Rattle.ats_tally.proofs.Paths.{hop_bound}
 use Rattle.ats_certificate.specs.PortSums.{PortSums, greatest_where, is_above, is_below, is_of, is_used, least_of}
 use Rattle.ats_certificate.specs.PortSums.{longest}
@@ -34,9 +35,10 @@ use Rattle.ats_tally.proofs.Places.{IsPlace, is_place}
 use Rattle.ats_bound.specs.Least.{least_certificate, least_row}
 use Rattle.ats_admission_law.proofs.LeastRows.{bound_used, bound_unused}
 use Rattle.ats_admission_state.specs.Kept.{AreLeast, least_bound}
-use Rattle.ats_admission_state.specs.Routes.{AreBounded, IsBounded, bound_of, places_along, ports_along, route_of}
-use Rattle.ats_admission_state.specs.Routes.{route_paths, sum_along}
+use Rattle.ats_admission_state.specs.Routes.{AreBounded, IsBounded, IsRoute, bound_of, places_along, ports_along}
+use Rattle.ats_admission_state.specs.Routes.{route_of, route_paths, sum_along}
 use Rattle.ats_admission_state.proofs.Places.{places-length, places_at}
+use Rattle.ats_admission_state.proofs.Ways.{branches-map, paths-map, route-map, route_holds, sum-map}
 
 -- a least bound is that of the least certificate
 pub least_is : (network : DeclaredNetwork) (port class : ℕ) → IsNetwork network
@@ -125,19 +127,6 @@ module _ (network : DeclaredNetwork) (port class : ℕ) (is : IsNetwork network)
         | inr unused ↦ omega (arith, bound_unused network port class unused)
       ]
 
--- sums over two lists whose elements give the same at each place
-sum_same : (f g : ℕ → ℕ) (xs ys : List ℕ) → length xs ≡ length ys
-    → ((k : ℕ) → k < length ys → f (get_or xs k 0) ≡ g (get_or ys k 0)) → sum_by f xs ≡ sum_by g ys
-sum_same f g [] [] same each = refl
-sum_same f g [] (y ∷ ys) same each = absurd (omega arith)
-sum_same f g (x ∷ xs) [] same each = absurd (omega arith)
-sum_same f g (x ∷ xs) (y ∷ ys) same each =
-    sum_by-cons f x xs
-    ∙ ap (λ (n : ℕ). n + sum_by f xs) (each zero (omega arith))
-    ∙ ap (λ (n : ℕ). g y + n)
-    (sum_same f g xs ys (omega arith) (λ k h. each (suc k) (omega arith)))
-    ∙ sym (sum_by-cons g y ys)
-
 -- the bound at the place of a port and a class
 bound_at_place : (bounds : Table ℕ) (port class : ℕ) → class ≤ 7
     → bound_of bounds (8 * port + class) ≡ unwrap_or (value_at bounds port class) 0
@@ -146,6 +135,34 @@ bound_at_place bounds port class most =
     let class_is : (8 * port + class) % 8 ≡ class = omega (arith, most) in
     ap (λ (p : ℕ). unwrap_or (value_at bounds p ((8 * port + class) % 8)) 0) port_is
     ∙ ap (λ (c : ℕ). unwrap_or (value_at bounds port c) 0) class_is
+
+-- the ports of a stream's route are its path
+ports_are : (path classes : List ℕ) → length classes ≡ length path → All IsClass classes
+    → map (λ place. place / 8) (places_along path classes) ≡ path
+ports_are [] classes same all = refl
+ports_are (port ∷ path) [] same all = absurd (omega arith)
+ports_are (port ∷ path) (class ∷ classes) same all =
+    let is : IsClass class = All-head IsClass class classes all in
+    let turned : 8 * port + class ≡ port * 8 + class = omega arith in
+    ap (λ (p : ℕ). p ∷ map (λ place. place / 8) (places_along path classes))
+    (ap (λ (n : ℕ). n / 8) turned ∙ div-mul-add port 8 class (let most = is.most in omega (arith, most)))
+    ∙ ap (λ (ports : List ℕ). port ∷ ports)
+    (ports_are path classes (omega arith) (All-tail IsClass class classes all))
+
+pub route_ports : (stream : DeclaredStream) → IsStream stream → ports_along (route_of stream) ≡ stream.ports
+route_ports stream is = ports_are stream.ports stream.classes is.each_port is.classes
+
+-- each route of a stream has 1 to 16 places
+pub route_rules : (stream : DeclaredStream) → IsStream stream → IsRoute (route_of stream)
+route_rules stream is =
+    let places : List ℕ = places_along stream.ports stream.classes in
+    record {
+      branches_are = branches-map (λ place. place / 8) places stream.branches
+          (subst (λ (ports : List ℕ). AreBranches ports stream.branches) (sym (route_ports stream is)) is.branches);
+      paths = paths-map (λ place. place / 8) places stream.branches
+          (subst (λ (ports : List ℕ). All IsPath (routes_of ports stream.branches)) (sym (route_ports stream is))
+          is.routes);
+    }
 
 module _ (network : DeclaredNetwork) (stream : DeclaredStream) (bounds : Table ℕ) (rules : IsNetwork network)
     (is : IsStream stream) (inside : All (λ p. p < length network.topology.ports) stream.ports)
@@ -161,15 +178,37 @@ module _ (network : DeclaredNetwork) (stream : DeclaredStream) (bounds : Table �
       (hop_is network stream bounds hop (get_or stream.ports hop 0) (get_or stream.classes hop 0) rules is inside
       least within refl refl)
 
-  -- the sum along a stream's route is the sum of its bounds
-  pub route_sum : AllPairs (λ p q. p ≢ q) stream.ports
-      → sum_along bounds (route_of stream) ≡ bound_along (least_certificate network) stream
-  route_sum apart =
-      sum_same (bound_of bounds) (bound_of_hop (least_certificate network) (stream_sender stream))
-      (places_along stream.ports stream.classes) stream.ports (places-length stream.ports stream.classes is.each_port)
-      (λ hop within. place_is hop within
-      ∙ hop_bound (least_certificate network) stream hop (get_or stream.ports hop 0) (get_or stream.classes hop 0) is
-      apart within refl refl)
+  abbrev hop_bound_of : ℕ → ℕ
+  hop_bound_of = bound_of_hop (least_certificate network) (stream_sender stream)
+
+  -- at each place stands the bound of the hop of its port
+  all_hops : AllPairs (λ p q. p ≢ q) stream.ports
+      → All (λ place. bound_of bounds place ≡ hop_bound_of (place / 8)) (places_along stream.ports stream.classes)
+  all_hops apart k d h =
+      let places : List ℕ = places_along stream.ports stream.classes in
+      let within : k < length stream.ports =
+      omega (arith, h, places-length stream.ports stream.classes is.each_port) in
+      let class : IsClass (get_or stream.classes k 0) = is.classes k 0 (omega (arith, is.each_port, within)) in
+      let port : get_or places k 0 / 8 ≡ get_or stream.ports k 0 =
+      omega (arith, places_at stream.ports stream.classes k 0 is.each_port within, class.most) in
+      subst (λ place. bound_of bounds place ≡ hop_bound_of (place / 8)) (get_or_default places k 0 d h)
+      (place_is k within
+      ∙ hop_bound (least_certificate network) stream k (get_or stream.ports k 0) (get_or stream.classes k 0) is
+      apart within refl refl
+      ∙ ap hop_bound_of (sym port))
+
+  -- the sum along the route to a listener is the sum of the stream's bounds there
+  pub route_sum : AllPairs (λ p q. p ≢ q) stream.ports → (leg : ℕ)
+      → sum_along bounds (route_of stream) leg
+      ≡ bound_on (least_certificate network) stream (leg_at (routes_of stream.ports stream.branches) leg)
+  route_sum apart leg =
+      let places : List ℕ = places_along stream.ports stream.classes in
+      sum-map (λ place. place / 8) (bound_of bounds) hop_bound_of (leg_at (routes_of places stream.branches) leg)
+      (route_holds (λ place. bound_of bounds place ≡ hop_bound_of (place / 8)) places stream.branches leg
+      (all_hops apart))
+      ∙ ap (sum_by hop_bound_of) (sym (route-map (λ place. place / 8) places stream.branches leg))
+      ∙ ap (λ (ports : List ℕ). sum_by hop_bound_of (leg_at (routes_of ports stream.branches) leg))
+      (route_ports stream is)
 
   -- its places have bounds of few digits
   pub route_bounded : AreBounded bounds (route_of stream)
@@ -187,22 +226,6 @@ module _ (network : DeclaredNetwork) (stream : DeclaredStream) (bounds : Table �
           bound_small network (get_or stream.ports k 0) (get_or stream.classes k 0) rules,
         );
       })
-
--- the ports of a stream's route are its path
-ports_are : (path classes : List ℕ) → length classes ≡ length path → All IsClass classes
-    → map (λ place. place / 8) (places_along path classes) ≡ path
-ports_are [] classes same all = refl
-ports_are (port ∷ path) [] same all = absurd (omega arith)
-ports_are (port ∷ path) (class ∷ classes) same all =
-    let is : IsClass class = All-head IsClass class classes all in
-    let turned : 8 * port + class ≡ port * 8 + class = omega arith in
-    ap (λ (p : ℕ). p ∷ map (λ place. place / 8) (places_along path classes))
-    (ap (λ (n : ℕ). n / 8) turned ∙ div-mul-add port 8 class (let most = is.most in omega (arith, most)))
-    ∙ ap (λ (ports : List ℕ). port ∷ ports)
-    (ports_are path classes (omega arith) (All-tail IsClass class classes all))
-
-pub route_ports : (stream : DeclaredStream) → IsStream stream → ports_along (route_of stream) ≡ stream.ports
-route_ports stream is = ports_are stream.ports stream.classes is.each_port is.classes
 
 pub all_route_paths : (streams : List DeclaredStream) → All IsStream streams
     → route_paths (map route_of streams) ≡ map (λ (s : DeclaredStream). s.ports) streams

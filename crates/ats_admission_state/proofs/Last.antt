@@ -5,10 +5,10 @@ use Rattle.std.specs.List.{All}
 use Rattle.std.proofs.Math.Seq.{split_at}
 use Rattle.std.proofs.lemmas.List.{append-nil, drop_all, get_or_append_left, get_or_default, map-append}
 use Rattle.std.proofs.lemmas.List.Elements.{All-weaker}
+use Rattle.std.proofs.lemmas.List.Sums.{get_or-le-sum_by}
 use Rattle.ats_topology.proofs.Rules.{ports_are_lawful}
 use Rattle.ats_topology.specs.Topology.{HasLawfulPorts}
-use Rattle.ats_streams.proofs.OneListener.{alone_path}
-use Rattle.ats_streams.specs.Path.{IsPath}
+use Rattle.ats_streams.proofs.BranchLemmas.{some_port}
 use Rattle.ats_streams.specs.Stream.{DeclaredStream}
 use Rattle.ats_network.specs.Edits.{no_stream}
 use Rattle.ats_network.specs.Network.{DeclaredNetwork, IsNetwork}
@@ -96,14 +96,16 @@ few_ports network n rules within =
     (λ p inside. omega (arith, inside, kept.two_each, rules.topology.few_links)) (stream_at network n).ports
     (paths_inside network rules n no_stream within)
 
--- and make a path, since it has one listener
-pub one_path : (network : DeclaredNetwork) (n : ℕ) → IsNetwork network → n < length network.streams
-    → IsPath (stream_at network n).ports
-one_path network n rules within =
-    let s : DeclaredStream = stream_at network n in
-    alone_path s.ports s.branches (rules.one_listener n no_stream within) (rules.streams n no_stream within).routes
+-- there is one, and there are no more than those of all streams together
+pub some_hop : (network : DeclaredNetwork) (n : ℕ) → IsNetwork network → n < length network.streams
+    → 1 ≤ length (stream_at network n).ports
+some_hop network n rules within = some_port (stream_at network n) (rules.streams n no_stream within)
 
 pub few_hops : (network : DeclaredNetwork) (n : ℕ) → IsNetwork network → n < length network.streams
-    → length (stream_at network n).ports ≤ 16
-few_hops network n rules within = let path : IsPath (stream_at network n).ports = one_path network n rules within in
-    omega (arith, path.most)
+    → length (stream_at network n).ports ≤ 65536
+few_hops network n rules within =
+    omega (
+      arith,
+      rules.few_ports,
+      get_or-le-sum_by (λ (s : DeclaredStream). length s.ports) network.streams n no_stream within,
+    )

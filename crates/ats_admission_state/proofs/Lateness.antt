@@ -5,28 +5,29 @@ use Rattle.std.proofs.Common.{Option, Some, None, Result, refl, sym, ap, subst, 
 use Rattle.std.specs.Prelude.{nat_lt}
 use Rattle.std.specs.List.{All, list_any}
 use Rattle.std.specs.Option.{option_map}
-use Rattle.std.proofs.lemmas.Bool.{cases_Bool, cases_order, lt-ltb, ltb-true}
+use Rattle.std.proofs.lemmas.Bool.{cases_Bool, cases_order, le-ltb, lt-ltb, ltb-false, ltb-true, true≢false}
 use Rattle.std.proofs.lemmas.List.{get_or_default}
 use Rattle.std.proofs.lemmas.List.Elements.{All-nil}
+use Rattle.std.proofs.lemmas.List.Folds.{list_any_at, list_any_none}
 use Rattle.std.proofs.lemmas.List.Sums.{fold-append}
 use Rattle.std.proofs.lemmas.Option.{none-some, same_Some}
 use Rattle.ats_class_table.specs.Table.{Table}
 use Rattle.ats_num.specs.Failure.{unless}
 use Rattle.ats_num.specs.declared.time.TheConstants.{PS_PER_NS}
+use Rattle.ats_streams.specs.Branches.{leg_at}
 use Rattle.ats_streams.specs.Stream.{DeclaredStream}
 use Rattle.ats_network.specs.Edits.{no_stream}
 use Rattle.ats_network.specs.Network.{DeclaredNetwork, IsNetwork}
-use Rattle.ats_certificate.specs.Certificate.{bound_along}
-use Rattle.ats_tally.specs.Reason.{first_some, late, late_by, overstay}
+use Rattle.ats_certificate.specs.Certificate.{IsInTime, MeetsDeadline, bound_on}
+use Rattle.ats_tally.specs.Reason.{first_some, late, overstay}
 use Rattle.ats_tally.specs.declared.reason.Reason.{Reason}
-use Rattle.ats_tally.specs.declared.reason.Reason.TheVariants.{Deadline}
-use Rattle.ats_tally.proofs.Paths.{paths_apart, paths_inside}
 use Rattle.ats_bound.specs.Least.{least_certificate}
 use Rattle.ats_bound.specs.Reason.{overload, reason_of}
 use Rattle.ats_tally.proofs.Lists.{none_first}
+use Rattle.ats_tally.proofs.Reasons.{by_time, in_time_from}
 use Rattle.ats_facts.proofs.Options.{option_or-none}
 use Rattle.ats_certificate.specs.Used.{places_of}
-use Rattle.ats_admission_law.proofs.Others.{other_sums_stay}
+use Rattle.ats_admission_law.proofs.Others.{other_times_stay}
 use Rattle.ats_admission_law.specs.Lowest.{lower_of}
 use Rattle.ats_admission_law.specs.Near.{IsNear, found_there, late_at, late_near, lowest_late, shares}
 use Rattle.ats_admission_law.proofs.Lowest.{IsBest, best_along, of_one}
@@ -36,13 +37,15 @@ use Rattle.ats_admission_users.specs.Users.{has_port}
 use Rattle.ats_admission_state.specs.Judging.{FindsFirstLate, meets}
 use Rattle.ats_admission_state.specs.Judged.{sum_at}
 use Rattle.ats_admission_state.specs.Kept.{AreLeast}
-use Rattle.ats_admission_state.specs.Routes.{AreBounded, RouteState, is_late, no_route, route_of}
-use Rattle.ats_admission_state.specs.Routes.{routes_of, sum_along}
+use Rattle.ats_admission_state.specs.Routes.{AreBounded, RouteState, is_late, is_over, no_route, places_along, route_of}
+use Rattle.ats_admission_state.specs.Routes.{routes_of, sum_along, ways_of}
 use Rattle.ats_admission_state.proofs.Last.{less_by, other_at, others-length}
-use Rattle.ats_admission_state.proofs.Bounds.{route_bounded, route_ports, route_sum}
+use Rattle.ats_admission_state.proofs.Bounds.{route_ports}
 use Rattle.ats_admission_state.proofs.Near.{along}
 use Rattle.ats_admission_state.proofs.Nearby.{all_lower, all_near, each_route, in_numbers, near_are}
 use Rattle.ats_admission_state.proofs.Nearby.{route_is, routes-length}
+use Rattle.ats_admission_state.proofs.Routed.{bounded_at, sum_is}
+use Rattle.ats_admission_state.proofs.Ways.{routes_to, ways_many}
 
 abbrev number_of : Option (ℕ × Reason) → Option ℕ
 number_of best = option_map (λ (b : ℕ × Reason). b.0) best
@@ -61,6 +64,15 @@ lower_stays best n (Some reason) less = by (nat_lt n best.0) refl
     by true lower = absurd (let under = ltb-true n best.0 lower in omega (arith, under, less))
     by false not_lower = refl
 
+-- where no element passes, one does not
+none_at : (test : List ℕ → Bool) (lists : List (List ℕ)) (k : ℕ) (d : List ℕ) → k < length lists
+    → list_any test lists ≡ false → test (get_or lists k d) ≡ false
+none_at test lists k d within none = by (test (get_or lists k d)) refl
+  where
+    by : (b : Bool) → test (get_or lists k d) ≡ b → b ≡ false
+    by true over = absurd (true≢false (sym (list_any_at test lists k d within over) ∙ none))
+    by false not_over = refl
+
 module _ (network : DeclaredNetwork) (n : ℕ) (last : n + 1 ≡ length network.streams) (rules : IsNetwork network)
     (bounds : Table ℕ) (least : AreLeast network bounds) where
   abbrev x : DeclaredStream
@@ -75,29 +87,45 @@ module _ (network : DeclaredNetwork) (n : ℕ) (last : n + 1 ≡ length network.
   abbrev numbers : List ℕ
   numbers = along (stream_paths (without_at network n)) (stream_at network n).ports
 
-  -- the sum along the route of a stream is that of its bounds, and the places have bounds of few digits
-  pub sum_is : (m : ℕ) → m < length network.streams
-      → sum_along bounds (route_of (stream_at network m))
-      ≡ bound_along (least_certificate network) (stream_at network m)
-  sum_is m within =
-      route_sum network (stream_at network m) bounds rules (rules.streams m no_stream within)
-      (paths_inside network rules m no_stream within) least (paths_apart network rules m no_stream within)
-
-  pub bounded_at : (m : ℕ) → m < length network.streams → AreBounded bounds (route_of (stream_at network m))
-  bounded_at m within =
-      route_bounded network (stream_at network m) bounds rules (rules.streams m no_stream within)
-      (paths_inside network rules m no_stream within) least
-
-  -- so have those of all streams
+  -- the places of the routes of the other streams have bounds of few digits
   pub routes_bounded : All (AreBounded bounds) routes
-  routes_bounded = each_route network n last rules (AreBounded bounds) bounded_at
+  routes_bounded = each_route network n last rules (AreBounded bounds) (bounded_at network rules bounds least)
 
-  late_is : (m : ℕ) → m < n → is_late bounds (get_or routes m no_route)
-      ≡ nat_lt (PS_PER_NS * (stream_at network m).deadline_ns)
-      (bound_along (least_certificate network) (stream_at network m))
-  late_is m within =
-      ap (is_late bounds) (route_is network n last rules m within)
-      ∙ ap (nat_lt (PS_PER_NS * (stream_at network m).deadline_ns)) (sum_is m (omega (arith, within, last)))
+  ways-length : (s : DeclaredStream) → length (ways_of (route_of s)) ≡ length (routes_to s.ports s.branches)
+  ways-length s =
+      ways_many (places_along s.ports s.classes) s.branches ∙ sym (ways_many s.ports s.branches)
+
+  -- where no sum along a route is over the deadline, a stream is in time
+  time_from : (m : ℕ) → m < length network.streams → is_late bounds (route_of (stream_at network m)) ≡ false
+      → IsInTime (least_certificate network) (stream_at network m)
+  time_from m within early k d h =
+      let s : DeclaredStream = stream_at network m in
+      let route : RouteState = route_of s in
+      let ways : List (List ℕ) = ways_of route in
+      let there : k < length ways = omega (arith, h, ways-length s) in
+      let not_over : is_over bounds route (get_or ways k []) ≡ false =
+      none_at (is_over bounds route) ways k [] there early in
+      subst (λ (r : List ℕ). MeetsDeadline s (bound_on (least_certificate network) s r))
+      (get_or_default (routes_to s.ports s.branches) k [] d h)
+      (omega (
+        arith,
+        ltb-false (PS_PER_NS * s.deadline_ns) (sum_along bounds route k) not_over,
+        sum_is network rules bounds least m k within,
+      ))
+
+  -- and where it is in time, none is
+  early_from : (m : ℕ) → m < length network.streams → IsInTime (least_certificate network) (stream_at network m)
+      → is_late bounds (route_of (stream_at network m)) ≡ false
+  early_from m within time =
+      let s : DeclaredStream = stream_at network m in
+      let route : RouteState = route_of s in
+      let ways : List (List ℕ) = ways_of route in
+      list_any_none (is_over bounds route) ways (λ k d h.
+      subst (λ (way : List ℕ). is_over bounds route way ≡ false) (get_or_default ways k [] d h)
+      (le-ltb (PS_PER_NS * s.deadline_ns) (sum_along bounds route k)
+      (let met : MeetsDeadline s (bound_on (least_certificate network) s (leg_at (routes_to s.ports s.branches) k)) =
+      time k [] (omega (arith, h, ways-length s)) in
+      omega (arith, met, sum_is network rules bounds least m k within))))
 
   abbrev step : Option (ℕ × Reason) → ℕ → Option (ℕ × Reason)
   step best m = lower_of best m (late_at network m)
@@ -121,19 +149,26 @@ module _ (network : DeclaredNetwork) (n : ℕ) (last : n + 1 ≡ length network.
   found_met m within listed =
       met_is m within (of_one (λ k. IsNear network x k) numbers m (all_near network n last rules) listed).shares
 
+  route_here : (m : ℕ) → m < n → is_late bounds (get_or routes m no_route)
+      ≡ is_late bounds (route_of (stream_at network m))
+  route_here m within = ap (is_late bounds) (route_is network n last rules m within)
+
   -- whether a stream is late, as its route tells
   late_false : (m : ℕ) → m < n → is_late bounds (get_or routes m no_route) ≡ false → late_at network m ≡ None
   late_false m within in_time =
-      let s : DeclaredStream = stream_at network m in
-      ap (λ (late : Bool). cond late (Some (Deadline s.name (bound_along (least_certificate network) s))) None)
-      (sym (late_is m within) ∙ in_time)
+      by_time network.topology (least_certificate network) (stream_at network m)
+      (time_from m (omega (arith, within, last)) (sym (route_here m within) ∙ in_time))
 
   late_true : (m : ℕ) → m < n → is_late bounds (get_or routes m no_route) ≡ true → (reason : Reason)
       × (late_at network m ≡ Some reason)
-  late_true m within late =
-      let s : DeclaredStream = stream_at network m in
-      let reason : Reason = Deadline s.name (bound_along (least_certificate network) s) in
-      (reason, ap (λ (b : Bool). cond b (Some reason) None) (sym (late_is m within) ∙ late))
+  late_true m within late = by (late_at network m) refl
+    where
+      by : (o : Option Reason) → late_at network m ≡ o → (reason : Reason) × (late_at network m ≡ Some reason)
+      by None none =
+          absurd (true≢false (sym late ∙ route_here m within
+          ∙ early_from m (omega (arith, within, last))
+          (in_time_from network.topology (least_certificate network) (stream_at network m) none)))
+      by (Some reason) some = (reason, some)
 
   -- where a certificate holds without the last stream, one that is not near it is not late
   module _ (free : reason_of less ≡ None) where
@@ -143,11 +178,13 @@ module _ (network : DeclaredNetwork) (n : ℕ) (last : n + 1 ≡ length network.
         let first = option_or-none (first_some (overload less) (places_of less)) _ free in
         let second = option_or-none (first_some (overstay less) (least_certificate less)) _ first.1 in
         let inside : m < length less.streams = omega (arith, within, others-length network n last) in
-        let early : late (least_certificate less) (stream_at less m) ≡ None =
-        none_first (late (least_certificate less)) less.streams second.1 m no_stream inside in
-        let stays = other_sums_stay network less x s (less_by network n (omega (arith, last))) rules apart in
-        ap (late_by s) (sym stays)
-        ∙ ap (late (least_certificate less)) (other_at network n last m within) ∙ early
+        let early : late network.topology (least_certificate less) (stream_at less m) ≡ None =
+        none_first (late network.topology (least_certificate less)) less.streams second.1 m no_stream inside in
+        let time : IsInTime (least_certificate less) s =
+        in_time_from network.topology (least_certificate less) s
+        (ap (late network.topology (least_certificate less)) (other_at network n last m within) ∙ early) in
+        by_time network.topology (least_certificate network) s
+        (other_times_stay network less x s (less_by network n (omega (arith, last))) rules apart time)
 
     -- so a first late one is the lowest late one near it
     is_found_best : (m : ℕ) → FindsFirstLate bounds routes x.ports (Some m) → number_of best ≡ Some m
@@ -260,32 +297,17 @@ module _ (network : DeclaredNetwork) (n : ℕ) (last : n + 1 ≡ length network.
       ∙ get_or_default routes m route no_route (omega (arith, within, routes-length network n last rules))
       ∙ route_is network n last rules m within
 
-  sum_read : (m : ℕ) (route : RouteState) (sum : ℕ) → m < length network.streams
-      → route ≡ route_of (stream_at network m) → sum ≡ sum_along bounds route
-      → sum ≡ bound_along (least_certificate network) (stream_at network m)
-  sum_read m route sum within route_are is = is ∙ ap (sum_along bounds) route_are ∙ sum_is m within
-
   abbrev judged_by : Option Reason → ℕ → Result ℕ Reason
   judged_by late sum = unless (λ (reason : Reason). reason) late sum
 
   -- the judgement of a late stream that was found
-  pub late_answer : (m : ℕ) (s : DeclaredStream) (route : RouteState) (sum : ℕ) → IsLate m → s ≡ stream_at network m
-      → route ≡ route_of (stream_at network m) → sum ≡ sum_along bounds route
-      → judged_by (late_by s sum) sum ≡ judged_by (late_near network x) (sum_at network n)
-  late_answer m s route sum late stream_are route_are is =
-      let within = late.within in
-      let late_is : late_by s sum ≡ Some late.reason =
-      ap (λ (t : DeclaredStream). late_by t sum) stream_are
-      ∙ ap (late_by (stream_at network m)) (sum_read m route sum (omega (arith, within, last)) route_are is)
-      ∙ late.late in
-      ap (λ (o : Option Reason). judged_by o sum) late_is
+  pub late_answer : (m : ℕ) → IsLate m
+      → judged_by (late_at network m) (sum_at network m) ≡ judged_by (late_near network x) (sum_at network n)
+  late_answer m late =
+      ap (λ (o : Option Reason). judged_by o (sum_at network m)) late.late
       ∙ sym (ap (λ (o : Option Reason). judged_by o (sum_at network n)) late.near)
 
   -- that of the stream itself, where none was found
-  pub own_answer : (s : DeclaredStream) (route : RouteState) (sum : ℕ) → late_near network x ≡ late_at network n
-      → s ≡ x → route ≡ route_of x → sum ≡ sum_along bounds route
-      → judged_by (late_by s sum) sum ≡ judged_by (late_near network x) (sum_at network n)
-  own_answer s route sum near stream_are route_are is =
-      ap (λ (t : DeclaredStream). judged_by (late_by t sum) sum) stream_are
-      ∙ ap (λ (k : ℕ). judged_by (late_by x k) k) (sum_read n route sum (omega (arith, last)) route_are is)
-      ∙ sym (ap (λ (o : Option Reason). judged_by o (sum_at network n)) near)
+  pub own_answer : late_near network x ≡ late_at network n
+      → judged_by (late_at network n) (sum_at network n) ≡ judged_by (late_near network x) (sum_at network n)
+  own_answer near = sym (ap (λ (o : Option Reason). judged_by o (sum_at network n)) near)

@@ -6,7 +6,9 @@ pub mod Near
 pub mod Hops
 pub mod Looked
 pub mod Places
+pub mod Ways
 pub mod Bounds
+pub mod Routed
 pub mod Last
 pub mod Nearby
 pub mod Lateness

@@ -9,7 +9,6 @@ use Rattle.std.proofs.lemmas.List.{get_or-map, get_or_default, length-map}
 use Rattle.std.proofs.lemmas.List.Elements.{All-append, All-cons, All-nil, All-weaker}
 use Rattle.std.proofs.lemmas.List.Folds.{list_any-append}
 use Rattle.ats_facts.proofs.Lists.{all_left}
-use Rattle.ats_streams.specs.Path.{IsPath}
 use Rattle.ats_streams.specs.Stream.{DeclaredStream, IsStream}
 use Rattle.ats_network.specs.Edits.{no_stream}
 use Rattle.ats_network.specs.Network.{DeclaredNetwork, IsNetwork}
@@ -17,7 +16,7 @@ use Rattle.ats_admission_law.specs.Near.{AreNear, IsNear}
 use Rattle.ats_admission_shares.specs.PortShares.{stream_at, stream_paths, without_at}
 use Rattle.ats_admission_state.specs.Routes.{RouteState, no_route, route_of, route_paths}
 use Rattle.ats_admission_state.specs.Routes.{routes_of}
-use Rattle.ats_admission_state.proofs.Last.{one_path, other_at, others-length, streams_are}
+use Rattle.ats_admission_state.proofs.Last.{other_at, others-length, some_hop, streams_are}
 use Rattle.ats_admission_state.proofs.Near.{IsNearPath, along, are_near, near_listed}
 use Rattle.ats_admission_state.proofs.Bounds.{all_route_paths}
 
@@ -93,9 +92,10 @@ module _ (network : DeclaredNetwork) (n : ℕ) (last : n + 1 ≡ length network.
       (or_left (eqb port port) (list_any (λ p. eqb p port) path) (eq-eqb port port refl))
 
   own_near : IsNear network x n
-  own_near =
-      let path : IsPath x.ports = one_path network n rules (omega (arith, last)) in
-      record { within = omega (arith, last); shares = own_shares x.ports path.least }
+  own_near = record {
+    within = omega (arith, last);
+    shares = own_shares x.ports (some_hop network n rules (omega (arith, last)));
+  }
 
   pub in_numbers : (m : ℕ) → m < n → IsNear network x m → list_any (λ q. eqb q m) numbers ≡ true
   in_numbers m within near =

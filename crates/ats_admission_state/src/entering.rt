@@ -1,8 +1,9 @@
 //! Streams that are kept from now on, or no longer.
 
 ghost use Rattle.std.specs.Prelude.{◌≡◌, ◌+◌, length, OnOk, OnErr};
-ghost use Rattle.ats_admission_shares.specs.PortShares.{without_at};
+ghost use Rattle.ats_admission_shares.specs.PortShares.{stream_at, without_at};
 ghost use Rattle.ats_admission_state.specs.Kept.{KeepsBefore, KeepsStreams};
+ghost use Rattle.ats_admission_state.specs.Routes.{route_of};
 
 use crate::routes::Route;
 use ats_admission_shares::PortShares;
@@ -11,23 +12,24 @@ use ats_network::Network;
 use ats_streams::Stream;
 use std::alloc::AllocError;
 
-/// Keeps the last stream of a network. `AllocError` where memory runs out, and then it is not kept.
+/// Keeps the last stream of a network, with this route. `AllocError` where memory runs out, and then it is not kept.
 pub(crate) fn enter(
     streams: &mut PortUsers,
     shares: &mut PortShares,
     routes: &mut Vec<Route>,
     network: &Network,
     stream: u32,
+    route: Route,
 ) -> Result<(), AllocError>
     requires last { stream + 1 ≡ length network.now.streams }
+    requires route { route ≡ route_of (stream_at network.now stream) }
     requires keeps { KeepsStreams (without_at network.now stream) streams.old shares.old routes.old.items }
     ensures ok { OnOk result (KeepsStreams network.now streams.new shares.new routes.new.items) }
     ensures err { OnErr result (KeepsStreams (without_at network.now stream) streams.new shares.new routes.new.items) }
 {
-    let declared = &network.streams()[stream as usize];
     routes.reserve(1)?;
-    streams.push(declared.ports())?;
-    routes.push_reserved(Route::of(declared));
+    streams.push(network.streams()[stream as usize].ports())?;
+    routes.push_reserved(route);
     shares.enter(network, stream);
     Ok(())
 }

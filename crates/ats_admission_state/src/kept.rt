@@ -28,6 +28,7 @@ use std::marker::Model;
 /// these four.
 #[derive(Drop)]
 pub struct Kept {
+    alloc: Global,
     streams: PortUsers,
     shares: PortShares,
     bounds: PortClassTable<u128>,
@@ -50,7 +51,7 @@ impl Kept {
         network: &Network,
         certificate: &Certificate,
     ) -> Result<Self, AllocError>
-        requires { certificate.now ≡ least_certificate network.now }
+        requires certificate { certificate.now ≡ least_certificate network.now }
         ensures { IfOk result (λ kept. IsKept network.now kept) }
     {
         let streams = stream_users(alloc, network)?;
@@ -58,6 +59,7 @@ impl Kept {
         let routes = stream_routes(alloc, network)?;
         let bounds = certified_bounds(alloc, network, certificate)?;
         Ok(Kept {
+            alloc,
             streams,
             shares,
             bounds,
@@ -66,8 +68,9 @@ impl Kept {
     }
 
     /// Judges a network by its last stream, of which nothing is kept yet, and without which a certificate holds: only
-    /// the stream's own ports are judged anew, and only the deadlines of streams that use one of these. Where
-    /// nothing stands against the network, the stream is kept from now on. The sum of its least bounds, in picoseconds.
+    /// the stream's own ports are judged anew, and only the deadlines of streams that use one of these, for each of
+    /// their listeners. Where nothing stands against the network, the stream is kept from now on. The sum of its least
+    /// bounds for its first listener, in picoseconds.
     ///
     /// # Errors
     ///
@@ -82,20 +85,27 @@ impl Kept {
         ensures err { OnErr result (IsKeptBeside (without_at network.now stream)
             (stream_at network.now stream).ports self.new) }
     {
-        let sum = judge_stream(
+        let own = Route::of(self.alloc, &network.streams()[stream as usize])?;
+        let judged = judge_stream(
             &mut self.bounds,
             network,
             &self.streams,
             &self.shares,
             &self.routes,
             stream,
-        )?;
+            &own,
+        );
+        let sum = match judged {
+            Ok(sum) => sum,
+            Err(reason) => return Err(Failure::Fault(reason)),
+        };
         enter(
             &mut self.streams,
             &mut self.shares,
             &mut self.routes,
             network,
             stream,
+            own,
         )?;
         Ok(sum)
     }

@@ -32,7 +32,8 @@ pub(crate) fn stream_routes(alloc: Global, network: &Network) -> Result<Vec<Rout
     let streams = network.streams();
     let mut routes = Vec::with_capacity(alloc, streams.len())?;
     for stream in streams {
-        routes.push(Route::of(stream))?;
+        let route = Route::of(alloc, stream)?;
+        routes.push(route)?;
     }
     Ok(routes)
 }

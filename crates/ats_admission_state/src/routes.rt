@@ -1,39 +1,66 @@
-//! Routes: of a stream, where its bounds stand, and its deadline.
+//! Routes: of a stream, where its bounds stand along the way to each listener, and its deadline.
 
-ghost use Rattle.std.specs.Prelude.{◌≡◌, ◌-◌, ◌/◌, ◌<◌, ◌≤◌, ◌==◌, ◌&&◌, not, [], length, take, sum_by, All};
-ghost use Rattle.std.specs.Prelude.{slice_index_or};
+ghost use Rattle.std.specs.Prelude.{◌≡◌, ◌+◌, ◌-◌, ◌*◌, ◌/◌, ◌^◌, ◌<◌, ◌≤◌, ◌==◌, ◌&&◌, not, [], length, take, sum_by};
+ghost use Rattle.std.specs.Prelude.{slice_index_or, All, IfOk};
+ghost use Rattle.std.specs.List.{slice_range};
+ghost use Rattle.ats_streams.specs.Branches.{AreBranches, first_from, leg_at, legs_of, routes_of};
+ghost use Rattle.ats_streams.specs.Path.{IsPath};
 ghost use Rattle.ats_streams.specs.Stream.{IsClass, IsStream};
 ghost use Rattle.ats_admission_state.specs.Routes.{AreBounded, IsBounded, bound_of, is_late, places_along, route_of};
 ghost use Rattle.ats_admission_state.specs.Routes.{sum_along};
 
 use ats_class_table::PortClassTable;
 use ats_num::Ps;
-use ats_streams::Stream;
+use ats_streams::{Branch, Stream};
+use std::alloc::{AllocError, Global};
 use std::marker::Model;
 
-/// Where the bounds of a stream stand, in the order of its ports, and its deadline, so that their sum is found without
-/// its stream. Contracts see these two.
+/// Where the bounds of a stream stand along the route to each of its listeners, and its deadline, so that their sums
+/// are found without the stream. Contracts see the place of each port, in the order of the stream's ports, the
+/// branches, by which these are routes, and the deadline. With one listener it takes no memory; with several it takes
+/// memory linear in the number of the stream's ports.
 #[derive(Drop)]
 pub struct Route {
     deadline: Ps,
-    places: [u16; 16],
+    places: [u16; 16], // of a stream with one listener
     count: u8,
+    tree: Option<Box<Tree>>, // of a stream with several
+}
+
+// The places of a stream with several listeners, one leg after another, and its branches, which cut them into legs.
+#[derive(Drop)]
+struct Tree {
+    places: Vec<u16>,
+    branches: Vec<Branch>,
 }
 
 impl Model for Route {
     ghost use Rattle.std.specs.Prelude.{◌≤◌, take};
-    ghost use Rattle.ats_admission_state.specs.Routes.{RouteState};
+    ghost use Rattle.ats_admission_state.specs.Routes.{IsRoute, RouteState, route_state};
 
     ghost Value = { RouteState };
 
-    ghost view = { λ r. record { places = take r.count r.places; deadline = r.deadline.0 } };
+    ghost view = { λ r. route_state (take r.count r.places) r.tree r.deadline.0 };
 
-    ghost invariant = { λ r. r.count ≤ 16 };
+    ghost invariant = { λ r. (r.count ≤ 16) × IsRoute (route_state (take r.count r.places) r.tree r.deadline.0) };
 }
 
 impl Route {
-    /// The route of a stream with one listener, whose ports are below 4096.
-    pub(crate) fn of(stream: &Stream) -> Self
+    /// The routes of a stream, whose ports are below 4096. `AllocError` where memory runs out, which it does not take
+    /// for a stream with one listener.
+    pub(crate) fn of(alloc: Global, stream: &Stream) -> Result<Self, AllocError>
+        requires { All (λ p. p < 4096) stream.now.ports }
+        ensures { IfOk result (λ route. route ≡ route_of stream.now) }
+    {
+        if stream.legs() > 1 {
+            let tree = Box::new(alloc, tree_of(alloc, stream)?)?;
+            return Ok(Self::with_tree(stream, tree));
+        }
+        Ok(Self::alone(stream))
+    }
+
+    // The route of a stream with one listener.
+    fn alone(stream: &Stream) -> Self
         requires one_listener { stream.now.branches ≡ [] }
         requires ports { All (λ p. p < 4096) stream.now.ports }
         ensures { result ≡ route_of stream.now }
@@ -43,26 +70,71 @@ impl Route {
             deadline: stream.deadline(),
             places: places_along(path, stream.classes()),
             count: path.len() as u8,
+            tree: None,
         }
     }
 
-    /// The sum of the bounds along the route.
-    pub(crate) fn sum(&self, bounds: &PortClassTable<u128>) -> u128
-        requires { AreBounded bounds.now self.now }
-        ensures { result ≡ sum_along bounds.now self.now }
+    // The routes of a stream with several listeners, from its places and branches.
+    fn with_tree(stream: &Stream, tree: Box<Tree>) -> Self
+        requires rules { IsStream stream.now }
+        requires places { tree.value.places.items ≡ places_along stream.now.ports stream.now.classes }
+        requires branches { tree.value.branches.items ≡ stream.now.branches }
+        ensures { result ≡ route_of stream.now }
     {
-        sum_at(bounds, &self.places[..self.count as usize])
+        Route {
+            deadline: stream.deadline(),
+            places: [0; 16],
+            count: 0,
+            tree: Some(tree),
+        }
     }
 
-    /// Whether it is over the deadline.
+    // The number of legs, and of listeners.
+    fn legs(&self) -> u32
+        ensures { result ≡ 1 + length self.now.branches }
+    {
+        match &self.tree {
+            None => 1,
+            Some(tree) => tree.branches.len() as u32 + 1,
+        }
+    }
+
+    // The place of each port.
+    fn places(&self) -> &[u16]
+        ensures { result.now ≡ self.now.places }
+    {
+        match &self.tree {
+            None => &self.places[..self.count as usize],
+            Some(tree) => tree.places.as_slice(),
+        }
+    }
+
+    /// The sum of the bounds along the route to the listener of a leg, counted from 0.
+    pub(crate) fn sum(&self, bounds: &PortClassTable<u128>, leg: u32) -> u128
+        requires leg { leg ≤ length self.now.branches }
+        requires bounded { AreBounded bounds.now self.now }
+        ensures { result ≡ sum_along bounds.now self.now leg }
+    {
+        match &self.tree {
+            None => sum_at(bounds, &self.places[..self.count as usize]),
+            Some(tree) => sum_to(bounds, &tree.places, &tree.branches, leg as usize),
+        }
+    }
+
+    /// Whether for some listener it is over the deadline.
     pub(crate) fn is_late(&self, bounds: &PortClassTable<u128>) -> bool
         requires { AreBounded bounds.now self.now }
         ensures { result ≡ is_late bounds.now self.now }
     {
-        u128::from(self.deadline.0) < self.sum(bounds)
+        for leg in 0..self.legs() {
+            if u128::from(self.deadline.0) < self.sum(bounds, leg) {
+                return true;
+            }
+        }
+        false
     }
 
-    /// Whether the port before this hop is the given one.
+    /// Whether the port before this hop, in the order of the stream's ports, is the given one.
     pub(crate) fn comes_from(&self, port: u32, hop: usize) -> bool
         requires { hop < length self.now.places }
         ensures { result ≡ (not (hop == 0) && slice_index_or self.now.places (hop - 1) 0 / 8 == port) }
@@ -70,7 +142,7 @@ impl Route {
         if hop == 0 {
             return false;
         }
-        let places = &self.places[..self.count as usize];
+        let places = self.places();
         u32::from(places[hop - 1]) / 8 == port
     }
 }
@@ -100,11 +172,103 @@ fn places_along(path: &[u32], classes: &[u8]) -> [u16; 16]
     places
 }
 
+// The places and the branches of a stream. `AllocError` where memory runs out.
+fn tree_of(alloc: Global, stream: &Stream) -> Result<Tree, AllocError>
+    requires { All (λ p. p < 4096) stream.now.ports }
+    ensures places { IfOk result (λ tree. tree.places.items ≡ places_along stream.now.ports stream.now.classes) }
+    ensures branches { IfOk result (λ tree. tree.branches.items ≡ stream.now.branches) }
+{
+    let places = listed_places(alloc, stream.ports(), stream.classes())?;
+    let branches = listed_branches(alloc, stream)?;
+    Ok(Tree { places, branches })
+}
+
+// The places of ports, with the class at each.
+fn listed_places(alloc: Global, ports: &[u32], classes: &[u8]) -> Result<Vec<u16>, AllocError>
+    requires count { length classes.now ≡ length ports.now }
+    requires ports { All (λ p. p < 4096) ports.now }
+    requires classes { All IsClass classes.now }
+    ensures { IfOk result (λ places. places.items ≡ places_along ports.now classes.now) }
+{
+    let mut places = Vec::with_capacity(alloc, ports.len())?;
+    for (hop, port) in ports.iter().enumerate() {
+        places.push(8 * *port as u16 + u16::from(classes[hop]))?;
+    }
+    Ok(places)
+}
+
+// The branches of a stream.
+fn listed_branches(alloc: Global, stream: &Stream) -> Result<Vec<Branch>, AllocError>
+    ensures { IfOk result (λ branches. branches.items ≡ stream.now.branches) }
+{
+    let mut branches = Vec::with_capacity(alloc, stream.legs() as usize)?;
+    for leg in 1..stream.legs() {
+        branches.push(stream.branch(leg))?;
+    }
+    Ok(branches)
+}
+
+// The sum of the bounds along the route to the listener of a leg, from that leg back to the talker.
+fn sum_to(bounds: &PortClassTable<u128>, places: &[u16], branches: &[Branch], leg: usize) -> u128
+    requires branches { AreBranches places.now branches.now }
+    requires paths { All IsPath (routes_of places.now branches.now) }
+    requires leg { leg ≤ length branches.now }
+    requires bounded { All (IsBounded bounds.now) places.now }
+    ensures { result ≡ sum_by (bound_of bounds.now) (leg_at (routes_of places.now branches.now) leg) }
+{
+    let mut sum = sum_at(bounds, leg_of(places, branches, leg));
+    let mut at = leg;
+    while at > 0 {
+        let branch = branches[at - 1];
+        at = branch.leg as usize;
+        let before = leg_of(places, branches, at);
+        sum += sum_at(bounds, &before[..branch.hop as usize]);
+    }
+    sum
+}
+
+// The places of a leg.
+fn leg_of<'a>(places: &'a [u16], branches: &[Branch], leg: usize) -> &'a [u16]
+    requires branches { AreBranches places.now branches.now }
+    requires leg { leg ≤ length branches.now }
+    ensures { result.now ≡ leg_at (legs_of places.now branches.now) leg }
+{
+    let (first, end) = span_of(places, branches, leg);
+    &places[first..end]
+}
+
+// Where the first place of a leg stands, and that behind its last one.
+fn span_of(places: &[u16], branches: &[Branch], leg: usize) -> (usize, usize)
+    requires branches { AreBranches places.now branches.now }
+    requires leg { leg ≤ length branches.now }
+    ensures ordered { result.0 ≤ result.1 }
+    ensures within { result.1 ≤ length places.now }
+    ensures leg { slice_range places.now result.0 result.1 ≡ leg_at (legs_of places.now branches.now) leg }
+{
+    let first = first_place(branches, leg);
+    if leg == branches.len() {
+        return (first, places.len());
+    }
+    (first, branches[leg].first as usize)
+}
+
+// Where the first place of a leg stands.
+fn first_place(branches: &[Branch], leg: usize) -> usize
+    requires { leg ≤ length branches.now }
+    ensures { result ≡ first_from 0 branches.now leg }
+{
+    if leg == 0 {
+        return 0;
+    }
+    branches[leg - 1].first as usize
+}
+
 // The sum of the bounds at these places, of which there are at most 16.
 fn sum_at(bounds: &PortClassTable<u128>, places: &[u16]) -> u128
     requires few { length places.now ≤ 16 }
     requires bounded { All (IsBounded bounds.now) places.now }
-    ensures { result ≡ sum_by (bound_of bounds.now) places.now }
+    ensures value { result ≡ sum_by (bound_of bounds.now) places.now }
+    ensures most { result ≤ length places.now * 10 ^ 36 }
 {
     let mut sum = 0;
     for place in places {

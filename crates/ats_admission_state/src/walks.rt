@@ -12,6 +12,7 @@ ghost use Rattle.ats_admission_shares.specs.PortShares.{stream_at, without_at};
 ghost use Rattle.ats_admission_state.specs.Judged.{judged};
 ghost use Rattle.ats_admission_state.specs.Judging.{KeepsOthers, SetsBelow, found_on};
 ghost use Rattle.ats_admission_state.specs.Kept.{AreLeast, AreLeastBeside, KeepsStreams};
+ghost use Rattle.ats_admission_state.specs.Routes.{route_of};
 
 use crate::ports::{judge_port, renew_port};
 use crate::routes::Route;
@@ -49,8 +50,8 @@ pub(crate) fn renew_path(
 }
 
 /// Judges a network by its last stream, without which a certificate holds. The users, the shares and the routes are
-/// those of the network without it. The sum of the stream's least bounds, or the reason against the network exactly
-/// where there is one.
+/// those of the network without it, and its own route is given. The sum of the stream's least bounds, or the reason
+/// against the network exactly where there is one.
 pub(crate) fn judge_stream(
     bounds: &mut PortClassTable<u128>,
     network: &Network,
@@ -58,8 +59,10 @@ pub(crate) fn judge_stream(
     shares: &PortShares,
     routes: &[Route],
     stream: u32,
+    own: &Route,
 ) -> Result<u128, Reason>
     requires last { stream + 1 ≡ length network.now.streams }
+    requires own { own.now ≡ route_of (stream_at network.now stream) }
     requires free { reason_of (without_at network.now stream) ≡ None }
     requires keeps { KeepsStreams (without_at network.now stream) streams.now shares.now routes.now }
     requires beside { AreLeastBeside network.now (stream_at network.now stream).ports bounds.old }
@@ -71,7 +74,7 @@ pub(crate) fn judge_stream(
     if let Some(reason) = judge_path(bounds, network, shares, stream, path) {
         return Err(reason);
     }
-    judge_sums(bounds, network, streams, routes, stream)
+    judge_sums(bounds, network, streams, routes, stream, own)
 }
 
 // Makes the bounds along the ports of the stream with this number anew, unless a class is overloaded there. What is
@@ -85,7 +88,7 @@ fn judge_path(
 ) -> Option<Reason>
     requires number { stream < length network.now.streams }
     requires path { path.now ≡ (stream_at network.now stream).ports }
-    requires few { length path.now ≤ 16 }
+    requires few { length path.now ≤ 65536 }
     requires ports { All (λ p. p < length network.now.topology.ports) path.now }
     requires shares { AreSharesOf (without_at network.now stream) shares.now }
     requires beside { AreLeastBeside network.now path.now bounds.old }

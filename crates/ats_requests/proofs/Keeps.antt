@@ -51,7 +51,7 @@ pub entered : (network : DeclaredNetwork) (stream : DeclaredStream) → IsNetwor
     → MayEnter network.topology stream → entry_fault network stream ≡ None → IsNetwork (with_stream network stream)
 entered network stream is may none =
     let in' : MayComeIn network stream = may_come_in network stream none in
-    pushed_stream network stream is may.rules may.tree may.one_listener in'.absent
+    pushed_stream network stream is may.rules may.tree in'.absent
     (ap (is_identity_taken network.streams) may.unidentified) in'.room
 
 -- a stream that may be asked for may be so with any class

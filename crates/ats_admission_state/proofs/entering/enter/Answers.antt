@@ -1,4 +1,4 @@
-use Rattle.std.proofs.Common.{◌≡◌, ◌≢◌, ◌<◌, ◌∷◌, ◌++◌, [], ℕ, List, length, sym, ap, subst, ◌∙◌, arith}
+use Rattle.std.proofs.Common.{◌≢◌, ◌<◌, ◌∷◌, ◌++◌, [], ℕ, List, length, sym, ap, subst, ◌∙◌, arith}
 use Rattle.std.specs.List.{All, AllPairs}
 use Rattle.std.proofs.lemmas.List.{length-map}
 use Rattle.ats_streams.specs.Stream.{DeclaredStream}
@@ -7,8 +7,8 @@ use Rattle.ats_network.specs.Network.{DeclaredNetwork}
 use Rattle.ats_tally.proofs.Paths.{paths_apart, paths_inside}
 use Rattle.ats_admission_users.specs.Users.{ListsPaths}
 use Rattle.ats_admission_shares.specs.PortShares.{stream_at, stream_paths, without_at}
-use Rattle.ats_admission_state.specs.Routes.{RouteState, route_of, routes_of}
-use Rattle.ats_admission_state.proofs.Last.{few_ports, others-length, path_is, paths_are, routes_more, stream_is}
+use Rattle.ats_admission_state.specs.Routes.{RouteState, routes_of}
+use Rattle.ats_admission_state.proofs.Last.{others-length, path_is, paths_are, routes_more}
 use Rattle.ats_admission_state.proofs.entering.enter.Goals as goal
 
 pub push-requires-clause-ports : goal.push-requires-clause-ports
@@ -44,34 +44,12 @@ push-requires-clause-room c =
       c.streams.ensures.rules.few_streams,
     )
 
-pub of-requires-clause-ports : goal.of-requires-clause-ports
-of-requires-clause-ports c =
-    let network : DeclaredNetwork = c.args.network.now in
-    let n : ℕ = c.args.stream in
-    let within : n < length network.streams = omega (arith, c.requires.last) in
-    let stream = stream_is network c.streams.result.now n c.index-streams-stream.result within
-    c.streams.ensures.value c.index-streams-stream.is in
-    subst (λ (s : DeclaredStream). All (λ p. p < 4096) s.ports) (sym stream)
-    (few_ports network n c.streams.ensures.rules within)
-
-pub of-requires-clause-one_listener : goal.of-requires-clause-one_listener
-of-requires-clause-one_listener c =
-    let network : DeclaredNetwork = c.args.network.now in
-    let n : ℕ = c.args.stream in
-    let within : n < length network.streams = omega (arith, c.requires.last) in
-    let stream = stream_is network c.streams.result.now n c.index-streams-stream.result within
-    c.streams.ensures.value c.index-streams-stream.is in
-    subst (λ (s : DeclaredStream). s.branches ≡ []) (sym stream)
-    (c.streams.ensures.rules.one_listener n no_stream within)
-
 pub returns-clause-ok : goal.returns-clause-ok
 returns-clause-ok c =
     let network : DeclaredNetwork = c.args.network.now in
     let n : ℕ = c.args.stream in
     let ports : ℕ = length network.topology.ports in
     let within : n < length network.streams = omega (arith, c.requires.last) in
-    let stream = stream_is network c.streams.result.now n c.index-streams-stream.result within
-    c.streams.ensures.value c.index-streams-stream.is in
     let own = path_is network c.streams.result.now n c.index-streams-stream.result c.ports.result.now within
     c.streams.ensures.value c.index-streams-stream.is c.ports.ensures.value in
     let before : List RouteState = routes_of (without_at network n) in
@@ -82,8 +60,8 @@ returns-clause-ok c =
           (c.in_ok-push.ensures.ok ports (stream_paths (without_at network n)) c.requires.keeps.users);
       shares_are = c.enter.ensures;
       routes_are = c.push_reserved.ensures.items
-          ∙ ap (λ (routes : List RouteState). routes ++ c.of.result ∷ [])
+          ∙ ap (λ (routes : List RouteState). routes ++ c.args.route ∷ [])
           (c.in_ok-reserve.ensures.items ∙ c.requires.keeps.routes_are)
-          ∙ ap (λ (route : RouteState). before ++ route ∷ []) (c.of.ensures ∙ ap route_of stream)
+          ∙ ap (λ (route : RouteState). before ++ route ∷ []) c.requires.route
           ∙ sym (routes_more network n c.requires.last);
     }

@@ -1,12 +1,14 @@
 use Rattle.std.proofs.Common.{◌<◌, ℕ, length, Result, Ok, Err, arith, sym, subst}
 use Rattle.std.specs.Prelude.{OnErr}
+use Rattle.std.specs.List.{All}
 use Rattle.ats_class_table.specs.Table.{Table}
+use Rattle.ats_streams.specs.Stream.{DeclaredStream}
 use Rattle.ats_network.specs.Network.{DeclaredNetwork}
 use Rattle.ats_admission_shares.specs.PortShares.{stream_at, without_at}
 use Rattle.ats_admission_state.specs.Kept.{AreLeastBeside, IsKeptBeside, KeptState}
 use Rattle.ats_admission_state.specs.Laws.{StayBeside}
 use Rattle.ats_admission_state.proofs.Beside.{bounds_stay_beside}
-use Rattle.ats_admission_state.proofs.Last.{less_by}
+use Rattle.ats_admission_state.proofs.Last.{few_ports, less_by, stream_is}
 use Rattle.ats_admission_state.proofs.kept.Kept.judge.Goals as goal
 
 -- what holds anyway holds of a failure
@@ -20,25 +22,34 @@ stay : (network : DeclaredNetwork) (n : ℕ) (bounds : Table ℕ) → n < length
 stay network n bounds within =
     bounds_stay_beside network (without_at network n) (stream_at network n) bounds (less_by network n within)
 
-pub judge_stream-requires-clause-beside : goal.judge_stream-requires-clause-beside
-judge_stream-requires-clause-beside c =
+pub of-requires : goal.of-requires
+of-requires c =
+    let network : DeclaredNetwork = c.args.network.now in
+    let within : c.args.stream < length network.streams = omega (arith, c.requires.last) in
+    let stream = stream_is network c.streams.result.now c.args.stream c.index-streams-stream.result within
+    c.streams.ensures.value c.index-streams-stream.is in
+    subst (λ (s : DeclaredStream). All (λ p. p < 4096) s.ports) (sym stream)
+    (few_ports network c.args.stream c.streams.ensures.rules within)
+
+pub judge_stream-judged-requires-clause-beside : goal.judge_stream-judged-requires-clause-beside
+judge_stream-judged-requires-clause-beside c =
     let network : DeclaredNetwork = c.args.network.now in
     let n : ℕ = c.args.stream in
     (stay network n c.self.inside.bounds (omega (arith, c.requires.last))).entered
     (subst (λ (kept : KeptState). AreLeastBeside (without_at network n) (stream_at network n).ports kept.bounds)
     (sym c.self.view_is) c.requires.beside.bounds)
 
-pub returns-in_err-sum-clause-err : goal.returns-in_err-sum-clause-err
-returns-in_err-sum-clause-err c =
+pub returns-in-Err-clause-err : goal.returns-in-Err-clause-err
+returns-in-Err-clause-err c =
     let network : DeclaredNetwork = c.args.network.now in
     let n : ℕ = c.args.stream in
     let before : IsKeptBeside (without_at network n) (stream_at network n).ports _ =
     subst (IsKeptBeside (without_at network n) (stream_at network n).ports) (sym c.self.view_is) c.requires.beside in
-    on_err c.from_residual.result _ (record {
+    record {
       keeps = before.keeps;
-      bounds = (stay network n c.judge_stream.new.bounds (omega (arith, c.requires.last))).left
-          c.judge_stream.ensures.beside;
-    })
+      bounds = (stay network n c.judge_stream-judged.new.bounds (omega (arith, c.requires.last))).left
+          c.judge_stream-judged.ensures.beside;
+    }
 
 pub returns-in_err-enter-clause-err : goal.returns-in_err-enter-clause-err
 returns-in_err-enter-clause-err c =
@@ -46,6 +57,6 @@ returns-in_err-enter-clause-err c =
     let n : ℕ = c.args.stream in
     on_err c.from_residual-in_err-enter.result _ (record {
       keeps = c.in_err-enter.ensures.err;
-      bounds = (stay network n c.judge_stream.new.bounds (omega (arith, c.requires.last))).left
-          c.judge_stream.ensures.beside;
+      bounds = (stay network n c.judge_stream-judged.new.bounds (omega (arith, c.requires.last))).left
+          c.judge_stream-judged.ensures.beside;
     })
