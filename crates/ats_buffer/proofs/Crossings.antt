@@ -1,27 +1,31 @@
 use Rattle.std.proofs.Common.{ℕ, ◌+◌, ◌*◌, ◌<◌, ◌≤◌, cond, Bool, true, false, List, [], ◌∷◌, length}
-use Rattle.std.proofs.Common.{length-append, arith}
+use Rattle.std.proofs.Common.{ap, length-append, arith}
 use Rattle.std.specs.Prelude.{Option, Some, None, nat_lt}
 use Rattle.std.specs.List.{All, flat_map}
 use Rattle.std.proofs.lemmas.List.Elements.{All-nil, All-cons, All-head, All-tail, All-append}
 use Rattle.ats_num.specs.declared.time.Ps.{Ps}
 use Rattle.ats_num.specs.Wire.{IsFrameSize}
+use Rattle.ats_streams.specs.Branches.{legs_of}
 use Rattle.ats_network.specs.Sender.{Sender}
 use Rattle.ats_network.specs.Class.{class_at}
-use Rattle.ats_network.specs.Network.{DeclaredNetwork, IsNetwork}
-use Rattle.ats_network.specs.Senders.{sender_at, no_sender, IsSender}
+use Rattle.ats_network.specs.Network.{DeclaredNetwork, HasOneListener, IsNetwork}
+use Rattle.ats_network.specs.Senders.{sender_at, no_sender, HasPath, IsSender}
 use Rattle.ats_network.proofs.ClassLemmas.{class_at-le}
-use Rattle.ats_network.proofs.SenderLemmas.{each_is_sender}
+use Rattle.ats_network.proofs.SenderLemmas.{each_is_sender, sender_path}
 use Rattle.ats_group.specs.declared.verdict.Verdict.{Verdict}
 use Rattle.ats_group.specs.declared.verdict.Verdict.TheVariants.{Eligible, Late, Size}
 use Rattle.ats_port_rule.specs.Transmission.{Transmission}
-use Rattle.ats_trace.specs.Journey.{Travel, IsJourney}
+use Rattle.ats_trace.specs.Journey.{Leg, Travel, IsJourney, legs_in}
+use Rattle.ats_trace.specs.OneListener.{HasOneLeg}
 use Rattle.ats_trace.specs.Projections.{Crossing, transmission_by, transmission_of, crossing_of, crossing_at}
-use Rattle.ats_trace.specs.Projections.{crossings_along, journey_crossings, crossings_from}
+use Rattle.ats_trace.specs.Projections.{crossings_along, crossings_over, journey_crossings, crossings_from}
 use Rattle.ats_trace.specs.Run.{IsLegal}
 use Rattle.ats_trace.specs.declared.journey.Release.{Release}
 use Rattle.ats_trace.specs.declared.journey.HopRecord.{HopRecord}
 use Rattle.ats_trace.specs.declared.journey.Ending.{Ending}
 use Rattle.ats_trace.specs.declared.journey.Ending.TheVariants.{Sink, Discard}
+use Rattle.ats_trace.proofs.Legs.{legs_keep}
+use Rattle.ats_trace.proofs.OneListener.{one_leg}
 use Rattle.ats_buffer.specs.Moments.{moments_of, moments_in, IsInside}
 use Rattle.ats_buffer.specs.declared.moments.Moment.{Moment}
 
@@ -91,6 +95,19 @@ crossed_along ports frame release s size ranked (p ∷ path) (hop ∷ hops) endi
     (ranked p) hop.verdict hop.sent hops ending)
     (crossed_along ports frame release s size ranked path hops ending (All-tail (λ p. p < ports) p path on))
 
+-- so along all legs
+crossed_over : (ports frame : ℕ) (release : Release) (s : Sender) → IsFrameSize release.octets
+    → ((p : ℕ) → class_at s p ≤ 7) → (paths : List (List ℕ)) (legs : List Leg) → All (All (λ p. p < ports)) paths
+    → All (IsCrossed ports) (crossings_over frame release s paths legs)
+crossed_over ports frame release s size ranked [] legs on = All-nil (IsCrossed ports)
+crossed_over ports frame release s size ranked (path ∷ paths) [] on = All-nil (IsCrossed ports)
+crossed_over ports frame release s size ranked (path ∷ paths) (leg ∷ legs) on =
+    All-append (IsCrossed ports) (crossings_along frame release s path leg.hops leg.ending)
+    (crossings_over frame release s paths legs)
+    (crossed_along ports frame release s size ranked path leg.hops leg.ending
+    (All-head (All (λ p. p < ports)) path paths on))
+    (crossed_over ports frame release s size ranked paths legs (All-tail (All (λ p. p < ports)) path paths on))
+
 -- so of a journey, and of a run
 sender_is : (network : DeclaredNetwork) → IsNetwork network → (j : Travel) → IsJourney network j
     → IsSender network.topology (sender_at network j.release.sender)
@@ -101,8 +118,9 @@ journey_crossed : (network : DeclaredNetwork) → IsNetwork network → (frame :
 journey_crossed network net frame j is =
     let s : Sender = sender_at network j.release.sender in
     let keeps : IsSender network.topology s = sender_is network net j is in
-    crossed_along (length network.topology.ports) frame j.release s is.octets (λ p. class_at-le s p keeps.classes)
-    s.ports j.hops j.ending keeps.ports
+    crossed_over (length network.topology.ports) frame j.release s is.octets (λ p. class_at-le s p keeps.classes)
+    (legs_of s.ports s.branches) (legs_in j)
+    (legs_keep (λ p. p < length network.topology.ports) 0 s.ports s.branches keeps.ports)
 
 crossed_from : (network : DeclaredNetwork) → IsNetwork network → (frame : ℕ) (run : List Travel)
     → All (IsJourney network) run → All (IsCrossed (length network.topology.ports)) (crossings_from network frame run)
@@ -113,18 +131,21 @@ crossed_from network net frame (j ∷ run) all =
     (journey_crossed network net frame j (All-head (IsJourney network) j run all))
     (crossed_from network net (frame + 1) run (All-tail (IsJourney network) j run all))
 
-few_from : (network : DeclaredNetwork) → IsNetwork network → (frame : ℕ) (run : List Travel)
+few_from : (network : DeclaredNetwork) → IsNetwork network → HasOneListener network → (frame : ℕ) (run : List Travel)
     → All (IsJourney network) run → length (crossings_from network frame run) ≤ 16 * length run
-few_from network net frame [] all = omega arith
-few_from network net frame (j ∷ run) all =
+few_from network net alone frame [] all = omega arith
+few_from network net alone frame (j ∷ run) all =
     let is : IsJourney network j = All-head (IsJourney network) j run all in
     let s : Sender = sender_at network j.release.sender in
     let here = few_along frame j.release s s.ports j.hops j.ending in
-    let short = (sender_is network net j is).path.most in
-    let rest = few_from network net (frame + 1) run (All-tail (IsJourney network) j run all) in
+    let has : HasPath network.topology s = sender_path network j.release.sender net alone is.sender in
+    let one : HasOneLeg network j = one_leg network j has.one_listener in
+    let short = has.path.most in
+    let rest = few_from network net alone (frame + 1) run (All-tail (IsJourney network) j run all) in
     omega (
       arith,
       here,
+      ap (λ (cs : List Crossing). length cs) (one.crossings frame),
       short,
       rest,
       length-append (journey_crossings network frame j)
@@ -166,7 +187,7 @@ moments_inside network run net legal =
     all_inside (length network.topology.ports) (crossings_from network 0 run)
     (crossed_from network net 0 run legal.journeys)
 
-pub moments_few : (network : DeclaredNetwork) (run : List Travel) → IsNetwork network → IsLegal network run
-    → length (moments_in network run) ≤ 32 * length run
-moments_few network run net legal =
-    omega (arith, few_moments (crossings_from network 0 run), few_from network net 0 run legal.journeys)
+pub moments_few : (network : DeclaredNetwork) (run : List Travel) → IsNetwork network → HasOneListener network
+    → IsLegal network run → length (moments_in network run) ≤ 32 * length run
+moments_few network run net alone legal =
+    omega (arith, few_moments (crossings_from network 0 run), few_from network net alone 0 run legal.journeys)

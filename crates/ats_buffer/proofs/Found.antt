@@ -1,27 +1,31 @@
-use Rattle.std.proofs.Common.{◌≡◌, ℕ, ◌*◌, ◌≤◌, Bool, true, false, cond, List, [], ◌∷◌, length, get_or, take}
+use Rattle.std.proofs.Common.{◌≡◌, ℕ, ◌*◌, ◌<◌, ◌≤◌, Bool, true, false, cond, List, [], ◌∷◌, ◌++◌, length, get_or}
+use Rattle.std.proofs.Common.{sum_by, take}
 use Rattle.std.proofs.Common.{map, filter, Option, Some, None, refl, sym, ap, ◌∙◌, subst, inl, inr, arith}
 use Rattle.std.specs.Prelude.{unwrap_or, ◌==◌}
-use Rattle.std.specs.List.{All}
+use Rattle.std.specs.List.{All, concat}
 use Rattle.std.specs.Option.{option_map}
 use Rattle.std.proofs.Math.Nat.{mul-le-mul_right}
 use Rattle.std.proofs.lemmas.Bool.{cases_Bool, cases_lt, and_parts, eqb-true}
 use Rattle.std.proofs.lemmas.Option.{same_Some}
-use Rattle.std.proofs.lemmas.List.{get_or_past, length-take}
+use Rattle.std.proofs.lemmas.List.{get_or_default, get_or_past, length-take}
 use Rattle.std.proofs.lemmas.List.Elements.{All-head, All-tail, All-map, All-filter, All-take, All-weaker}
 use Rattle.std.proofs.lemmas.List.Elements.{filter_passes}
-use Rattle.std.proofs.lemmas.List.Sums.{get_or-le-sum_by, sum_by-le, length-filter, count_by-le-length}
-use Rattle.ats_num.specs.declared.time.TheConstants.{PS_PER_SECOND}
+use Rattle.std.proofs.lemmas.List.Sums.{get_or-le-sum_by, sum_by-append, sum_by-le, length-filter, count_by-le-length}
+use Rattle.ats_num.specs.declared.time.TheConstants.{PS_PER_NS, PS_PER_SECOND}
 use Rattle.ats_topology.specs.Port.{port_at, no_port, spread_of}
 use Rattle.ats_topology.proofs.Rules.{ports_are_lawful}
+use Rattle.ats_streams.specs.Branches.{AreBranches, leads_of, leg_at, legs_of, routes_of}
 use Rattle.ats_streams.specs.Stream.{DeclaredStream, IsStream}
+use Rattle.ats_streams.proofs.BranchLemmas.{legs-length, route-at, routes-length}
 use Rattle.ats_network.specs.Sender.{Sender, stream_sender}
 use Rattle.ats_network.specs.Class.{PortSender, class_at, seen_at, port_before}
 use Rattle.ats_network.specs.Network.{DeclaredNetwork, IsNetwork}
 use Rattle.ats_certificate.specs.PortSums.{uses, is_of, senders_at, is_used}
-use Rattle.ats_certificate.specs.Certificate.{is_row_of, row_of, bound_at, bound_of_hop, bound_along, RowHolds, Holds}
+use Rattle.ats_certificate.specs.Certificate.{is_row_of, row_of, bound_at, bound_of_hop, IsInTime, RowHolds, Holds}
 use Rattle.ats_certificate.specs.Form.{IsRow, AreRows}
 use Rattle.ats_certificate.specs.declared.row.Row.{Row}
 use Rattle.ats_tally.proofs.Lists.{any_gives}
+use Rattle.ats_trace.proofs.Legs.{Stands, concat-legs_of, place_is, stands}
 use Rattle.ats_buffer.specs.Buffer.{of_row, stay_of, stay_at, way_by, way_over, window_at, has_class}
 use Rattle.ats_buffer.specs.Buffer.{share_at, shares_at}
 
@@ -74,14 +78,33 @@ record IsHeld (network : DeclaredNetwork) (row : Row) : Type 0 where
   used : is_used network row.port row.class ≡ true
   holds : RowHolds network row
 
--- where a stream uses a port, the bound in its class there is one of those along its path
-used_bound : (rows : List Row) (s : DeclaredStream) (port : ℕ) → uses port (stream_sender s) ≡ true
-    → bound_of_hop rows (stream_sender s) port ≤ bound_along rows s
-used_bound rows s port used =
-    any_gives (λ p. p == port) (bound_of_hop rows (stream_sender s) port ≤ bound_along rows s) s.ports
+-- where a stream is in time and uses a port, the bound in its class there, which is one of those along a route, is
+-- within its deadline
+used_bound : (rows : List Row) (s : DeclaredStream) (port : ℕ) → AreBranches s.ports s.branches → IsInTime rows s
+    → uses port (stream_sender s) ≡ true → bound_of_hop rows (stream_sender s) port ≤ PS_PER_NS * s.deadline_ns
+used_bound rows s port are time used =
+    let f : ℕ → ℕ = bound_of_hop rows (stream_sender s) in
+    let legs : List (List ℕ) = legs_of s.ports s.branches in
+    let whole : concat legs ≡ s.ports = concat-legs_of s.ports s.branches are in
+    any_gives (λ p. p == port) (f port ≤ PS_PER_NS * s.deadline_ns) s.ports
     (λ k d h e. (
-    let same = ap (bound_of_hop rows (stream_sender s)) (eqb-true (get_or s.ports k d) port e) in
-    omega (arith, same, get_or-le-sum_by (bound_of_hop rows (stream_sender s)) s.ports k d h))) used
+    let at : Stands legs k = stands legs k (subst (λ (l : List ℕ). k < length l) (sym whole) h) in
+    let own : List ℕ = leg_at legs at.leg in
+    let lead : List ℕ = leg_at (leads_of s.ports s.branches) at.leg in
+    let there : get_or own at.hop 0 ≡ get_or s.ports k d =
+    sym (place_is legs at.leg at.hop at.in_legs at.in_leg) ∙ ap (λ (p : ℕ). get_or (concat legs) p 0) at.there
+    ∙ ap (λ (l : List ℕ). get_or l k 0) whole ∙ get_or_default s.ports k 0 d h in
+    let leg : at.leg ≤ length s.branches = omega (arith, at.in_legs, legs-length 0 s.ports s.branches) in
+    let route : get_or (routes_of s.ports s.branches) at.leg [] ≡ lead ++ own =
+    route-at s.ports s.branches at.leg [] leg in
+    omega (
+      arith,
+      ap f (there ∙ eqb-true (get_or s.ports k d) port e),
+      get_or-le-sum_by f own at.hop 0 at.in_leg,
+      sum_by-append f lead own,
+      ap (λ (l : List ℕ). sum_by f l) route,
+      time at.leg [] (omega (arith, leg, routes-length s.ports s.branches)),
+    ))) used
 
 -- a row of a certificate that holds has a bound of at most the greatest deadline
 pub bound-most : (network : DeclaredNetwork) (rows : List Row) → IsNetwork network → Holds network rows
@@ -95,7 +118,8 @@ bound-most network rows net holds port class used =
     (λ k d h on of. (
     let s : DeclaredStream = get_or network.streams k d in
     let ranked = ap (bound_at rows port) (eqb-true (class_at (stream_sender s) port) class of) in
-    omega (arith, ranked, used_bound rows s port on, holds.deadlines k d h, (net.streams k d h).deadline.most))) in
+    let is : IsStream s = net.streams k d h in
+    omega (arith, ranked, used_bound rows s port is.branches (holds.deadlines k d h) on, is.deadline.most))) in
     any_gives (is_of class) (bound_at rows port class ≤ PS_PER_SECOND) (senders_at port streams)
     (All-map Within (seen_at port) (filter (uses port) streams)
     (λ k d h. All-filter (uses port) BySender streams each k d h (filter_passes (uses port) streams k d h))) used

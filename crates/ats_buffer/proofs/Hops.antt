@@ -1,4 +1,4 @@
-use Rattle.std.proofs.Common.{◌≡◌, ◌≢◌, ℕ, ◌+◌, ◌<◌, ◌≤◌, List, [], length, get_or, take, Some, sym, ap, ◌∙◌, subst}
+use Rattle.std.proofs.Common.{◌≡◌, ◌≢◌, ℕ, ◌+◌, ◌<◌, ◌≤◌, List, length, get_or, take, Some, sym, ap, ◌∙◌, subst}
 use Rattle.std.proofs.Common.{Option, arith}
 use Rattle.std.specs.Prelude.{unwrap_or}
 use Rattle.std.specs.List.{AllPairs}
@@ -8,7 +8,7 @@ use Rattle.ats_class_table.specs.Table.{Sets, Table, value_at}
 use Rattle.ats_streams.specs.Stream.{DeclaredStream}
 use Rattle.ats_network.specs.Sender.{stream_sender}
 use Rattle.ats_network.specs.Class.{class_at}
-use Rattle.ats_network.specs.Network.{DeclaredNetwork, IsNetwork}
+use Rattle.ats_network.specs.Network.{DeclaredNetwork, HasOneListener, IsNetwork}
 use Rattle.ats_network.specs.Edits.{no_stream}
 use Rattle.ats_network.proofs.ClassLemmas.{class_listed, port_before-one}
 use Rattle.ats_certificate.specs.declared.row.Row.{Row}
@@ -36,11 +36,6 @@ pub apart : (network : DeclaredNetwork) (n : ℕ) → IsNetwork network → n < 
     → AllPairs (λ p q. p ≢ q) (stream_at network n).ports
 apart network n net h = paths_apart network net n no_stream h
 
--- and has one listener
-alone : (network : DeclaredNetwork) (n : ℕ) → IsNetwork network → n < length network.streams
-    → (stream_at network n).branches ≡ []
-alone network n net h = net.one_listener n no_stream h
-
 pub hop_is : (network : DeclaredNetwork) (n : ℕ) (ports classes : List ℕ) (hop : ℕ) → IsNetwork network
     → n < length network.streams → ports ≡ (stream_at network n).ports → classes ≡ (stream_at network n).classes
     → hop < length ports → IsHop network n ports classes hop
@@ -63,26 +58,26 @@ hop_is network n ports classes hop net h path_is classes_are within =
     }
 
 -- the way to the first port of a path, and to the next one
-pub way_first : (network : DeclaredNetwork) (rows : List Row) (n : ℕ) → IsNetwork network → n < length network.streams
-    → 0 < length (stream_at network n).ports
+pub way_first : (network : DeclaredNetwork) (rows : List Row) (n : ℕ) → IsNetwork network → HasOneListener network
+    → n < length network.streams → 0 < length (stream_at network n).ports
     → 0 ≡ way_to network rows (stream_sender (stream_at network n)) (get_or (stream_at network n).ports 0 0)
-way_first network rows n net h some =
+way_first network rows n net alone h some =
     let s : DeclaredStream = stream_at network n in
     sym (ap (λ (o : Option ℕ). unwrap_or (option_map (way_over network rows (stream_sender s)) o) 0)
-    (port_before-one (stream_sender s) (get_or s.ports 0 0) (alone network n net h)
+    (port_before-one (stream_sender s) (get_or s.ports 0 0) (alone n no_stream h)
     ∙ before_first s.ports (apart network n net h) some))
 
 pub way_next : (network : DeclaredNetwork) (rows : List Row) (n hop : ℕ) (ports classes : List ℕ) (way : ℕ)
-    → IsNetwork network → n < length network.streams → IsHop network n ports classes hop
+    → IsNetwork network → HasOneListener network → n < length network.streams → IsHop network n ports classes hop
     → way ≡ way_by network rows (get_or ports hop 0) (get_or classes hop 0)
     → hop + 1 < length (stream_at network n).ports
     → way ≡ way_to network rows (stream_sender (stream_at network n)) (get_or (stream_at network n).ports (hop + 1) 0)
-way_next network rows n hop ports classes way net h at is more =
+way_next network rows n hop ports classes way net alone h at is more =
     let s : DeclaredStream = stream_at network n in
     is ∙ ap (λ (p : ℕ). way_by network rows p (get_or classes hop 0)) at.port
     ∙ ap (way_by network rows (get_or s.ports hop 0)) at.class
     ∙ sym (ap (λ (o : Option ℕ). unwrap_or (option_map (way_over network rows (stream_sender s)) o) 0)
-    (port_before-one (stream_sender s) (get_or s.ports (hop + 1) 0) (alone network n net h)
+    (port_before-one (stream_sender s) (get_or s.ports (hop + 1) 0) (alone n no_stream h)
     ∙ before_next s.ports hop (apart network n net h) more))
 
 -- what the code adds at a hop is the stream's share there

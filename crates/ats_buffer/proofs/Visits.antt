@@ -9,13 +9,13 @@ use Rattle.ats_num.specs.declared.time.Ps.{Ps}
 use Rattle.ats_num.specs.Wire.{bits_of}
 use Rattle.ats_network.specs.Sender.{Sender}
 use Rattle.ats_network.specs.Class.{class_at}
-use Rattle.ats_network.specs.Network.{DeclaredNetwork, IsNetwork}
-use Rattle.ats_network.specs.Senders.{sender_at, no_sender, IsSender}
-use Rattle.ats_network.proofs.SenderLemmas.{each_is_sender}
+use Rattle.ats_network.specs.Network.{DeclaredNetwork, HasOneListener, IsNetwork}
+use Rattle.ats_network.specs.Senders.{sender_at}
+use Rattle.ats_network.proofs.SenderLemmas.{sender_path}
 use Rattle.ats_group.specs.declared.verdict.Verdict.{Verdict}
 use Rattle.ats_group.specs.declared.verdict.Verdict.TheVariants.{Eligible, Late, Size}
 use Rattle.ats_trace.specs.Journey.{Travel, IsSentOrEnds, IsWay}
-use Rattle.ats_trace.specs.Projections.{transmission_by, transmission_of, crossing_at, crossings_along}
+use Rattle.ats_trace.specs.Projections.{Crossing, transmission_by, transmission_of, crossing_at, crossings_along}
 use Rattle.ats_trace.specs.Projections.{journey_crossings, crossings_from}
 use Rattle.ats_trace.specs.Run.{IsLegal}
 use Rattle.ats_trace.specs.Stored.{no_travel, travel_at, journey_of}
@@ -24,6 +24,7 @@ use Rattle.ats_trace.specs.declared.journey.Release.{Release}
 use Rattle.ats_trace.specs.declared.journey.HopRecord.{HopRecord}
 use Rattle.ats_trace.specs.declared.journey.Ending.{Ending}
 use Rattle.ats_trace.specs.declared.journey.Ending.TheVariants.{Sink, Discard}
+use Rattle.ats_trace.proofs.OneListener.{one_leg, sender_alone, way_alone}
 use Rattle.ats_buffer.specs.Moments.{sent_moments, moments_at, moments_of, moments_of_frame, moments_in}
 use Rattle.ats_buffer.specs.declared.moments.Moment.{Moment}
 
@@ -148,12 +149,32 @@ release_is run rows frame e h =
     ap (λ (l : List Journey). (get_or l frame no_journey).release) e
     ∙ ap (λ (j : Journey). j.release) (get_or-map journey_of run frame no_travel no_journey h)
 
--- the sender of a frame keeps a sender's rules
-pub frame_sender : (network : DeclaredNetwork) (run : List Travel) (frame : ℕ) → IsNetwork network → IsLegal network run
-    → frame < length run → IsSender network.topology (sender_at network (travel_at run frame).release.sender)
-frame_sender network run frame net legal h =
-    each_is_sender network net (travel_at run frame).release.sender no_sender
-    (legal.journeys frame no_travel h).sender
+-- where each stream has one listener, a frame makes its way along the ports of its sender, and its moments are told
+-- there
+pub way_begins : (network : DeclaredNetwork) (run : List Travel) (frame : ℕ) → IsNetwork network
+    → HasOneListener network → IsLegal network run → frame < length run
+    → IsRest (sender_at network (travel_at run frame).release.sender).ports (travel_at run frame).hops
+    (travel_at run frame).ending
+way_begins network run frame net alone legal h =
+    let j : Travel = travel_at run frame in
+    inl (way_alone network j (sender_alone network alone j.release.sender) (legal.journeys frame no_travel h))
+
+pub moments_begin : (network : DeclaredNetwork) (frame : ℕ) (j : Travel) (moments : List Moment)
+    → HasOneListener network
+    → moments ++ moments_along frame j.release (sender_at network j.release.sender)
+    (sender_at network j.release.sender).ports j.hops j.ending
+    ≡ moments ++ moments_of_frame network frame j
+moments_begin network frame j moments alone =
+    ap (λ (cs : List Crossing). moments ++ flat_map moments_of cs)
+    (sym ((one_leg network j (sender_alone network alone j.release.sender)).crossings frame))
+
+-- and it has 16 of them at most
+pub few_visits : (network : DeclaredNetwork) (run : List Travel) (frame : ℕ) → IsNetwork network
+    → HasOneListener network → IsLegal network run → frame < length run
+    → length (sender_at network (travel_at run frame).release.sender).ports ≤ 16
+few_visits network run frame net alone legal h =
+    (sender_path network (travel_at run frame).release.sender net alone
+    (legal.journeys frame no_travel h).sender).path.most
 
 -- a frame's next visit, by its records as they are listed
 pub visit_of : (network : DeclaredNetwork) (run : List Travel) (frame k : ℕ) (d : HopRecord) (items : List HopRecord)

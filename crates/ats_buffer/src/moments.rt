@@ -1,6 +1,7 @@
 //! The moments of a run at which what ports hold changes.
 
 ghost use Rattle.std.specs.Prelude.{◌≡◌, ◌<◌, ◌++◌, length, IfOk, OnOk};
+ghost use Rattle.ats_network.specs.Network.{HasOneListener};
 ghost use Rattle.ats_trace.specs.Run.{IsLegal};
 ghost use Rattle.ats_trace.specs.Stored.{travel_at};
 ghost use Rattle.ats_buffer.specs.Moments.{AreByFrame, AreMomentsOf, AreReordered};
@@ -40,15 +41,16 @@ impl Moment {
     }
 }
 
-/// The moments of a legal run in their order: of each frame at each port to which it comes, when it
-/// comes and when its transmission ends, where there is time between them. It takes the time of
-/// sorting them. `AllocError` where there is no memory for them, and as much again.
+/// The moments of a legal run, where each stream has one listener, in their order: of each frame at
+/// each port to which it comes, when it comes and when its transmission ends, where there is time
+/// between them. It takes the time of sorting them. `AllocError` where there is no memory for them, and as much again.
 pub fn moments_in_order(
     alloc: Global,
     network: &Network,
     run: &Run,
 ) -> Result<Vec<Moment>, AllocError>
-    requires { IsLegal network.now run.now }
+    requires one_listener { HasOneListener network.now }
+    requires legal { IsLegal network.now run.now }
     ensures { IfOk result (λ moments. AreMomentsOf network.now run.now moments.items) }
 {
     in_order(moments_by_frame(alloc, network, run)?)
@@ -64,7 +66,8 @@ fn in_order(mut moments: Vec<Moment>) -> Result<Vec<Moment>, AllocError>
 
 // The moments of a run, frame by frame.
 fn moments_by_frame(alloc: Global, network: &Network, run: &Run) -> Result<Vec<Moment>, AllocError>
-    requires { IsLegal network.now run.now }
+    requires one_listener { HasOneListener network.now }
+    requires legal { IsLegal network.now run.now }
     ensures { IfOk result (λ moments. AreByFrame network.now run.now moments.items) }
 {
     let _topology = network.topology(); // for what a network keeps
@@ -82,6 +85,7 @@ fn push_frame(
     run: &Run,
     frame: u32,
 ) -> Result<(), AllocError>
+    requires one_listener { HasOneListener network.now }
     requires legal { IsLegal network.now run.now }
     requires frame { frame < length run.now }
     ensures { OnOk result (moments.new.items

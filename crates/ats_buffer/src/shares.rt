@@ -1,7 +1,7 @@
 //! What streams may have at each port and class, and the buffers that this makes.
 
 ghost use Rattle.std.specs.Prelude.{◌≡◌, ◌+◌, ◌^◌, ◌<◌, ◌≤◌, length, IfOk};
-ghost use Rattle.ats_network.specs.Network.{IsNetwork};
+ghost use Rattle.ats_network.specs.Network.{HasOneListener, IsNetwork};
 ghost use Rattle.ats_network.specs.Sender.{stream_sender};
 ghost use Rattle.ats_network.specs.Class.{class_at};
 ghost use Rattle.ats_certificate.specs.Certificate.{Holds};
@@ -23,14 +23,16 @@ use std::alloc::{AllocError, Global};
 /// shortest frame by the row, and where a port is before this one on the stream's path also that
 /// port's spread and the wait by the row of the stream's class there.
 ///
-/// It takes time linear in the sum of the paths' lengths and in the numbers of ports and rows.
-/// `AllocError` where there is no memory for the buffers, or for a row and a sum of each port and class.
+/// Condition: each stream has one listener. It takes time linear in the sum of the paths' lengths and
+/// in the numbers of ports and rows. `AllocError` where there is no memory for the buffers, or for a
+/// row and a sum of each port and class.
 pub fn buffers(
     alloc: Global,
     network: &Network,
     certificate: &Certificate,
 ) -> Result<Vec<u128>, AllocError>
-    requires { Holds network.now certificate.now }
+    requires one_listener { HasOneListener network.now }
+    requires holds { Holds network.now certificate.now }
     ensures { IfOk result (λ buffers. buffers.items ≡ buffers_of network.now certificate.now) }
 {
     let rows = RowTable::new(alloc, network.topology(), certificate)?;
@@ -48,6 +50,7 @@ fn sums_of(
     network: &Network,
     rows: &RowTable,
 ) -> Result<PortClassTable<u128>, AllocError>
+    requires one_listener { HasOneListener network.now }
     requires ports { rows.now.ports ≡ length network.now.topology.ports }
     requires holds { Holds network.now rows.now.rows }
     ensures { IfOk result (AreSums network.now rows.now.rows (length network.now.streams)) }
@@ -61,6 +64,7 @@ fn sums_of(
 
 // Adds what a stream may have at each of its ports, in the class that it has there.
 fn add_shares(sums: &mut PortClassTable<u128>, network: &Network, rows: &RowTable, number: usize)
+    requires one_listener { HasOneListener network.now }
     requires number { number < length network.now.streams }
     requires ports { rows.now.ports ≡ length network.now.topology.ports }
     requires holds { Holds network.now rows.now.rows }

@@ -9,10 +9,11 @@ use Rattle.ats_network.specs.Senders.{sender_at, AllNeighbours}
 use Rattle.ats_group.specs.declared.verdict.Verdict.{Verdict}
 use Rattle.ats_group.specs.declared.verdict.Verdict.TheVariants.{Eligible, Late, Size}
 use Rattle.ats_port_rule.specs.Transmission.{Transmission}
-use Rattle.ats_trace.specs.Journey.{Travel, class_at, IsSentOrEnds, IsWay}
+use Rattle.ats_trace.specs.Journey.{Leg, Travel, class_at, IsSentOrEnds, IsWay, legs_at, legs_in}
 use Rattle.ats_trace.specs.Projections.{Hop, Crossing, Handed, transmission_by, transmission_of, hop_at, crossing_at}
-use Rattle.ats_trace.specs.Projections.{handed_at, hops_along, crossings_along, handed_along, journey_hops}
+use Rattle.ats_trace.specs.Projections.{handed_at, hops_along, crossings_along, handed_along, hops_over, journey_hops}
 use Rattle.ats_trace.specs.Projections.{journey_crossings, journey_handed, hops_from, crossings_from, handed_from}
+use Rattle.ats_trace.specs.Projections.{crossings_over}
 use Rattle.ats_trace.specs.declared.journey.Release.{Release}
 use Rattle.ats_trace.specs.declared.journey.HopRecord.{HopRecord}
 use Rattle.ats_trace.specs.declared.journey.Ending.{Ending}
@@ -42,13 +43,29 @@ crossed-le f frame release s (p ∷ path) (hop ∷ hops) ending =
     let sums = sum_by-append f (hop_at p sent) (hops_along frame release s path hops) in
     omega (arith, here, rest, all, sums)
 
+over_crossed-le : (f : Hop → ℕ) (frame : ℕ) (release : Release) (s : Sender) (paths : List (List ℕ)) (legs : List Leg)
+    → sum_by (λ (c : Crossing). f (hop_of c)) (crossings_over frame release s paths legs)
+    ≤ sum_by f (hops_over frame release s paths legs)
+over_crossed-le f frame release s [] legs = omega arith
+over_crossed-le f frame release s (path ∷ paths) [] = omega arith
+over_crossed-le f frame release s (path ∷ paths) (leg ∷ legs) =
+    let g : Crossing → ℕ = λ (c : Crossing). f (hop_of c) in
+    omega (
+      arith,
+      crossed-le f frame release s path leg.hops leg.ending,
+      over_crossed-le f frame release s paths legs,
+      sum_by-append g (crossings_along frame release s path leg.hops leg.ending)
+          (crossings_over frame release s paths legs),
+      sum_by-append f (hops_along frame release s path leg.hops) (hops_over frame release s paths legs),
+    )
+
 pub run_crossed-le : (f : Hop → ℕ) (network : DeclaredNetwork) (n : ℕ) (run : List Travel)
     → sum_by (λ (c : Crossing). f (hop_of c)) (crossings_from network n run) ≤ sum_by f (hops_from network n run)
 run_crossed-le f network n [] = omega arith
 run_crossed-le f network n (j ∷ run) =
     let here : sum_by (λ (c : Crossing). f (hop_of c)) (journey_crossings network n j)
-    ≤ sum_by f (journey_hops network n j) = crossed-le f n j.release (sender_at network j.release.sender)
-    (sender_at network j.release.sender).ports j.hops j.ending in
+    ≤ sum_by f (journey_hops network n j) = over_crossed-le f n j.release (sender_at network j.release.sender)
+    (legs_at network j.release.sender) (legs_in j) in
     let rest = run_crossed-le f network (n + 1) run in
     let all = sum_by-append (λ (c : Crossing). f (hop_of c)) (journey_crossings network n j)
     (crossings_from network (n + 1) run) in

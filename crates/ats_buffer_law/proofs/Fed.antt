@@ -5,8 +5,9 @@ use Rattle.std.proofs.lemmas.List.Elements.{All-nil, All-cons}
 use Rattle.ats_num.specs.declared.time.TheConstants.{PS_PER_SECOND}
 use Rattle.ats_network.specs.Path.{IsValidPath}
 use Rattle.ats_network.specs.Bridges.{MeetAtBridge}
-use Rattle.ats_network.specs.Network.{DeclaredNetwork}
-use Rattle.ats_network.specs.Senders.{sender_at, IsSender, AllNeighbours}
+use Rattle.ats_network.specs.Network.{DeclaredNetwork, HasOneListener}
+use Rattle.ats_network.specs.Senders.{sender_at, HasPath, AllNeighbours}
+use Rattle.ats_network.proofs.SenderLemmas.{sender_path}
 use Rattle.ats_group.specs.Judge.{ats_judge, bucket_rule}
 use Rattle.ats_group_law.proofs.WindowBits.{bits_in}
 use Rattle.ats_port_rule.specs.Transmission.{Transmission}
@@ -21,7 +22,7 @@ use Rattle.ats_soundness_law.proofs.Bits.{sum_by-map, hop_weight, frames_weight}
 use Rattle.ats_soundness_law.proofs.Bridge.{bridge_fed}
 use Rattle.ats_soundness_law.proofs.Known.{Case}
 use Rattle.ats_soundness_law.proofs.Offered.{IsFed}
-use Rattle.ats_soundness_law.proofs.Paths.{sender_is, first_station, later_bridges}
+use Rattle.ats_soundness_law.proofs.Paths.{first_station, later_bridges}
 use Rattle.ats_soundness_law.proofs.Station.{station_fed}
 use Rattle.ats_soundness_law.proofs.Streams.{stream_exists}
 
@@ -36,13 +37,14 @@ by_path network run c (p ∷ path) valid meet keeps =
     (station_fed network run p c (first_station network.topology p path valid) keeps)
     (λ k d h. bridge_fed network run (get_or path k d) c (later_bridges network.topology p path meet k d h))
 
-pub fed_along : (network : DeclaredNetwork) (run : List Travel) → Case ats_judge bucket_rule network run → (i : ℕ)
+pub fed_along : (network : DeclaredNetwork) (run : List Travel) → HasOneListener network
+    → Case ats_judge bucket_rule network run → (i : ℕ)
     → i < length network.streams → KeepsBuckets network (releases_of run) (talker_of network i)
     → All (λ q. IsFed bucket_rule network run q) (sender_at network i).ports
-fed_along network run c i h keeps =
-    let is : IsSender network.topology (sender_at network i) =
-    sender_is network c.net i (stream_exists network i h) in
-    by_path network run c (sender_at network i).ports is.valid is.bridges keeps
+fed_along network run alone c i h keeps =
+    let has : HasPath network.topology (sender_at network i) =
+    sender_path network i c.net alone (stream_exists network i h) in
+    by_path network run c (sender_at network i).ports has.valid has.bridges keeps
 
 -- the bits of a stream that became eligible at a fed port in a window of time are within its rate and burst
 pub fed_window : (network : DeclaredNetwork) (run : List Travel) (port i : ℕ) (from to : ℕ)

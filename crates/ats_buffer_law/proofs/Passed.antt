@@ -8,19 +8,22 @@ use Rattle.ats_topology.specs.Port.{port_at}
 use Rattle.ats_topology.specs.Topology.{IsStationAt}
 use Rattle.ats_network.specs.Sender.{Sender}
 use Rattle.ats_network.specs.Bridges.{IsBridgeAt}
-use Rattle.ats_network.specs.Network.{DeclaredNetwork}
-use Rattle.ats_network.specs.Senders.{sender_at, IsSender, AllNeighbours}
+use Rattle.ats_network.specs.Network.{DeclaredNetwork, HasOneListener}
+use Rattle.ats_network.specs.Senders.{sender_at, HasPath, IsSender, AllNeighbours}
+use Rattle.ats_network.proofs.SenderLemmas.{sender_path}
 use Rattle.ats_network.specs.Path.{IsValidPath}
 use Rattle.ats_group.specs.declared.verdict.Verdict.{Verdict}
 use Rattle.ats_group.specs.declared.verdict.Verdict.TheVariants.{Eligible, Late, Size}
 use Rattle.ats_group.specs.Judge.{ats_judge, bucket_rule}
 use Rattle.ats_group_law.proofs.WindowBits.{bits_in, bits_in-inside}
 use Rattle.ats_trace.specs.Journey.{Travel, IsJourney, IsWay, class_at}
+use Rattle.ats_trace.specs.OneListener.{HasOneLeg}
 use Rattle.ats_trace.specs.Projections.{Crossing, Handed, transmission_of, crossing_at, crossings_along}
 use Rattle.ats_trace.specs.Projections.{handed_along, journey_crossings, journey_handed, crossings_from, handed_from}
 use Rattle.ats_trace.specs.declared.journey.Release.{Release}
 use Rattle.ats_trace.specs.declared.journey.HopRecord.{HopRecord}
 use Rattle.ats_trace.specs.declared.journey.Ending.{Ending}
+use Rattle.ats_trace.proofs.OneListener.{one_leg}
 use Rattle.ats_soundness_law.specs.Sound.{IsEligibleBy}
 use Rattle.ats_soundness_law.proofs.Known.{Case}
 use Rattle.ats_soundness_law.proofs.Paths.{sender_is, not_both, first_station, neighbours_with, port_before}
@@ -88,18 +91,22 @@ soon_behind network i port time stay bridge n r s (p ∷ path) (hop ∷ hops) en
     (crossings_along n r s path hops ending) in
     omega (arith, here, later, all)
 
-journey_soon : (network : DeclaredNetwork) (run : List Travel) (i port time stay : ℕ)
+journey_soon : (network : DeclaredNetwork) (run : List Travel) (i port time stay : ℕ) → HasOneListener network
     → Case ats_judge bucket_rule network run
     → IsBridgeAt network.topology (port_at network.topology.ports port).from → (n : ℕ) (j : Travel)
     → IsJourney network j → sum_by (soon_weight i port time stay) (journey_crossings network n j)
     ≤ sum_by (passed_weight i (group_port network port i) time stay) (journey_handed network n j)
-journey_soon network run i port time stay c bridge n j is =
+journey_soon network run i port time stay alone c bridge n j is =
     let r : Release = j.release in
     let s : Sender = sender_at network r.sender in
     let keeps : IsSender network.topology s = sender_is network c.net r.sender is.sender in
+    let has : HasPath network.topology s = sender_path network r.sender c.net alone is.sender in
+    let one : HasOneLeg network j = one_leg network j has.one_listener in
     let f : Crossing → ℕ = soon_weight i port time stay in
     let g : Handed → ℕ = passed_weight i (group_port network port i) time stay in
-    soon_behind network i port time stay bridge n r s s.ports j.hops j.ending keeps.valid is.way
+    let along : sum_by f (crossings_along n r s s.ports j.hops j.ending)
+    ≤ sum_by g (handed_along n r s s.ports j.hops) =
+    soon_behind network i port time stay bridge n r s s.ports j.hops j.ending has.valid (one.is.0 is).way
     (neighbours_with (λ p. p < length network.topology.ports) (λ p q. q ≡ port → p ≡ port_before port s.ports)
     (IsCrossedOn f g n r s)
     (λ p q within only e since times earlier came arrival next.
@@ -108,17 +115,23 @@ journey_soon network run i port time stay c bridge n j is =
     (λ there own. eq-eqb p (group_port network port i)
     (only (eqb-true q port there)
     ∙ ap (λ (k : ℕ). port_before port (sender_at network k).ports) (eqb-true r.sender i own))))
-    s.ports keeps.ports (port_before-is port s.ports keeps.apart))
+    s.ports keeps.ports (port_before-is port s.ports keeps.apart)) in
+    omega (
+      arith,
+      along,
+      ap (λ (cs : List Crossing). sum_by f cs) (one.crossings n),
+      ap (λ (hs : List Handed). sum_by g hs) (one.handed n),
+    )
 
-pub run_soon : (network : DeclaredNetwork) (run : List Travel) (i port time stay : ℕ)
+pub run_soon : (network : DeclaredNetwork) (run : List Travel) (i port time stay : ℕ) → HasOneListener network
     → Case ats_judge bucket_rule network run
     → IsBridgeAt network.topology (port_at network.topology.ports port).from
     → sum_by (soon_weight i port time stay) (crossings_from network 0 run)
     ≤ sum_by (passed_weight i (group_port network port i) time stay) (handed_from network 0 run)
-run_soon network run i port time stay c bridge =
+run_soon network run i port time stay alone c bridge =
     run_crossings-le (IsJourney network) (soon_weight i port time stay)
     (passed_weight i (group_port network port i) time stay) network 0 run
-    (journey_soon network run i port time stay c bridge) c.legal.journeys
+    (journey_soon network run i port time stay alone c bridge) c.legal.journeys
 
 -- what is counted of a frame that was handed on, with what is known of it, is counted in the window
 pub passed-le : (time stay bound soonest octets arrival bits since : ℕ) (verdict : Verdict) → bits ≡ bits_of octets

@@ -12,9 +12,10 @@ use Rattle.ats_num.specs.declared.time.TheConstants.{PS_PER_SECOND}
 use Rattle.ats_topology.specs.Port.{port_at}
 use Rattle.ats_topology.specs.Topology.{IsStationAt}
 use Rattle.ats_network.specs.Sender.{Sender}
-use Rattle.ats_network.specs.Network.{DeclaredNetwork}
-use Rattle.ats_network.specs.Senders.{sender_at, IsSender}
+use Rattle.ats_network.specs.Network.{DeclaredNetwork, HasOneListener}
+use Rattle.ats_network.specs.Senders.{sender_at, HasPath, IsSender}
 use Rattle.ats_network.proofs.ClassLemmas.{class_along-has, port_before-one}
+use Rattle.ats_network.proofs.SenderLemmas.{sender_path}
 use Rattle.ats_certificate.specs.PortSums.{uses, is_used}
 use Rattle.ats_certificate.specs.Certificate.{bound_at, Holds}
 use Rattle.ats_certificate.specs.declared.row.Row.{Row}
@@ -23,17 +24,17 @@ use Rattle.ats_group_law.specs.Windows.{is_within}
 use Rattle.ats_group_law.proofs.WindowBits.{bits_in, within-is}
 use Rattle.ats_port_law.specs.PortLaw.{frame_of}
 use Rattle.ats_port_law.proofs.Sums.{sum_by-le-all}
-use Rattle.ats_trace.specs.Journey.{Travel, class_at}
+use Rattle.ats_trace.specs.Journey.{Travel, class_at, legs_at, legs_in}
 use Rattle.ats_trace.specs.Projections.{Crossing, Handed, hops_from, crossings_from, handed_from, sent_by}
 use Rattle.ats_soundness_law.proofs.Along.{hop_of}
 use Rattle.ats_soundness_law.proofs.Arrivals.{crossed_there}
 use Rattle.ats_soundness_law.proofs.Bits.{hop_weight}
+use Rattle.ats_soundness_law.proofs.Journeys.{each_handed-le}
 use Rattle.ats_soundness_law.proofs.Known.{Case, told}
 use Rattle.ats_soundness_law.proofs.Lifts.{run_handed-le}
 use Rattle.ats_soundness_law.proofs.Offered.{IsFed}
 use Rattle.ats_soundness_law.proofs.Paths.{sender_is}
 use Rattle.ats_soundness_law.proofs.Streams.{stream_exists, stream_used}
-use Rattle.ats_soundness_law.proofs.Weights.{handed-le}
 use Rattle.ats_buffer.specs.Occupancy.{is_there}
 use Rattle.ats_buffer.specs.Buffer.{stay_at, way_by, way_over, way_to, window_at}
 use Rattle.ats_buffer_law.proofs.Came.{all_own, all_known}
@@ -43,9 +44,11 @@ use Rattle.ats_buffer_law.proofs.Passed.{soon_weight, passed_weight, passed_bits
 use Rattle.ats_buffer_law.proofs.Places.{IsIn, in_path, IsPlaced, first, behind, placed}
 use Rattle.ats_buffer_law.proofs.Stays.{IsBrief, all_brief, IsTimely, all_timely}
 
--- a stream with its class at a port, in a legal run by a certificate that holds, whose path is fed
+-- a stream with its class at a port, in a legal run by a certificate that holds, whose path is fed, where each stream
+-- has one listener
 pub record OfStream (network : DeclaredNetwork) (rows : List Row) (run : List Travel) (i port class : ℕ) : Type 0 where
   pub case : Case ats_judge bucket_rule network run
+  pub alone : HasOneListener network
   pub holds : Holds network rows
   pub exists : i < length network.streams
   pub some : 1 ≤ class
@@ -91,6 +94,9 @@ module _ (network : DeclaredNetwork) (rows : List Row) (run : List Travel) (i po
   keeps : IsSender network.topology (sender_at network i)
   keeps = sender_is network o.case.net i (stream_exists network i o.exists)
 
+  path : HasPath network.topology (sender_at network i)
+  path = sender_path network i o.case.net o.alone (stream_exists network i o.exists)
+
   fed_at : (q : ℕ) → uses q (sender_at network i) ≡ true → IsFed bucket_rule network run q
   fed_at q on =
       let there : IsIn q (sender_at network i).ports = in_path q (sender_at network i).ports on in
@@ -128,7 +134,7 @@ module _ (network : DeclaredNetwork) (rows : List Row) (run : List Travel) (i po
       → sum_by (soon_weight i port time stay) (crossings_from network 0 run)
       ≤ sum_by (hop_weight i port (bits_in (time - stay) time)) (hops_from network 0 run)
   soon_first station time stay =
-      let own_frames = all_own network run o.case in
+      let own_frames = all_own network run o.alone o.case in
       let each = sum_by-le-all (soon_weight i port time stay)
       (λ (c : Crossing). hop_weight i port (bits_in (time - stay) time) (hop_of c)) (crossings_from network 0 run)
       (λ k d h. (
@@ -177,8 +183,8 @@ module _ (network : DeclaredNetwork) (rows : List Row) (run : List Travel) (i po
       passed-le time stay bound soonest h.crossing.octets h.crossing.arrival h.crossing.sent.bits
       h.crossing.sent.eligible h.verdict (is_told k d w).bits t.eligible (omega (arith, t.after, t.window)))))) in
       let sent = run_handed-le weight network 0 run
-      (λ n j. handed-le weight n j.release (sender_at network j.release.sender)
-      (sender_at network j.release.sender).ports j.hops) in
+      (λ n j. each_handed-le weight n j.release (sender_at network j.release.sender)
+      (legs_at network j.release.sender) (legs_in j)) in
       omega (arith, each, sent)
 
   -- so the bits of the stream that are there are within its rate in the window, and its burst
@@ -206,13 +212,13 @@ module _ (network : DeclaredNetwork) (rows : List Row) (run : List Travel) (i po
       ≤ sum_by (passed_weight i q time stay) (handed_from network 0 run) =
       subst (λ (p : ℕ). sum_by (soon_weight i port time stay) (crossings_from network 0 run)
       ≤ sum_by (passed_weight i p time stay) (handed_from network 0 run)) group
-      (run_soon network run i port time stay o.case bridge) in
+      (run_soon network run i port time stay o.alone o.case bridge) in
       let sent = passed_window q on time stay in
       let window = fed_window network run q i (time - (stay + bound)) (time - (bound - way)) (fed_at q on) o.exists
       (omega arith) in
       let way_is : way_to network rows s port ≡ way =
       ap (λ (b : Option ℕ). unwrap_or (option_map (way_over network rows s) b) 0)
-      (port_before-one s port keeps.one_listener ∙ before) in
+      (port_before-one s port path.one_listener ∙ before) in
       in_window (sum_by (held_weight i port time) (crossings_from network 0 run)) _ s.rate
       (time - (bound - way) - (time - (stay + bound))) (window_at network rows port class s) s.burst_bits
       (omega (arith, soon, passed, sent)) window (omega (arith, way_is))
@@ -221,5 +227,5 @@ module _ (network : DeclaredNetwork) (rows : List Row) (run : List Travel) (i po
       ≤ (sender_at network i).rate * window_at network rows port class (sender_at network i)
       + PS_PER_SECOND * (sender_at network i).burst_bits
   within_window time =
-      by_window (placed network.topology port (sender_at network i).ports keeps.valid keeps.bridges keeps.apart
+      by_window (placed network.topology port (sender_at network i).ports path.valid path.bridges keeps.apart
       uses_port) time

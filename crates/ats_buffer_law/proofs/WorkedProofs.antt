@@ -1,5 +1,5 @@
 use Rattle.std.proofs.Common.{◌≡◌, ℕ, zero, suc, ◌<◌, ◌≤◌, List, refl, arith, lit<, lit≤}
-use Rattle.ats_network.specs.Network.{DeclaredNetwork}
+use Rattle.ats_network.specs.Network.{DeclaredNetwork, HasOneListener}
 use Rattle.ats_certificate.specs.declared.row.Row.{Row}
 use Rattle.ats_trace.specs.Journey.{Travel}
 use Rattle.ats_trace.specs.Run.{IsLegal, releases_of}
@@ -13,6 +13,7 @@ use Rattle.ats_examples.specs.SoundRuns.{IsCertified}
 use Rattle.ats_examples.proofs.BucketTest.{keeps_by}
 use Rattle.ats_examples.proofs.LawsMetProofs.{laws_are_met}
 use Rattle.ats_examples.proofs.LegalProofs.{examples_legal}
+use Rattle.ats_examples.proofs.NetworkTest.{one_each_by}
 use Rattle.ats_examples.proofs.SoundRunProofs.{babbler_contained}
 use Rattle.ats_buffer_law.specs.Laws.{TalkersKeepBuckets}
 use Rattle.ats_buffer_law.specs.Worked.{IsHeld, BuffersAreMet, BabblerCounts}
@@ -20,18 +21,23 @@ use Rattle.ats_buffer_law.proofs.Held.{buffers_hold}
 
 -- by the law the bits fit
 held_by_law : (network : DeclaredNetwork) (rows : List Row) (run : List Travel) (port class time bits : ℕ)
-    → IsCertified network rows → IsLegal network run → 1 ≤ class → TalkersKeepBuckets network run port class
-    → occupancy network run port class time ≡ bits → IsHeld network rows run port class time bits
-held_by_law network rows run port class time bits certified legal some keep there = record {
+    → HasOneListener network → IsCertified network rows → IsLegal network run → 1 ≤ class
+    → TalkersKeepBuckets network run port class → occupancy network run port class time ≡ bits
+    → IsHeld network rows run port class time bits
+held_by_law network rows run port class time bits alone certified legal some keep there = record {
   legal = legal;
   keep = keep;
   there = there;
-  fits = (let fits = buffers_hold network rows run port class certified.rules certified.holds legal some keep time in
+  fits = (
+      let fits = buffers_hold network rows run port class certified.rules alone certified.holds legal some keep time in
       omega (arith, fits, there));
 }
 
 the_line : IsCertified line line_rows
 the_line = record { rules = laws_are_met.network; holds = laws_are_met.holds }
+
+one_line : HasOneListener line
+one_line = one_each_by line refl
 
 -- the line has one stream
 line_keeps : (port : ℕ) → TalkersKeepBuckets line one_frame port 6
@@ -54,20 +60,20 @@ pub buffers_are_met : BuffersAreMet
 buffers_are_met = record {
   line_certified = the_line;
   line_buffers = refl;
-  released = held_by_law line line_rows one_frame 0 6 0 12336 the_line examples_legal.one_frame (lit≤ tt)
+  released = held_by_law line line_rows one_frame 0 6 0 12336 one_line the_line examples_legal.one_frame (lit≤ tt)
       (line_keeps 0) refl;
-  last = held_by_law line line_rows one_frame 0 6 12335999 12336 the_line examples_legal.one_frame (lit≤ tt)
-      (line_keeps 0) refl;
+  last = held_by_law line line_rows one_frame 0 6 12335999 12336 one_line the_line examples_legal.one_frame
+      (lit≤ tt) (line_keeps 0) refl;
   ended = refl;
   on_its_way = refl;
-  arrived = held_by_law line line_rows one_frame 2 6 13836000 12336 the_line examples_legal.one_frame (lit≤ tt)
-      (line_keeps 2) refl;
+  arrived = held_by_law line line_rows one_frame 2 6 13836000 12336 one_line the_line examples_legal.one_frame
+      (lit≤ tt) (line_keeps 2) refl;
   held_back = refl;
   still_held = refl;
   fork_certified = babbler_contained.certified;
   fork_buffers = refl;
-  together = held_by_law fork fork_rows first_goes_first 2 6 13836000 24672 babbler_contained.certified
-      examples_legal.first_goes_first.legal (lit≤ tt) both_keep refl;
+  together = held_by_law fork fork_rows first_goes_first 2 6 13836000 24672 (one_each_by fork refl)
+      babbler_contained.certified examples_legal.first_goes_first.legal (lit≤ tt) both_keep refl;
   flows_apart = refl;
   flows_own = refl;
 }
@@ -75,8 +81,8 @@ buffers_are_met = record {
 pub babbler_counts : BabblerCounts
 babbler_counts = record {
   certified = babbler_contained.certified;
-  beside = held_by_law fork fork_rows babbler 0 6 0 12336 babbler_contained.certified babbler_contained.legal (lit≤ tt)
-      beside_keeps refl;
+  beside = held_by_law fork fork_rows babbler 0 6 0 12336 (one_each_by fork refl) babbler_contained.certified
+      babbler_contained.legal (lit≤ tt) beside_keeps refl;
   not_kept = λ keep. babbler_contained.babbles (keep 1 (lit< tt) refl);
   over = lit< tt;
   held = refl;

@@ -16,10 +16,10 @@ use Rattle.ats_network.specs.Class.{class_at}
 use Rattle.ats_network.specs.Edits.{no_stream}
 use Rattle.ats_network.specs.Network.{DeclaredNetwork, IsNetwork}
 use Rattle.ats_network.specs.Senders.{sender_at}
-use Rattle.ats_certificate.specs.Certificate.{Holds, bound_along}
+use Rattle.ats_streams.specs.Stream.{DeclaredStream}
+use Rattle.ats_certificate.specs.Certificate.{Holds, bound_along, bound_on}
 use Rattle.ats_certificate.specs.PortSums.{uses}
 use Rattle.ats_certificate.specs.declared.row.Row.{Row}
-use Rattle.ats_checker.specs.InTime.{ArrivesInTime}
 use Rattle.ats_checker.proofs.InTime.{holding_is_in_time}
 use Rattle.ats_soundness_law.specs.Sound.{ArrivesBy}
 use Rattle.ats_trace.specs.Journey.{Travel}
@@ -36,7 +36,7 @@ use Rattle.ats_witness.specs.Found.{IsFoundAt}
 use Rattle.ats_witness.specs.Played.{IsPlayed}
 use Rattle.ats_witness.proofs.BurstLemmas.{release_in}
 use Rattle.ats_witness.proofs.KeptLemmas.{burst_keeps}
-use Rattle.ats_witness.proofs.StreamLemmas.{stream_covers}
+use Rattle.ats_witness.proofs.StreamLemmas.{first_route, some_route, stream_covers}
 
 -- a stream has a frame in the burst at each of its ports
 own_frame : (network : DeclaredNetwork) (stream hop : ℕ) → IsNetwork network → stream < length network.streams
@@ -98,15 +98,20 @@ own_journey network stream hop run net h within burst =
     (All-filter own (Contains releases) releases (All-contains_itself releases) 0 d some)
     (eqb-true r.sender stream (filter_passes own releases 0 d some))
 
--- each frame of a stream arrives in its time, in a run by releases by which stations keep their buckets
+-- each frame of a stream arrives at its first listener within the sum of the bounds, in a run by releases by which
+-- stations keep their buckets
 in_time : (network : DeclaredNetwork) (rows : List Row) (run : List Travel) (stream : ℕ) (j : Travel)
     → IsNetwork network → Holds network rows → IsLegal network run → stream < length network.streams
     → ((station : ℕ) → KeepsBuckets network (releases_of run) station) → Contains run j
-    → j.release.sender ≡ stream → ArrivesInTime rows (get_or network.streams stream no_stream) j
+    → j.release.sender ≡ stream
+    → ArrivesBy (j.release.at.0 + bound_along rows (get_or network.streams stream no_stream)) j.ending
 in_time network rows run stream j net holds legal h keeps there own =
-    holding_is_in_time network rows net holds run legal j there (get_or network.streams stream no_stream)
+    let s : DeclaredStream = get_or network.streams stream no_stream in
+    let time = holding_is_in_time network rows net holds run legal j there s
     (ap (slice_get network.streams) own ∙ slice_get-get_or network.streams stream no_stream h)
-    (keeps (talker_of network j.release.sender))
+    (keeps (talker_of network j.release.sender)) 0 (some_route s.ports s.branches) in
+    subst (λ (route : List ℕ). ArrivesBy (j.release.at.0 + bound_on rows s route) j.ending)
+    (first_route s.ports s.branches) time.sum
 
 -- so one arrived
 arrived : (run : List Travel) (stream limit : ℕ) (j : Travel) (ending : Ending) → Contains run j
@@ -127,7 +132,7 @@ some_arrived network rows stream hop run net holds legal h within burst none =
     let j : Travel = one.journey in
     let time = in_time network rows run stream j net holds legal h keeps one.there one.sent in
     arrived run stream (j.release.at.0 + bound_along rows (get_or network.streams stream no_stream)) j j.ending
-    one.there one.sent refl time.sum none
+    one.there one.sent refl time none
 
 -- and none is later than the sum of the bounds
 took_most : (release bound took : ℕ) (ending : Ending) (at : Ps) → ending ≡ Sink at
@@ -146,7 +151,7 @@ delay_within network rows stream port delay run net holds legal h burst greatest
     let one : ArrivedAfter run stream delay j = greatest.one in
     let time = in_time network rows run stream j net holds legal h keeps one.there one.sent in
     took_most j.release.at.0 (bound_along rows (get_or network.streams stream no_stream)) delay j.ending one.at
-    one.arrived time.sum one.after
+    one.arrived time one.after
 
 pub found_within : (network : DeclaredNetwork) (rows : List Row) (stream port delay : ℕ) → IsNetwork network
     → Holds network rows → stream < length network.streams → IsFoundAt network stream port delay

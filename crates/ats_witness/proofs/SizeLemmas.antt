@@ -17,10 +17,10 @@ use Rattle.ats_topology.proofs.Rules.{ports_are_lawful}
 use Rattle.ats_network.specs.Sender.{Sender, flow_sender, stream_sender}
 use Rattle.ats_network.specs.Class.{class_at}
 use Rattle.ats_network.specs.Edits.{no_stream}
-use Rattle.ats_network.specs.Network.{DeclaredNetwork, IsNetwork, senders_of}
-use Rattle.ats_network.specs.Senders.{IsSender, sender_at}
+use Rattle.ats_network.specs.Network.{DeclaredNetwork, HasOneListener, IsNetwork, senders_of}
+use Rattle.ats_network.specs.Senders.{HasPath, IsSender, sender_at}
 use Rattle.ats_network.proofs.ClassLemmas.{class_at-stream}
-use Rattle.ats_network.proofs.SenderLemmas.{each_is_sender, flow_class, sender_keeps}
+use Rattle.ats_network.proofs.SenderLemmas.{each_is_sender, each_sender_has_path, flow_class, sender_keeps}
 use Rattle.ats_certificate.specs.PortSums.{uses}
 use Rattle.ats_trace.specs.Releases.{AreReleases, IsRelease}
 use Rattle.ats_trace.specs.declared.journey.Release.{Release}
@@ -113,11 +113,11 @@ over-le network octets p net few within =
     omega (arith, slow, bits, lawful.latency)
 
 travel-le : (network : DeclaredNetwork) (port : ℕ) (s : Sender) → IsNetwork network → IsSender network.topology s
-    → travel_to network port s ≤ 57856000000
-travel-le network port s net keeps =
+    → HasPath network.topology s → travel_to network port s ≤ 57856000000
+travel-le network port s net keeps has =
     let before : List ℕ = before_first (λ (p : ℕ). eqb p port) s.ports in
     let short : length before ≤ 16 =
-    omega (arith, keeps.path.most, length-take (position_or_len (λ (p : ℕ). eqb p port) s.ports) s.ports) in
+    omega (arith, has.path.most, length-take (position_or_len (λ (p : ℕ). eqb p port) s.ports) s.ports) in
     let each : All (λ (p : ℕ). time_over network s.max_octets p ≤ 3616000000) before = λ k d h.
     over-le network s.max_octets (get_or before k d) net keeps.sizes.most
     (All-take (λ (p : ℕ). p < length network.topology.ports)
@@ -146,11 +146,12 @@ greatest-le network port a (s ∷ senders) start all =
     by true with_it without = with_it
     by false with_it without = without
 
-time-le : (network : DeclaredNetwork) (port class : ℕ) (s : Sender) → IsNetwork network
+time-le : (network : DeclaredNetwork) (port class : ℕ) (s : Sender) → IsNetwork network → HasOneListener network
     → time_in_burst network port class s ≤ 57856000001
-time-le network port class s net =
+time-le network port class s net alone =
     let most = greatest-le network port 0 (senders_of network) (omega arith)
-    (λ k d h. travel-le network port (get_or (senders_of network) k d) net (each_is_sender network net k d h)) in
+    (λ k d h. travel-le network port (get_or (senders_of network) k d) net (each_is_sender network net k d h)
+    (each_sender_has_path network net alone k d h)) in
     by (interferes port class s) most
   where
     by : (b : Bool) → greatest_travel network port ≤ 57856000000
@@ -159,15 +160,15 @@ time-le network port class s net =
     by true most = omega (arith, most)
     by false most = omega (arith, most)
 
-each_may_run : (network : DeclaredNetwork) (port class : ℕ) (r : Release) → IsNetwork network
+each_may_run : (network : DeclaredNetwork) (port class : ℕ) (r : Release) → IsNetwork network → HasOneListener network
     → r ≡ release_in network port class r.sender → r.sender < length (senders_of network) → IsRelease network r
-each_may_run network port class r net is own =
+each_may_run network port class r net alone is own =
     let s : Sender = sender_at network r.sender in
     let keeps = sender_keeps network r.sender net own in
     let at = ap (λ (x : Release). x.at.0) is in
     let longest = ap (λ (x : Release). x.octets) is in
     record {
-      time = omega (arith, at, time-le network port class s net);
+      time = omega (arith, at, time-le network port class s net alone);
       sender = own;
       octets = record {
         least = omega (arith, longest, keeps.sizes.least, keeps.sizes.ordered);
@@ -177,13 +178,14 @@ each_may_run network port class r net is own =
 
 -- so it may be run
 pub burst_may_run : (network : DeclaredNetwork) (port class : ℕ) (made releases : List Release) → IsNetwork network
-    → 1 ≤ class → made ≡ by_sender network port class (length (senders_of network)) → AreReordered made releases
+    → HasOneListener network → 1 ≤ class → made ≡ by_sender network port class (length (senders_of network))
+    → AreReordered made releases
     → IsBurst network port class releases → AreReleases network releases
-burst_may_run network port class made releases net some is order burst = record {
+burst_may_run network port class made releases net alone some is order burst = record {
   few = (let same = ap (λ (l : List Release). length l) is in
       omega (arith, few_frames network port class net some, same, length_permutation made releases order.same));
   in_order = burst_times network port class releases burst;
-  each = λ k d h. each_may_run network port class (get_or releases k d) net
+  each = λ k d h. each_may_run network port class (get_or releases k d) net alone
       (own_release network port class releases burst.of_each k d h)
       (own_sender network port class releases burst.of_each k d h);
 }

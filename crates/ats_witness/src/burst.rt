@@ -1,7 +1,7 @@
 //! The burst at a port.
 
 ghost use Rattle.std.specs.Prelude.{◌≡◌, ◌++◌, ◌<◌, ◌≤◌, ℕ, length, replicate, IfOk, OnOk};
-ghost use Rattle.ats_network.specs.Network.{senders_of};
+ghost use Rattle.ats_network.specs.Network.{HasOneListener, senders_of};
 ghost use Rattle.ats_network.specs.Senders.{sender_at};
 ghost use Rattle.ats_trace.specs.Releases.{AreReleases};
 ghost use Rattle.ats_trace.specs.Talker.{KeepsBuckets};
@@ -14,18 +14,20 @@ use ats_num::Ps;
 use ats_trace::Release;
 use std::alloc::{AllocError, Global};
 
-/// The burst at a hop of a stream, counted from 0, as releases that may be run. The senders that have the
-/// port of the hop take part, with longest frames: each stream whose class there is at least this stream's with as many
-/// as its burst holds whole, but at most 40, and each other stream and each flow with one. The first are released so
-/// that they come to the port at one moment if nothing delays them, the others a picosecond earlier. The releases are
-/// in the order of times and then of senders, and by them every station keeps its buckets. It looks at each path twice,
-/// and takes the time of sorting the releases. `AllocError` where there is no memory for them, and as much again.
+/// The burst at a hop of a stream, counted from 0, as releases that may be run, where each stream has one listener. The
+/// senders that have the port of the hop take part, with longest frames: each stream whose class there is at least this
+/// stream's with as many as its burst holds whole, but at most 40, and each other stream and each flow with one. The
+/// first are released so that they come to the port at one moment if nothing delays them, the others a picosecond
+/// earlier. The releases are in the order of times and then of senders, and by them every station keeps its buckets. It
+/// looks at each path twice, and takes the time of sorting the releases. `AllocError` where there is no memory for
+/// them, and as much again.
 pub fn releases(
     alloc: Global,
     network: &Network,
     stream: u32,
     hop: u32,
 ) -> Result<Vec<Release>, AllocError>
+    requires one_listener { HasOneListener network.now }
     requires stream { stream < length network.now.streams }
     requires hop { hop < length (sender_at network.now stream).ports }
     ensures burst { IfOk result (λ releases.
@@ -45,6 +47,7 @@ fn by_sender(
     port: u32,
     class: u8,
 ) -> Result<Vec<Release>, AllocError>
+    requires one_listener { HasOneListener network.now }
     ensures { IfOk result (λ releases.
         releases.items ≡ by_sender network.now port class (length (senders_of network.now))) }
 {
@@ -58,6 +61,7 @@ fn by_sender(
 
 // The greatest travel to a port.
 fn greatest_travel(network: &Network, port: u32) -> u64
+    requires one_listener { HasOneListener network.now }
     ensures value { result ≡ greatest_travel network.now port }
     ensures most { result ≤ 57856000000 }
 {
@@ -70,6 +74,7 @@ fn greatest_travel(network: &Network, port: u32) -> u64
 
 // The greatest travel so far with one sender more.
 fn with_travel(greatest: u64, network: &Network, sender: u32, port: u32) -> u64
+    requires one_listener { HasOneListener network.now }
     requires sender { sender < length (senders_of network.now) }
     requires most { greatest ≤ 57856000000 }
     ensures value { result ≡ with_travel network.now port greatest (sender_at network.now sender) }
@@ -90,6 +95,7 @@ fn push_frames(
     class: u8,
     greatest: u64,
 ) -> Result<(), AllocError>
+    requires one_listener { HasOneListener network.now }
     requires sender { sender < length (senders_of network.now) }
     requires greatest { greatest ≡ greatest_travel network.now port }
     requires most { greatest ≤ 57856000000 }

@@ -2,7 +2,7 @@
 
 ghost use Rattle.std.specs.Prelude.{◌≡◌, ◌<◌, length, All, IfOk};
 ghost use Rattle.std.specs.List.{AllZip};
-ghost use Rattle.ats_network.specs.Network.{IsNetwork};
+ghost use Rattle.ats_network.specs.Network.{HasOneListener, IsNetwork};
 ghost use Rattle.ats_network.specs.Senders.{sender_at};
 ghost use Rattle.ats_certificate.specs.Certificate.{Holds};
 ghost use Rattle.ats_bound.specs.Least.{least_certificate};
@@ -24,12 +24,13 @@ use ats_num::Greatest;
 use ats_trace::{Release, Run};
 use std::alloc::{AllocError, Global};
 
-/// What is found of a stream of a network for which a certificate holds: the burst at each of its ports is run, so
-/// that the stream's frames go last of those that tie and each frame arrives behind each port as late as it may, and
-/// the greatest delay of the stream in each run is kept. None is above the sum of the stream's least bounds. It takes
-/// the time of one run for each port whose burst is another than that of the port before, and the memory of one.
-/// `AllocError` where there is no memory for it.
+/// What is found of a stream of a network whose streams have one listener each, and for which a certificate holds: the
+/// burst at each of its ports is run, so that the stream's frames go last of those that tie and each frame arrives
+/// behind each port as late as it may, and the greatest delay of the stream in each run is kept. None is above the sum
+/// of the stream's least bounds. It takes the time of one run for each port whose burst is another than that of the
+/// port before, and the memory of one. `AllocError` where there is no memory for it.
 pub fn witness(alloc: Global, network: &Network, stream: u32) -> Result<Found, AllocError>
+    requires one_listener { HasOneListener network.now }
     requires stream { stream < length network.now.streams }
     requires holds { Holds network.now (least_certificate network.now) }
     ensures found { IfOk result (AreFound network.now stream) }
@@ -44,6 +45,7 @@ pub fn witness(alloc: Global, network: &Network, stream: u32) -> Result<Found, A
 
 // The delay found at each port of a stream.
 fn delays_of(alloc: Global, network: &Network, stream: u32) -> Result<Vec<u64>, AllocError>
+    requires one_listener { HasOneListener network.now }
     requires stream { stream < length network.now.streams }
     requires holds { Holds network.now (least_certificate network.now) }
     ensures each { IfOk result (λ delays.
@@ -83,6 +85,7 @@ fn play_next(
     hop: u32,
     last: Played,
 ) -> Result<Played, AllocError>
+    requires one_listener { HasOneListener network.now }
     requires stream { stream < length network.now.streams }
     requires hop { hop < length (sender_at network.now stream).ports }
     requires rules { IsNetwork network.now }
@@ -107,6 +110,7 @@ fn play(
     hop: u32,
     burst: Vec<Release>,
 ) -> Result<Played, AllocError>
+    requires one_listener { HasOneListener network.now }
     requires stream { stream < length network.now.streams }
     requires hop { hop < length (sender_at network.now stream).ports }
     requires rules { IsNetwork network.now }
@@ -130,7 +134,8 @@ fn run_of(
     schedule: &[Release],
     stream: u32,
 ) -> Result<Run, AllocError>
-    requires { AreReleases network.now schedule.now }
+    requires one_listener { HasOneListener network.now }
+    requires releases { AreReleases network.now schedule.now }
     ensures by { IfOk result (IsRunBy (last_key stream) greatest_wait network.now) }
     ensures releases { IfOk result (HasReleases schedule.now) }
 {

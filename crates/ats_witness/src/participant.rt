@@ -5,7 +5,7 @@ ghost use Rattle.std.specs.Prelude.{nat_le, position, sum_by, MatchOption, IfSom
 ghost use Rattle.ats_num.specs.Wire.{IsFrameSize, bits_of};
 ghost use Rattle.ats_topology.specs.Port.{port_at};
 ghost use Rattle.ats_topology.specs.Walks.{ArePorts};
-ghost use Rattle.ats_network.specs.Network.{senders_of};
+ghost use Rattle.ats_network.specs.Network.{HasOneListener, senders_of};
 ghost use Rattle.ats_network.specs.Senders.{sender_at};
 ghost use Rattle.ats_certificate.specs.PortSums.{uses};
 ghost use Rattle.ats_tally.specs.SenderAtPort.{KeepsLimits};
@@ -60,7 +60,8 @@ impl Participant {
 
 /// A sender as it takes part in the burst at a port; `None` exactly where it does not have the port.
 pub(crate) fn taking_part(network: &Network, sender: u32, port: u32) -> Option<Participant>
-    requires { sender < length (senders_of network.now) }
+    requires one_listener { HasOneListener network.now }
+    requires sender { sender < length (senders_of network.now) }
     ensures { MatchOption result (uses port (sender_at network.now sender) ≡ false)
         (IsParticipant network.now port (sender_at network.now sender)) }
 {

@@ -1,5 +1,5 @@
 -- What is found can happen, and is no more than sound bounds.
-use Rattle.std.proofs.Common.{◌≡◌, ℕ, ◌+◌, ◌≤◌, ◌^◌, Bool, cond, List, Some, refl, ap, subst, ◌∙◌}
+use Rattle.std.proofs.Common.{◌≡◌, ℕ, ◌+◌, ◌≤◌, ◌^◌, Bool, cond, List, [], ◌++◌, Some, refl, ap, subst, ◌∙◌}
 use Rattle.std.proofs.Common.{arith, sum_by}
 use Rattle.std.specs.Prelude.{slice_get}
 use Rattle.std.proofs.lemmas.Bool.{eq-eqb, ne_eqb}
@@ -8,7 +8,9 @@ use Rattle.ats_network.specs.Sender.{Sender}
 use Rattle.ats_network.specs.Class.{class_at}
 use Rattle.ats_network.specs.Network.{DeclaredNetwork}
 use Rattle.ats_network.specs.Senders.{sender_at}
+use Rattle.ats_streams.specs.Branches.{trunk_of}
 use Rattle.ats_streams.specs.Stream.{DeclaredStream}
+use Rattle.ats_streams.proofs.BranchLemmas.{lead_of_trunk, route-at}
 use Rattle.ats_certificate.specs.Certificate.{bound_along}
 use Rattle.ats_certificate.specs.declared.row.Row.{Row}
 use Rattle.ats_checker.proofs.InTime.{sender_of_stream}
@@ -16,11 +18,12 @@ use Rattle.ats_soundness_law.specs.Sound.{ArrivesBy, IsSound, bounds_of}
 use Rattle.ats_soundness_law.proofs.Soundness.{certificate_is_sound}
 use Rattle.ats_trace.specs.Journey.{Travel}
 use Rattle.ats_trace.specs.Talker.{talker_of}
+use Rattle.ats_trace.specs.Ways.{route_to}
 use Rattle.ats_trace.specs.declared.journey.Ending.TheVariants.{Sink}
 use Rattle.ats_witness.proofs.KeptLemmas.{burst_keeps}
 use Rattle.ats_witness_law.specs.Laws.{BurstKeepsBuckets, CanHappen, FoundDelaysHappen, FoundIsWithin, LastGoesLast}
 use Rattle.ats_witness_law.specs.Laws.{NoSoundBoundIsLess}
-use Rattle.ats_witness_law.proofs.LateArrivals.{delays_are_exact}
+use Rattle.ats_witness_law.proofs.LateArrivals.{delays_are_exact, some_listener}
 
 pub last_goes_last : LastGoesLast
 last_goes_last last sender frame next other small =
@@ -45,6 +48,12 @@ found_delays_happen network stream port delay net found =
       took = delays_are_exact network found.run stream delay found.greatest.journey net found.of_burst.by.legal one;
     }
 
+-- the route to the first listener is the trunk
+first_route : (s : Sender) → route_to s 0 ≡ trunk_of s.ports s.branches
+first_route s =
+    route-at s.ports s.branches 0 [] (omega arith)
+    ∙ ap (λ (l : List ℕ). l ++ trunk_of s.ports s.branches) (lead_of_trunk s.ports s.branches)
+
 -- a delay that can happen is no more than sound bounds together
 happens_within : (network : DeclaredNetwork) (rows : List Row) (place delay : ℕ) (stream : DeclaredStream)
     → IsSound network rows → slice_get network.streams place ≡ Some stream → CanHappen network place delay
@@ -53,11 +62,16 @@ happens_within network rows place delay stream sound named can =
     let j : Travel = can.journey in
     let i : ℕ = j.release.sender in
     let own : slice_get network.streams i ≡ Some stream = ap (slice_get network.streams) can.sent ∙ named in
+    let s : Sender = sender_at network i in
     let served = sound.served can.run can.legal j can.there (slice_get_within network.streams i stream own)
-    (can.keeps (talker_of network i)) in
+    (can.keeps (talker_of network i)) 0 (some_listener s) in
+    let along : ArrivesBy (j.release.at.0 + sum_by (bounds_of rows s) (trunk_of s.ports s.branches)) j.ending =
+    subst (λ (route : List ℕ). ArrivesBy (j.release.at.0 + sum_by (bounds_of rows s) route) j.ending)
+    (first_route s) served.arrives in
     let by : ArrivesBy (j.release.at.0 + bound_along rows stream) j.ending =
-    subst (λ (s : Sender). ArrivesBy (j.release.at.0 + sum_by (bounds_of rows s) s.ports) j.ending)
-    (sender_of_stream network i stream own) served.arrives in
+    subst (λ (x : Sender).
+    ArrivesBy (j.release.at.0 + sum_by (bounds_of rows x) (trunk_of x.ports x.branches)) j.ending)
+    (sender_of_stream network i stream own) along in
     let reached : ArrivesBy (j.release.at.0 + bound_along rows stream)
     (Sink (record { 0 = j.release.at.0 + delay })) =
     subst (ArrivesBy (j.release.at.0 + bound_along rows stream)) can.took by in

@@ -18,14 +18,18 @@ use Rattle.ats_group.specs.declared.verdict.Verdict.TheVariants.{Eligible, Late,
 use Rattle.ats_group_law.specs.Regulator.{IsEligibleArrived}
 use Rattle.ats_port_rule.specs.PortRule.{KeepsPortRule}
 use Rattle.ats_port_rule.specs.Transmission.{Transmission}
+use Rattle.ats_streams.specs.Path.{IsPath}
+use Rattle.ats_streams.proofs.BranchLemmas.{routes-length}
 use Rattle.ats_streams.specs.Traffic.{is_declared_size}
-use Rattle.ats_soundness_law.proofs.Along.{all_were_sent, crossing_by, handed_on}
+use Rattle.ats_soundness_law.proofs.Along.{crossing_by, handed_on}
 use Rattle.ats_soundness_law.proofs.Arrivals.{crossed_there}
+use Rattle.ats_soundness_law.proofs.Journeys.{crossings_on_route, each_was_sent, handed_on_route, journey_route}
 use Rattle.ats_soundness_law.proofs.Known.{Case, IsKnown, IsTold, ats_case, known, told}
 use Rattle.ats_soundness_law.proofs.Lifts.{numbered, run_were_sent}
 use Rattle.ats_soundness_law.proofs.Paths.{sender_is}
+use Rattle.ats_soundness_law.proofs.Routes.{OnRoute}
 use Rattle.ats_trace.specs.Eligibility.{IsJudged, IsPassed, declared_by, offer_of, residence_of_groups}
-use Rattle.ats_trace.specs.Journey.{IsJourney, IsReleased, IsSentOrEnds, IsWay, Travel, class_at}
+use Rattle.ats_trace.specs.Journey.{IsJourney, IsReleased, IsSentOrEnds, IsWay, Leg, Travel, class_at, legs_at, legs_in}
 use Rattle.ats_trace.specs.Links.{ArrivesWithin}
 use Rattle.ats_trace.specs.Projections.{Crossing, Handed, crossing_at, crossings_along, crossings_by, crossings_from}
 use Rattle.ats_trace.specs.Projections.{handed_along, handed_at, handed_by, handed_from, sent_by, transmission_by}
@@ -34,6 +38,7 @@ use Rattle.ats_trace.specs.declared.journey.Ending.{Ending}
 use Rattle.ats_trace.specs.declared.journey.Ending.TheVariants.{Sink, Discard}
 use Rattle.ats_trace.specs.declared.journey.HopRecord.{HopRecord}
 use Rattle.ats_trace.specs.declared.journey.Release.{Release}
+use Rattle.ats_trace.specs.Ways.{listener_count, route_to, way_to}
 use Rattle.ats_witness_law.specs.Laws.{DelaysAreExact}
 
 -- a frame arrives behind a port no sooner than it was eligible there
@@ -143,8 +148,8 @@ all_cross network run net legal k d h =
     let crossings : List Crossing = crossings_from network 0 run in
     let one : Crossing = get_or crossings k d in
     let at = run_were_sent (IsKnown network) network 0 run
-    (λ n j. all_were_sent (IsKnown network) n j.release (sender_at network j.release.sender)
-    (sender_at network j.release.sender).ports j.hops j.ending) (known network run c) k d h in
+    (λ n j. each_was_sent (IsKnown network) n j.release (sender_at network j.release.sender)
+    (legs_at network j.release.sender) (legs_in j)) (known network run c) k d h in
     let own = λ (x : Crossing). x.port == one.port in
     let mine : All CrossesAfter (crossings_by network run one.port) = λ i e g.
     one_crosses (port_at network.topology.ports one.port).ps_per_bit
@@ -219,6 +224,10 @@ exactly release took at le after =
     ap (λ (n : ℕ). let t : Ps = record { 0 = n } in t)
     (let e : at.0 ≡ release + took = omega (arith, le, after) in e)
 
+-- each sender has a listener
+pub some_listener : (s : Sender) → 0 < listener_count s
+some_listener s = omega (arith, routes-length s.ports s.branches)
+
 pub delays_are_exact : DelaysAreExact
 delays_are_exact network run sender took j net legal a =
     let c = ats_case network run net legal in
@@ -226,9 +235,15 @@ delays_are_exact network run sender took j net legal a =
     (all_after network run net legal) in
     let is : IsJourney network j = All-contains (IsJourney network) run j legal.journeys a.there in
     let s : Sender = sender_at network j.release.sender in
-    let keeps = sender_is network net j.release.sender is.sender in
+    let some : 0 < listener_count s = some_listener s in
+    let route : List ℕ = route_to s 0 in
+    let way : Leg = way_to s j 0 in
+    let on : OnRoute s j 0 = journey_route network j 0 net is some in
+    let path : IsPath route = (sender_is network net j.release.sender is.sender).routes 0 [] some in
     let late : NotBefore j.release.at.0 j.ending =
-    not_before j.release.at.0 n.number j.release s s.ports j.hops j.ending is.way n.crossings n.handed
-    (comes_first j.release s.ports j.hops j.ending (omega (arith, keeps.path.least)) is.released) in
+    not_before j.release.at.0 n.number j.release s route way.hops way.ending on.way
+    (crossings_on_route CrossesAfter network n.number j 0 on n.crossings)
+    (handed_on_route EligibleAfter network n.number j 0 on n.handed)
+    (comes_first j.release route way.hops way.ending (omega (arith, path.least)) on.released) in
     let reached : j.release.at.0 ≤ a.at.0 = subst (NotBefore j.release.at.0) a.arrived late in
     a.arrived ∙ ap (λ (t : Ps). Sink t) (exactly j.release.at.0 took a.at reached a.after)

@@ -79,7 +79,7 @@ has_place port path used =
     ]
 
 pub travel_goes_over_the_port_before : TravelGoesOverThePortBefore
-travel_goes_over_the_port_before network s port is used =
+travel_goes_over_the_port_before network s port is alone used =
     let at : HasPlace port s.ports = has_place port s.ports used in
     subst (λ (p : ℕ). travel_to network p s
     ≡ option_map_or (λ before. travel_to network before s + time_over network s.max_octets before) (port_before s p) 0)
@@ -87,4 +87,4 @@ travel_goes_over_the_port_before network s port is used =
     (by_place (time_over network s.max_octets) s.ports at.place is.apart at.within
     ∙ sym (ap (λ (o : Option ℕ).
     option_map_or (λ before. travel_to network before s + time_over network s.max_octets before) o 0)
-    (port_before-one s (get_or s.ports at.place 0) is.one_listener)))
+    (port_before-one s (get_or s.ports at.place 0) alone)))

@@ -109,6 +109,7 @@ no_travel = record {
   release = record { at = record { 0 = 0 }; sender = 0; octets = 0 };
   hops = [];
   ending = Discard;
+  copies = [];
 }
 
 -- when a frame arrives

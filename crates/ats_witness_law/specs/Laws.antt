@@ -1,4 +1,4 @@
-use Rattle.std.specs.Prelude.{◌≡◌, ◌≢◌, ℕ, ◌+◌, ◌<◌, ◌≤◌, ◌^◌, IsTrue, List, Contains, Some, slice_get}
+use Rattle.std.specs.Prelude.{◌≡◌, ◌≢◌, ℕ, ◌+◌, ◌<◌, ◌≤◌, ◌^◌, IsTrue, List, [], Contains, Some, slice_get}
 use Rattle.std.specs.Option.{option_map_or}
 use Rattle.ats_streams.specs.Stream.{DeclaredStream}
 use Rattle.ats_network.specs.Sender.{Sender}
@@ -24,10 +24,10 @@ abbrev pub LastGoesLast : Type 0
 LastGoesLast = (last sender frame next : ℕ) → sender ≢ last → frame < 2 ^ 32
     → last_key last sender frame < last_key last last next
 
--- the travel to a port goes over the port before it on the sender's path, where there is one
+-- where a sender has one listener, the travel to a port goes over the port before it on its path, where there is one
 abbrev pub TravelGoesOverThePortBefore : Type 0
 TravelGoesOverThePortBefore = (network : DeclaredNetwork) (s : Sender) (port : ℕ) → IsSender network.topology s
-    → IsTrue (uses port s)
+    → s.branches ≡ [] → IsTrue (uses port s)
     → travel_to network port s
     ≡ option_map_or (λ before. travel_to network before s + time_over network s.max_octets before)
     (port_before s port) 0
@@ -42,11 +42,11 @@ abbrev pub BurstKeepsBuckets : Type 0
 BurstKeepsBuckets = (network : DeclaredNetwork) (port class : ℕ) (releases : List Release) (station : ℕ)
     → IsNetwork network → IsBurst network port class releases → KeepsBuckets network releases station
 
--- a frame reaches its listener so long after its release as it takes
+-- a frame reaches its first listener so long after its release as it takes
 abbrev pub ArrivesExactly : Travel → ℕ → Type 0
 ArrivesExactly journey took = journey.ending ≡ Sink (record { 0 = journey.release.at.0 + took })
 
--- each frame of a legal run that reaches its listener does
+-- each frame of a legal run that reaches its first listener does
 abbrev pub DelaysAreExact : Type 0
 DelaysAreExact = (network : DeclaredNetwork) (run : List Travel) (sender took : ℕ) (journey : Travel)
     → IsNetwork network → IsLegal network run → ArrivedAfter run sender took journey → ArrivesExactly journey took

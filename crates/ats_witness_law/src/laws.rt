@@ -9,8 +9,8 @@ pub fn last_goes_last()
     ensures { LastGoesLast }
 {}
 
-/// A sender's travel to the first port of its path is nothing; to each other port it is the travel to the port before
-/// and the time over that one.
+/// Where a sender has one listener, its travel to the first port of its path is nothing; to each other port it is the
+/// travel to the port before and the time over that one.
 pub fn travel_goes_over_the_port_before()
     ensures { TravelGoesOverThePortBefore }
 {}

@@ -13,13 +13,15 @@ returns c =
     record {
       all = all;
       inside = subst (All (IsInside (length c.args.network.now.topology.ports))) (sym all)
-          (moments_inside c.args.network.now c.args.run.now c.topology-topology.ensures.rules c.requires);
+          (moments_inside c.args.network.now c.args.run.now c.topology-topology.ensures.rules
+          c.requires.legal);
       few = (let many : length c.loop-frame.moments.items ≡ length (moments_in c.args.network.now c.args.run.now) =
           ap (λ (l : List Moment). length l) all in
           omega (
             arith,
             many,
             c.len-frame-end.ensures.bounded,
-            moments_few c.args.network.now c.args.run.now c.topology-topology.ensures.rules c.requires,
+            moments_few c.args.network.now c.args.run.now c.topology-topology.ensures.rules c.requires.one_listener
+                c.requires.legal,
           ));
     }

@@ -5,8 +5,8 @@ use Rattle.ats_network.specs.Senders.{sender_at}
 use Rattle.ats_trace.specs.Journey.{Travel, IsJourney}
 use Rattle.ats_trace.specs.Stored.{no_travel, travel_at}
 use Rattle.ats_trace.specs.declared.journey.Release.{Release}
-use Rattle.ats_buffer.proofs.Visits.{no_journey, no_hop, release_is, frame_sender, visit_of, read_of, told_more}
-use Rattle.ats_buffer.proofs.Visits.{told_all}
+use Rattle.ats_buffer.proofs.Visits.{no_journey, no_hop, release_is, few_visits, visit_of, read_of, told_more}
+use Rattle.ats_buffer.proofs.Visits.{moments_begin, told_all, way_begins}
 use Rattle.ats_buffer.proofs.moments.push_frame.Goals as goal
 
 pub sender_ports-path-requires : goal.sender_ports-path-requires
@@ -23,13 +23,21 @@ wire_bits-bits-requires c =
     c.requires.legal.journeys c.args.frame no_travel c.requires.frame in
     subst (λ (r : Release). IsFrameSize r.octets) (sym is) journey.octets
 
+pub loop-hop-init : goal.loop-hop-init
+loop-hop-init c = record {
+  rest = way_begins c.args.network.now c.args.run.now c.args.frame c.sender_ports-path.ensures.rules
+      c.requires.one_listener c.requires.legal c.requires.frame;
+  told = moments_begin c.args.network.now c.args.frame (travel_at c.args.run.now c.args.frame)
+      c.args.moments.now.items c.requires.one_listener;
+}
+
 pub overflow_cast-hop : goal.overflow_cast-hop
 overflow_cast-hop c =
-    let sender = frame_sender c.args.network.now c.args.run.now c.args.frame c.sender_ports-path.ensures.rules
-    c.requires.legal c.requires.frame in
+    let few = few_visits c.args.network.now c.args.run.now c.args.frame c.sender_ports-path.ensures.rules
+    c.requires.one_listener c.requires.legal c.requires.frame in
     let visit = visit_of c.args.network.now c.args.run.now c.args.frame c.loop-hop.hop no_hop
     c.hops_of-visit-items.result.now c.hops_of-visit-items.ensures c.loop-hop-test.true c.loop-hop.invariant.rest in
-    omega (arith, sender.path.most, visit.within)
+    omega (arith, few, visit.within)
 
 pub sender_class-class-requires : goal.sender_class-class-requires
 sender_class-class-requires c =

@@ -23,7 +23,8 @@ pub loop-hop-init : goal.loop-hop-init
 loop-hop-init c = record {
   added = adding_none c.args.network.now c.args.rows.now.rows c.args.number
       (stream_at c.args.network.now c.args.number) c.args.sums.now c.requires.before;
-  way = way_first c.args.network.now c.args.rows.now.rows c.args.number c.streams.ensures.rules c.requires.number;
+  way = way_first c.args.network.now c.args.rows.now.rows c.args.number c.streams.ensures.rules
+      c.requires.one_listener c.requires.number;
   short = omega arith;
 }
 
@@ -132,7 +133,8 @@ loop-hop-preserved c =
           c.loop-hop.sums c.set.new.self c.get.result c.bits_within.result c.streams.ensures.rules c.requires.number at
           c.loop-hop.invariant.added sum share c.set.ensures;
       way = way_next network rows c.args.number hop c.ports-port-items.result.now c.classes-classes.result.now
-          c.way_over-way.result c.streams.ensures.rules c.requires.number at c.way_over-way.ensures;
+          c.way_over-way.result c.streams.ensures.rules c.requires.one_listener c.requires.number at
+          c.way_over-way.ensures;
       short = omega (
         arith,
         c.way_over-way.ensures,

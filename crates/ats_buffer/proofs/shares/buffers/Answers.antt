@@ -22,7 +22,7 @@ get-requires-clause-port c =
     let same : row_at c.rows-row-items.result.now k ≡ row =
     ap (λ (l : List Row). row_at l k) c.rows-row-items.ensures.value in
     let place = is_place c.args.network.now row.port row.class c.topology.ensures.rules
-    (c.requires.rows_of.used k no_row (omega (arith, long))) in
+    (c.requires.holds.rows_of.used k no_row (omega (arith, long))) in
     omega (arith, ap (λ (r : Row). r.port) same, place.within, c.in_ok-sums.ensures.ports)
 
 -- one buffer more
@@ -44,7 +44,7 @@ loop-row-preserved c =
     let read : row_at c.rows-row-items.result.now k ≡ row =
     ap (λ (l : List Row). row_at l k) c.rows-row-items.ensures.value in
     let place = is_place network row.port row.class c.topology.ensures.rules
-    (c.requires.rows_of.used k no_row within) in
+    (c.requires.holds.rows_of.used k no_row within) in
     let placed : c.in_ok-rows.rows.rows ≡ rows = ap (λ (p : PlacedRows). p.rows) c.in_ok-rows.ensures in
     let all : take (length network.streams) network.streams ≡ network.streams =
     take_all (length network.streams) network.streams (omega arith) in

@@ -59,7 +59,7 @@ returns-clause-releases c =
     c.in_ok-by_sender.ensures in
     IfOk-weaker c.in_order.result _ _
     (λ releases order. burst_may_run network port class c.in_ok-by_sender.field-0.items releases.items
-    c.sender_ports.ensures.rules
+    c.sender_ports.ensures.rules c.requires.one_listener
     (hop_class network c.args.stream c.args.hop c.sender_ports.ensures.rules c.requires.stream c.requires.hop) is order
     (made_is_burst network port class c.in_ok-by_sender.field-0.items releases.items
     (few_senders network c.sender_ports.ensures.rules) is order))

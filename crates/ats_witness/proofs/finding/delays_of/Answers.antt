@@ -6,17 +6,19 @@ use Rattle.ats_network.specs.Senders.{sender_at}
 use Rattle.ats_bound.specs.Least.{least_certificate}
 use Rattle.ats_witness.specs.Burst.{port_of_hop, IsBurstFor}
 use Rattle.ats_witness.specs.Found.{IsFoundAt, IsWithinBound}
-use Rattle.ats_witness.proofs.StreamLemmas.{stream_keeps}
+use Rattle.ats_witness.proofs.StreamLemmas.{stream_path}
 use Rattle.ats_witness.proofs.FoundLemmas.{found_within, played_found}
 use Rattle.ats_witness.proofs.finding.delays_of.Goals as goal
 
 pub releases-requires-clause-hop : goal.releases-requires-clause-hop
 releases-requires-clause-hop c =
-    (stream_keeps c.args.network.now c.args.stream c.sender_ports-hops.ensures.rules c.requires.stream).path.least
+    (stream_path c.args.network.now c.args.stream c.sender_ports-hops.ensures.rules c.requires.one_listener
+    c.requires.stream).path.least
 
 pub play-requires-clause-hop : goal.play-requires-clause-hop
 play-requires-clause-hop c =
-    (stream_keeps c.args.network.now c.args.stream c.sender_ports-hops.ensures.rules c.requires.stream).path.least
+    (stream_path c.args.network.now c.args.stream c.sender_ports-hops.ensures.rules c.requires.one_listener
+    c.requires.stream).path.least
 
 -- the delay at the first port
 pub loop-hop-init : goal.loop-hop-init
@@ -24,7 +26,8 @@ loop-hop-init c =
     let network = c.args.network.now in
     let stream = c.args.stream in
     let path : List ℕ = (sender_at network stream).ports in
-    let least = (stream_keeps network stream c.sender_ports-hops.ensures.rules c.requires.stream).path.least in
+    let least = (stream_path network stream c.sender_ports-hops.ensures.rules c.requires.one_listener
+    c.requires.stream).path.least in
     let port : ℕ = port_of_hop network stream 0 in
     let delay : ℕ = c.in_ok-played.played.delay in
     let found : IsFoundAt network stream port delay =
@@ -47,8 +50,9 @@ loop-hop-init c =
 pub overflow_cast-hop : goal.overflow_cast-hop
 overflow_cast-hop c =
     let network = c.args.network.now in
-    let keeps = stream_keeps network c.args.stream c.sender_ports-hops.ensures.rules c.requires.stream in
-    omega (arith, keeps.path.most, ap (λ (l : List ℕ). length l) c.sender_ports-hops.ensures.value)
+    let has = stream_path network c.args.stream c.sender_ports-hops.ensures.rules c.requires.one_listener
+    c.requires.stream in
+    omega (arith, has.path.most, ap (λ (l : List ℕ). length l) c.sender_ports-hops.ensures.value)
 
 -- the delay at the next port, in the burst there
 pub loop-hop-preserved : goal.loop-hop-preserved

@@ -4,7 +4,7 @@ use Rattle.std.specs.List.{before_first}
 use Rattle.std.proofs.lemmas.List.Elements.{All-take}
 use Rattle.ats_network.specs.Class.{PortSender, seen_at}
 use Rattle.ats_network.specs.Senders.{sender_at}
-use Rattle.ats_network.proofs.SenderLemmas.{sender_keeps}
+use Rattle.ats_network.proofs.SenderLemmas.{sender_keeps, sender_path}
 use Rattle.ats_certificate.specs.PortSums.{uses}
 use Rattle.ats_tally.specs.SenderAtPort.{port_sender}
 use Rattle.ats_witness.specs.Burst.{time_over}
@@ -25,24 +25,26 @@ returns-in_err-hop c =
 
 pub overflow_cast-hop : goal.overflow_cast-hop
 overflow_cast-hop c =
-    let keeps = sender_keeps c.args.network.now c.args.sender c.sender_ports-path.ensures.rules c.requires in
+    let has = sender_path c.args.network.now c.args.sender c.sender_ports-path.ensures.rules c.requires.one_listener
+    c.requires.sender in
     let on = on_path c.args.port c.sender_ports-path.result.now c.in_ok-hop.hop
     (sym c.hop_of.ensures.place ∙ c.in_ok-hop.was) in
-    omega (arith, keeps.path.most, on.within, ap (λ (l : List ℕ). length l) c.sender_ports-path.ensures.value)
+    omega (arith, has.path.most, on.within, ap (λ (l : List ℕ). length l) c.sender_ports-path.ensures.value)
 
 pub time_along-requires-clause-ports : goal.time_along-requires-clause-ports
 time_along-requires-clause-ports c =
-    let keeps = sender_keeps c.args.network.now c.args.sender c.sender_ports-path.ensures.rules c.requires in
+    let keeps = sender_keeps c.args.network.now c.args.sender c.sender_ports-path.ensures.rules c.requires.sender in
     All-take (λ (p : ℕ). p < length c.args.network.now.topology.ports) c.in_ok-hop.hop c.sender_ports-path.result.now
     (subst (λ (path : List ℕ). (k d : ℕ) → k < length path → slice_index_or path k d
     < length c.args.network.now.topology.ports) (sym c.sender_ports-path.ensures.value) keeps.ports)
 
 pub time_along-requires-clause-few : goal.time_along-requires-clause-few
 time_along-requires-clause-few c =
-    let keeps = sender_keeps c.args.network.now c.args.sender c.sender_ports-path.ensures.rules c.requires in
+    let has = sender_path c.args.network.now c.args.sender c.sender_ports-path.ensures.rules c.requires.one_listener
+    c.requires.sender in
     omega (
       arith,
-      keeps.path.most,
+      has.path.most,
       ap (λ (l : List ℕ). length l) c.sender_ports-path.ensures.value,
       length-take c.in_ok-hop.hop c.sender_ports-path.result.now,
     )
