@@ -1,1 +1,3 @@
-mod Ports
+pub mod Ports
+pub mod OnLegs
+pub mod Lines

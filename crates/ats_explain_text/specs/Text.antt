@@ -7,8 +7,9 @@ use Rattle.ats_streams.specs.Stream.{DeclaredStream}
 use Rattle.ats_network.specs.Class.{class_at}
 use Rattle.ats_network.specs.Sender.{stream_sender}
 use Rattle.ats_network.specs.Network.{DeclaredNetwork}
+use Rattle.ats_network.specs.Listeners.{Listener, listeners_of, listener_text}
 use Rattle.ats_explain.specs.Parts.{parts_of_hop}
-use Rattle.ats_explain.specs.Margins.{is_late, margin_of}
+use Rattle.ats_explain.specs.Margins.{is_late, margin_on}
 use Rattle.ats_explain.specs.Loads.{has_stream, port_load}
 use Rattle.ats_explain.specs.Totals.{totals_of}
 use Rattle.ats_explain.specs.declared.parts.Parts.{Parts}
@@ -23,11 +24,16 @@ slack_text margin =
     if is_late margin then (codes " late " ++ decimal (margin.sum - margin.deadline))
     else (codes " slack " ++ decimal (margin.deadline - margin.sum))
 
--- `stream NAME sum SUM deadline DEADLINE` and the slack
-unfoldable pub stream_line : List ℕ → Margin → List ℕ
-stream_line name margin =
-    codes "stream " ++ name ++ codes " sum " ++ decimal margin.sum ++ codes " deadline " ++ decimal margin.deadline
-    ++ slack_text margin ++ codes "\n"
+-- `stream` for the first listener of a stream, `listener` for a further one
+abbrev pub kind_text : Option (List ℕ) → List ℕ
+kind_text None = codes "stream "
+kind_text (Some station) = codes "listener "
+
+-- `stream NAME sum SUM deadline DEADLINE`, or `listener NAME STATION sum SUM deadline DEADLINE`, and the slack
+unfoldable pub stream_line : List ℕ → Option (List ℕ) → Margin → List ℕ
+stream_line name listener margin =
+    kind_text listener ++ listener_text name listener ++ codes " sum " ++ decimal margin.sum
+    ++ codes " deadline " ++ decimal margin.deadline ++ slack_text margin ++ codes "\n"
 
 -- a sender's name; `-` where there is none
 abbrev pub sender_text : Option (List ℕ) → List ℕ
@@ -65,10 +71,16 @@ abbrev pub hop_text : DeclaredNetwork → DeclaredStream → ℕ → List ℕ
 hop_text network stream port =
     hop_line network.topology port (class_at (stream_sender stream) port) (parts_of_hop network stream port)
 
--- the line of a stream, and one for each of its ports
+-- the line of a listener, and one for each port of its leg
+abbrev pub listener_lines : DeclaredNetwork → DeclaredStream → Listener → List ℕ
+listener_lines network stream listener =
+    stream_line stream.name listener.name (margin_on network stream listener.route)
+    ++ flat_map (hop_text network stream) listener.leg
+
+-- the lines of each listener of a stream
 abbrev pub stream_text : DeclaredNetwork → DeclaredStream → List ℕ
 stream_text network stream =
-    stream_line stream.name (margin_of network stream) ++ flat_map (hop_text network stream) stream.ports
+    flat_map (listener_lines network stream) (listeners_of network.topology stream)
 
 -- `port PORT load LOAD`
 unfoldable pub port_line : DeclaredTopology → ℕ → ℕ → List ℕ
@@ -79,10 +91,11 @@ abbrev pub port_text : DeclaredNetwork → ℕ × Port → List ℕ
 port_text network numbered =
     if has_stream network numbered.0 then port_line network.topology numbered.0 (port_load network numbered.0) else []
 
--- ` tightest NAME` and its slack, where there is a stream
+-- ` tightest NAME`, or ` tightest NAME STATION`, and its slack, where there is a stream
 abbrev pub tightest_text : Option Tightest → List ℕ
 tightest_text None = []
-tightest_text (Some tightest) = codes " tightest " ++ tightest.name ++ slack_text tightest.margin
+tightest_text (Some tightest) =
+    codes " tightest " ++ listener_text tightest.name tightest.listener ++ slack_text tightest.margin
 
 -- `total streams N late K over R`
 unfoldable pub counts_text : Totals → List ℕ
@@ -94,7 +107,8 @@ counts_text totals =
 abbrev pub totals_line : Totals → List ℕ
 totals_line totals = counts_text totals ++ tightest_text totals.tightest ++ codes "\n"
 
--- what is printed of a network: each stream in order with its hops, each port that a stream uses by number, and totals
+-- what is printed of a network: each stream in order, listener by listener, with the hops of its legs; each port that a
+-- stream uses by number; and totals
 unfoldable pub explain_text : DeclaredNetwork → List ℕ
 explain_text network =
     flat_map (stream_text network) network.streams

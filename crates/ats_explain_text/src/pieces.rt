@@ -1,8 +1,9 @@
 //! Pieces of lines.
 
 ghost use Rattle.std.specs.Prelude.{◌≡◌, ◌++◌, OnOk};
-ghost use Rattle.ats_explain_text.specs.Text.{bound_text, counts_text, parts_text, sender_text, slack_text, stay_text};
-ghost use Rattle.ats_explain_text.specs.Text.{tightest_text, wait_text};
+ghost use Rattle.ats_network.specs.Listeners.{listener_text};
+ghost use Rattle.ats_explain_text.specs.Text.{bound_text, counts_text, kind_text, parts_text, sender_text, slack_text};
+ghost use Rattle.ats_explain_text.specs.Text.{stay_text, tightest_text, wait_text};
 
 use ats_explain::{Margin, Parts, Stay, Tightest, Totals};
 use ats_num::Name;
@@ -86,7 +87,34 @@ fn write_stay(out: &mut Vec<u8>, stay: &Option<Stay>) -> Result<(), AllocError>
     write_number(out, b" of ", stay.residence)
 }
 
-// The tightest stream, if there is one.
+// What begins the line of a listener.
+pub(crate) fn write_kind(out: &mut Vec<u8>, listener: &Option<Name>) -> Result<(), AllocError>
+    ensures { OnOk result (out.new.items ≡ out.old.items ++ kind_text listener.now) }
+{
+    match listener {
+        Some(_) => out.extend_from_slice(b"listener "),
+        None => out.extend_from_slice(b"stream "),
+    }
+}
+
+// The name of a stream, and behind it that of the station of a further listener.
+pub(crate) fn write_named(
+    out: &mut Vec<u8>,
+    stream: &Name,
+    listener: &Option<Name>,
+) -> Result<(), AllocError>
+    ensures { OnOk result (out.new.items ≡ out.old.items ++ listener_text stream.now listener.now) }
+{
+    out.extend_from_slice(stream.bytes())?;
+    let Some(station) = listener else {
+        return Ok(());
+    };
+    out.extend_from_slice(b" ")?;
+    out.extend_from_slice(station.bytes())?;
+    Ok(())
+}
+
+// The tightest listener, if there is one.
 pub(crate) fn write_tightest(
     out: &mut Vec<u8>,
     tightest: &Option<Tightest>,
@@ -97,7 +125,7 @@ pub(crate) fn write_tightest(
         return Ok(());
     };
     out.extend_from_slice(b" tightest ")?;
-    out.extend_from_slice(tightest.name.bytes())?;
+    write_named(out, &tightest.name, &tightest.listener)?;
     write_slack(out, &tightest.margin)
 }
 

@@ -1,25 +1,32 @@
 //! What is printed of an explanation.
 
-ghost use Rattle.std.specs.Prelude.{◌≡◌, ◌≢◌, ◌++◌, ◌<◌, length, All, AllPairs, IfOk, OnOk};
+ghost use Rattle.std.specs.Prelude.{◌≡◌, ◌≢◌, ◌++◌, ◌<◌, ◌≤◌, length, slice_index_or, All, AllPairs, IfOk, OnOk};
 ghost use Rattle.std.specs.List.{flat_map, enumerate_from};
 ghost use Rattle.ats_topology.specs.Port.{port_at};
-ghost use Rattle.ats_explain.specs.Margins.{margin_of};
-ghost use Rattle.ats_explain.specs.Parts.{HopIsUsed};
+ghost use Rattle.ats_streams.specs.Branches.{first_from, leg_at, legs_of};
 ghost use Rattle.ats_network.specs.Class.{class_at};
+ghost use Rattle.ats_network.specs.Edits.{no_stream};
 ghost use Rattle.ats_network.specs.Sender.{stream_sender};
-ghost use Rattle.ats_explain_text.specs.Text.{explain_text, hop_line, hop_text, port_line, port_text, stream_line};
-ghost use Rattle.ats_explain_text.specs.Text.{stream_text, totals_line};
+ghost use Rattle.ats_tally.specs.Listeners.{listener_at};
+ghost use Rattle.ats_explain.specs.Numbers.{listeners_before};
+ghost use Rattle.ats_explain.specs.Parts.{HopIsUsed};
+ghost use Rattle.ats_explain_text.specs.Text.{explain_text, hop_line, hop_text, listener_lines, port_line, port_text};
+ghost use Rattle.ats_explain_text.specs.Text.{stream_line, stream_text, totals_line};
 
-use crate::pieces::{write_counts, write_number, write_parts, write_slack, write_tightest};
+use crate::pieces::{
+    write_counts, write_kind, write_named, write_number, write_parts, write_slack, write_tightest,
+};
 use ats_explain::{Explanation, Margin, Parts, Totals};
 use ats_num::Name;
 use ats_port_names::write_port;
 use ats_streams::Stream;
+use ats_tally::listener_name;
 use ats_topology::Topology;
 use std::alloc::{AllocError, Global};
 
-/// A line for each stream, and behind it one for each of its ports with the parts of the bound there; a line for
-/// each port that a stream uses; and a line of totals. `AllocError` where there is no memory for the text.
+/// A line for each listener, stream by stream, and behind it one for each port of its leg with the parts of the bound
+/// there; a line for each port that a stream uses; and a line of totals. `AllocError` where there is no memory for the
+/// text.
 #[tactic(auto, unfolding(crate::specs::Text::explain_text))]
 pub fn explained(alloc: Global, explanation: &Explanation) -> Result<Vec<u8>, AllocError>
     ensures { IfOk result (λ text. text.items ≡ explain_text explanation.now) }
@@ -37,36 +44,68 @@ fn write_streams(out: &mut Vec<u8>, explanation: &Explanation) -> Result<(), All
         (out.new.items ≡ out.old.items ++ flat_map (stream_text explanation.now) explanation.now.streams) }
 {
     let streams = explanation.network().streams();
-    let margins = explanation.margins();
-    for i in 0..streams.len() {
-        write_stream(out, explanation, &streams[i], &margins[i])?;
+    let mut before = 0; // so many listeners are those of the streams so far
+    for stream in 0..streams.len() as u32 {
+        write_stream(out, explanation, before, stream)?;
+        before += streams[stream as usize].legs() as usize;
     }
     Ok(())
 }
 
-// The lines of a stream.
+// The lines of each listener of a stream, before which so many are those of other streams.
 fn write_stream(
     out: &mut Vec<u8>,
     explanation: &Explanation,
-    stream: &Stream,
-    margin: &Margin,
+    before: usize,
+    stream: u32,
 ) -> Result<(), AllocError>
-    requires used { All (HopIsUsed explanation.now stream.now) stream.now.ports }
-    requires apart { AllPairs (λ p q. p ≢ q) stream.now.ports }
-    requires margin { margin.now ≡ margin_of explanation.now stream.now }
-    ensures { OnOk result (out.new.items ≡ out.old.items ++ stream_text explanation.now stream.now) }
+    requires before { before ≡ listeners_before explanation.now stream }
+    requires stream { stream < length explanation.now.streams }
+    ensures { OnOk result (out.new.items ≡ out.old.items
+        ++ stream_text explanation.now (slice_index_or explanation.now.streams stream no_stream)) }
 {
-    write_margin(out, &stream.name(), margin)?;
-    write_hops(out, explanation, stream)
+    for leg in 0..explanation.network().streams()[stream as usize].legs() {
+        write_listener(out, explanation, before, stream, leg)?;
+    }
+    Ok(())
 }
 
-// The line of a stream with this name.
-#[tactic(auto, unfolding(crate::specs::Text::stream_line))]
-fn write_margin(out: &mut Vec<u8>, name: &Name, margin: &Margin) -> Result<(), AllocError>
-    ensures { OnOk result (out.new.items ≡ out.old.items ++ stream_line name.now margin.now) }
+// The lines of the listener of a leg.
+fn write_listener(
+    out: &mut Vec<u8>,
+    explanation: &Explanation,
+    before: usize,
+    stream: u32,
+    leg: u32,
+) -> Result<(), AllocError>
+    requires before { before ≡ listeners_before explanation.now stream }
+    requires stream { stream < length explanation.now.streams }
+    requires leg { leg ≤ length (slice_index_or explanation.now.streams stream no_stream).branches }
+    ensures { OnOk result (out.new.items ≡ out.old.items
+        ++ listener_lines explanation.now (slice_index_or explanation.now.streams stream no_stream) (listener_at
+        explanation.now.topology (slice_index_or explanation.now.streams stream no_stream) leg)) }
 {
-    out.extend_from_slice(b"stream ")?;
-    out.extend_from_slice(name.bytes())?;
+    let network = explanation.network();
+    let of = &network.streams()[stream as usize];
+    let listener = listener_name(network, stream, leg);
+    let margin = explanation.margin(before, stream, leg);
+    write_margin(out, &of.name(), &listener, &margin)?;
+    write_hops(out, explanation, of, leg)?;
+    Ok(())
+}
+
+// The line of a listener of the stream with this name.
+#[tactic(auto, unfolding(crate::specs::Text::stream_line))]
+fn write_margin(
+    out: &mut Vec<u8>,
+    name: &Name,
+    listener: &Option<Name>,
+    margin: &Margin,
+) -> Result<(), AllocError>
+    ensures { OnOk result (out.new.items ≡ out.old.items ++ stream_line name.now listener.now margin.now) }
+{
+    write_kind(out, listener)?;
+    write_named(out, name, listener)?;
     write_number(out, b" sum ", margin.sum)?;
     write_number(out, b" deadline ", margin.deadline)?;
     write_slack(out, margin)?;
@@ -74,22 +113,36 @@ fn write_margin(out: &mut Vec<u8>, name: &Name, margin: &Margin) -> Result<(), A
     Ok(())
 }
 
-// A line for each port of a stream.
+// A line for each port of a leg of a stream.
 fn write_hops(
     out: &mut Vec<u8>,
     explanation: &Explanation,
     stream: &Stream,
+    leg: u32,
 ) -> Result<(), AllocError>
     requires used { All (HopIsUsed explanation.now stream.now) stream.now.ports }
     requires apart { AllPairs (λ p q. p ≢ q) stream.now.ports }
-    ensures { OnOk result
-        (out.new.items ≡ out.old.items ++ flat_map (hop_text explanation.now stream.now) stream.now.ports) }
+    requires leg { leg ≤ length stream.now.branches }
+    ensures { OnOk result (out.new.items ≡ out.old.items ++ flat_map (hop_text explanation.now stream.now)
+        (leg_at (legs_of stream.now.ports stream.now.branches) leg)) }
 {
+    let first = first_place(stream, leg);
     let classes = stream.classes();
-    for (hop, port) in stream.ports().iter().enumerate() {
-        write_hop(out, explanation, stream, *port, classes[hop])?;
+    for (hop, port) in stream.leg(leg).iter().enumerate() {
+        write_hop(out, explanation, stream, *port, classes[first + hop])?;
     }
     Ok(())
+}
+
+// The place of the first port of a leg among the ports of its stream.
+fn first_place(stream: &Stream, leg: u32) -> usize
+    requires { leg ≤ length stream.now.branches }
+    ensures { result ≡ first_from 0 stream.now.branches leg }
+{
+    if leg == 0 {
+        return 0;
+    }
+    stream.branch(leg).first as usize
 }
 
 // The line of a port, at which the stream has this class.

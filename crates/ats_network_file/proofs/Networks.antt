@@ -3,7 +3,7 @@ use Rattle.std.proofs.Common.{Result, Ok, Err, refl, sym, subst, arith}
 use Rattle.std.specs.Prelude.{nat_le}
 use Rattle.std.specs.List.{All}
 use Rattle.std.proofs.lemmas.Bool.Decides.{nat_tests}
-use Rattle.std.proofs.lemmas.List.Elements.{All-nil, All-cons, All-head, All-tail}
+use Rattle.std.proofs.lemmas.List.Elements.{All-nil, All-cons, All-head, All-push, All-tail}
 use Rattle.ats_num.specs.Places.{place_of}
 use Rattle.ats_topology.specs.Faults.{topology_fault}
 use Rattle.ats_topology.specs.Topology.{DeclaredTopology, IsTopology, topology_of}
@@ -13,7 +13,8 @@ use Rattle.ats_streams.specs.Stream.{DeclaredStream, IsStream, MayIdentify, stre
 use Rattle.ats_streams.specs.Flow.{DeclaredFlow, IsFlow, flow_fault}
 use Rattle.ats_network.specs.Sender.{Sender}
 use Rattle.ats_network.specs.Path.{IsTree, IsValidPath}
-use Rattle.ats_network.specs.Network.{DeclaredNetwork, IsNetwork, declared_network, senders_of, names_of}
+use Rattle.ats_network.specs.Network.{DeclaredNetwork, HasOneListener, IsNetwork, declared_network, senders_of}
+use Rattle.ats_network.specs.Network.{names_of}
 use Rattle.ats_network.specs.Pushes.{with_stream, with_flow, is_full, is_name_taken, is_identity_taken}
 use Rattle.ats_network.specs.Pushes.{stream_push_fault, flow_push_fault}
 use Rattle.ats_network.specs.declared.network.TheConstants.{MAX_FLOWS}
@@ -38,7 +39,11 @@ use Rattle.ats_network_file.proofs.Documents.{Identified, document_kept}
 use Rattle.ats_network_file.proofs.SenderLemmas.{passed, stream_keeps, flow_keeps}
 use Rattle.ats_network_file.proofs.ValidPaths.{valid_passed}
 
--- What a text declares is a network.
+-- What a text declares is a network, and each of its streams has one listener.
+
+record IsAlone (network : DeclaredNetwork) : Type 0 where
+  is : IsNetwork network
+  alone : HasOneListener network
 
 room : (most n : ℕ) → nat_le most n ≡ false → n < most
 room most n h = grind (arith, nat_tests)
@@ -59,19 +64,23 @@ name_free : (network : DeclaredNetwork) (name : List ℕ) → is_name_taken netw
 name_free network name h = is_some-false (place_of name (names_of (senders_of network))) h
 
 stream_push_kept : (network : DeclaredNetwork) (stream : DeclaredStream) (next : DeclaredNetwork)
-    → IsNetwork network → IsStream stream → stream.branches ≡ [] → IsValidPath network.topology stream.ports
+    → IsAlone network → IsStream stream → stream.branches ≡ [] → IsValidPath network.topology stream.ports
     → Sound (stream_push_fault network stream) (with_stream network stream) next
-    → IsNetwork next
+    → IsAlone next
 stream_push_kept network stream next is keeps alone valid sound =
     let a = passed (is_name_taken network stream.name) _ _ sound.none in
     let b = passed (is_identity_taken network.streams stream.identity) _ _ a.none in
     let c = passed (is_full network.streams stream.ports) _ _ b.none in
-    subst IsNetwork sound.same
-    (pushed_stream network stream is keeps (alone_tree network.topology stream.ports stream.branches alone valid) alone
-    (name_free network stream.name a.test) b.test c.test)
+    let made : IsAlone (with_stream network stream) = record {
+      is = pushed_stream network stream is.is keeps
+          (alone_tree network.topology stream.ports stream.branches alone valid)
+          (name_free network stream.name a.test) b.test c.test;
+      alone = All-push (λ (s : DeclaredStream). s.branches ≡ []) network.streams stream is.alone alone;
+    } in
+    subst IsAlone sound.same made
 
 stream_add_kept : (network : DeclaredNetwork) (n : ℕ) (e : file.DeclaredStream) (next : DeclaredNetwork)
-    → Identified e → IsNetwork network → stream_added network n e ≡ Ok next → IsNetwork next
+    → Identified e → IsAlone network → stream_added network n e ≡ Ok next → IsAlone next
 stream_add_kept network n e next identified is h =
     let routed = both (path_in network.topology Stream n e.route)
     (λ path. stream_made n e (stream_over path e)
@@ -93,18 +102,21 @@ stream_add_kept network n e next identified is h =
     (path_kept network.topology Stream n e.route routed.first routed.is) (added stream sound.same)
 
 flow_push_kept : (network : DeclaredNetwork) (flow : DeclaredFlow) (next : DeclaredNetwork)
-    → IsNetwork network → IsFlow flow → IsValidPath network.topology flow.path
+    → IsAlone network → IsFlow flow → IsValidPath network.topology flow.path
     → Sound (flow_push_fault network flow) (with_flow network flow) next
-    → IsNetwork next
+    → IsAlone next
 flow_push_kept network flow next is keeps valid sound =
     let a = passed (is_name_taken network flow.name) _ _ sound.none in
     let b = passed (nat_le MAX_FLOWS (length network.flows)) _ _ a.none in
-    subst IsNetwork sound.same
-    (pushed_flow network flow is keeps valid (name_free network flow.name a.test)
-    (room MAX_FLOWS (length network.flows) b.test))
+    let made : IsAlone (with_flow network flow) = record {
+      is = pushed_flow network flow is.is keeps valid (name_free network flow.name a.test)
+          (room MAX_FLOWS (length network.flows) b.test);
+      alone = is.alone;
+    } in
+    subst IsAlone sound.same made
 
 flow_add_kept : (network : DeclaredNetwork) (n : ℕ) (e : file.DeclaredFlow) (next : DeclaredNetwork)
-    → IsNetwork network → flow_added network n e ≡ Ok next → IsNetwork next
+    → IsAlone network → flow_added network n e ≡ Ok next → IsAlone next
 flow_add_kept network n e next is h =
     let routed = both (path_in network.topology Flow n e.route)
     (λ path. flow_made n (flow_over path e)
@@ -121,15 +133,15 @@ flow_add_kept network n e next is h =
     flow_push_kept network flow next is (flow_keeps flow sound.none)
     (path_kept network.topology Flow n e.route routed.first routed.is) (added flow sound.same)
 
--- senders that are added one after another keep what a network keeps, where each does
+-- senders that are added one after another keep this, where each does
 all_kept : {E : Type 0} (P : E → Type 0) (added : DeclaredNetwork → ℕ → E → Result DeclaredNetwork NetFault)
-    → ((network : DeclaredNetwork) (n : ℕ) (e : E) (next : DeclaredNetwork) → P e → IsNetwork network
-    → added network n e ≡ Ok next → IsNetwork next)
+    → ((network : DeclaredNetwork) (n : ℕ) (e : E) (next : DeclaredNetwork) → P e → IsAlone network
+    → added network n e ≡ Ok next → IsAlone next)
     → (network : DeclaredNetwork) (n : ℕ) (entries : List E) (next : DeclaredNetwork) → All P entries
-    → IsNetwork network → all_added added network n entries ≡ Ok next → IsNetwork next
+    → IsAlone network → all_added added network n entries ≡ Ok next → IsAlone next
 all_kept P added keeps network n [] next each is h =
     let same : network ≡ next = cc in
-    subst IsNetwork same is
+    subst IsAlone same is
 all_kept P added keeps network n (e ∷ entries) next each is h =
     let one = both (added network n e) (λ mid. all_added added mid (n + 1) entries) next h in
     all_kept P added keeps one.first (n + 1) entries next (All-tail P e entries each)
@@ -147,7 +159,12 @@ bare topology is = record {
   few_streams = omega arith;
   few_flows = omega arith;
   few_ports = omega arith;
-  one_listener = All-nil (λ (s : DeclaredStream). s.branches ≡ []);
+}
+
+bare_alone : (topology : DeclaredTopology) → IsTopology topology → IsAlone (declared_network topology [] [])
+bare_alone topology is = record {
+  is = bare topology is;
+  alone = All-nil (λ (s : DeclaredStream). s.branches ≡ []);
 }
 
 topology_kept : (d : file.DeclaredDocument) (topology : DeclaredTopology) → topology_in d ≡ Ok topology
@@ -163,15 +180,15 @@ any_flows [] = All-nil (λ (e : file.DeclaredFlow). Unit {0})
 any_flows (e ∷ flows) = All-cons (λ (e : file.DeclaredFlow). Unit {0}) e flows tt (any_flows flows)
 
 document_network : (d : file.DeclaredDocument) (network : DeclaredNetwork) → All Identified d.streams
-    → network_in d ≡ Ok network → IsNetwork network
+    → network_in d ≡ Ok network → IsAlone network
 document_network d network identified h =
     let based = both (topology_in d) (λ t. all_added stream_added (declared_network t [] []) 1 d.streams
     >>= λ s. all_added flow_added s 1 d.flows) network h in
     let streamed = both (all_added stream_added (declared_network based.first [] []) 1 d.streams)
     (λ s. all_added flow_added s 1 d.flows) network based.then in
-    let with : IsNetwork streamed.first =
+    let with : IsAlone streamed.first =
     all_kept Identified stream_added stream_add_kept (declared_network based.first [] []) 1 d.streams streamed.first
-    identified (bare based.first (topology_kept d based.first based.is)) streamed.is in
+    identified (bare_alone based.first (topology_kept d based.first based.is)) streamed.is in
     all_kept (λ (e : file.DeclaredFlow). Unit {0}) flow_added
     (λ network n e next any is added. flow_add_kept network n e next is added) streamed.first 1 d.flows network
     (any_flows d.flows) with streamed.then
@@ -180,9 +197,17 @@ tables_ok : (r : Result file.DeclaredDocument DocumentFault) (d : file.DeclaredD
 tables_ok (Ok x) d h = cc
 tables_ok (Err e) d h = cc
 
--- what a text declares is a network
-pub declared_is_network : (text : List ℕ) (network : DeclaredNetwork) → network_of text ≡ Ok network → IsNetwork network
-declared_is_network text network h =
+declared_alone : (text : List ℕ) (network : DeclaredNetwork) → network_of text ≡ Ok network → IsAlone network
+declared_alone text network h =
     let read = both (tables_of (document_of text)) network_in network h in
     document_network read.first network
     (document_kept text read.first (tables_ok (document_of text) read.first read.is)) read.then
+
+-- what a text declares is a network
+pub declared_is_network : (text : List ℕ) (network : DeclaredNetwork) → network_of text ≡ Ok network → IsNetwork network
+declared_is_network text network h = (declared_alone text network h).is
+
+-- what a text declares has one listener for each stream
+pub declared_has_one_listener : (text : List ℕ) (network : DeclaredNetwork) → network_of text ≡ Ok network
+    → HasOneListener network
+declared_has_one_listener text network h = (declared_alone text network h).alone

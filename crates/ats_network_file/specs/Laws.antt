@@ -1,7 +1,7 @@
 use Rattle.std.specs.Prelude.{◌≡◌, ℕ, List, Ok, IsTrue, ◌↔◌}
 use Rattle.ats_topology.specs.Topology.{DeclaredTopology}
 use Rattle.ats_network.specs.Path.{IsValidPath}
-use Rattle.ats_network.specs.Network.{DeclaredNetwork, IsNetwork}
+use Rattle.ats_network.specs.Network.{DeclaredNetwork, HasOneListener, IsNetwork}
 use Rattle.ats_network_file.specs.Reading.{network_of}
 use Rattle.ats_network_file.specs.Routes.{is_valid}
 
@@ -13,3 +13,7 @@ PassesValidPaths = (topology : DeclaredTopology) (path : List ℕ)
 -- what a text declares is a network
 abbrev pub EachIsNetwork : Type 0
 EachIsNetwork = (text : List ℕ) (network : DeclaredNetwork) → network_of text ≡ Ok network → IsNetwork network
+
+-- what a text declares has one listener for each stream
+abbrev pub EachHasOneListener : Type 0
+EachHasOneListener = (text : List ℕ) (network : DeclaredNetwork) → network_of text ≡ Ok network → HasOneListener network

@@ -1,5 +1,7 @@
 //! Networks from the bytes of a file.
 
+ghost use Rattle.std.specs.Prelude.{IfOk};
+ghost use Rattle.ats_network.specs.Network.{HasOneListener};
 ghost use Rattle.ats_num.specs.Failure.{Gives};
 ghost use Rattle.ats_network_file.specs.Reading.{network_in, network_of};
 
@@ -22,7 +24,8 @@ use std::alloc::Global;
 /// them the bridges, and the links. Then the streams in order and the flows in order, of each
 /// `BadPath`, `Sender`, `SenderTwice` and, for a stream, `IdentityTwice`, in this order.
 pub fn read_network(alloc: Global, bytes: &[u8]) -> Result<Network, Failure<NetFault>>
-    ensures { Gives result (network_of bytes.now) }
+    ensures value { Gives result (network_of bytes.now) }
+    ensures one_listener { IfOk result HasOneListener }
 {
     let document = read_document(alloc, bytes).map_err(Failure::within::<NetFault>)?;
     network_in(alloc, &document)

@@ -1,11 +1,14 @@
-use Rattle.std.specs.Prelude.{ℕ, ◌==◌, List, [], ◌∷◌, ◌++◌, length, if◌then◌else◌, codes, decimal}
+use Rattle.std.specs.Prelude.{ℕ, ◌==◌, List, [], ◌∷◌, ◌++◌, length, Some, if◌then◌else◌, codes, decimal}
 use Rattle.std.specs.List.{flat_map, enumerate_from, list_all}
 use Rattle.ats_topology.specs.Port.{spread_of}
 use Rattle.ats_topology.specs.Topology.{DeclaredTopology}
 use Rattle.ats_topology.specs.declared.port.Port.{Port}
 use Rattle.ats_port_names.specs.PortName.{name_of, port_name}
+use Rattle.ats_streams.specs.Branches.{leg_at, legs_of, routes_of}
 use Rattle.ats_streams.specs.Stream.{DeclaredStream}
+use Rattle.ats_streams.specs.declared.branch.Branch.{Branch}
 use Rattle.ats_streams.specs.Flow.{DeclaredFlow}
+use Rattle.ats_network.specs.Listeners.{listener_text, station_of}
 use Rattle.ats_network.specs.Network.{DeclaredNetwork}
 
 -- a sixth word of a port, its earliest latency, where its spread is not 0
@@ -38,9 +41,27 @@ unfoldable pub sender_line : DeclaredTopology → List ℕ → List ℕ → List
 sender_line topology word name classes path =
     word ++ codes " " ++ name ++ codes " " ++ classes_text classes ++ path_text topology path ++ codes "\n"
 
--- `stream NAME CLASS` and its ports, with the classes in the place of CLASS where they differ
+-- a word, a name, the class or the classes of one leg of a stream, and the ports of this leg
+abbrev pub leg_line : DeclaredTopology → List ℕ → List ℕ → DeclaredStream → ℕ → List ℕ
+leg_line topology word name s leg =
+    sender_line topology word name (leg_at (legs_of s.classes s.branches) leg) (leg_at (legs_of s.ports s.branches) leg)
+
+-- `stream NAME CLASS` and the ports of the trunk, with their classes in the place of CLASS where they differ
 abbrev pub stream_line : DeclaredTopology → DeclaredStream → List ℕ
-stream_line topology s = sender_line topology (codes "stream") s.name s.classes s.ports
+stream_line topology s = leg_line topology (codes "stream") s.name s 0
+
+-- `listener NAME STATION CLASS` and the ports of the branch that is the leg with this number, with their classes in the
+-- place of CLASS where they differ
+abbrev pub listener_line : DeclaredTopology → DeclaredStream → ℕ → List ℕ
+listener_line topology s leg =
+    leg_line topology (codes "listener")
+    (listener_text s.name (Some (station_of topology (leg_at (routes_of s.ports s.branches) leg)))) s leg
+
+-- the line of a stream, and behind it one for each branch
+abbrev pub stream_lines : DeclaredTopology → DeclaredStream → List ℕ
+stream_lines topology s =
+    stream_line topology s
+    ++ flat_map (λ (b : ℕ × Branch). listener_line topology s b.0) (enumerate_from 1 s.branches)
 
 -- `flow NAME 0` and its ports
 abbrev pub flow_line : DeclaredTopology → DeclaredFlow → List ℕ
@@ -51,11 +72,11 @@ unfoldable pub totals_line : ℕ → ℕ → ℕ → List ℕ
 totals_line ports streams flows = codes "total ports " ++ decimal ports ++ codes " streams " ++ decimal streams
     ++ codes " flows " ++ decimal flows ++ codes "\n"
 
--- what is printed of a network: its ports by number, its streams and its flows in order with their ports, and how many
--- there are
+-- what is printed of a network: its ports by number, its streams with their branches and its flows in order, each with
+-- its ports, and how many there are
 unfoldable pub show_text : DeclaredNetwork → List ℕ
 show_text network =
     flat_map (port_line network.topology) (enumerate_from 0 network.topology.ports)
-    ++ flat_map (stream_line network.topology) network.streams
+    ++ flat_map (stream_lines network.topology) network.streams
     ++ flat_map (flow_line network.topology) network.flows
     ++ totals_line (length network.topology.ports) (length network.streams) (length network.flows)

@@ -1,15 +1,17 @@
 //! What is printed of a network.
 
-ghost use Rattle.std.specs.Prelude.{◌≡◌, ◌==◌, ◌++◌, ◌<◌, length, codes, All, OnOk, IfOk};
-ghost use Rattle.std.specs.List.{flat_map, enumerate_from, list_all};
+ghost use Rattle.std.specs.Prelude.{◌≡◌, ◌==◌, ◌++◌, ◌<◌, ◌≤◌, ℕ, length, codes, All, OnOk, IfOk};
+ghost use Rattle.std.specs.List.{flat_map, enumerate_from, list_all, slice_range};
 ghost use Rattle.ats_topology.specs.Port.{port_at};
 ghost use Rattle.ats_topology.specs.Walks.{ArePorts};
+ghost use Rattle.ats_streams.specs.Branches.{first_from, leg_at, legs_of};
 ghost use Rattle.ats_streams.specs.Stream.{DeclaredStream};
+ghost use Rattle.ats_streams.specs.declared.branch.Branch.{Branch};
 ghost use Rattle.ats_streams.specs.Flow.{DeclaredFlow};
-ghost use Rattle.ats_network_text.specs.Text.{port_line, path_text, sender_line, stream_line, flow_line, totals_line};
-ghost use Rattle.ats_network_text.specs.Text.{earliest_text, classes_text, behind_commas, show_text};
+ghost use Rattle.ats_network_text.specs.Text.{port_line, path_text, sender_line, stream_lines, flow_line, totals_line};
+ghost use Rattle.ats_network_text.specs.Text.{earliest_text, classes_text, behind_commas, listener_line, show_text};
 
-use ats_network::Network;
+use ats_network::{Network, station_of};
 use ats_port_names::write_port;
 use ats_streams::{Flow, Stream};
 use ats_topology::{Port, Topology};
@@ -17,8 +19,8 @@ use itoa::{Buffer, Integer};
 use std::alloc::{AllocError, Global};
 
 /// A line for each port by number, with its picoseconds per bit and its latency in picoseconds, and
-/// its earliest latency where that is another; a line for each stream and then for each flow, with
-/// its class, or its classes joined by commas where they differ, and its ports; and a
+/// its earliest latency where that is another; a line for each stream, with one behind it for each of its branches, and
+/// then for each flow, with its class, or its classes joined by commas where they differ, and its ports; and a
 /// line of totals. `AllocError` where there is no memory for the text.
 #[tactic(auto, unfolding(crate::specs::Text::show_text))]
 pub fn show(alloc: Global, network: &Network) -> Result<Vec<u8>, AllocError>
@@ -80,20 +82,107 @@ fn write_streams(
     streams: &[Stream],
 ) -> Result<(), AllocError>
     requires { All (λ (s : DeclaredStream). ArePorts topology.now.ports s.ports) streams.now }
-    ensures { OnOk result (out.new.items ≡ out.old.items ++ flat_map (stream_line topology.now) streams.now) }
+    ensures { OnOk result (out.new.items ≡ out.old.items ++ flat_map (stream_lines topology.now) streams.now) }
 {
     for stream in streams {
-        let name = stream.name();
-        write_sender(
-            out,
-            topology,
-            b"stream",
-            name.bytes(),
-            stream.classes(),
-            stream.ports(),
-        )?;
+        write_stream(out, topology, stream)?;
     }
     Ok(())
+}
+
+// The line of a stream, and one for each of its branches.
+fn write_stream(out: &mut Vec<u8>, topology: &Topology, stream: &Stream) -> Result<(), AllocError>
+    requires { ArePorts topology.now.ports stream.now.ports }
+    ensures { OnOk result (out.new.items ≡ out.old.items ++ stream_lines topology.now stream.now) }
+{
+    let name = stream.name();
+    let classes = classes_of(stream, 0);
+    write_sender(
+        out,
+        topology,
+        b"stream",
+        name.bytes(),
+        classes,
+        stream.leg(0),
+    )?;
+    write_listeners(out, topology, stream)
+}
+
+// The lines of the branches of a stream.
+fn write_listeners(
+    out: &mut Vec<u8>,
+    topology: &Topology,
+    stream: &Stream,
+) -> Result<(), AllocError>
+    requires { ArePorts topology.now.ports stream.now.ports }
+    ensures { OnOk result (out.new.items ≡ out.old.items
+        ++ flat_map (λ (b : ℕ × Branch). listener_line topology.now stream.now b.0)
+        (enumerate_from 1 stream.now.branches)) }
+{
+    for leg in 1..stream.legs() {
+        write_listener(out, topology, stream, leg)?;
+    }
+    Ok(())
+}
+
+// The line of a branch, the leg with this number.
+#[tactic(auto, unfolding(crate::specs::Text::sender_line))]
+fn write_listener(
+    out: &mut Vec<u8>,
+    topology: &Topology,
+    stream: &Stream,
+    leg: u32,
+) -> Result<(), AllocError>
+    requires ports { ArePorts topology.now.ports stream.now.ports }
+    requires leg { leg ≤ length stream.now.branches }
+    ensures { OnOk result (out.new.items ≡ out.old.items ++ listener_line topology.now stream.now leg) }
+{
+    let name = stream.name();
+    let route = stream.route(leg);
+    let station = station_of(topology, route.as_slice());
+    write_name(out, b"listener", name.bytes())?;
+    out.extend_from_slice(station.bytes())?;
+    out.extend_from_slice(b" ")?;
+    write_classes(out, classes_of(stream, leg))?;
+    write_path(out, topology, stream.leg(leg))?;
+    out.extend_from_slice(b"\n")?;
+    Ok(())
+}
+
+// The classes of the ports of a leg.
+fn classes_of(stream: &Stream, leg: u32) -> &[u8]
+    requires { leg ≤ length stream.now.branches }
+    ensures { result.now ≡ leg_at (legs_of stream.now.classes stream.now.branches) leg }
+{
+    let (first, end) = places_of(stream, leg);
+    &stream.classes()[first..end]
+}
+
+// The places of the first port of a leg and of that behind its last one.
+fn places_of(stream: &Stream, leg: u32) -> (usize, usize)
+    requires { leg ≤ length stream.now.branches }
+    ensures ordered { result.0 ≤ result.1 }
+    ensures within { result.1 ≤ length stream.now.classes }
+    ensures leg { slice_range stream.now.classes result.0 result.1
+        ≡ leg_at (legs_of stream.now.classes stream.now.branches) leg }
+{
+    let first = first_place(stream, leg);
+    let legs = stream.legs();
+    if leg + 1 == legs {
+        return (first, stream.classes().len());
+    }
+    (first, stream.branch(leg + 1).first as usize)
+}
+
+// The place of the first port of a leg.
+fn first_place(stream: &Stream, leg: u32) -> usize
+    requires { leg ≤ length stream.now.branches }
+    ensures { result ≡ first_from 0 stream.now.branches leg }
+{
+    if leg == 0 {
+        return 0;
+    }
+    stream.branch(leg).first as usize
 }
 
 // The lines of the flows, which have class 0.

@@ -7,12 +7,13 @@ use Rattle.std.proofs.lemmas.List.Elements.{All-cons, All-head, All-nil, All-tai
 use Rattle.ats_topology.specs.Topology.{DeclaredTopology}
 use Rattle.ats_streams.specs.Stream.{DeclaredStream}
 use Rattle.ats_port_names.specs.PortName.{port_name}
+use Rattle.ats_network.specs.Listeners.{Listener, listener_text, listeners_of}
 use Rattle.ats_network.specs.Sender.{stream_sender}
-use Rattle.ats_certificate.specs.Certificate.{bound_along, bound_of_hop}
+use Rattle.ats_certificate.specs.Certificate.{bound_of_hop, bound_on}
 use Rattle.ats_certificate.specs.declared.row.Row.{Row}
-use Rattle.ats_verdict_text.specs.Text.{accepted_text, hop_line, stream_lines}
-use Rattle.ats_text_law.specs.Short.{HasShortBounds, IsShort}
-use Rattle.ats_text_law.specs.Laws.{AcceptedTellsAll, BoundTheSame}
+use Rattle.ats_verdict_text.specs.Text.{accepted_text, hop_line, listener_lines, stream_lines}
+use Rattle.ats_text_law.specs.Short.{HasShortBounds, HasShortLines, IsShort}
+use Rattle.ats_text_law.specs.Laws.{AcceptedTellsAll, BoundTheSame, LinesTheSame}
 use Rattle.ats_text_law.proofs.Words.{cut_numbers}
 
 module _ (topology : DeclaredTopology) (rows others : List Row) where
@@ -61,46 +62,70 @@ module _ (topology : DeclaredTopology) (rows others : List Row) where
         rest = more.rest;
       }
 
-  stream_parts : (given : List Row) (s : DeclaredStream) (b : List ℕ) → stream_lines topology given s ++ b
-      ≡ flat_map (hop_line topology given s) s.ports
-      ++ ((codes "sum " ++ s.name ++ codes " ") ++ (decimal (bound_along given s) ++ 10 ∷ b))
-  unfolding stream_lines
-  stream_parts given s b = simp append_assoc refl
+  listener_parts : (given : List Row) (s : DeclaredStream) (l : Listener) (b : List ℕ)
+      → listener_lines topology given s l ++ b ≡ flat_map (hop_line topology given s) l.leg
+      ++ ((codes "sum " ++ listener_text s.name l.name ++ codes " ") ++ (decimal (bound_on given s l.route) ++ 10 ∷ b))
+  unfolding listener_lines
+  listener_parts given s l b = simp append_assoc refl
 
-  -- the bounds of a stream, and what stands behind its lines
-  record AreOfStream (s : DeclaredStream) (b y : List ℕ) : Type 0 where
-    told : BoundTheSame rows others s
+  -- the bounds of a stream along a listener's leg and the sum there, and what stands behind these lines
+  record AreOfListener (s : DeclaredStream) (l : Listener) (b y : List ℕ) : Type 0 where
+    told : LinesTheSame rows others s l
     rest : b ≡ y
 
-  cut_stream : (s : DeclaredStream) (b y : List ℕ) → HasShortBounds rows s → HasShortBounds others s
-      → stream_lines topology rows s ++ b ≡ stream_lines topology others s ++ y → AreOfStream s b y
-  cut_stream s b y short brief same =
-      let hops = cut_hops s s.ports
-      ((codes "sum " ++ s.name ++ codes " ") ++ (decimal (bound_along rows s) ++ 10 ∷ b))
-      ((codes "sum " ++ s.name ++ codes " ") ++ (decimal (bound_along others s) ++ 10 ∷ y)) short.bounds
-      brief.bounds (sym (stream_parts rows s b) ∙ same ∙ stream_parts others s y) in
-      let sums = cut_numbers (bound_along rows s) (bound_along others s) (10 ∷ b) (10 ∷ y) short.sum brief.sum refl refl
-      (append_cancel_left (codes "sum " ++ s.name ++ codes " ") _ _ hops.rest) in
+  cut_listener : (s : DeclaredStream) (l : Listener) (b y : List ℕ) → HasShortLines rows s l → HasShortLines others s l
+      → listener_lines topology rows s l ++ b ≡ listener_lines topology others s l ++ y → AreOfListener s l b y
+  cut_listener s l b y short brief same =
+      let front : List ℕ = codes "sum " ++ listener_text s.name l.name ++ codes " " in
+      let hops = cut_hops s l.leg (front ++ (decimal (bound_on rows s l.route) ++ 10 ∷ b))
+      (front ++ (decimal (bound_on others s l.route) ++ 10 ∷ y)) short.bounds
+      brief.bounds (sym (listener_parts rows s l b) ∙ same ∙ listener_parts others s l y) in
+      let sums = cut_numbers (bound_on rows s l.route) (bound_on others s l.route) (10 ∷ b) (10 ∷ y) short.sum
+      brief.sum refl refl (append_cancel_left front _ _ hops.rest) in
       record { told = record { bounds = hops.bounds; sum = sums.number }; rest = cc sums.rest }
+
+  listeners_parts : (given : List Row) (s : DeclaredStream) (l : Listener) (listeners : List Listener) (b : List ℕ)
+      → flat_map (listener_lines topology given s) (l ∷ listeners) ++ b
+      ≡ listener_lines topology given s l ++ (flat_map (listener_lines topology given s) listeners ++ b)
+  listeners_parts given s l listeners b = simp append_assoc refl
+
+  -- so for each of some listeners of a stream
+  record AreOfListeners (s : DeclaredStream) (listeners : List Listener) (b y : List ℕ) : Type 0 where
+    told : All (LinesTheSame rows others s) listeners
+    rest : b ≡ y
+
+  cut_listeners : (s : DeclaredStream) (listeners : List Listener) (b y : List ℕ)
+      → All (HasShortLines rows s) listeners → All (HasShortLines others s) listeners
+      → flat_map (listener_lines topology rows s) listeners ++ b
+      ≡ flat_map (listener_lines topology others s) listeners ++ y → AreOfListeners s listeners b y
+  cut_listeners s [] b y short brief same = record { told = All-nil (LinesTheSame rows others s); rest = same }
+  cut_listeners s (l ∷ listeners) b y short brief same =
+      let one = cut_listener s l (flat_map (listener_lines topology rows s) listeners ++ b)
+      (flat_map (listener_lines topology others s) listeners ++ y) (All-head (HasShortLines rows s) l listeners short)
+      (All-head (HasShortLines others s) l listeners brief)
+      (sym (listeners_parts rows s l listeners b) ∙ same ∙ listeners_parts others s l listeners y) in
+      let more = cut_listeners s listeners b y (All-tail (HasShortLines rows s) l listeners short)
+      (All-tail (HasShortLines others s) l listeners brief) one.rest in
+      record { told = All-cons (LinesTheSame rows others s) l listeners one.told more.told; rest = more.rest }
 
   streams_parts : (given : List Row) (s : DeclaredStream) (streams : List DeclaredStream) (b : List ℕ)
       → flat_map (stream_lines topology given) (s ∷ streams) ++ b
       ≡ stream_lines topology given s ++ (flat_map (stream_lines topology given) streams ++ b)
   streams_parts given s streams b = simp append_assoc refl
 
-  cut_streams : (streams : List DeclaredStream) (b y : List ℕ) → All (HasShortBounds rows) streams
-      → All (HasShortBounds others) streams
+  cut_streams : (streams : List DeclaredStream) (b y : List ℕ) → All (HasShortBounds topology rows) streams
+      → All (HasShortBounds topology others) streams
       → flat_map (stream_lines topology rows) streams ++ b ≡ flat_map (stream_lines topology others) streams ++ y
-      → All (BoundTheSame rows others) streams
-  cut_streams [] b y short brief same = All-nil (BoundTheSame rows others)
+      → All (BoundTheSame topology rows others) streams
+  cut_streams [] b y short brief same = All-nil (BoundTheSame topology rows others)
   cut_streams (s ∷ streams) b y short brief same =
-      let lines = cut_stream s (flat_map (stream_lines topology rows) streams ++ b)
-      (flat_map (stream_lines topology others) streams ++ y) (All-head (HasShortBounds rows) s streams short)
-      (All-head (HasShortBounds others) s streams brief)
+      let lines = cut_listeners s (listeners_of topology s) (flat_map (stream_lines topology rows) streams ++ b)
+      (flat_map (stream_lines topology others) streams ++ y) (All-head (HasShortBounds topology rows) s streams short)
+      (All-head (HasShortBounds topology others) s streams brief)
       (sym (streams_parts rows s streams b) ∙ same ∙ streams_parts others s streams y) in
-      All-cons (BoundTheSame rows others) s streams lines.told
-      (cut_streams streams b y (All-tail (HasShortBounds rows) s streams short)
-      (All-tail (HasShortBounds others) s streams brief) lines.rest)
+      All-cons (BoundTheSame topology rows others) s streams lines.told
+      (cut_streams streams b y (All-tail (HasShortBounds topology rows) s streams short)
+      (All-tail (HasShortBounds topology others) s streams brief) lines.rest)
 
 pub accepted_tells_all : AcceptedTellsAll
 accepted_tells_all network rows others short brief same =

@@ -1,10 +1,11 @@
 -- What is printed of answers tells them.
-use Rattle.std.proofs.Common.{◌≡◌, ◌∙◌, ℕ, ◌+◌, ◌<◌, List, [], ◌∷◌, ◌++◌, get_or, length, Some, refl, sym}
-use Rattle.std.proofs.Common.{ap, arith, append_assoc}
-use Rattle.std.specs.Prelude.{codes, decimal, All}
+use Rattle.std.proofs.Common.{◌≡◌, ◌∙◌, ℕ, ◌+◌, ◌<◌, List, [], ◌∷◌, ◌++◌, get_or, length, Option, Some, None}
+use Rattle.std.proofs.Common.{refl, sym, ap, arith, append_assoc}
+use Rattle.std.specs.Prelude.{codes, decimal, All, IsTrue}
 use Rattle.std.specs.List.{enumerate_from, flat_map}
 use Rattle.std.proofs.lemmas.List.{append_cancel_left}
 use Rattle.std.proofs.lemmas.List.Elements.{All-head, All-tail}
+use Rattle.ats_num.specs.Name.{is_name}
 use Rattle.ats_topology.specs.Port.{no_port, port_at}
 use Rattle.ats_topology.specs.Topology.{DeclaredTopology, IsPort, no_node, node_at, ports_of, topology_of}
 use Rattle.ats_topology.specs.declared.node.Node.{Node}
@@ -25,7 +26,8 @@ use Rattle.ats_admission_text.specs.Text.{answer_text, class_line, class_lines, 
 use Rattle.ats_admission_text.specs.Text.{name_asked, reason_end}
 use Rattle.ats_text_law.specs.Short.{IsShort}
 use Rattle.ats_text_law.specs.Answers.{AnswersTellAll, IsShortAnswer, IsShortDenied, IsShortReason}
-use Rattle.ats_text_law.proofs.Words.{IsBehind, IsWord, cut, cut_numbers, name_word, word_append}
+use Rattle.ats_text_law.specs.Explained.{IsNamed}
+use Rattle.ats_text_law.proofs.Words.{IsBehind, IsWord, cut, cut_numbers, decimal_word, name_word, word_append}
 
 -- a code of a text
 abbrev code_at : ℕ → List ℕ → ℕ
@@ -34,6 +36,51 @@ code_at i text = get_or text i 0
 -- six texts, one behind the other
 six : (a b c d e f : List ℕ) → a ++ b ++ c ++ d ++ e ++ f ≡ a ++ (b ++ (c ++ (d ++ (e ++ f))))
 six a b c d e f = simp append_assoc refl
+
+-- what stands behind the stream's name where a deadline is not met: the name of the listener, if a further one, and
+-- the sum
+abbrev deadline_rest : Option (List ℕ) → ℕ → List ℕ → List ℕ
+deadline_rest None m b = codes " " ++ (decimal m ++ 10 ∷ b)
+deadline_rest (Some station) m b = codes " " ++ (station ++ (codes " " ++ (decimal m ++ 10 ∷ b)))
+
+deadline_parts : (topology : DeclaredTopology) (stream : List ℕ) (l : Option (List ℕ)) (m : ℕ) (b : List ℕ)
+    → reason_text topology (reason.Deadline stream l m) ++ 10 ∷ b ≡ codes "deadline " ++ (stream ++ deadline_rest l m b)
+deadline_parts topology stream None m b = simp append_assoc refl
+deadline_parts topology stream (Some station) m b = simp append_assoc refl
+
+behind_name : (l : Option (List ℕ)) (m : ℕ) (b : List ℕ) → IsBehind (deadline_rest l m b)
+behind_name None m b = refl
+behind_name (Some station) m b = refl
+
+-- two listeners with a sum each, and what stands behind the ends of their lines
+record AreRests (l k : Option (List ℕ)) (m n : ℕ) (b y : List ℕ) : Type 0 where
+  listener_is : l ≡ k
+  number_is : m ≡ n
+  rest : b ≡ y
+
+-- a sum at the end of a line is no name in front of a sum
+no_station : (station : List ℕ) (m n : ℕ) (b y : List ℕ) → IsTrue (is_name station) → IsShort m
+    → decimal m ++ 10 ∷ b ≡ station ++ (codes " " ++ (decimal n ++ 10 ∷ y)) → ⊥
+no_station station m n b y named short same =
+    let parts = cut (decimal m) station (10 ∷ b) (codes " " ++ (decimal n ++ 10 ∷ y)) (decimal_word m short)
+    (name_word station named) refl refl same in
+    omega (arith, ap (code_at 0) parts.rest)
+
+cut_rests : (l k : Option (List ℕ)) (m n : ℕ) (b y : List ℕ) → IsNamed l → IsNamed k → IsShort m → IsShort n
+    → deadline_rest l m b ≡ deadline_rest k n y → AreRests l k m n b y
+cut_rests None None m n b y named called short brief same =
+    let numbers = cut_numbers m n (10 ∷ b) (10 ∷ y) short brief refl refl (append_cancel_left (codes " ") _ _ same) in
+    record { listener_is = refl; number_is = numbers.number; rest = cc numbers.rest }
+cut_rests None (Some station) m n b y named called short brief same =
+    absurd (no_station station m n b y called short (append_cancel_left (codes " ") _ _ same))
+cut_rests (Some station) None m n b y named called short brief same =
+    absurd (no_station station n m y b named brief (sym (append_cancel_left (codes " ") _ _ same)))
+cut_rests (Some station) (Some other) m n b y named called short brief same =
+    let names = cut station other (codes " " ++ (decimal m ++ 10 ∷ b)) (codes " " ++ (decimal n ++ 10 ∷ y))
+    (name_word station named) (name_word other called) refl refl (append_cancel_left (codes " ") _ _ same) in
+    let numbers = cut_numbers m n (10 ∷ b) (10 ∷ y) short brief refl refl
+    (append_cancel_left (codes " ") _ _ names.rest) in
+    record { listener_is = ap Some names.word; number_is = numbers.number; rest = cc numbers.rest }
 
 module _ (nodes : List Node) (links : List Link) (sound : AreSound nodes links) where
   abbrev topology : DeclaredTopology
@@ -90,42 +137,39 @@ module _ (nodes : List Node) (links : List Link) (sound : AreSound nodes links) 
         rest = numbers.rest;
       }
 
-  -- two reasons and what stands behind them
+  -- two reasons and what stands behind the ends of their lines
   record AreReasons (r s : Reason) (b y : List ℕ) : Type 0 where
     reason_is : r ≡ s
     rest : b ≡ y
 
-  cut_reasons : (r s : Reason) (b y : List ℕ) → IsShortReason ports r → IsShortReason ports s → IsBehind b
-      → IsBehind y → reason_text topology r ++ b ≡ reason_text topology s ++ y → AreReasons r s b y
-  cut_reasons (reason.Overloaded p c m) (reason.Overloaded q d n) b y short brief h k same =
-      let parts = cut_measures p q c d m n b y short.0 brief.0 short.1 brief.1 short.2 brief.2 h k
+  cut_reasons : (r s : Reason) (b y : List ℕ) → IsShortReason ports r → IsShortReason ports s
+      → reason_text topology r ++ 10 ∷ b ≡ reason_text topology s ++ 10 ∷ y → AreReasons r s b y
+  cut_reasons (reason.Overloaded p c m) (reason.Overloaded q d n) b y short brief same =
+      let parts = cut_measures p q c d m n (10 ∷ b) (10 ∷ y) short.0 brief.0 short.1 brief.1 short.2 brief.2 refl refl
       (append_cancel_left (codes "overloaded ") _ _ same) in
-      record { reason_is = rw (parts.port_is, parts.class_is, parts.number_is) refl; rest = parts.rest }
-  cut_reasons (reason.Residence p c m) (reason.Residence q d n) b y short brief h k same =
-      let parts = cut_measures p q c d m n b y short.0 brief.0 short.1 brief.1 short.2 brief.2 h k
+      record { reason_is = rw (parts.port_is, parts.class_is, parts.number_is) refl; rest = cc parts.rest }
+  cut_reasons (reason.Residence p c m) (reason.Residence q d n) b y short brief same =
+      let parts = cut_measures p q c d m n (10 ∷ b) (10 ∷ y) short.0 brief.0 short.1 brief.1 short.2 brief.2 refl refl
       (append_cancel_left (codes "residence ") _ _ same) in
-      record { reason_is = rw (parts.port_is, parts.class_is, parts.number_is) refl; rest = parts.rest }
-  cut_reasons (reason.Deadline stream m) (reason.Deadline other n) b y short brief h k same =
-      let left : codes "deadline " ++ stream ++ codes " " ++ decimal m ++ b
-      ≡ codes "deadline " ++ (stream ++ (codes " " ++ (decimal m ++ b))) = simp append_assoc refl in
-      let right : codes "deadline " ++ other ++ codes " " ++ decimal n ++ y
-      ≡ codes "deadline " ++ (other ++ (codes " " ++ (decimal n ++ y))) = simp append_assoc refl in
-      let names = cut stream other (codes " " ++ (decimal m ++ b)) (codes " " ++ (decimal n ++ y))
-      (name_word stream short.0) (name_word other brief.0) refl refl
-      (append_cancel_left (codes "deadline ") _ _ (sym left ∙ same ∙ right)) in
-      let numbers = cut_numbers m n b y short.1 brief.1 h k (append_cancel_left (codes " ") _ _ names.rest) in
-      record { reason_is = rw (names.word, numbers.number) refl; rest = numbers.rest }
-  cut_reasons (reason.Overloaded p c m) (reason.Residence q d n) b y short brief h k same =
+      record { reason_is = rw (parts.port_is, parts.class_is, parts.number_is) refl; rest = cc parts.rest }
+  cut_reasons (reason.Deadline stream l m) (reason.Deadline other k n) b y short brief same =
+      let names = cut stream other (deadline_rest l m b) (deadline_rest k n y) (name_word stream short.0)
+      (name_word other brief.0) (behind_name l m b) (behind_name k n y)
+      (append_cancel_left (codes "deadline ") _ _
+      (sym (deadline_parts topology stream l m b) ∙ same ∙ deadline_parts topology other k n y)) in
+      let parts = cut_rests l k m n b y short.1 brief.1 short.2 brief.2 names.rest in
+      record { reason_is = rw (names.word, parts.listener_is, parts.number_is) refl; rest = parts.rest }
+  cut_reasons (reason.Overloaded p c m) (reason.Residence q d n) b y short brief same =
       absurd (omega (arith, ap (code_at 0) same))
-  cut_reasons (reason.Overloaded p c m) (reason.Deadline other n) b y short brief h k same =
+  cut_reasons (reason.Overloaded p c m) (reason.Deadline other k n) b y short brief same =
       absurd (omega (arith, ap (code_at 0) same))
-  cut_reasons (reason.Residence p c m) (reason.Overloaded q d n) b y short brief h k same =
+  cut_reasons (reason.Residence p c m) (reason.Overloaded q d n) b y short brief same =
       absurd (omega (arith, ap (code_at 0) same))
-  cut_reasons (reason.Residence p c m) (reason.Deadline other n) b y short brief h k same =
+  cut_reasons (reason.Residence p c m) (reason.Deadline other k n) b y short brief same =
       absurd (omega (arith, ap (code_at 0) same))
-  cut_reasons (reason.Deadline stream m) (reason.Overloaded q d n) b y short brief h k same =
+  cut_reasons (reason.Deadline stream l m) (reason.Overloaded q d n) b y short brief same =
       absurd (omega (arith, ap (code_at 0) same))
-  cut_reasons (reason.Deadline stream m) (reason.Residence q d n) b y short brief h k same =
+  cut_reasons (reason.Deadline stream l m) (reason.Residence q d n) b y short brief same =
       absurd (omega (arith, ap (code_at 0) same))
 
   end_parts : (r : Reason) (b : List ℕ) → reason_end topology r ++ b
@@ -138,9 +182,7 @@ module _ (nodes : List Node) (links : List Link) (sound : AreSound nodes links) 
   cut_ends : (r s : Reason) (b y : List ℕ) → IsShortReason ports r → IsShortReason ports s
       → reason_end topology r ++ b ≡ reason_end topology s ++ y → AreReasons r s b y
   cut_ends r s b y short brief same =
-      let parts = cut_reasons r s (10 ∷ b) (10 ∷ y) short brief refl refl
-      (append_cancel_left (codes " ") _ _ (sym (end_parts r b) ∙ same ∙ end_parts s y)) in
-      record { reason_is = parts.reason_is; rest = cc parts.rest }
+      cut_reasons r s b y short brief (append_cancel_left (codes " ") _ _ (sym (end_parts r b) ∙ same ∙ end_parts s y))
 
   -- two lists of reasons, and what stands behind their lines
   record AllReasons (rs ss : List Reason) (b y : List ℕ) : Type 0 where
@@ -181,7 +223,7 @@ module _ (nodes : List Node) (links : List Link) (sound : AreSound nodes links) 
       by : (r : Reason) → code_at 1 (codes " " ++ (reason_text topology r ++ 10 ∷ b)) ≡ 110 → ⊥
       by (reason.Overloaded p c m) same = omega (arith, same)
       by (reason.Residence p c m) same = omega (arith, same)
-      by (reason.Deadline stream m) same = omega (arith, same)
+      by (reason.Deadline stream l m) same = omega (arith, same)
 
   no_limit : (r : Reason) (b : List ℕ) → code_at 1 (reason_end topology r ++ b) ≡ 108 → ⊥
   no_limit r b same = by r (sym (ap (code_at 1) (end_parts r b)) ∙ same)
@@ -189,7 +231,7 @@ module _ (nodes : List Node) (links : List Link) (sound : AreSound nodes links) 
       by : (r : Reason) → code_at 1 (codes " " ++ (reason_text topology r ++ 10 ∷ b)) ≡ 108 → ⊥
       by (reason.Overloaded p c m) same = omega (arith, same)
       by (reason.Residence p c m) same = omega (arith, same)
-      by (reason.Deadline stream m) same = omega (arith, same)
+      by (reason.Deadline stream l m) same = omega (arith, same)
 
   -- two denials and what stands behind them
   record AreDenied (one two : Denied) (b y : List ℕ) : Type 0 where

@@ -6,12 +6,13 @@ use Rattle.std.specs.Prelude.{codes, decimal}
 use Rattle.std.proofs.lemmas.List.{append_cancel_left}
 use Rattle.ats_topology.specs.Topology.{DeclaredTopology}
 use Rattle.ats_port_names.specs.PortName.{port_name}
+use Rattle.ats_network.specs.Listeners.{listener_text}
 use Rattle.ats_explain.specs.Margins.{is_late}
 use Rattle.ats_explain.specs.declared.margin.Margin.{Margin}
 use Rattle.ats_explain.specs.declared.parts.Parts.{Parts}
 use Rattle.ats_explain.specs.declared.parts.Stay.{Stay}
-use Rattle.ats_explain_text.specs.Text.{bound_text, hop_line, parts_text, sender_text, slack_text, stay_text}
-use Rattle.ats_explain_text.specs.Text.{stream_line, wait_text}
+use Rattle.ats_explain_text.specs.Text.{bound_text, hop_line, kind_text, parts_text, sender_text, slack_text}
+use Rattle.ats_explain_text.specs.Text.{stay_text, stream_line, wait_text}
 use Rattle.ats_text_law.specs.Short.{IsShort}
 use Rattle.ats_text_law.specs.Explained.{HasShortParts, IsNamed, IsShortStay, PartsTheSame}
 use Rattle.ats_text_law.proofs.Words.{IsBehind, IsWord, cut, cut_numbers, name_word}
@@ -178,11 +179,11 @@ slack_then m b = slack_text m ++ 10 ∷ b
 deadline_then : Margin → List ℕ → List ℕ
 deadline_then m b = codes " deadline " ++ (decimal m.deadline ++ slack_then m b)
 
-stream_parts : (name : List ℕ) (m : Margin) (b : List ℕ) → stream_line name m ++ b
-    ≡ (codes "stream " ++ name ++ codes " sum ") ++ (decimal m.sum ++ deadline_then m b)
+stream_parts : (name : List ℕ) (listener : Option (List ℕ)) (m : Margin) (b : List ℕ) → stream_line name listener m ++ b
+    ≡ (kind_text listener ++ listener_text name listener ++ codes " sum ") ++ (decimal m.sum ++ deadline_then m b)
 unfolding stream_line deadline_then slack_then
-stream_parts name m b =
-    let front : List ℕ = codes "stream " ++ name ++ codes " sum " in
+stream_parts name listener m b =
+    let front : List ℕ = kind_text listener ++ listener_text name listener ++ codes " sum " in
     append_assoc (front ++ decimal m.sum ++ codes " deadline " ++ decimal m.deadline ++ slack_text m) (codes "\n") b
     ∙ append_assoc (front ++ decimal m.sum ++ codes " deadline " ++ decimal m.deadline) (slack_text m) (10 ∷ b)
     ∙ five front (decimal m.sum) (codes " deadline ") (decimal m.deadline) (slack_text m ++ 10 ∷ b)
@@ -209,13 +210,14 @@ behind_margin m n b y one tails =
     append_cancel_left (slack_text m) _ _ (tails ∙ ap (λ (k : Margin). slack_text k ++ 10 ∷ y) (sym one)) in
     cc both
 
-pub cut_margins : (name : List ℕ) (m n : Margin) (b y : List ℕ) → IsShort m.sum → IsShort n.sum → IsShort m.deadline
-    → IsShort n.deadline → stream_line name m ++ b ≡ stream_line name n ++ y → AreMargins m n b y
+pub cut_margins : (name : List ℕ) (listener : Option (List ℕ)) (m n : Margin) (b y : List ℕ) → IsShort m.sum
+    → IsShort n.sum → IsShort m.deadline → IsShort n.deadline
+    → stream_line name listener m ++ b ≡ stream_line name listener n ++ y → AreMargins m n b y
 unfolding deadline_then
-cut_margins name m n b y short brief few less same =
+cut_margins name listener m n b y short brief few less same =
     let sums = cut_numbers m.sum n.sum (deadline_then m b) (deadline_then n y) short brief refl refl
-    (append_cancel_left (codes "stream " ++ name ++ codes " sum ") _ _
-    (sym (stream_parts name m b) ∙ same ∙ stream_parts name n y)) in
+    (append_cancel_left (kind_text listener ++ listener_text name listener ++ codes " sum ") _ _
+    (sym (stream_parts name listener m b) ∙ same ∙ stream_parts name listener n y)) in
     let deadlines = cut_numbers m.deadline n.deadline (slack_then m b) (slack_then n y) few less (behind_slack m b)
     (behind_slack n y) (append_cancel_left (codes " deadline ") _ _ sums.rest) in
     record {

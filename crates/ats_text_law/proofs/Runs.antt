@@ -7,13 +7,14 @@ use Rattle.std.proofs.lemmas.List.{append_cancel_left, get_or-map, length-map}
 use Rattle.std.proofs.lemmas.List.Elements.{All-head, All-tail}
 use Rattle.ats_num.specs.Name.{is_name}
 use Rattle.ats_num.specs.Places.{place_of}
-use Rattle.ats_network.specs.Network.{DeclaredNetwork, IsNetwork, names_of, senders_of}
+use Rattle.ats_network.specs.Network.{DeclaredNetwork, HasOneListener, IsNetwork, names_of, senders_of}
 use Rattle.ats_network.specs.Sender.{Sender}
 use Rattle.ats_network.specs.Senders.{no_sender, sender_at}
-use Rattle.ats_trace.specs.Journey.{Travel, IsJourney, IsWay}
+use Rattle.ats_trace.specs.Journey.{Leg, Travel, IsJourney, IsWay}
 use Rattle.ats_trace.specs.declared.journey.Release.{Release}
 use Rattle.ats_trace.specs.declared.journey.HopRecord.{HopRecord}
 use Rattle.ats_trace.specs.declared.journey.Ending.{Ending}
+use Rattle.ats_trace.proofs.OneListener.{copies_alone, sender_alone, way_alone}
 use Rattle.ats_replay.specs.Departures.{departures_text, frame_line, journey_text}
 use Rattle.ats_replay.specs.Totals.{counts_text, totals_line, totals_of}
 use Rattle.ats_text_law.specs.Short.{HasNames, HasShortTimes}
@@ -47,7 +48,8 @@ same_release release other a s o =
     ∙ ap (λ n. record { at = other.at; sender = n; octets = release.octets }) s
     ∙ ap (λ n. record { at = other.at; sender = other.sender; octets = n }) o
 
-module _ (network : DeclaredNetwork) (rules : IsNetwork network) (named : HasNames network) where
+module _ (network : DeclaredNetwork) (rules : IsNetwork network) (alone : HasOneListener network)
+    (named : HasNames network) where
   word_of : (n : ℕ) → n < length (senders_of network) → IsTrue (is_name (sender_at network n).name)
   word_of n inside = named n no_sender inside
 
@@ -98,11 +100,25 @@ module _ (network : DeclaredNetwork) (rules : IsNetwork network) (named : HasNam
     rest : b ≡ y
 
   same_journey : (one two : Travel) → one.release ≡ two.release → one.hops ≡ two.hops → one.ending ≡ two.ending
-      → one ≡ two
-  same_journey one two r h e =
-      ap (λ (x : Release). record { release = x; hops = one.hops; ending = one.ending }) r
-      ∙ ap (λ (x : List HopRecord). record { release = two.release; hops = x; ending = one.ending }) h
-      ∙ ap (λ (x : Ending). record { release = two.release; hops = two.hops; ending = x }) e
+      → one.copies ≡ two.copies → one ≡ two
+  same_journey one two r h e c =
+      ap (λ (x : Release). record { release = x; hops = one.hops; ending = one.ending; copies = one.copies }) r
+      ∙ ap (λ (x : List HopRecord). record {
+        release = two.release;
+        hops = x;
+        ending = one.ending;
+        copies = one.copies;
+      }) h
+      ∙ ap (λ (x : Ending). record { release = two.release; hops = two.hops; ending = x; copies = one.copies }) e
+      ∙ ap (λ (x : List Leg). record { release = two.release; hops = two.hops; ending = two.ending; copies = x }) c
+
+  -- a journey goes along the ports of its sender
+  way_of : (j : Travel) → IsJourney network j → IsWay (sender_at network j.release.sender).ports j.hops j.ending
+  way_of j is = way_alone network j (sender_alone network alone j.release.sender) is
+
+  no_copy : (j : Travel) → IsJourney network j → j.copies ≡ []
+  no_copy j is =
+      copies_alone (sender_at network j.release.sender) j (sender_alone network alone j.release.sender) is.copies
 
   cut_journeys : (n : ℕ) (one two : Travel) (b y : List ℕ) → IsJourney network one → IsJourney network two
       → HasShortTimes one → HasShortTimes two
@@ -114,14 +130,16 @@ module _ (network : DeclaredNetwork) (rules : IsNetwork network) (named : HasNam
       (sym (journey_parts n one b) ∙ same ∙ journey_parts n two y) in
       let along : path one ≡ path two = ap (λ (r : Release). (sender_at network r.sender).ports) frames.release_is in
       let way : IsWay (path one) two.hops two.ending =
-      subst (λ p. IsWay p two.hops two.ending) (sym along) second.way in
+      subst (λ p. IsWay p two.hops two.ending) (sym along) (way_of two second) in
       let lines : way_lines network.topology (path one) one.hops one.ending ++ b
       ≡ way_lines network.topology (path one) two.hops two.ending ++ y =
       frames.rest ∙ ap (λ p. way_lines network.topology p two.hops two.ending ++ y) (sym along) in
-      let ways = cut_ways network.topology (path one) one.hops two.hops one.ending two.ending b y first.way way
+      let ways = cut_ways network.topology (path one) one.hops two.hops one.ending two.ending b y (way_of one first)
+      way
       short.hops brief.hops short.ending brief.ending lines in
       record {
-        journey_is = same_journey one two frames.release_is ways.hops_are ways.ending_is;
+        journey_is = same_journey one two frames.release_is ways.hops_are ways.ending_is
+            (no_copy one first ∙ sym (no_copy two second));
         rest = ways.rest;
       }
 
@@ -187,8 +205,8 @@ behind_totals run other b y same rests =
     cc lines
 
 pub departures_tell_all : DeparturesTellAll
-departures_tell_all network rules named run other first second behind beyond same =
-    let parts = cut_runs network rules named 0 run other (totals_rest run behind) (totals_rest other beyond)
+departures_tell_all network rules alone named run other first second behind beyond same =
+    let parts = cut_runs network rules alone named 0 run other (totals_rest run behind) (totals_rest other beyond)
     first.journeys second.journeys first.times second.times
     (sym (departures_parts network run behind) ∙ same ∙ departures_parts network other beyond) in
     record { runs = parts.runs; rests = behind_totals run other behind beyond parts.runs parts.rests }

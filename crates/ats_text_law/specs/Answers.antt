@@ -12,13 +12,15 @@ use Rattle.ats_requests.specs.declared.denied.Denied.{Denied}
 use Rattle.ats_requests.specs.declared.denied.Denied.TheVariants.{NameTaken, NameUnknown, Limit, Because, NoClass}
 use Rattle.ats_requests.specs.declared.request.Request.{Request}
 use Rattle.ats_admission_text.specs.Text.{lines_of}
+use Rattle.ats_text_law.specs.Explained.{IsNamed}
 use Rattle.ats_text_law.specs.Short.{IsShort}
 
--- a reason names a port that is there, or a stream, and its numbers have at most 64 digits
+-- a reason names a port that is there, or a stream and, if a further one, its listener, and its numbers have at most 64
+-- digits
 abbrev pub IsShortReason : ℕ → Reason → Type 0
 IsShortReason ports (reason.Overloaded port class load) = (port < ports) × IsShort class × IsShort load
 IsShortReason ports (reason.Residence port class need) = (port < ports) × IsShort class × IsShort need
-IsShortReason ports (reason.Deadline stream sum) = IsTrue (is_name stream) × IsShort sum
+IsShortReason ports (reason.Deadline stream listener sum) = IsTrue (is_name stream) × IsNamed listener × IsShort sum
 
 -- so does what a denial says; where no class will do, there is a reason for each of the seven
 abbrev pub IsShortDenied : ℕ → Denied → Type 0

@@ -4,7 +4,8 @@ use Rattle.ats_streams.specs.Stream.{DeclaredStream}
 use Rattle.ats_network.specs.Class.{class_at}
 use Rattle.ats_network.specs.Network.{DeclaredNetwork}
 use Rattle.ats_network.specs.Sender.{stream_sender}
-use Rattle.ats_explain.specs.Margins.{margin_of}
+use Rattle.ats_network.specs.Listeners.{Listener, listeners_of}
+use Rattle.ats_explain.specs.Margins.{margin_on}
 use Rattle.ats_explain.specs.Parts.{parts_of_hop}
 use Rattle.ats_explain.specs.declared.parts.Parts.{Parts}
 use Rattle.ats_explain.specs.declared.parts.Stay.{Stay}
@@ -41,11 +42,15 @@ pub record IsShortHop (network : DeclaredNetwork) (stream : DeclaredStream) (por
   pub class : IsShort (class_of stream port)
   pub parts : HasShortParts (parts_of_hop network stream port)
 
--- and what is explained of a stream
-pub record IsExplainable (network : DeclaredNetwork) (stream : DeclaredStream) : Type 0 where
-  pub sum : IsShort (margin_of network stream).sum
-  pub deadline : IsShort (margin_of network stream).deadline
-  pub hops : All (IsShortHop network stream) stream.ports
+-- and what is explained of a listener of a stream
+pub record HasShortLeg (network : DeclaredNetwork) (stream : DeclaredStream) (listener : Listener) : Type 0 where
+  pub sum : IsShort (margin_on network stream listener.route).sum
+  pub deadline : IsShort (margin_on network stream listener.route).deadline
+  pub hops : All (IsShortHop network stream) listener.leg
+
+-- and of a stream
+abbrev pub IsExplainable : DeclaredNetwork → DeclaredStream → Type 0
+IsExplainable network stream = All (HasShortLeg network stream) (listeners_of network.topology stream)
 
 -- the parts of two bounds are the same; of the sender of the longest lower frame, how it is written
 pub record PartsTheSame (parts others : Parts) : Type 0 where
@@ -63,18 +68,26 @@ pub record HopTheSame (network other : DeclaredNetwork) (stream twin : DeclaredS
   pub class : class_of stream port ≡ class_of twin port
   pub parts : PartsTheSame (parts_of_hop network stream port) (parts_of_hop other twin port)
 
--- two streams, each of a network of its own, have the same sum and deadline, and at each of the ports the same
--- parts
-pub record ExplainedTheSame (network other : DeclaredNetwork) (stream twin : DeclaredStream) : Type 0 where
-  pub margin : margin_of network stream ≡ margin_of other twin
-  pub hops : All (HopTheSame network other stream twin) stream.ports
+-- two streams, each of a network of its own, have for a listener the same sum and deadline, and at each of the ports
+-- of its leg the same parts
+pub record LegTheSame (network other : DeclaredNetwork) (stream twin : DeclaredStream) (listener : Listener)
+    : Type 0 where
+  pub margin : margin_on network stream listener.route ≡ margin_on other twin listener.route
+  pub hops : All (HopTheSame network other stream twin) listener.leg
 
--- two networks are over one topology, and their streams have the same names and ports, in the same order
+-- so for each listener
+abbrev pub ExplainedTheSame : DeclaredNetwork → DeclaredNetwork → DeclaredStream → DeclaredStream → Type 0
+ExplainedTheSame network other stream twin =
+    All (LegTheSame network other stream twin) (listeners_of network.topology stream)
+
+-- two networks are over one topology, and their streams have the same names, ports and branches, in the same order
 pub record AreAlike (network other : DeclaredNetwork) : Type 0 where
   pub topology : network.topology ≡ other.topology
   pub names : map (λ (s : DeclaredStream). s.name) network.streams ≡ map (λ (s : DeclaredStream). s.name) other.streams
   pub paths : map (λ (s : DeclaredStream). s.ports) network.streams
       ≡ map (λ (s : DeclaredStream). s.ports) other.streams
+  pub branches : map (λ (s : DeclaredStream). s.branches) network.streams
+      ≡ map (λ (s : DeclaredStream). s.branches) other.streams
 
 -- what is printed of two such networks is the same only where each stream's margin and each part of each hop are
 abbrev pub ExplainTellsAll : Type 0

@@ -1,8 +1,10 @@
 use Rattle.std.specs.Prelude.{◌≡◌, ℕ, ◌<◌, List, ◌++◌, length, All, Option}
 use Rattle.ats_streams.specs.Stream.{DeclaredStream}
-use Rattle.ats_network.specs.Network.{DeclaredNetwork, IsNetwork, senders_of}
+use Rattle.ats_topology.specs.Topology.{DeclaredTopology}
+use Rattle.ats_network.specs.Network.{DeclaredNetwork, HasOneListener, IsNetwork, senders_of}
+use Rattle.ats_network.specs.Listeners.{Listener, listeners_of}
 use Rattle.ats_network.specs.Sender.{stream_sender}
-use Rattle.ats_certificate.specs.Certificate.{bound_along, bound_of_hop}
+use Rattle.ats_certificate.specs.Certificate.{bound_of_hop, bound_on}
 use Rattle.ats_certificate.specs.declared.row.Row.{Row}
 use Rattle.ats_trace.specs.Journey.{Travel, IsJourney}
 use Rattle.ats_replay.specs.Departures.{departures_text}
@@ -21,9 +23,10 @@ pub record AreTheSame (run other : List Travel) (behind beyond : List ℕ) : Typ
   pub runs : run ≡ other
   pub rests : behind ≡ beyond
 
--- over one network, the texts of two runs, with anything behind them, are the same only where the runs are
+-- over one network whose streams have one listener each, the texts of two runs, with anything behind them, are the same
+-- only where the runs are
 abbrev pub DeparturesTellAll : Type 0
-DeparturesTellAll = (network : DeclaredNetwork) → IsNetwork network → HasNames network
+DeparturesTellAll = (network : DeclaredNetwork) → IsNetwork network → HasOneListener network → HasNames network
     → (run other : List Travel) → IsPrintable network run → IsPrintable network other
     → (behind beyond : List ℕ)
     → departures_text network run ++ behind ≡ departures_text network other ++ beyond
@@ -49,15 +52,22 @@ ReportTellsAll = (network : DeclaredNetwork) (run other : List Travel) (sums oth
     → IsReportable network run sums → IsReportable network other others
     → report_text network run sums ≡ report_text network other others → ReportTheSame network run other sums others
 
--- by the rows of two certificates a stream has the same bound at each of its ports, and the same sum
-pub record BoundTheSame (rows others : List Row) (s : DeclaredStream) : Type 0 where
+-- by the rows of two certificates a stream has the same bound at each port of a listener's leg, and the same sum along
+-- the route there
+pub record LinesTheSame (rows others : List Row) (s : DeclaredStream) (listener : Listener) : Type 0 where
   pub bounds : All (λ port. bound_of_hop rows (stream_sender s) port ≡ bound_of_hop others (stream_sender s) port)
-      s.ports
-  pub sum : bound_along rows s ≡ bound_along others s
+      listener.leg
+  pub sum : bound_on rows s listener.route ≡ bound_on others s listener.route
+
+-- so for each of its listeners
+abbrev pub BoundTheSame : DeclaredTopology → List Row → List Row → DeclaredStream → Type 0
+BoundTheSame topology rows others s = All (LinesTheSame rows others s) (listeners_of topology s)
 
 -- what is printed of two accepted certificates of a network is the same only where each stream has the same bounds and
--- the same sum by both
+-- for each of its listeners the same sum by both
 abbrev pub AcceptedTellsAll : Type 0
 AcceptedTellsAll = (network : DeclaredNetwork) (rows others : List Row)
-    → All (HasShortBounds rows) network.streams → All (HasShortBounds others) network.streams
-    → accepted_text network rows ≡ accepted_text network others → All (BoundTheSame rows others) network.streams
+    → All (HasShortBounds network.topology rows) network.streams
+    → All (HasShortBounds network.topology others) network.streams
+    → accepted_text network rows ≡ accepted_text network others
+    → All (BoundTheSame network.topology rows others) network.streams

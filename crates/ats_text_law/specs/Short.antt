@@ -10,7 +10,9 @@ use Rattle.ats_trace.specs.declared.journey.Ending.{Ending}
 use Rattle.ats_trace.specs.declared.journey.Ending.TheVariants.{Sink, Discard}
 use Rattle.ats_streams.specs.Stream.{DeclaredStream}
 use Rattle.ats_network.specs.Sender.{Sender, stream_sender}
-use Rattle.ats_certificate.specs.Certificate.{bound_along, bound_of_hop}
+use Rattle.ats_network.specs.Listeners.{Listener, listeners_of}
+use Rattle.ats_topology.specs.Topology.{DeclaredTopology}
+use Rattle.ats_certificate.specs.Certificate.{bound_of_hop, bound_on}
 use Rattle.ats_certificate.specs.declared.row.Row.{Row}
 use Rattle.ats_replay.specs.declared.summary.Summary.{Summary}
 use Rattle.ats_replay.specs.declared.totals.Totals.{Totals}
@@ -68,7 +70,11 @@ abbrev pub AreShort : Option (List ℕ) → Type 0
 AreShort None = Unit {0}
 AreShort (Some sums) = All IsShort sums
 
--- the bounds of a stream by the rows of a certificate, and their sum
-pub record HasShortBounds (rows : List Row) (s : DeclaredStream) : Type 0 where
-  pub bounds : All (λ port. IsShort (bound_of_hop rows (stream_sender s) port)) s.ports
-  pub sum : IsShort (bound_along rows s)
+-- the bounds of a stream along the leg of a listener by the rows of a certificate, and the sum along the route there
+pub record HasShortLines (rows : List Row) (s : DeclaredStream) (listener : Listener) : Type 0 where
+  pub bounds : All (λ port. IsShort (bound_of_hop rows (stream_sender s) port)) listener.leg
+  pub sum : IsShort (bound_on rows s listener.route)
+
+-- those of each listener
+abbrev pub HasShortBounds : DeclaredTopology → List Row → DeclaredStream → Type 0
+HasShortBounds topology rows s = All (HasShortLines rows s) (listeners_of topology s)

@@ -4,8 +4,8 @@ ghost use Rattle.ats_text_law.specs.Answers.{AnswersTellAll};
 ghost use Rattle.ats_text_law.specs.Explained.{ExplainTellsAll};
 ghost use Rattle.ats_text_law.specs.Laws.{AcceptedTellsAll, DeparturesTellAll, ReportTellsAll};
 
-/// A law: over one network, the texts that `replay` prints of two runs are the same only where the runs
-/// are, record for record, whatever stands behind the texts.
+/// A law: over one network whose streams have one listener each, the texts that `replay` prints of two runs are the
+/// same only where the runs are, record for record, whatever stands behind the texts.
 pub fn departures_tell_all()
     ensures { DeparturesTellAll }
 {}
@@ -17,8 +17,8 @@ pub fn report_tells_all()
 {}
 
 /// A law: what `check` prints of two accepted certificates of one network is the same only where each
-/// stream has the same bound at each of its ports, and the same sum, by both. So the text has the
-/// bounds of every stream.
+/// stream has the same bound at each of its ports, and for each listener the same sum, by both. So
+/// the text has the bounds of every stream.
 pub fn accepted_tells_all()
     ensures { AcceptedTellsAll }
 {}
@@ -30,7 +30,7 @@ pub fn answers_tell_all()
 {}
 
 /// A law: what `explain` prints of two networks over one topology, whose streams have the same names and
-/// paths, is the same only where each stream has the same sum and deadline, and at each port the same
+/// routes, is the same only where each stream has the same sums and deadline, and at each port the same
 /// class and the same parts of its bound. Of the sender of the longest lower frame the text tells how it
 /// is written: `-` stands for none, and for a sender of that name.
 pub fn explain_tells_all()

@@ -1,1 +1,3 @@
 pub mod ReasonPorts
+pub mod OnLegs
+pub mod Lines

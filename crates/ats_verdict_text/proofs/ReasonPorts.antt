@@ -1,11 +1,12 @@
 -- The ports that reasons name.
 use Rattle.std.proofs.Common.{get_or}
 use Rattle.ats_streams.specs.Stream.{DeclaredStream}
+use Rattle.ats_network.specs.Listeners.{Listener, listeners_of}
 use Rattle.ats_network.specs.Residence.{residence_after}
-use Rattle.ats_certificate.specs.Certificate.{bound_along}
+use Rattle.ats_certificate.specs.Certificate.{bound_on}
 use Rattle.ats_certificate.specs.Used.{places_of}
 use Rattle.ats_certificate.specs.declared.row.Row.{Row}
-use Rattle.ats_tally.specs.Reason.{overstay, row_need, late, ReasonInside}
+use Rattle.ats_tally.specs.Reason.{overstay, row_need, late, late_for, ReasonInside}
 use Rattle.ats_tally.proofs.Firsts.{first_where, or_where}
 use Rattle.ats_tally.proofs.Places.{is_place, places_used}
 use Rattle.ats_tally.proofs.Reasons.{overload_inside, overstay_inside, late_inside}
@@ -28,8 +29,14 @@ each_reason_is_inside network found is some =
     let row : Row = get_or (least_certificate network) k d in
     overstay_inside network.topology row (row_need network row) (residence_after network.topology row.port) b
     (ports_exist network is k d h))))
-    (first_where (late (least_certificate network)) (ReasonInside network.topology) network.streams found
+    (first_where (late network.topology (least_certificate network)) (ReasonInside network.topology) network.streams
+    found
     (λ k d h b. (
     let stream : DeclaredStream = get_or network.streams k d in
-    late_inside network.topology stream (bound_along (least_certificate network) stream) b))))
+    first_where (late_for (least_certificate network) stream) (ReasonInside network.topology)
+    (listeners_of network.topology stream) b
+    (λ j e g r. (
+    let listener : Listener = get_or (listeners_of network.topology stream) j e in
+    late_inside network.topology stream listener.name
+    (bound_on (least_certificate network) stream listener.route) r))))))
     some

@@ -5,7 +5,8 @@ use Rattle.ats_port_names.specs.PortName.{port_name}
 use Rattle.ats_streams.specs.Stream.{DeclaredStream}
 use Rattle.ats_network.specs.Sender.{stream_sender}
 use Rattle.ats_network.specs.Network.{DeclaredNetwork}
-use Rattle.ats_certificate.specs.Certificate.{bound_of_hop, bound_along}
+use Rattle.ats_network.specs.Listeners.{Listener, listeners_of, listener_text}
+use Rattle.ats_certificate.specs.Certificate.{bound_of_hop, bound_on}
 use Rattle.ats_certificate.specs.declared.row.Row.{Row}
 use Rattle.ats_tally.specs.declared.reason.Reason.{Reason}
 use Rattle.ats_tally.specs.declared.reason.Reason.TheVariants as reason
@@ -21,21 +22,26 @@ hop_line topology rows s port =
     codes "hop " ++ s.name ++ codes " " ++ port_name topology port ++ codes " "
     ++ decimal (bound_of_hop rows (stream_sender s) port) ++ codes "\n"
 
--- a line for each port of a stream
-abbrev pub hop_lines : DeclaredTopology → List Row → DeclaredStream → List ℕ
-hop_lines topology rows s = flat_map (hop_line topology rows s) s.ports
+-- a line for each of some ports of a stream
+abbrev pub hop_lines : DeclaredTopology → List Row → DeclaredStream → List ℕ → List ℕ
+hop_lines topology rows s ports = flat_map (hop_line topology rows s) ports
 
--- these lines, then `sum NAME SUM`
-unfoldable pub stream_lines : DeclaredTopology → List Row → DeclaredStream → List ℕ
-stream_lines topology rows s =
-    hop_lines topology rows s ++ codes "sum " ++ s.name ++ codes " "
-    ++ decimal (bound_along rows s) ++ codes "\n"
+-- the lines of the ports of a listener's leg, then `sum NAME SUM`, or `sum NAME STATION SUM`, along the whole route
+unfoldable pub listener_lines : DeclaredTopology → List Row → DeclaredStream → Listener → List ℕ
+listener_lines topology rows s listener =
+    hop_lines topology rows s listener.leg ++ codes "sum " ++ listener_text s.name listener.name ++ codes " "
+    ++ decimal (bound_on rows s listener.route) ++ codes "\n"
+
+-- the lines of each listener of a stream
+abbrev pub stream_lines : DeclaredTopology → List Row → DeclaredStream → List ℕ
+stream_lines topology rows s = flat_map (listener_lines topology rows s) (listeners_of topology s)
 
 -- the lines of each stream of a network
 abbrev pub streams_text : DeclaredNetwork → List Row → List ℕ
 streams_text network rows = flat_map (stream_lines network.topology rows) network.streams
 
--- what is printed of a certificate that holds: the bounds and the sum of each stream, and `accepted STREAMS`
+-- what is printed of a certificate that holds: the bounds of each stream and the sum for each of its
+-- listeners, and `accepted STREAMS`
 abbrev pub accepted_text : DeclaredNetwork → List Row → List ℕ
 accepted_text network rows =
     streams_text network rows ++ codes "accepted " ++ decimal (length network.streams) ++ codes "\n"
@@ -52,7 +58,8 @@ measure_text topology port class n = place_text topology port class ++ codes " "
 abbrev pub reason_text : DeclaredTopology → Reason → List ℕ
 reason_text topology (reason.Overloaded port class load) = codes "overloaded " ++ measure_text topology port class load
 reason_text topology (reason.Residence port class need) = codes "residence " ++ measure_text topology port class need
-reason_text topology (reason.Deadline stream sum) = codes "deadline " ++ stream ++ codes " " ++ decimal sum
+reason_text topology (reason.Deadline stream listener sum) =
+    codes "deadline " ++ listener_text stream listener ++ codes " " ++ decimal sum
 
 -- a column as the header of a certificate names it
 abbrev pub field_text : Field → List ℕ

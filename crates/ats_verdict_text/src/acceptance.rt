@@ -1,21 +1,24 @@
 //! A certificate that holds, written.
 
-ghost use Rattle.std.specs.Prelude.{◌≡◌, ◌≢◌, ◌++◌, ◌<◌, ◌≤◌, length, All, AllPairs, IfOk, OnOk};
+ghost use Rattle.std.specs.Prelude.{◌≡◌, ◌≢◌, ◌++◌, ◌<◌, ◌≤◌, length, slice_index_or, All, AllPairs, IfOk, OnOk};
+ghost use Rattle.ats_streams.specs.Branches.{first_from, leg_at, legs_of};
 ghost use Rattle.ats_network.specs.Class.{class_at};
+ghost use Rattle.ats_network.specs.Edits.{no_stream};
 ghost use Rattle.ats_network.specs.Sender.{stream_sender};
-ghost use Rattle.ats_certificate.specs.Certificate.{bound_along};
-ghost use Rattle.ats_verdict_text.specs.Text.{accepted_text, hop_line, hop_lines, stream_lines, streams_text};
+ghost use Rattle.ats_tally.specs.Listeners.{listener_at};
+ghost use Rattle.ats_verdict_text.specs.Text.{accepted_text, hop_line, hop_lines, listener_lines, stream_lines};
+ghost use Rattle.ats_verdict_text.specs.Text.{streams_text};
 
-use crate::pieces::write_number;
+use crate::pieces::{write_named, write_number};
 use ats_port_names::write_port;
 use ats_streams::Stream;
-use ats_tally::{Bounds, Delays};
+use ats_tally::{Bounds, Delays, listener_name};
 use ats_topology::Topology;
 use std::alloc::{AllocError, Global};
 
-/// What is printed of a certificate that holds for a network: for each stream a line for each port
-/// of its path with the bound there, and a line with the sum; then the number of streams. It takes
-/// time linear in the sum of the paths' lengths.
+/// What is printed of a certificate that holds for a network: for each listener, stream by stream, a line for each port
+/// of its leg with the bound there, and a line with the sum along the route there; then the number of streams. It takes
+/// time linear in the sum of the routes' lengths.
 ///
 /// # Errors
 ///
@@ -34,61 +37,79 @@ pub fn accepted(alloc: Global, delays: &Delays) -> Result<Vec<u8>, AllocError>
 fn write_streams(out: &mut Vec<u8>, delays: &Delays) -> Result<(), AllocError>
     ensures { OnOk result (out.new.items ≡ out.old.items ++ streams_text delays.now.network delays.now.rows) }
 {
-    let network = delays.network();
-    let streams = network.streams();
-    let sums = delays.sums();
-    for i in 0..streams.len() {
-        write_stream(
-            out,
-            network.topology(),
-            delays.bounds(),
-            &streams[i],
-            sums[i],
-        )?;
+    for stream in 0..delays.network().streams().len() as u32 {
+        write_stream(out, delays, stream)?;
     }
     Ok(())
 }
 
-// The lines of a stream, whose bounds have this sum.
-#[tactic(auto, unfolding(crate::specs::Text::stream_lines))]
-fn write_stream(
-    out: &mut Vec<u8>,
-    topology: &Topology,
-    bounds: &Bounds,
-    stream: &Stream,
-    sum: u128,
-) -> Result<(), AllocError>
-    requires ports { bounds.now.ports ≡ length topology.now.ports }
-    requires inside { All (λ p. p < length topology.now.ports) stream.now.ports }
-    requires apart { AllPairs (λ p q. p ≢ q) stream.now.ports }
-    requires sum { sum ≡ bound_along bounds.now.rows stream.now }
-    ensures { OnOk result (out.new.items ≡ out.old.items ++ stream_lines topology.now bounds.now.rows stream.now) }
+// The lines of each listener of a stream.
+fn write_stream(out: &mut Vec<u8>, delays: &Delays, stream: u32) -> Result<(), AllocError>
+    requires { stream < length delays.now.network.streams }
+    ensures { OnOk result (out.new.items ≡ out.old.items ++ stream_lines delays.now.network.topology delays.now.rows
+        (slice_index_or delays.now.network.streams stream no_stream)) }
 {
-    write_hops(out, topology, bounds, stream)?;
-    out.extend_from_slice(b"sum ")?;
-    out.extend_from_slice(stream.name().bytes())?;
-    write_number(out, b" ", sum)?;
+    for leg in 0..delays.network().streams()[stream as usize].legs() {
+        write_listener(out, delays, stream, leg)?;
+    }
+    Ok(())
+}
+
+// The lines of the listener of a leg.
+fn write_listener(
+    out: &mut Vec<u8>,
+    delays: &Delays,
+    stream: u32,
+    leg: u32,
+) -> Result<(), AllocError>
+    requires stream { stream < length delays.now.network.streams }
+    requires leg { leg ≤ length (slice_index_or delays.now.network.streams stream no_stream).branches }
+    ensures { OnOk result (out.new.items ≡ out.old.items ++ listener_lines delays.now.network.topology delays.now.rows
+        (slice_index_or delays.now.network.streams stream no_stream) (listener_at delays.now.network.topology
+        (slice_index_or delays.now.network.streams stream no_stream) leg)) }
+{
+    let network = delays.network();
+    let of = &network.streams()[stream as usize];
+    let listener = listener_name(network, stream, leg);
+    let sum = delays.along(stream, leg);
+    write_hops(out, network.topology(), delays.bounds(), of, leg)?;
+    write_named(out, b"sum ", &of.name(), &listener, sum)?;
     out.extend_from_slice(b"\n")?;
     Ok(())
 }
 
-// A line for each port of a stream.
+// A line for each port of a leg of a stream.
 fn write_hops(
     out: &mut Vec<u8>,
     topology: &Topology,
     bounds: &Bounds,
     stream: &Stream,
+    leg: u32,
 ) -> Result<(), AllocError>
     requires ports { bounds.now.ports ≡ length topology.now.ports }
     requires inside { All (λ p. p < length topology.now.ports) stream.now.ports }
     requires apart { AllPairs (λ p q. p ≢ q) stream.now.ports }
-    ensures { OnOk result (out.new.items ≡ out.old.items ++ hop_lines topology.now bounds.now.rows stream.now) }
+    requires leg { leg ≤ length stream.now.branches }
+    ensures { OnOk result (out.new.items ≡ out.old.items ++ hop_lines topology.now bounds.now.rows stream.now
+        (leg_at (legs_of stream.now.ports stream.now.branches) leg)) }
 {
+    let first = first_place(stream, leg);
     let classes = stream.classes();
-    for (hop, port) in stream.ports().iter().enumerate() {
-        write_hop(out, topology, bounds, stream, *port, classes[hop])?;
+    for (hop, port) in stream.leg(leg).iter().enumerate() {
+        write_hop(out, topology, bounds, stream, *port, classes[first + hop])?;
     }
     Ok(())
+}
+
+// The place of the first port of a leg among the ports of its stream.
+fn first_place(stream: &Stream, leg: u32) -> usize
+    requires { leg ≤ length stream.now.branches }
+    ensures { result ≡ first_from 0 stream.now.branches leg }
+{
+    if leg == 0 {
+        return 0;
+    }
+    stream.branch(leg).first as usize
 }
 
 // The line of a port, at which the stream has this class.

@@ -1,6 +1,7 @@
 //! Pieces of lines.
 
 ghost use Rattle.std.specs.Prelude.{◌≡◌, ◌++◌, ◌<◌, codes, decimal, length, take, OnOk};
+ghost use Rattle.ats_network.specs.Listeners.{listener_text};
 ghost use Rattle.ats_verdict_text.specs.Text.{measure_text, place_text};
 
 use ats_num::Name;
@@ -59,17 +60,37 @@ pub(crate) fn write_measure(
     write_number(out, b" ", n)
 }
 
-// A word, a name and a number.
+// A word, a listener of the stream with this name, and a number.
 pub(crate) fn write_named(
     out: &mut Vec<u8>,
     word: &[u8],
-    name: &Name,
+    stream: &Name,
+    listener: &Option<Name>,
     n: u128,
 ) -> Result<(), AllocError>
-    ensures written { OnOk result (out.new.items ≡ out.old.items ++ (word.now ++ name.now ++ codes " " ++ decimal n)) }
+    ensures written { OnOk result (out.new.items
+        ≡ out.old.items ++ (word.now ++ listener_text stream.now listener.now ++ codes " " ++ decimal n)) }
     ensures front { take (length out.old.items) out.new.items ≡ out.old.items }
 {
     out.extend_from_slice(word)?;
-    out.extend_from_slice(name.bytes())?;
+    write_listener(out, stream, listener)?;
     write_number(out, b" ", n)
+}
+
+// The name of a stream, and behind it that of the station of a further listener.
+fn write_listener(
+    out: &mut Vec<u8>,
+    stream: &Name,
+    listener: &Option<Name>,
+) -> Result<(), AllocError>
+    ensures written { OnOk result (out.new.items ≡ out.old.items ++ listener_text stream.now listener.now) }
+    ensures front { take (length out.old.items) out.new.items ≡ out.old.items }
+{
+    out.extend_from_slice(stream.bytes())?;
+    let Some(station) = listener else {
+        return Ok(());
+    };
+    out.extend_from_slice(b" ")?;
+    out.extend_from_slice(station.bytes())?;
+    Ok(())
 }

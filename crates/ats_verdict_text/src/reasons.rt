@@ -10,7 +10,7 @@ use ats_topology::Topology;
 use std::alloc::AllocError;
 
 /// Appends why no certificate holds for a network: a word for what fails, the port and the class,
-/// or the stream, and the number that is too great. What stood in `out` stays in front; after
+/// or the listener, and the number that is too great. What stood in `out` stays in front; after
 /// `AllocError` nothing is said of what is behind it.
 pub fn write_reason(
     out: &mut Vec<u8>,
@@ -28,6 +28,10 @@ pub fn write_reason(
         Reason::Residence { port, class, need } => {
             write_measure(out, b"residence ", topology, *port, *class, *need)
         }
-        Reason::Deadline { stream, sum } => write_named(out, b"deadline ", stream, *sum),
+        Reason::Deadline {
+            stream,
+            listener,
+            sum,
+        } => write_named(out, b"deadline ", stream, listener, *sum),
     }
 }

@@ -11,7 +11,7 @@ use ats_topology::Topology;
 use std::alloc::AllocError;
 
 /// Appends why a certificate does not hold: a word for the clause that fails, the port and the
-/// class, or the stream, and, where there is one, the right value, the load, the least wait, the
+/// class, or the listener, and, where there is one, the right value, the load, the least wait, the
 /// wait with the port's spread, or the sum. What stood in `out` stays in front; after `AllocError`
 /// nothing is said of what is behind it.
 pub fn write_refusal(

@@ -1,34 +1,40 @@
-use Rattle.std.proofs.Common.{◌≡◌, ◌≢◌, ◌<◌, List, length, slice_index_or, ap, sym, subst, ◌∙◌, arith}
-use Rattle.std.specs.List.{All, AllPairs}
+use Rattle.std.proofs.Common.{◌≡◌, ◌+◌, ◌<◌, List, length, get_or, ap, ◌∙◌, arith}
 use Rattle.ats_streams.specs.Stream.{DeclaredStream}
+use Rattle.ats_network.specs.Edits.{no_stream}
 use Rattle.ats_network.specs.Network.{DeclaredNetwork}
-use Rattle.ats_tally.proofs.Paths.{paths_apart}
-use Rattle.ats_explain.specs.Parts.{HopIsUsed}
-use Rattle.ats_explain.proofs.Hops.{hops_used}
+use Rattle.ats_explain.proofs.Numbered.{before_more}
+use Rattle.ats_explain_text.specs.Text.{stream_text}
+use Rattle.ats_explain_text.proofs.Lines.{next_lines, stream_is}
+use Rattle.ats_explain_text.proofs.printing.write_streams.Goals.{In-loop-stream}
 use Rattle.ats_explain_text.proofs.printing.write_streams.Goals as goal
 
-pub write_stream-requires-clause-used : goal.write_stream-requires-clause-used
-write_stream-requires-clause-used c =
-    let network : DeclaredNetwork = c.args.explanation.now in
-    let all : c.streams-streams.result.now ≡ network.streams =
-    c.streams-streams.ensures.value ∙ ap (λ (n : DeclaredNetwork). n.streams) c.network.ensures.value in
-    let long : length c.streams-streams.result.now ≡ length network.streams =
-    ap (λ (streams : List DeclaredStream). length streams) all in
-    let item : c.index-streams-i.result ≡ slice_index_or network.streams c.loop-i.i c.index-streams-i.result =
-    c.index-streams-i.is
-    ∙ ap (λ (streams : List DeclaredStream). slice_index_or streams c.loop-i.i c.index-streams-i.result) all in
-    subst (λ (s : DeclaredStream). All (HopIsUsed network s) s.ports) (sym item)
-    (hops_used network c.loop-i.i c.index-streams-i.result (omega (arith, long)))
+-- there is a stream with this number
+there : (c : In-loop-stream) → c.loop-stream.stream < length c.args.explanation.now.streams
+there c =
+    let all : length c.streams-streams.result.now ≡ length c.args.explanation.now.streams =
+    ap (λ (streams : List DeclaredStream). length streams) c.streams-streams.ensures.value
+    ∙ ap (λ (n : DeclaredNetwork). length n.streams) c.network.ensures.value in
+    omega (arith, all, c.loop-stream-test.true)
 
-pub write_stream-requires-clause-apart : goal.write_stream-requires-clause-apart
-write_stream-requires-clause-apart c =
+pub overflow_add-before : goal.overflow_add-before
+overflow_add-before c =
+    let within = there (goal.at.overflow_add-before c).In-loop-stream in
+    omega (arith, within, c.network.ensures.rules.few_streams, c.loop-stream.invariant.few, c.legs.type_inv)
+
+pub loop-stream-preserved : goal.loop-stream-preserved
+loop-stream-preserved c =
     let network : DeclaredNetwork = c.args.explanation.now in
-    let all : c.streams-streams.result.now ≡ network.streams =
-    c.streams-streams.ensures.value ∙ ap (λ (n : DeclaredNetwork). n.streams) c.network.ensures.value in
-    let long : length c.streams-streams.result.now ≡ length network.streams =
-    ap (λ (streams : List DeclaredStream). length streams) all in
-    let item : c.index-streams-i.result ≡ slice_index_or network.streams c.loop-i.i c.index-streams-i.result =
-    c.index-streams-i.is
-    ∙ ap (λ (streams : List DeclaredStream). slice_index_or streams c.loop-i.i c.index-streams-i.result) all in
-    subst (λ (s : DeclaredStream). AllPairs (λ p q. p ≢ q) s.ports) (sym item)
-    (paths_apart network c.network.ensures.rules c.loop-i.i c.index-streams-i.result (omega (arith, long)))
+    let n = c.loop-stream.stream in
+    let within = there (goal.at.loop-stream-preserved c).In-loop-stream in
+    let item : c.index-streams-stream.result ≡ get_or network.streams n no_stream =
+    stream_is network c.network.result.now c.streams-streams.result.now n c.index-streams-stream.result
+    c.network.ensures.value c.streams-streams.ensures.value c.index-streams-stream.is within in
+    let legs : c.legs.result ≡ 1 + length (get_or network.streams n no_stream).branches =
+    c.legs.ensures.value ∙ ap (λ (s : DeclaredStream). 1 + length s.branches) item in
+    record {
+      lines = next_lines (stream_text network) network.streams n no_stream c.args.out.now.items
+          c.loop-stream.out.items c.write_stream.new.out.items within c.loop-stream.invariant.lines
+          c.in_ok-write_stream.ensures;
+      before_is = omega (arith, c.loop-stream.invariant.before_is, legs, before_more network n within);
+      few = omega (arith, c.loop-stream.invariant.few, c.legs.type_inv);
+    }

@@ -4,8 +4,8 @@ use Rattle.ats_verdict_text.specs.Text.{stream_lines}
 use Rattle.ats_verdict_text.proofs.acceptance.write_streams.Given as goal
 
 -- the lines of the streams so far
-abbrev pub invariant-loop-i : goal.invariant-loop-i
-invariant-loop-i l =
+abbrev pub invariant-loop-stream : goal.invariant-loop-stream
+invariant-loop-stream l =
     l.out.items
     ≡ l.initial.out.items
-    ++ flat_map (stream_lines l.delays.network.topology l.delays.rows) (take l.i l.delays.network.streams)
+    ++ flat_map (stream_lines l.delays.network.topology l.delays.rows) (take l.stream l.delays.network.streams)
