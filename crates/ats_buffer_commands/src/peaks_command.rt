@@ -3,6 +3,7 @@
 
 ghost use Rattle.std.specs.Prelude.{IfOk, IsErrOf};
 ghost use Rattle.ats_io.specs.Outside.{IfTold};
+ghost use Rattle.ats_network.specs.Network.{HasOneListener};
 ghost use Rattle.ats_certificate.specs.Certificate.{Holds};
 ghost use Rattle.ats_checker.specs.Ports.{RowsInside};
 ghost use Rattle.ats_trace.specs.Releases.{AreReleases};
@@ -53,7 +54,8 @@ fn peaks_in<F: Files>(
     order: Order,
     files: &mut F,
 ) -> Result<Vec<u8>, Stop>
-    requires { RowsInside network.now.topology certificate.now }
+    requires one_listener { HasOneListener network.now }
+    requires inside { RowsInside network.now.topology certificate.now }
     ensures due { IfTold (F.told files.old schedule.now) (λ bytes.
         GivesOne (IsHeldText order) result (held_judged network.now certificate.now schedule.now bytes)) }
     ensures reads { ReadsFile F.told F.faults F.reads schedule.now files.old files.new result }
@@ -70,6 +72,7 @@ fn judgement_of(
     releases: &[Release],
     order: Order,
 ) -> Result<Vec<u8>, Stop>
+    requires one_listener { HasOneListener network.now }
     requires inside { RowsInside network.now.topology certificate.now }
     requires releases { AreReleases network.now releases.now }
     ensures due { GivesOne (IsHeldText order) result
@@ -88,6 +91,7 @@ fn text_of(
     releases: &[Release],
     order: Order,
 ) -> Result<Vec<u8>, AllocError>
+    requires one_listener { HasOneListener network.now }
     requires inside { RowsInside network.now.topology certificate.now }
     requires holds { Holds network.now certificate.now }
     requires releases { AreReleases network.now releases.now }

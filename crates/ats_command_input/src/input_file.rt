@@ -5,6 +5,7 @@ ghost use Rattle.std.specs.Prelude.{vec_len};
 ghost use Rattle.std.specs.Global.{Vec};
 ghost use Rattle.ats_io.specs.declared.files.TheConstants.{MAX_PLACE};
 ghost use Rattle.ats_io.specs.Outside.{IfTold};
+ghost use Rattle.ats_network.specs.Network.{HasOneListener};
 ghost use Rattle.ats_command_input.specs.Answer.{input_text};
 ghost use Rattle.ats_command_input.specs.Input.{bytes_in, shape_in, network_in, records_in, releases_in, rows_in};
 ghost use Rattle.ats_command_input.specs.Input.{requests_in, traffic_in};
@@ -49,11 +50,12 @@ pub fn shape_in<F: Files>(alloc: Global, file: &str, files: &mut F) -> Result<Sh
     declared(alloc, file, read_shape(alloc, &bytes))
 }
 
-/// The network that a file declares. `Input` exactly where the file is too long or has a fault, and
-/// `ReadFailed` only where a fault came at it.
+/// The network that a file declares, in which each stream has one listener. `Input` exactly where the file is too long
+/// or has a fault, and `ReadFailed` only where a fault came at it.
 pub fn network_in<F: Files>(alloc: Global, file: &str, files: &mut F) -> Result<Network, Stop>
     ensures due { IfTold (F.told files.old file.now)
         (λ bytes. Gives (λ network. network) result (network_in file.now bytes)) }
+    ensures one_listener { IfOk result HasOneListener }
     ensures reads { ReadsFile F.told F.faults F.reads file.now files.old files.new result }
 {
     let bytes = bytes_in(alloc, file, MAX_BYTES, files)?;

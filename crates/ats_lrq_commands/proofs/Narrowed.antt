@@ -14,7 +14,7 @@ use Rattle.ats_certificate.specs.Certificate.{Holds, IsInTime}
 use Rattle.ats_certificate.specs.declared.row.Row.{Row}
 use Rattle.ats_checker.specs.InTime.{FramesAreInTimeBy}
 use Rattle.ats_checker.proofs.InTime.{sound_is_in_time}
-use Rattle.ats_verdict_text.specs.Text.{accepted_text, hop_line, stream_lines}
+use Rattle.ats_verdict_text.specs.Text.{accepted_text, hop_line, listener_lines, stream_lines}
 use Rattle.ats_lrq.specs.Judge.{lrq_judge, spacing_rule}
 use Rattle.ats_lrq.specs.Narrow.{narrowed, narrowed_stream}
 use Rattle.ats_lrq_law.proofs.Narrowed.{narrowed_is_sound}
@@ -38,7 +38,7 @@ narrowed_is_in_time network rows is holds =
 same_lines : (topology : DeclaredTopology) (rows : List Row) (streams : List DeclaredStream)
     → flat_map (stream_lines topology rows) (map narrowed_stream streams)
     ≡ flat_map (stream_lines topology rows) streams
-unfolding hop_line stream_lines
+unfolding hop_line listener_lines
 same_lines topology rows [] = refl
 same_lines topology rows (s ∷ streams) =
     ap (λ (text : List ℕ). stream_lines topology rows s ++ text) (same_lines topology rows streams)

@@ -1,6 +1,7 @@
 //! `witness NET NAME`: delays of a stream that can happen, beside the sum of its least bounds.
 
 ghost use Rattle.std.specs.Prelude.{◌≡◌, ◌<◌, length, slice_index_or, IfOk, IsErrOf};
+ghost use Rattle.ats_network.specs.Network.{HasOneListener};
 ghost use Rattle.ats_network.specs.Edits.{no_stream};
 ghost use Rattle.ats_certificate.specs.Certificate.{Holds, bound_along};
 ghost use Rattle.ats_bound.specs.Least.{least_certificate};
@@ -40,7 +41,8 @@ pub fn witness<F: Files>(
 
 // What is printed of the delays found of a stream, or why no certificate of its network holds.
 fn delays_of(alloc: Global, network: &Network, stream: u32) -> Result<Vec<u8>, Stop>
-    requires { stream < length network.now.streams }
+    requires one_listener { HasOneListener network.now }
+    requires stream { stream < length network.now.streams }
     ensures due { GivesOne IsWitnessed result (witness_judged network.now stream) }
     ensures was_read { ¬ IsErrOf result Stop.ReadFailed }
 {
@@ -59,6 +61,7 @@ fn text_of(
     certificate: &Certificate,
     stream: u32,
 ) -> Result<Vec<u8>, AllocError>
+    requires one_listener { HasOneListener network.now }
     requires stream { stream < length network.now.streams }
     requires least { certificate.now ≡ least_certificate network.now }
     requires holds { Holds network.now (least_certificate network.now) }
@@ -69,7 +72,7 @@ fn text_of(
     witnessed(alloc, network, stream, &found, bound)
 }
 
-// The sum of a stream's bounds by a certificate.
+// The sum of a stream's bounds by a certificate, along the route to its first listener.
 fn sum_of(
     alloc: Global,
     network: &Network,
@@ -81,5 +84,5 @@ fn sum_of(
         sum ≡ bound_along certificate.now (slice_index_or network.now.streams stream no_stream)) }
 {
     let delays = Delays::new(alloc, network, certificate)?;
-    Ok(delays.sums()[stream as usize])
+    Ok(delays.along(stream, 0))
 }

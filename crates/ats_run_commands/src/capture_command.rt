@@ -2,6 +2,7 @@
 
 ghost use Rattle.std.specs.Prelude.{IfOk};
 ghost use Rattle.ats_io.specs.Outside.{IfTold};
+ghost use Rattle.ats_network.specs.Network.{HasOneListener};
 ghost use Rattle.ats_capture.specs.Seen.{seen};
 ghost use Rattle.ats_trace.specs.Releases.{AreReleases};
 ghost use Rattle.ats_command_input.specs.Command as table;
@@ -49,6 +50,7 @@ fn capture_of<F: Files>(
     order: Order,
     files: &mut F,
 ) -> Result<Vec<u8>, Stop>
+    requires one_listener { HasOneListener network.now }
     ensures due { IfTold (F.told files.old file.now) (λ bytes.
         GivesOne (IsCaptureText order network.now) result (traffic_in network.now station file.now bytes)) }
     ensures reads { ReadsFile F.told F.faults F.reads file.now files.old files.new result }
@@ -64,7 +66,8 @@ fn text_of(
     traffic: &StationTraffic,
     order: Order,
 ) -> Result<Vec<u8>, AllocError>
-    requires { AreReleases network.now traffic.now.releases.items }
+    requires one_listener { HasOneListener network.now }
+    requires releases { AreReleases network.now traffic.now.releases.items }
     ensures { IfOk result (λ text. IsCaptureText order network.now (seen traffic.now) text.items) }
 {
     let run = run_in(alloc, network, &traffic.releases, order)?;

@@ -1,6 +1,7 @@
 //! `generate NET SEED COUNT`: makes releases by which all talkers keep their buckets, runs them, and gives a summary.
 
 ghost use Rattle.std.specs.Prelude.{◌≡◌, ◌≤◌, All, IfOk, IsErrOf};
+ghost use Rattle.ats_network.specs.Network.{HasOneListener};
 ghost use Rattle.ats_trace.specs.Journey.{IsJourney};
 ghost use Rattle.ats_trace.specs.Releases.{AreReleases};
 ghost use Rattle.ats_trace.specs.declared.run.TheConstants.{MAX_FRAMES};
@@ -44,7 +45,8 @@ pub fn generate<F: Files>(
 
 // What is printed of the releases that are made for a network, or why none are.
 fn summary_of(alloc: Global, network: &Network, seed: u64, count: u32) -> Result<Vec<u8>, Stop>
-    requires { count ≤ MAX_FRAMES }
+    requires one_listener { HasOneListener network.now }
+    requires count { count ≤ MAX_FRAMES }
     ensures due { GivesOne (IsGenerated seed count) result (made_for seed count network.now) }
     ensures was_read { ¬ IsErrOf result Stop.ReadFailed }
 {
@@ -57,7 +59,8 @@ fn summary_of(alloc: Global, network: &Network, seed: u64, count: u32) -> Result
 
 // What is printed of a run with these releases.
 fn text_of(alloc: Global, network: &Network, releases: &[Release]) -> Result<Vec<u8>, AllocError>
-    requires { AreReleases network.now releases.now }
+    requires one_listener { HasOneListener network.now }
+    requires releases { AreReleases network.now releases.now }
     ensures { IfOk result (λ text. IsReportText network.now releases.now text.items) }
 {
     let run = run_in(alloc, network, releases, Order::Early)?;
@@ -66,7 +69,8 @@ fn text_of(alloc: Global, network: &Network, releases: &[Release]) -> Result<Vec
 
 // What came of each sender's frames in a run, with the sums of the least bounds.
 fn report_of(alloc: Global, network: &Network, run: &Run) -> Result<Vec<u8>, AllocError>
-    requires { All (IsJourney network.now) run.now }
+    requires one_listener { HasOneListener network.now }
+    requires journeys { All (IsJourney network.now) run.now }
     ensures { IfOk result (λ text. text.items ≡ report_text network.now run.now (least_sums network.now)) }
 {
     match make(alloc, network) {

@@ -27,7 +27,7 @@ overload_inside network topology reason is same why =
     reason_inside network topology reason is same
     (ap (λ (o : Option Reason). option_or o
     (option_or (first_some (overstay network) (least_certificate network))
-    (first_some (late (least_certificate network)) network.streams))) why)
+    (first_some (late network.topology (least_certificate network)) network.streams))) why)
 
 -- the text of an explanation, where nothing is overloaded
 pub explain_text_is : (network : DeclaredNetwork) (text : List ℕ)

@@ -56,7 +56,7 @@ fn admission_of<F: Files>(
 
 // What is printed of the answers to requests, or why no certificate of the network holds.
 fn answers_of(alloc: Global, network: Network, asked: Vec<Request>) -> Result<Vec<u8>, Stop>
-    requires { All (MayAsk network.topology) asked.items }
+    requires asked { All (MayAsk network.topology) asked.items }
     ensures due { Gives (λ text. text.items) result (admission_judged network asked.items) }
     ensures was_read { ¬ IsErrOf result Stop.ReadFailed }
 {
