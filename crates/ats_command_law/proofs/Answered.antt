@@ -16,7 +16,7 @@ use Rattle.ats_topology.proofs.Known.{name_there}
 use Rattle.ats_streams.proofs.OneListener.{alone_path}
 use Rattle.ats_streams.specs.Stream.{DeclaredStream, with_class}
 use Rattle.ats_network.specs.Edits.{less_at, no_stream, without_named}
-use Rattle.ats_network.specs.Network.{DeclaredNetwork, IsNetwork, names_of, senders_of}
+use Rattle.ats_network.specs.Network.{DeclaredNetwork, HasOneListener, IsNetwork, names_of, senders_of}
 use Rattle.ats_network.specs.Pushes.{is_full, is_name_taken, with_stream}
 use Rattle.ats_network.specs.Tables.{stream_names}
 use Rattle.ats_network.specs.declared.network.TheConstants.{MAX_STREAMS}
@@ -46,6 +46,7 @@ use Rattle.ats_command_law.specs.Answered.{AdmitDenied, AdmitTells, AreFirstReas
 use Rattle.ats_command_law.specs.Answered.{IsFull, IsNameFree, IsNameTaken, LowestDenied, LowestTells, AnswerTells}
 use Rattle.ats_command_law.specs.Answered.{WithdrawTells}
 use Rattle.ats_command_law.proofs.OneClass.{AsksOneClass, IsOfOneClass}
+use Rattle.ats_command_law.proofs.StayAlone.{request_alone}
 
 -- a name that is found is that of a sender, and one that is not is free
 name_taken : (network : DeclaredNetwork) (name : List ℕ) → is_name_taken network name ≡ true
@@ -68,13 +69,13 @@ name_free network name free =
 -- what stands against an entry is a taken name, or that the network is full: with one listener each, streams never have
 -- more ports together than they may
 entry_denies : (P : Denied → Type 0) (network : DeclaredNetwork) (stream : DeclaredStream) → IsNetwork network
-    → MayEnter network.topology stream → (IsNameTaken network stream.name → P NameTaken)
+    → HasOneListener network → MayEnter network.topology stream → (IsNameTaken network stream.name → P NameTaken)
     → (IsFull network stream.name → P Limit) → (denied : Denied) → entry_fault network stream ≡ Some denied → P denied
-entry_denies P network stream is may taken full denied h =
+entry_denies P network stream is alone may taken full denied h =
     by (is_name_taken network stream.name) refl (is_full network.streams stream.ports) refl h
   where
     by_streams : is_full network.streams stream.ports ≡ nat_le MAX_STREAMS (length network.streams)
-    by_streams = full_by_streams network stream.ports is
+    by_streams = full_by_streams network stream.ports is alone
         (alone_path stream.ports stream.branches may.one_listener may.rules.routes)
 
     by : (a : Bool) → is_name_taken network stream.name ≡ a → (b : Bool) → is_full network.streams stream.ports ≡ b
@@ -96,14 +97,15 @@ reason_is_first network stream reason is may none found =
     record { rules = rules; first = (each_reason_is_the_first (with_stream network stream) reason rules).0 found }
 
 admit_denies : (network : DeclaredNetwork) (stream : DeclaredStream) (denied : Denied) → IsNetwork network
-    → MayEnter network.topology stream → admit_fault network stream ≡ Some denied
+    → HasOneListener network → MayEnter network.topology stream → admit_fault network stream ≡ Some denied
     → AdmitDenied network stream denied
-admit_denies network stream denied is may h = by (entry_fault network stream) refl (reason_with network stream) refl h
+admit_denies network stream denied is alone may h =
+    by (entry_fault network stream) refl (reason_with network stream) refl h
   where
     by : (o : Option Denied) → entry_fault network stream ≡ o → (r : Option Reason) → reason_with network stream ≡ r
         → option_or o (option_map Because r) ≡ Some denied → AdmitDenied network stream denied
     by (Some d) e r f h =
-        entry_denies (AdmitDenied network stream) network stream is may (λ t. t) (λ t. t) denied (e ∙ h)
+        entry_denies (AdmitDenied network stream) network stream is alone may (λ t. t) (λ t. t) denied (e ∙ h)
     by None e (Some reason) f h =
         subst (AdmitDenied network stream) (same_Some (Because reason) denied h)
         (reason_is_first network stream reason is may e f)
@@ -111,9 +113,9 @@ admit_denies network stream denied is may h = by (entry_fault network stream) re
 
 -- so it is where a stream is refused for a reason
 refused_first : (network : DeclaredNetwork) (stream : DeclaredStream) (reason : Reason) → IsNetwork network
-    → MayEnter network.topology stream → admit network stream ≡ Err (Because reason)
+    → HasOneListener network → MayEnter network.topology stream → admit network stream ≡ Err (Because reason)
     → HasFirstReason (with_stream network stream) reason
-refused_first network stream reason is may h = by (admit_fault network stream) refl h
+refused_first network stream reason is alone may h = by (admit_fault network stream) refl h
   where
     by : (o : Option Denied) → admit_fault network stream ≡ o
         → unless (λ (d : Denied). d) o (sum_with network stream) ≡ Err (Because reason)
@@ -121,13 +123,13 @@ refused_first network stream reason is may h = by (admit_fault network stream) r
     by None e h = absurd (let no : Ok (sum_with network stream) ≡ Err (Because reason) = h in cc)
     by (Some d) e h =
         let same : d ≡ Because reason = cc h in
-        admit_denies network stream (Because reason) is may (e ∙ ap Some same)
+        admit_denies network stream (Because reason) is alone may (e ∙ ap Some same)
 
 -- the answer to a stream with its class
-admit_tells : (network : DeclaredNetwork) (stream : DeclaredStream) → IsNetwork network
+admit_tells : (network : DeclaredNetwork) (stream : DeclaredStream) → IsNetwork network → HasOneListener network
     → MayEnter network.topology stream → IsOfOneClass stream
     → AdmitTells network (after network (Admit stream)) stream (answer network (Admit stream))
-admit_tells network stream is may one = by (admit_fault network stream) refl
+admit_tells network stream is alone may one = by (admit_fault network stream) refl
   where
     by : (o : Option Denied) → admit_fault network stream ≡ o
         → AdmitTells network (cond (is_some o) network (with_stream network stream)) stream
@@ -139,12 +141,13 @@ admit_tells network stream is may one = by (admit_fault network stream) refl
         sum_is = ap (bound_along (least_certificate (with_stream network stream))) one;
       };
     }
-    by (Some denied) e = record { same = refl; cause = admit_denies network stream denied is may e }
+    by (Some denied) e = record { same = refl; cause = admit_denies network stream denied is alone may e }
 
 -- why a stream gets no class
 lowest_denies : (network : DeclaredNetwork) (stream : DeclaredStream) (denied : Denied) → IsNetwork network
-    → MayEnter network.topology stream → lowest_class network stream ≡ Err denied → LowestDenied network stream denied
-lowest_denies network stream denied is may h =
+    → HasOneListener network → MayEnter network.topology stream → lowest_class network stream ≡ Err denied
+    → LowestDenied network stream denied
+lowest_denies network stream denied is alone may h =
     by (entry_fault network stream) refl (lowest_of network stream stream_classes) h
   where
     none : (reasons : List Reason) → lowest_class network stream ≡ Err (NoClass reasons)
@@ -154,7 +157,7 @@ lowest_denies network stream denied is may h =
         no_class_has_reasons network stream reasons (ap (sum_given network stream) found) in
         record {
           seven = are.seven;
-          each = λ n d below. refused_first network (with_class stream (n + 1)) (get_or reasons n d) is
+          each = λ n d below. refused_first network (with_class stream (n + 1)) (get_or reasons n d) is alone
               (enters_with network.topology stream (n + 1) may
               (record { least = omega arith; most = omega (arith, below) })) (are.each n d below);
         }
@@ -163,17 +166,18 @@ lowest_denies network stream denied is may h =
         → class_given o r ≡ Err denied → LowestDenied network stream denied
     by (Some d) e r g =
         let same : d ≡ denied = cc g in
-        entry_denies (LowestDenied network stream) network stream is may (λ t. t) (λ t. t) denied (e ∙ ap Some same)
+        entry_denies (LowestDenied network stream) network stream is alone may (λ t. t) (λ t. t) denied
+        (e ∙ ap Some same)
     by None e (Ok class) g = absurd (let no : Ok class ≡ Err denied = g in cc)
     by None e (Err reasons) g =
         let same : NoClass reasons ≡ denied = cc g in
         subst (LowestDenied network stream) same (none reasons (h ∙ ap Err (sym same)))
 
 -- the answer to a stream with the lowest class
-lowest_tells : (network : DeclaredNetwork) (stream : DeclaredStream) → IsNetwork network
+lowest_tells : (network : DeclaredNetwork) (stream : DeclaredStream) → IsNetwork network → HasOneListener network
     → MayEnter network.topology stream
     → LowestTells network (after network (Lowest stream)) stream (answer network (Lowest stream))
-lowest_tells network stream is may = by (lowest_class network stream) refl
+lowest_tells network stream is alone may = by (lowest_class network stream) refl
   where
     by : (given : Result ℕ Denied) → lowest_class network stream ≡ given
         → LowestTells network (added_given network stream given) stream
@@ -188,12 +192,12 @@ lowest_tells network stream is may = by (lowest_class network stream) refl
           lower = λ c least less. (
               let refused = first.lower c least less in (
                 refused.reason,
-                refused_first network (with_class stream c) refused.reason is
+                refused_first network (with_class stream c) refused.reason is alone
                     (enters_with network.topology stream c may
                     (record { least = least; most = omega (arith, less, first.is_class.most) })) refused.refused,
               ));
         }
-    by (Err denied) e = record { same = refl; cause = lowest_denies network stream denied is may e }
+    by (Err denied) e = record { same = refl; cause = lowest_denies network stream denied is alone may e }
 
 -- the answer to a stream that is to be taken out
 withdraw_tells : (network : DeclaredNetwork) (name : List ℕ)
@@ -217,11 +221,12 @@ withdraw_tells network name = by (place_of name (stream_names network.streams)) 
           less = taken_out network name n e;
         }
 
-tells : (network : DeclaredNetwork) (request : Request) → IsNetwork network → MayAsk network.topology request
-    → AsksOneClass request → AnswerTells network (after network request) request (answer network request)
-tells network (Admit stream) is may one = admit_tells network stream is may one
-tells network (Lowest stream) is may one = lowest_tells network stream is may
-tells network (Withdraw name) is may one = withdraw_tells network name
+tells : (network : DeclaredNetwork) (request : Request) → IsNetwork network → HasOneListener network
+    → MayAsk network.topology request → AsksOneClass request
+    → AnswerTells network (after network request) request (answer network request)
+tells network (Admit stream) is alone may one = admit_tells network stream is alone may one
+tells network (Lowest stream) is alone may one = lowest_tells network stream is alone may
+tells network (Withdraw name) is alone may one = withdraw_tells network name
 
 -- requests that may be asked over a topology, each for a stream with one class
 pub record AreAsked (topology : DeclaredTopology) (asked : List Request) : Type 0 where
@@ -248,9 +253,9 @@ answers_from network request asked first later =
         (let e : suc (k + 1) ≡ suc k + 1 = omega arith in e) (later.each k r a asks gives)
 
 pub are_answers : (network : DeclaredNetwork) (asked : List Request) → IsCertified network
-    → AreAsked network.topology asked → AreAnswers network asked
-are_answers network [] is are = record { as_many = refl; each = λ k r a asks gives. absurd (none-some r asks) }
-are_answers network (request ∷ asked) is are =
+    → HasOneListener network → AreAsked network.topology asked → AreAnswers network asked
+are_answers network [] is alone are = record { as_many = refl; each = λ k r a asks gives. absurd (none-some r asks) }
+are_answers network (request ∷ asked) is alone are =
     let next : DeclaredNetwork = after network request in
     let may : MayAsk network.topology request = All-head (MayAsk network.topology) request asked are.may in
     let keeps = request_keeps network request is may in
@@ -258,8 +263,8 @@ are_answers network (request ∷ asked) is are =
     subst (λ (t : DeclaredTopology). All (MayAsk t) asked) (sym keeps.topology)
     (All-tail (MayAsk network.topology) request asked are.may) in
     answers_from network request asked
-    (tells network request is.rules may (All-head AsksOneClass request asked are.one))
-    (are_answers next asked keeps.certified (record {
+    (tells network request is.rules alone may (All-head AsksOneClass request asked are.one))
+    (are_answers next asked keeps.certified (request_alone network request alone may) (record {
       may = rest;
       one = All-tail AsksOneClass request asked are.one;
     }))

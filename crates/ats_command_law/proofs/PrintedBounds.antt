@@ -4,25 +4,31 @@ use Rattle.std.proofs.Common.{arith}
 use Rattle.std.specs.Prelude.{codes, decimal, slice_get}
 use Rattle.std.specs.List.{enumerate_from, flat_map}
 use Rattle.ats_verdict_text.specs.Stream.{DeclaredStream}
+use Rattle.ats_network.specs.Listeners.{listeners_by}
 use Rattle.ats_network.specs.Sender.{Sender, stream_sender}
+use Rattle.ats_streams.specs.Branches.{legs_of}
 use Rattle.ats_topology.specs.Topology.{DeclaredTopology}
 use Rattle.ats_certificate.specs.declared.row.Row.{Row}
 use Rattle.ats_soundness_law.specs.Sound.{bounds_of}
-use Rattle.ats_verdict_text.specs.Text.{hop_line, stream_lines}
+use Rattle.ats_trace.specs.Ways.{routes_by}
+use Rattle.ats_verdict_text.specs.Text.{hop_line, listener_lines, stream_lines}
 use Rattle.ats_checker.proofs.InTime.{sender_of_stream}
 use Rattle.ats_command_law.specs.Laws.{AcceptedTextIsSound, lines_by, PrintedBoundsAreSound, sound_lines}
 
 -- the lines of a stream go by the bounds of its sender
 lines_of_sender : (topology : DeclaredTopology) (rows : List Row) (stream : DeclaredStream)
     → stream_lines topology rows stream
-    ≡ lines_by topology stream.name (bounds_of rows (stream_sender stream)) (stream_sender stream).ports
-unfolding stream_lines hop_line
+    ≡ flat_map (lines_by topology stream.name (bounds_of rows (stream_sender stream)))
+    (listeners_by topology (legs_of (stream_sender stream).ports (stream_sender stream).branches)
+    (routes_by (stream_sender stream)))
+unfolding listener_lines hop_line
 lines_of_sender topology rows stream = refl
 
 pub printed_bounds_are_sound : PrintedBoundsAreSound
 printed_bounds_are_sound network rows i stream named =
     subst (λ (s : Sender). stream_lines network.topology rows stream
-    ≡ lines_by network.topology stream.name (bounds_of rows s) s.ports)
+    ≡ flat_map (lines_by network.topology stream.name (bounds_of rows s))
+    (listeners_by network.topology (legs_of s.ports s.branches) (routes_by s)))
     (sym (sender_of_stream network i stream named)) (lines_of_sender network.topology rows stream)
 
 -- what is written of each element by itself, and by its number as well

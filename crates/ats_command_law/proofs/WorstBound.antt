@@ -1,6 +1,6 @@
 -- The printed worst delays are within the bounds beside them.
-use Rattle.std.proofs.Common.{◌≡◌, ℕ, ◌+◌, ◌<◌, ◌≤◌, Bool, true, false, cond, List, [], ◌∷◌, get_or, map, fold}
-use Rattle.std.proofs.Common.{length, Option, Some, None, refl, sym, ap, subst, ◌∙◌, arith, eqb, length-append}
+use Rattle.std.proofs.Common.{◌≡◌, ℕ, ◌+◌, ◌<◌, ◌≤◌, Bool, true, false, cond, List, [], ◌∷◌, ◌++◌, get_or, map}
+use Rattle.std.proofs.Common.{fold, length, Option, Some, None, refl, sym, ap, subst, ◌∙◌, arith, eqb, length-append}
 use Rattle.std.specs.Prelude.{max, nat_lt, slice_get}
 use Rattle.std.specs.List.{All, Contains}
 use Rattle.std.specs.Option.{option_map}
@@ -9,19 +9,23 @@ use Rattle.std.proofs.lemmas.List.{length-map}
 use Rattle.std.proofs.lemmas.List.Elements.{All-contains_itself, All-filter, All-head, All-tail, filter_passes}
 use Rattle.std.proofs.lemmas.List.FromFn.{get_or-map-range_with_len}
 use Rattle.std.proofs.lemmas.Option.{get_or_from_slice_get, none-some, same_Some, slice_get_within, slice_get-map}
+use Rattle.ats_streams.specs.Branches.{trunk_of}
 use Rattle.ats_streams.specs.Stream.{DeclaredStream}
+use Rattle.ats_streams.proofs.BranchLemmas.{lead_of_trunk, route-at, routes-length}
 use Rattle.ats_network.specs.Sender.{flow_sender, stream_sender}
 use Rattle.ats_network.specs.Network.{DeclaredNetwork, senders_of}
-use Rattle.ats_certificate.specs.Certificate.{Holds, bound_along}
+use Rattle.ats_certificate.specs.Certificate.{Holds, bound_along, bound_on}
 use Rattle.ats_certificate.specs.declared.row.Row.{Row}
 use Rattle.ats_tally.specs.declared.reason.Reason.{Reason}
 use Rattle.ats_bound.specs.Least.{least_certificate}
 use Rattle.ats_bound.specs.Reason.{reason_of}
 use Rattle.ats_bound.proofs.LeastHolds.{least_certificate_holds}
+use Rattle.ats_checker.specs.InTime.{ArrivesInTime}
 use Rattle.ats_checker.proofs.InTime.{holding_is_in_time}
 use Rattle.ats_soundness_law.specs.Sound.{ArrivesBy}
 use Rattle.ats_trace.specs.Journey.{Travel}
 use Rattle.ats_trace.specs.Talker.{talker_of}
+use Rattle.ats_trace.specs.Ways.{route_to}
 use Rattle.ats_trace.specs.declared.journey.Ending.{Ending}
 use Rattle.ats_trace.specs.declared.journey.Ending.TheVariants.{Sink, Discard}
 use Rattle.ats_replay.specs.Report.{bound_of}
@@ -71,6 +75,21 @@ bound_is network i bound None e h = within (nat_lt i (length network.streams)) h
     within true k = found (slice_get network.streams i) refl (sym (slice_get-map sum_of network.streams i) ∙ k)
     within false k = absurd (none-some bound k)
 
+-- the route to the first listener of a stream has the ports of its trunk
+first_route : (stream : DeclaredStream)
+    → route_to (stream_sender stream) 0 ≡ trunk_of stream.ports stream.branches
+first_route stream =
+    route-at stream.ports stream.branches 0 [] (omega arith)
+    ∙ ap (λ (lead : List ℕ). lead ++ trunk_of stream.ports stream.branches)
+    (lead_of_trunk stream.ports stream.branches)
+
+-- what arrives in time at each listener does so at the first, by the sum along the trunk
+first_in_time : (rows : List Row) (stream : DeclaredStream) (journey : Travel) → ArrivesInTime rows stream journey
+    → ArrivesBy (journey.release.at.0 + bound_along rows stream) journey.ending
+first_in_time rows stream journey each =
+    subst (λ (route : List ℕ). ArrivesBy (journey.release.at.0 + bound_on rows stream route) journey.ending)
+    (first_route stream) (each 0 (omega (arith, routes-length stream.ports stream.branches))).sum
+
 -- a number of a stream is that of a sender
 sender_within : (network : DeclaredNetwork) (i : ℕ) → i < length network.streams → i < length (senders_of network)
 sender_within network i within = omega (
@@ -113,4 +132,4 @@ printed_worst_is_within network run rules legal keeps i summary bound at printed
         let time = holding_is_in_time network rows rules holds run legal j there is.stream named
         (keeps (talker_of network j.release.sender)) in
         delay_most j.release.at.0 bound j.ending
-        (subst (λ (n : ℕ). ArrivesBy (j.release.at.0 + n) j.ending) (sym is.sum) time.sum)
+        (subst (λ (n : ℕ). ArrivesBy (j.release.at.0 + n) j.ending) (sym is.sum) (first_in_time rows is.stream j time))

@@ -13,7 +13,7 @@ use Rattle.ats_command_input.specs.declared.status.Status.{Status}
 use Rattle.ats_command_input.specs.declared.status.Status.TheVariants.{Done, Input, Refused}
 
 -- a file of these bytes declares this network, of which no port and class is overloaded, and the text gives the parts
--- of the least bounds: at each hop each is what it stands for, they add up to the bound, and along each path to the
+-- of the least bounds: at each hop each is what it stands for, they add up to the bound, and along each route to the
 -- sum; and no stream is late and no frame may have to stay too long exactly where some certificate holds
 pub record IsExplained (net bytes text : List ℕ) (network : DeclaredNetwork) : Type 0 where
   pub declared : network_in net bytes ≡ Ok network

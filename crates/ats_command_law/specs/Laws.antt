@@ -5,8 +5,11 @@ use Rattle.ats_topology.specs.Topology.{DeclaredTopology}
 use Rattle.ats_verdict_text.specs.PortName.{port_name}
 use Rattle.ats_verdict_text.specs.Stream.{DeclaredStream}
 use Rattle.ats_network.specs.Network.{DeclaredNetwork}
+use Rattle.ats_network.specs.Listeners.{Listener, listener_text, listeners_by}
 use Rattle.ats_network.specs.Senders.{sender_at}
 use Rattle.ats_certificate.specs.declared.row.Row.{Row}
+use Rattle.ats_trace.specs.Journey.{legs_at}
+use Rattle.ats_trace.specs.Ways.{routes_by}
 use Rattle.ats_soundness_law.specs.Sound.{bounds_of}
 use Rattle.ats_verdict_text.specs.Text.{accepted_text, stream_lines}
 use Rattle.ats_command_input.specs.Command.{Command, Replay, Capture, Generate, Peaks, Record, Witness, command_of}
@@ -51,24 +54,30 @@ abbrev pub OneStatusIsDue : Type 0
 OneStatusIsDue = (told : List ℕ → Option (List ℕ)) (words : List (List ℕ)) (one other : Answer)
     → IsDueAnswer told (command_of words) one → IsDueAnswer told (command_of words) other → one.status ≡ other.status
 
--- a line `hop NAME PORT BOUND` for each of these ports, by these bounds, and a line `sum NAME SUM` with their sum
-abbrev pub lines_by : DeclaredTopology → List ℕ → (ℕ → ℕ) → List ℕ → List ℕ
-lines_by topology name bound path =
+-- of a listener a line `hop NAME PORT BOUND` for each port of its leg, by these bounds, and a line `sum NAME SUM`, or
+-- `sum NAME STATION SUM`, with their sum along the route to it
+abbrev pub lines_by : DeclaredTopology → List ℕ → (ℕ → ℕ) → Listener → List ℕ
+lines_by topology name bound listener =
     flat_map (λ port. codes "hop " ++ name ++ codes " " ++ port_name topology port ++ codes " " ++ decimal (bound port)
-    ++ codes "\n") path ++ codes "sum " ++ name ++ codes " " ++ decimal (sum_by bound path) ++ codes "\n"
+    ++ codes "\n") listener.leg ++ codes "sum " ++ listener_text name listener.name ++ codes " "
+    ++ decimal (sum_by bound listener.route) ++ codes "\n"
 
--- what is printed of the stream with a number: at each of its ports the bound of which soundness speaks, and the
--- sum of these bounds
+-- the listeners of the sender with a number, of whose routes soundness speaks
+abbrev pub listeners_at : DeclaredNetwork → ℕ → List Listener
+listeners_at network i = listeners_by network.topology (legs_at network i) (routes_by (sender_at network i))
+
+-- what is printed of the stream with a number: for each of its listeners, at each port of the leg the bound of which
+-- soundness speaks, and the sum of these bounds along the route
 abbrev pub PrintedBoundsAreSound : Type 0
 PrintedBoundsAreSound = (network : DeclaredNetwork) (rows : List Row) (i : ℕ) (stream : DeclaredStream)
     → slice_get network.streams i ≡ Some stream → stream_lines network.topology rows stream
-    ≡ lines_by network.topology stream.name (bounds_of rows (sender_at network i)) (sender_at network i).ports
+    ≡ flat_map (lines_by network.topology stream.name (bounds_of rows (sender_at network i))) (listeners_at network i)
 
 -- such lines of the stream with a number, by the bounds of which soundness speaks
 abbrev pub sound_lines : DeclaredNetwork → List Row → ℕ × DeclaredStream → List ℕ
 sound_lines network rows numbered =
-    lines_by network.topology numbered.1.name (bounds_of rows (sender_at network numbered.0))
-    (sender_at network numbered.0).ports
+    flat_map (lines_by network.topology numbered.1.name (bounds_of rows (sender_at network numbered.0)))
+    (listeners_at network numbered.0)
 
 -- so is the whole text that is printed of an accepted certificate: such lines of each stream, in order with its number,
 -- and then the line `accepted N` with the number of streams

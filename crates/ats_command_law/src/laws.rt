@@ -50,9 +50,9 @@ pub fn what_bound_answers()
 
 /// What each answer to `explain` means, by its status. `Done`: the file declares a network of which no port and class
 /// is overloaded, and the text gives the parts of the least bounds, each of which is what it stands for, and which add
-/// up at each hop to the bound and along each path to the sum; no stream is late and no frame may have to stay too long
-/// exactly where some certificate holds. `Refused`: it declares a network with an overload, of which the text names the
-/// first, and no certificate holds. `Input`: it declares none. No other status comes.
+/// up at each hop to the bound and along each route to the sum; no stream is late and no frame may have to stay too
+/// long exactly where some certificate holds. `Refused`: it declares a network with an overload, of which the text
+/// names the first, and no certificate holds. `Input`: it declares none. No other status comes.
 pub fn what_explain_answers()
     ensures { ExplainMeans }
 {
@@ -226,8 +226,8 @@ pub fn conform_keeps_bounds()
     ensures { ConformKeepsBounds }
 {}
 
-/// What is printed is what is sound: the lines of the stream with a number give, for each port of its path, the bound
-/// of which `IsSound` speaks, and the sum of these bounds.
+/// What is printed is what is sound: the lines of the stream with a number give, for each of its listeners, at each
+/// port of the leg the bound of which `IsSound` speaks, and the sum of these bounds along the route.
 pub fn printed_bounds_are_sound()
     ensures { PrintedBoundsAreSound }
 {}

@@ -1,0 +1,9 @@
+pub mod Turns
+pub mod Listeners
+pub mod Ends
+pub mod Names
+pub mod Ways
+pub mod Each
+pub mod Once
+pub mod Alone
+pub mod Overdue

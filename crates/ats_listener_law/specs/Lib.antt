@@ -1,0 +1,5 @@
+pub mod Routes
+pub mod Listeners
+pub mod Ways
+pub mod Once
+pub mod OneListener
