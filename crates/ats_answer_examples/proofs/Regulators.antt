@@ -8,7 +8,7 @@ use Rattle.ats_csv.specs.Reading.{records_of, same_fields}
 use Rattle.ats_lrq.specs.Narrow.{narrowed}
 use Rattle.ats_network.specs.Network.{DeclaredNetwork}
 use Rattle.ats_shape.specs.Text.{frame_text, totals_text}
-use Rattle.ats_verdict_text.specs.Text.{hop_line, stream_lines}
+use Rattle.ats_verdict_text.specs.Text.{hop_line, listener_lines}
 use Rattle.ats_command_input.specs.Answer.{Answer}
 use Rattle.ats_command_input.specs.Input.{rows_in, shape_in}
 use Rattle.ats_command_due.specs.Due.{bound_answer, check_answer, lrq_bound_answer, lrq_check_answer, lrq_shape_answer}
@@ -71,7 +71,7 @@ lrq_bound_is_answered = record {
 
 check_done : done_with accepted ≡ lrq_check_answer (codes "n") (codes "c") bursts rows
 unfolding
-    digits lrq_check_answer rows_in check_judged hop_line stream_lines next_record records_from strip_bom records_of
+    digits lrq_check_answer rows_in check_judged hop_line listener_lines next_record records_from strip_bom records_of
     same_fields header row_in row_after
 check_done = judged_as (judge_rows rows) bursts (Ok (line_until 26672)) (done_with accepted) bursts_is refl
 

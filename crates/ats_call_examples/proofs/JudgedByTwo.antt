@@ -7,7 +7,7 @@ use Rattle.ats_admission_text.specs.Text.{given_text, reason_end}
 use Rattle.ats_certificate_file.specs.Reading.{header, row_in, row_after}
 use Rattle.ats_csv.specs.Reading.{records_of, same_fields}
 use Rattle.ats_network.specs.Network.{DeclaredNetwork}
-use Rattle.ats_verdict_text.specs.Text.{hop_line, stream_lines}
+use Rattle.ats_verdict_text.specs.Text.{hop_line, listener_lines}
 use Rattle.ats_command_input.specs.Answer.{Answer}
 use Rattle.ats_command_input.specs.Input.{requests_in, rows_in}
 use Rattle.ats_command_due.specs.Due.{admit_answer, check_answer}
@@ -30,7 +30,7 @@ judge_requests bytes over = requests_judged over (codes "s") bytes
 
 pub check_done : done_with accepted ≡ check_answer (codes "n") (codes "c") network rows
 unfolding
-    digits check_answer rows_in check_judged hop_line stream_lines next_record records_from strip_bom records_of
+    digits check_answer rows_in check_judged hop_line listener_lines next_record records_from strip_bom records_of
     same_fields header row_in row_after
 check_done = judged_as (judge_rows rows) network (Ok line) (done_with accepted) line_is refl
 

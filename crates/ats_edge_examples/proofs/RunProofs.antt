@@ -1,18 +1,23 @@
 -- Talkers, journeys and runs at edges, by computation.
 use Rattle.std.proofs.Common.{◌≡◌, ℕ, ◌<◌, ◌≤◌, Bool, true, false, ◌||◌, List, [], ◌∷◌, length, arith, ap}
-use Rattle.std.proofs.Common.{lit<, lit≤, refl}
+use Rattle.std.proofs.Common.{lit<, lit≤, refl, subst}
 use Rattle.std.specs.Prelude.{◌==◌, codes, not, slice_index_or}
 use Rattle.std.specs.List.{list_all}
 use Rattle.std.proofs.lemmas.Bool.{false≢true}
 use Rattle.ats_network.specs.Network.{DeclaredNetwork, senders_of}
 use Rattle.ats_network.specs.Path.{IsValidPath}
+use Rattle.ats_network.specs.Sender.{stream_sender}
 use Rattle.ats_network.specs.Senders.{sender_at}
 use Rattle.ats_network_file.specs.declared.senders.SenderTable.TheVariants.{Stream, Flow}
 use Rattle.ats_network_toml.specs.Document.{path}
+use Rattle.ats_certificate.specs.declared.row.Row.{Row}
+use Rattle.ats_streams.specs.Stream.{DeclaredStream}
+use Rattle.ats_trace.specs.Journey.{Travel}
 use Rattle.ats_trace.specs.Run.{HasReleases}
 use Rattle.ats_trace.specs.Talker.{IsDeclaredSize, KeepsBuckets, frames_of, talker_of}
+use Rattle.ats_trace.specs.Ways.{listener_count, route_to, way_to}
 use Rattle.ats_trace.specs.declared.journey.Release.{Release}
-use Rattle.ats_checker.specs.InTime.{ArrivesInTime}
+use Rattle.ats_checker.specs.InTime.{ArrivesInTime, ArrivesInTimeOn}
 use Rattle.ats_examples.specs.Networks.{fork}
 use Rattle.ats_examples.specs.Rows.{line_rows}
 use Rattle.ats_examples.specs.Runs.{first_goes_first}
@@ -55,19 +60,28 @@ not_own h =
 talkers_are_apart : TalkersAreApart
 talkers_are_apart = record { other = own_keeps fork second_is_long 0 refl refl; own = not_own }
 
+-- a frame of a stream with one listener arrives in time where it does so there
+at_one : (rows : List Row) (stream : DeclaredStream) (journey : Travel) → listener_count (stream_sender stream) ≡ 1
+    → ArrivesInTimeOn rows stream journey.release (route_to (stream_sender stream) 0)
+    (way_to (stream_sender stream) journey 0).ending
+    → ArrivesInTime rows stream journey
+at_one rows stream journey one h = λ listener below.
+    subst (λ (n : ℕ). ArrivesInTimeOn rows stream journey.release (route_to (stream_sender stream) n)
+    (way_to (stream_sender stream) journey n).ending) (let e : 0 ≡ listener = omega (arith, one, below) in e) h
+
 not_until : ¬ ArrivesInTime line_rows (until 26671) (arrives 0 26672000)
-not_until h = let within : 26672000 ≤ 26671000 = h.deadline in absurd (omega (arith, within))
+not_until h = let within : 26672000 ≤ 26671000 = (h 0 (lit< tt)).deadline in absurd (omega (arith, within))
 
 not_later : ¬ ArrivesInTime line_rows (until 1000000) (arrives 0 26672001)
-not_later h = let within : 26672001 ≤ 26672000 = h.sum in absurd (omega (arith, within))
+not_later h = let within : 26672001 ≤ 26672000 = (h 0 (lit< tt)).sum in absurd (omega (arith, within))
 
 not_discarded : ¬ ArrivesInTime line_rows (until 1000000) ends_early
-not_discarded h = absurd h.sum
+not_discarded h = absurd (h 0 (lit< tt)).sum
 
 time_is_over : TimeIsOver
 time_is_over = record {
-  at_last = record { sum = lit≤ tt; deadline = lit≤ tt };
-  since = record { sum = lit≤ tt; deadline = lit≤ tt };
+  at_last = at_one line_rows (until 26672) (arrives 0 26672000) refl (record { sum = lit≤ tt; deadline = lit≤ tt });
+  since = at_one line_rows (until 26672) (arrives 7 26672007) refl (record { sum = lit≤ tt; deadline = lit≤ tt });
   deadline = not_until;
   bounds = not_later;
   discarded = not_discarded;

@@ -52,7 +52,7 @@ arrives released arrival =
 
 -- and one that a bridge discards
 abbrev pub ends_early : Travel
-ends_early = record { release = release 0 0 1522; hops = []; ending = Discard }
+ends_early = record { release = release 0 0 1522; hops = []; ending = Discard; copies = [] }
 
 -- a frame arrives in time at the last moment of its bounds and of its deadline, counted from its release; not 1 ps
 -- later, not where the deadline is 1 ns shorter, and never where it is discarded
@@ -75,6 +75,7 @@ ends_third last =
       release = release 0 0 1522;
       hops = hop 0 0 0 12336000 ∷ hop 13836000 13836000 13836000 26172000 ∷ last ∷ [];
       ending = Discard;
+      copies = [];
     }
     ∷ []
 

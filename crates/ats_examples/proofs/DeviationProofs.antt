@@ -2,8 +2,8 @@ use Rattle.std.proofs.Common.{◌≡◌, ℕ, zero, suc, ◌≤◌, get_or, refl
 use Rattle.ats_port_rule.specs.PortRule.{IsAhead, StartsAfterGap}
 use Rattle.ats_trace.specs.Projections.{sent_by}
 use Rattle.ats_trace.specs.Stored.{no_travel}
-use Rattle.ats_trace.specs.Parts.{Part, in_order, octets, way, released, links, waits, takes, apart, chosen, prompt}
-use Rattle.ats_trace.specs.Parts.{groups, flows, Keeps}
+use Rattle.ats_trace.specs.Parts.{Part, in_order, octets, way, released, copies, links, waits, takes, apart, chosen}
+use Rattle.ats_trace.specs.Parts.{prompt, groups, flows, Keeps}
 use Rattle.ats_examples.specs.Networks.{line_and_flow}
 use Rattle.ats_examples.specs.Deviations.{deviation, EachPartCounts}
 use Rattle.ats_examples.proofs.ChangeProofs.{no_transmission, no_crossing, no_frame, time_in, not_early}
@@ -28,6 +28,7 @@ not_kept links keeps =
     absurd (omega arith)
 not_kept released keeps = let held : ◌≡◌ {A = ℕ} 2 1 = ap time_in (keeps 1 no_travel (lit< tt)).1 in
     absurd (omega arith)
+not_kept copies keeps = keeps 0 no_travel (lit< tt)
 not_kept waits keeps = let early : 13836000 ≤ 13835999 = keeps 2 (lit< tt) 0 no_transmission (lit< tt) in
     absurd (omega arith)
 not_kept takes keeps = let slow : ◌≡◌ {A = ℕ} 12336000 12328000 = keeps 0 (lit< tt) 0 no_transmission (lit< tt) in
@@ -58,6 +59,8 @@ each_part_counts octets =
 each_part_counts way = record { broken = not_kept way; others = others_by way line_and_flow (deviation way) refl }
 each_part_counts released =
     record { broken = not_kept released; others = others_by released line_and_flow (deviation released) refl }
+each_part_counts copies =
+    record { broken = not_kept copies; others = others_by copies line_and_flow (deviation copies) refl }
 each_part_counts links =
     record { broken = not_kept links; others = others_by links line_and_flow (deviation links) refl }
 each_part_counts waits =

@@ -11,7 +11,8 @@ use Rattle.ats_trace.specs.Projections.{Handed, handed_by}
 use Rattle.ats_trace.specs.Eligibility.{IsJudged, residence_of_groups}
 use Rattle.ats_trace.specs.Run.{IsLegalBy, releases_of}
 use Rattle.ats_trace.specs.Talker.{talker_of, KeepsBuckets}
-use Rattle.ats_trace.specs.Parts.{in_order, octets, way, released, links, waits, takes, apart, chosen, prompt, flows}
+use Rattle.ats_trace.specs.Parts.{in_order, octets, way, released, copies, links, waits, takes, apart, chosen}
+use Rattle.ats_trace.specs.Parts.{prompt, flows}
 use Rattle.ats_soundness_law.specs.Sound.{IsServed, IsSoundBy}
 use Rattle.ats_soundness_law.proofs.EachRule.{rule_of_holding}
 use Rattle.ats_soundness_law.proofs.Soundness.{sound_by_rules}
@@ -51,6 +52,7 @@ legal = record {
     octets = kept_by octets line run refl k d within;
     way = (kept_by way line run refl k d within).1;
     released = kept_by released line run refl k d within;
+    copies = kept_by copies line run refl k d within;
   };
   ports = λ port within. record {
     waits = kept_by waits line run refl port within;
@@ -68,7 +70,7 @@ keeps : KeepsBuckets line (releases_of run) (talker_of line 0)
 keeps = keeps_by line (releases_of run) (talker_of line 0) refl refl
 
 not_served : ¬ IsServed line_rows (sender_at line 0) discarded
-not_served served = served.arrives
+not_served served = (served 0 (lit< tt)).arrives
 
 unsound : ¬ IsSoundBy discards bucket_rule line line_rows
 unsound sound = not_served (sound.served run legal discarded (0, lit< tt, refl) (lit< tt) keeps)

@@ -26,7 +26,7 @@ not_kept keeps =
 -- the bridge lets the second of them go long after the bound of the port before
 not_served : ¬ IsServed line_rows (sender_at line 0) held_back
 not_served served =
-    let over : 137196000 ≤ 0 + 13836000 = served.prompt.1.0 in
+    let over : 137196000 ≤ 0 + 13836000 = (served 0 (lit< tt)).prompt.1.0 in
     absurd (omega arith)
 
 not_prompt : ¬ IsPromptIfEligible (bounds_of line_rows (sender_at line 0)) (sender_at line 0).ports held_back.hops

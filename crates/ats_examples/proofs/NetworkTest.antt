@@ -1,7 +1,7 @@
-use Rattle.std.proofs.Common.{◌≡◌, ◌≢◌, ℕ, ◌≤◌, Bool, true, false, ◌&&◌, List, [], ◌∷◌, length, refl, sym, ap}
-use Rattle.std.proofs.Common.{◌∙◌, Option, Some, None, arith}
-use Rattle.std.specs.Prelude.{nat_le, nat_lt, not, ◌==◌, is_none, slice_index_or}
-use Rattle.std.specs.List.{All, list_all}
+use Rattle.std.proofs.Common.{◌≡◌, ◌≢◌, ℕ, ◌+◌, ◌<◌, ◌≤◌, Bool, true, false, ◌&&◌, List, [], ◌∷◌, length, sym, ap}
+use Rattle.std.proofs.Common.{refl, ◌∙◌, Option, Some, None, arith}
+use Rattle.std.specs.Prelude.{◌-◌, nat_le, nat_lt, not, ◌==◌, is_none, slice_index_or, AllPairs}
+use Rattle.std.specs.List.{list_all}
 use Rattle.std.proofs.lemmas.Bool.{and_parts, false≢true, true≢false, eq-eqb, not-true}
 use Rattle.std.proofs.lemmas.Option.{none-some}
 use Rattle.ats_num.specs.Places.{place_of}
@@ -17,20 +17,21 @@ use Rattle.ats_topology.specs.declared.node.Node.{Node}
 use Rattle.ats_topology.specs.declared.link.Link.{Link}
 use Rattle.ats_topology.specs.declared.port.Port.{Port}
 use Rattle.ats_topology.proofs.Rules.{topology_rules}
+use Rattle.ats_streams.specs.Branches.{AreBranches, Ascend, BeginEarlier, BeginsEarlier, leg_at, legs_of, no_branch}
+use Rattle.ats_streams.specs.Branches.{routes_of}
 use Rattle.ats_streams.specs.Rules.{KeepsRules}
 use Rattle.ats_streams.specs.Path.{IsPath}
 use Rattle.ats_streams.specs.Stream.{DeclaredStream, IsClass, IsStream}
 use Rattle.ats_streams.specs.Flow.{DeclaredFlow, IsFlow}
 use Rattle.ats_streams.specs.declared.branch.Branch.{Branch}
+use Rattle.ats_streams.specs.declared.branch.TheConstants.{MAX_BRANCHES}
 use Rattle.ats_streams.specs.declared.path.TheConstants.{MAX_PORTS}
 use Rattle.ats_streams.specs.declared.stream.TheConstants.{MAX_CLASS, MAX_DEADLINE_NS}
-use Rattle.ats_streams.proofs.OneListener.{alone_branches, alone_routes}
 use Rattle.ats_network.specs.Sender.{Sender}
-use Rattle.ats_network.specs.Path.{IsTree, IsValidPath, nodes_along}
-use Rattle.ats_network.specs.Network.{DeclaredNetwork, IsNetwork, declared_network, senders_of, names_of, Share}
-use Rattle.ats_network.specs.declared.network.TheConstants.{MAX_STREAMS, MAX_FLOWS}
-use Rattle.ats_network.proofs.Together.{few_each}
-use Rattle.ats_network.proofs.TreeLemmas.{alone_tree}
+use Rattle.ats_network.specs.Path.{IsBranch, IsTree, IsValidPath, node_of_branch, nodes_along}
+use Rattle.ats_network.specs.Network.{DeclaredNetwork, HasOneListener, IsNetwork, Share, declared_network, names_of}
+use Rattle.ats_network.specs.Network.{ports_together, senders_of}
+use Rattle.ats_network.specs.declared.network.TheConstants.{MAX_STREAMS, MAX_FLOWS, MAX_PORTS_TOGETHER}
 use Rattle.ats_examples.proofs.Tests.{le_of, lt_of, eq_of, all_by, pairs_pass, pairs_by, each_below, below_by}
 
 -- A test of the rules of a network on closed ones, whose streams have no identity.
@@ -76,6 +77,102 @@ is_path path = is_between 1 MAX_PORTS (length path)
 path_by : (path : List ℕ) → is_path path ≡ true → IsPath path
 path_by path h = let parts = between_by 1 MAX_PORTS (length path) h in record { least = parts.0; most = parts.1 }
 
+-- the places of branches ascend
+abbrev pub ascends : ℕ → List Branch → ℕ → Bool
+ascends at [] end = true
+ascends at (b ∷ branches) end = nat_lt at b.first && (nat_lt b.first end && ascends b.first branches end)
+
+pub ascend_by : (at : ℕ) (branches : List Branch) (end : ℕ) → ascends at branches end ≡ true → Ascend at branches end
+ascend_by at [] end h = tt
+ascend_by at (b ∷ branches) end h =
+    let rest : Bool = ascends b.first branches end in
+    let first = and_parts (nat_lt at b.first) (nat_lt b.first end && rest) h in
+    let second = and_parts (nat_lt b.first end) rest first.1 in
+    (lt_of at b.first first.0, lt_of b.first end second.0, ascend_by b.first branches end second.1)
+
+-- each begins at a hop, other than the first, of an earlier leg
+abbrev pub begins_earlier : List (List ℕ) → ℕ → Branch → Bool
+begins_earlier legs own b = nat_lt b.leg own && is_between 1 (length (leg_at legs b.leg) - 1) b.hop
+
+begins_by : (legs : List (List ℕ)) (own : ℕ) (b : Branch) → begins_earlier legs own b ≡ true → BeginsEarlier legs own b
+begins_by legs own b h =
+    let most : ℕ = length (leg_at legs b.leg) - 1 in
+    let parts = and_parts (nat_lt b.leg own) (is_between 1 most b.hop) h in
+    let hop = between_by 1 most b.hop parts.1 in
+    record { earlier = lt_of b.leg own parts.0; later = hop.0; within = omega (arith, hop.0, hop.1) }
+
+abbrev pub begin_earlier : List (List ℕ) → ℕ → List Branch → Bool
+begin_earlier legs own [] = true
+begin_earlier legs own (b ∷ branches) = begins_earlier legs own b && begin_earlier legs (own + 1) branches
+
+pub begin_by : (legs : List (List ℕ)) (own : ℕ) (branches : List Branch) → begin_earlier legs own branches ≡ true
+    → BeginEarlier legs own branches
+begin_by legs own [] h = tt
+begin_by legs own (b ∷ branches) h =
+    let parts = and_parts (begins_earlier legs own b) (begin_earlier legs (own + 1) branches) h in
+    (begins_by legs own b parts.0, begin_by legs (own + 1) branches parts.1)
+
+-- the branches of a stream with these ports
+abbrev pub are_branches : List ℕ → List Branch → Bool
+are_branches ports branches =
+    ascends 0 branches (length ports)
+    && (begin_earlier (legs_of ports branches) 1 branches && nat_le (length branches) MAX_BRANCHES)
+
+pub branches_by : (ports : List ℕ) (branches : List Branch) → are_branches ports branches ≡ true
+    → AreBranches ports branches
+branches_by ports branches h =
+    let begin : Bool = begin_earlier (legs_of ports branches) 1 branches in
+    let few : Bool = nat_le (length branches) MAX_BRANCHES in
+    let first = and_parts (ascends 0 branches (length ports)) (begin && few) h in
+    let second = and_parts begin few first.1 in
+    record {
+      places = ascend_by 0 branches (length ports) first.0;
+      begin = begin_by (legs_of ports branches) 1 branches second.0;
+      few = le_of (length branches) MAX_BRANCHES second.1;
+    }
+
+-- a stream without an identity
+abbrev pub is_any_stream : DeclaredStream → Bool
+is_any_stream s =
+    list_all (is_between 1 MAX_CLASS) s.classes
+    && (length s.classes == length s.ports
+    && (keeps_rules s
+    && (are_branches s.ports s.branches
+    && (list_all is_path (routes_of s.ports s.branches)
+    && (is_between 1 MAX_DEADLINE_NS s.deadline_ns && is_none s.identity)))))
+
+class_by : (class : ℕ) → is_between 1 MAX_CLASS class ≡ true → IsClass class
+class_by class h = let parts = between_by 1 MAX_CLASS class h in record { least = parts.0; most = parts.1 }
+
+no_identity : (identity : Option (ℕ × ℕ)) → is_none identity ≡ true → (pair : ℕ × ℕ) → identity ≡ Some pair → ⊥
+no_identity None h pair given = none-some pair given
+no_identity (Some other) h pair given = false≢true h
+
+any_stream_by : (s : DeclaredStream) → is_any_stream s ≡ true → IsStream s
+any_stream_by s h =
+    let timed : Bool = is_between 1 MAX_DEADLINE_NS s.deadline_ns in
+    let late : Bool = timed && is_none s.identity in
+    let routed : Bool = list_all is_path (routes_of s.ports s.branches) in
+    let legs : Bool = are_branches s.ports s.branches in
+    let same : Bool = length s.classes == length s.ports in
+    let first = and_parts (list_all (is_between 1 MAX_CLASS) s.classes)
+    (same && (keeps_rules s && (legs && (routed && late)))) h in
+    let second = and_parts same (keeps_rules s && (legs && (routed && late))) first.1 in
+    let third = and_parts (keeps_rules s) (legs && (routed && late)) second.1 in
+    let fourth = and_parts legs (routed && late) third.1 in
+    let fifth = and_parts routed late fourth.1 in
+    let sixth = and_parts timed (is_none s.identity) fifth.1 in
+    let deadline = between_by 1 MAX_DEADLINE_NS s.deadline_ns sixth.0 in
+    record {
+      classes = all_by IsClass (is_between 1 MAX_CLASS) class_by s.classes first.0;
+      each_port = eq_of (length s.classes) (length s.ports) second.0;
+      rules = rules_by s third.0;
+      branches = branches_by s.ports s.branches fourth.0;
+      routes = all_by IsPath is_path path_by (routes_of s.ports s.branches) fifth.0;
+      deadline = record { positive = deadline.0; most = deadline.1 };
+      identity = λ pair given. absurd (no_identity s.identity sixth.1 pair given);
+    }
+
 -- no branches
 abbrev pub is_alone : List Branch → Bool
 is_alone [] = true
@@ -87,57 +184,22 @@ alone_by (b ∷ branches) h = absurd (false≢true h)
 
 -- a stream with one listener and without an identity
 abbrev pub is_stream : DeclaredStream → Bool
-is_stream s =
-    list_all (is_between 1 MAX_CLASS) s.classes
-    && (length s.classes == length s.ports
-    && (keeps_rules s
-    && (is_path s.ports
-    && (is_between 1 MAX_DEADLINE_NS s.deadline_ns && (is_none s.identity && is_alone s.branches)))))
-
-class_by : (class : ℕ) → is_between 1 MAX_CLASS class ≡ true → IsClass class
-class_by class h = let parts = between_by 1 MAX_CLASS class h in record { least = parts.0; most = parts.1 }
-
-no_identity : (identity : Option (ℕ × ℕ)) → is_none identity ≡ true → (pair : ℕ × ℕ) → identity ≡ Some pair → ⊥
-no_identity None h pair given = none-some pair given
-no_identity (Some other) h pair given = false≢true h
-
--- what the test of a stream shows
-record Passes (s : DeclaredStream) : Type 0 where
-  rules : IsStream s
-  alone : s.branches ≡ []
-
-passes_by : (s : DeclaredStream) → is_stream s ≡ true → Passes s
-passes_by s h =
-    let own : Bool = is_none s.identity && is_alone s.branches in
-    let timed : Bool = is_between 1 MAX_DEADLINE_NS s.deadline_ns in
-    let late : Bool = is_path s.ports && (timed && own) in
-    let same : Bool = length s.classes == length s.ports in
-    let first = and_parts (list_all (is_between 1 MAX_CLASS) s.classes) (same && (keeps_rules s && late)) h in
-    let second = and_parts same (keeps_rules s && late) first.1 in
-    let third = and_parts (keeps_rules s) late second.1 in
-    let fourth = and_parts (is_path s.ports) (timed && own) third.1 in
-    let fifth = and_parts timed own fourth.1 in
-    let sixth = and_parts (is_none s.identity) (is_alone s.branches) fifth.1 in
-    let deadline = between_by 1 MAX_DEADLINE_NS s.deadline_ns fifth.0 in
-    let alone : s.branches ≡ [] = alone_by s.branches sixth.1 in
-    record {
-      rules = record {
-        classes = all_by IsClass (is_between 1 MAX_CLASS) class_by s.classes first.0;
-        each_port = eq_of (length s.classes) (length s.ports) second.0;
-        rules = rules_by s third.0;
-        branches = alone_branches s.ports s.branches alone;
-        routes = alone_routes s.ports s.branches alone (path_by s.ports fourth.0);
-        deadline = record { positive = deadline.0; most = deadline.1 };
-        identity = λ pair given. absurd (no_identity s.identity sixth.0 pair given);
-      };
-      alone = alone;
-    }
+is_stream s = is_any_stream s && is_alone s.branches
 
 pub stream_by : (s : DeclaredStream) → is_stream s ≡ true → IsStream s
-stream_by s h = (passes_by s h).rules
+stream_by s h = any_stream_by s (and_parts (is_any_stream s) (is_alone s.branches) h).0
 
 pub one_listener_by : (s : DeclaredStream) → is_stream s ≡ true → s.branches ≡ []
-one_listener_by s h = (passes_by s h).alone
+one_listener_by s h = alone_by s.branches (and_parts (is_any_stream s) (is_alone s.branches) h).1
+
+-- each stream has one listener
+abbrev pub has_one_listener : DeclaredNetwork → Bool
+has_one_listener network = list_all (λ (s : DeclaredStream). is_alone s.branches) network.streams
+
+pub one_each_by : (network : DeclaredNetwork) → has_one_listener network ≡ true → HasOneListener network
+one_each_by network h =
+    all_by (λ (s : DeclaredStream). s.branches ≡ []) (λ (s : DeclaredStream). is_alone s.branches)
+    (λ s. alone_by s.branches) network.streams h
 
 abbrev pub is_flow : DeclaredFlow → Bool
 is_flow f = is_between MIN_OCTETS MAX_OCTETS f.max_octets && is_path f.path
@@ -154,12 +216,12 @@ walks ports a [] = true
 walks ports a (p ∷ path) =
     nat_lt p (length ports) && ((port_at ports p).from == a && walks ports (port_at ports p).to path)
 
-abbrev pub end_of : List Port → ℕ → List ℕ → ℕ
-end_of ports a [] = a
-end_of ports a (p ∷ path) = end_of ports (port_at ports p).to path
+abbrev pub end_along : List Port → ℕ → List ℕ → ℕ
+end_along ports a [] = a
+end_along ports a (p ∷ path) = end_along ports (port_at ports p).to path
 
 walk_by : (ports : List Port) (a : ℕ) (path : List ℕ) → walks ports a path ≡ true
-    → IsWalk ports a (end_of ports a path) path
+    → IsWalk ports a (end_along ports a path) path
 walk_by ports a [] h = refl
 walk_by ports a (p ∷ path) h =
     let on : Bool = walks ports (port_at ports p).to path in
@@ -177,7 +239,7 @@ station_by t node h =
     let parts = and_parts (nat_lt node (length t.nodes)) (is_station (node_at t.nodes node).kind) h in
     record { within = lt_of node (length t.nodes) parts.0; station = parts.1 }
 
-apart_by : (a b : ℕ) → not (a == b) ≡ true → a ≢ b
+pub apart_by : (a b : ℕ) → not (a == b) ≡ true → a ≢ b
 apart_by a b h same = true≢false (sym (eq-eqb a b same) ∙ not-true (a == b) h)
 
 -- a path from the node that its first port leaves
@@ -189,12 +251,12 @@ abbrev pub is_valid_from : DeclaredTopology → ℕ → List ℕ → Bool
 is_valid_from t a path =
     walks t.ports a path
     && (is_station_at t a
-    && (is_station_at t (end_of t.ports a path)
-    && (not (a == end_of t.ports a path) && pairs_pass (λ a b. not (a == b)) (nodes_along t.ports path))))
+    && (is_station_at t (end_along t.ports a path)
+    && (not (a == end_along t.ports a path) && pairs_pass (λ a b. not (a == b)) (nodes_along t.ports path))))
 
 pub valid_from_by : (t : DeclaredTopology) (a : ℕ) (path : List ℕ) → is_valid_from t a path ≡ true → IsValidPath t path
 valid_from_by t a path h =
-    let end : ℕ = end_of t.ports a path in
+    let end : ℕ = end_along t.ports a path in
     let once : Bool = pairs_pass (λ a b. not (a == b)) (nodes_along t.ports path) in
     let first = and_parts (walks t.ports a path)
     (is_station_at t a && (is_station_at t end && (not (a == end) && once))) h in
@@ -211,15 +273,70 @@ valid_from_by t a path h =
       apart = pairs_by (λ a b. a ≢ b) (λ a b. not (a == b)) apart_by (nodes_along t.ports path) fourth.1;
     }
 
--- ports without branches that are a valid path
-abbrev pub has_valid_path : DeclaredTopology → Sender → Bool
-has_valid_path t s = is_alone s.branches && is_valid_from t (starts_at t.ports s.ports) s.ports
+pub valid_by : (t : DeclaredTopology) (path : List ℕ) → is_valid_from t (starts_at t.ports path) path ≡ true
+    → IsValidPath t path
+valid_by t path = valid_from_by t (starts_at t.ports path) path
 
-tree_by : (t : DeclaredTopology) (s : Sender) → has_valid_path t s ≡ true → IsTree t s.ports s.branches
+-- a branch leads from the node where it begins to a station
+abbrev pub is_branch : DeclaredTopology → List (List ℕ) → Branch → List ℕ → Bool
+is_branch t legs b path =
+    walks t.ports (node_of_branch t.ports legs b) path
+    && is_station_at t (end_along t.ports (node_of_branch t.ports legs b) path)
+
+branch_by : (t : DeclaredTopology) (legs : List (List ℕ)) (b : Branch) (path : List ℕ) → is_branch t legs b path ≡ true
+    → IsBranch t legs b path
+branch_by t legs b path h =
+    let node : ℕ = node_of_branch t.ports legs b in
+    let parts = and_parts (walks t.ports node path) (is_station_at t (end_along t.ports node path)) h in
+    record {
+      listener = end_along t.ports node path;
+      walk = walk_by t.ports node path parts.0;
+      ends = station_by t (end_along t.ports node path) parts.1;
+    }
+
+abbrev pub branch_leads : DeclaredTopology → List ℕ → List Branch → ℕ → Bool
+branch_leads t ports branches n = is_branch t (legs_of ports branches) (slice_index_or branches n no_branch)
+    (leg_at (legs_of ports branches) (1 + n))
+
+abbrev pub branches_lead : DeclaredTopology → List ℕ → List Branch → Bool
+branches_lead t ports branches = each_below (branch_leads t ports branches) (length branches)
+
+pub lead_by : (t : DeclaredTopology) (ports : List ℕ) (branches : List Branch) → branches_lead t ports branches ≡ true
+    → (n : ℕ) → n < length branches → IsBranch t (legs_of ports branches) (slice_index_or branches n no_branch)
+    (leg_at (legs_of ports branches) (1 + n))
+lead_by t ports branches h n within =
+    branch_by t (legs_of ports branches) (slice_index_or branches n no_branch)
+    (leg_at (legs_of ports branches) (1 + n))
+    (below_by (branch_leads t ports branches) (length branches) h n within)
+
+-- no node occurs twice
+abbrev pub are_apart : DeclaredTopology → List ℕ → Bool
+are_apart t ports = pairs_pass (λ a b. not (a == b)) (nodes_along t.ports ports)
+
+pub nodes_apart_by : (t : DeclaredTopology) (ports : List ℕ) → are_apart t ports ≡ true
+    → AllPairs (λ a b. a ≢ b) (nodes_along t.ports ports)
+nodes_apart_by t ports h =
+    pairs_by (λ a b. a ≢ b) (λ a b. not (a == b)) apart_by (nodes_along t.ports ports) h
+
+-- the trunk is a valid path, the branches lead on, and no node occurs twice
+abbrev pub has_trunk : DeclaredTopology → List ℕ → List Branch → Bool
+has_trunk t ports branches =
+    is_valid_from t (starts_at t.ports (leg_at (legs_of ports branches) 0)) (leg_at (legs_of ports branches) 0)
+
+abbrev pub is_tree : DeclaredTopology → Sender → Bool
+is_tree t s =
+    has_trunk t s.ports s.branches && (branches_lead t s.ports s.branches && are_apart t s.ports)
+
+tree_by : (t : DeclaredTopology) (s : Sender) → is_tree t s ≡ true → IsTree t s.ports s.branches
 tree_by t s h =
-    let parts = and_parts (is_alone s.branches) (is_valid_from t (starts_at t.ports s.ports) s.ports) h in
-    alone_tree t s.ports s.branches (alone_by s.branches parts.0)
-    (valid_from_by t (starts_at t.ports s.ports) s.ports parts.1)
+    let lead : Bool = branches_lead t s.ports s.branches in
+    let first = and_parts (has_trunk t s.ports s.branches) (lead && are_apart t s.ports) h in
+    let second = and_parts lead (are_apart t s.ports) first.1 in
+    record {
+      trunk = valid_by t (leg_at (legs_of s.ports s.branches) 0) first.0;
+      each = lead_by t s.ports s.branches second.0;
+      apart = nodes_apart_by t s.ports second.1;
+    }
 
 -- each name is found at its place
 abbrev pub is_place : Option ℕ → ℕ → Bool
@@ -243,12 +360,14 @@ own_by s other h identity shared = no_identity s.identity h identity shared.one
 -- the streams, the flows, their ports and names
 abbrev pub network_passes : DeclaredNetwork → Bool
 network_passes network =
-    list_all is_stream network.streams
+    list_all is_any_stream network.streams
     && (list_all is_flow network.flows
-    && (list_all (has_valid_path network.topology) (senders_of network)
+    && (list_all (is_tree network.topology) (senders_of network)
     && (each_below (is_found (names_of (senders_of network))) (length (names_of (senders_of network)))
     && (pairs_pass has_none network.streams
-    && (nat_le (length network.streams) MAX_STREAMS && nat_le (length network.flows) MAX_FLOWS)))))
+    && (nat_le (length network.streams) MAX_STREAMS
+    && (nat_le (length network.flows) MAX_FLOWS
+    && nat_le (ports_together network.streams) MAX_PORTS_TOGETHER))))))
 
 pub network_by : (nodes : List Node) (links : List Link) (streams : List DeclaredStream) (flows : List DeclaredFlow)
     → topology_fault nodes links ≡ None
@@ -257,33 +376,29 @@ pub network_by : (nodes : List Node) (links : List Link) (streams : List Declare
 network_by nodes links streams flows sound h =
     let network : DeclaredNetwork = declared_network (topology_of nodes links) streams flows in
     let names : List (List ℕ) = names_of (senders_of network) in
-    let few : Bool =
-    pairs_pass has_none streams && (nat_le (length streams) MAX_STREAMS && nat_le (length flows) MAX_FLOWS) in
+    let ports : Bool = nat_le (ports_together streams) MAX_PORTS_TOGETHER in
+    let last : Bool = nat_le (length flows) MAX_FLOWS && ports in
+    let few : Bool = pairs_pass has_none streams && (nat_le (length streams) MAX_STREAMS && last) in
     let found : Bool = each_below (is_found names) (length names) in
-    let paths : Bool = list_all (has_valid_path network.topology) (senders_of network) in
-    let first = and_parts (list_all is_stream streams) (list_all is_flow flows && (paths && (found && few))) h in
-    let second = and_parts (list_all is_flow flows) (paths && (found && few)) first.1 in
-    let third = and_parts paths (found && few) second.1 in
+    let trees : Bool = list_all (is_tree network.topology) (senders_of network) in
+    let first = and_parts (list_all is_any_stream streams) (list_all is_flow flows && (trees && (found && few))) h in
+    let second = and_parts (list_all is_flow flows) (trees && (found && few)) first.1 in
+    let third = and_parts trees (found && few) second.1 in
     let fourth = and_parts found few third.1 in
-    let fifth = and_parts (pairs_pass has_none streams)
-    (nat_le (length streams) MAX_STREAMS && nat_le (length flows) MAX_FLOWS) fourth.1 in
-    let sixth = and_parts (nat_le (length streams) MAX_STREAMS) (nat_le (length flows) MAX_FLOWS) fifth.1 in
-    let rules : All IsStream streams = all_by IsStream is_stream stream_by streams first.0 in
-    let alone : All (λ (s : DeclaredStream). s.branches ≡ []) streams =
-    all_by (λ (s : DeclaredStream). s.branches ≡ []) is_stream one_listener_by streams first.0 in
-    let few_streams : length streams ≤ MAX_STREAMS = le_of (length streams) MAX_STREAMS sixth.0 in
+    let fifth = and_parts (pairs_pass has_none streams) (nat_le (length streams) MAX_STREAMS && last) fourth.1 in
+    let sixth = and_parts (nat_le (length streams) MAX_STREAMS) last fifth.1 in
+    let seventh = and_parts (nat_le (length flows) MAX_FLOWS) ports sixth.1 in
     record {
       topology = topology_rules nodes links sound;
-      streams = rules;
+      streams = all_by IsStream is_any_stream any_stream_by streams first.0;
       flows = all_by IsFlow is_flow flow_by flows second.0;
-      trees = all_by (λ (s : Sender). IsTree network.topology s.ports s.branches) (has_valid_path network.topology)
+      trees = all_by (λ (s : Sender). IsTree network.topology s.ports s.branches) (is_tree network.topology)
           (tree_by network.topology) (senders_of network) third.0;
       names = λ n within. place_by (place_of (slice_index_or names n []) names) n
           (below_by (is_found names) (length names) fourth.0 n within);
       identities = pairs_by (λ (s t : DeclaredStream). (identity : ℕ × ℕ) → ¬ Share s t identity) has_none own_by
           streams fifth.0;
-      few_streams = few_streams;
-      few_flows = le_of (length flows) MAX_FLOWS sixth.1;
-      few_ports = omega (arith, few_each streams rules alone, few_streams);
-      one_listener = alone;
+      few_streams = le_of (length streams) MAX_STREAMS sixth.0;
+      few_flows = le_of (length flows) MAX_FLOWS seventh.0;
+      few_ports = le_of (ports_together streams) MAX_PORTS_TOGETHER seventh.1;
     }

@@ -63,7 +63,7 @@ breaks rule network given is others rest unsound = record {
 two_unserved : (given : List Row) → bound_at given 0 6 < 14508000
     → ¬ IsServed given (sender_at (pair 1000000) 0) (travel_at of_two 1)
 two_unserved given short served =
-    let late : 14508000 ≤ 0 + bound_at given 0 6 = served.prompt.1.0 in
+    let late : 14508000 ≤ 0 + bound_at given 0 6 = (served 0 (lit< tt)).prompt.1.0 in
     absurd (omega arith)
 
 two_unsound : (given : List Row) → bound_at given 0 6 < 14508000 → ¬ IsSound (pair 1000000) given
@@ -73,11 +73,11 @@ two_unsound given short =
 -- the third frame is discarded
 three_unsound : (given : List Row) → ¬ IsSound (pair 12335) given
 three_unsound given = unsound_by (pair 12335) given of_three 2 three_legal (2, lit< tt, refl) (lit< tt) three_kept
-    (λ served. served.prompt.1)
+    (λ served. (served 0 (lit< tt)).prompt.1)
 
 fast_unserved : (equal : ℕ) → ¬ IsServed (fast_rows equal) (sender_at fast 0) (travel_at of_fast 1)
 fast_unserved equal served =
-    let late : 26172000 ≤ 6168000 + 13836000 = served.prompt.1.0 in
+    let late : 26172000 ≤ 6168000 + 13836000 = (served 0 (lit< tt)).prompt.1.0 in
     absurd (omega arith)
 
 fast_unsound : (equal : ℕ) → ¬ IsSound fast (fast_rows equal)
@@ -86,17 +86,17 @@ fast_unsound equal =
 
 higher_unserved : ¬ IsServed (rows_for higher_is_right) (sender_at below 0) (travel_at of_classes 1)
 higher_unserved served =
-    let late : 15180000 ≤ 0 + 14508000 = served.prompt.1.0 in
+    let late : 15180000 ≤ 0 + 14508000 = (served 0 (lit< tt)).prompt.1.0 in
     absurd (omega arith)
 
 flow_unserved : ¬ IsServed (rows_for lower_is_right) (sender_at line_and_flow 0) (travel_at behind_a_flow 1)
 flow_unserved served =
-    let late : 26172000 ≤ 1 + 13836000 = served.prompt.1.0 in
+    let late : 26172000 ≤ 1 + 13836000 = (served 0 (lit< tt)).prompt.1.0 in
     absurd (omega arith)
 
 missing_unserved : ¬ IsServed (rows_for rows_are_there) (sender_at line 0) (travel_at one_frame 0)
 missing_unserved served =
-    let late : 26672000 ≤ 0 + 13836000 = served.arrives in
+    let late : 26672000 ≤ 0 + 13836000 = (served 0 (lit< tt)).arrives in
     absurd (omega arith)
 
 -- by the rules that are kept, and the run that shows that it counts

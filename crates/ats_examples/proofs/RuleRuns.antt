@@ -29,6 +29,7 @@ of_three =
       hops = hop 13440000 13440000 13440000 14112000
           ∷ record { arrival = record { 0 = 15612000 }; verdict = Late (record { 0 = 27948000 }); sent = None } ∷ [];
       ending = Discard;
+      copies = [];
     }
     ∷ []
 

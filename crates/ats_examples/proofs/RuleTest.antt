@@ -8,14 +8,15 @@ use Rattle.std.proofs.lemmas.Option.{none-some, same_Some}
 use Rattle.std.proofs.lemmas.List.Sums.{AllPass-from_list_all}
 use Rattle.ats_num.specs.declared.time.TheConstants.{PS_PER_SECOND, PS_PER_NS}
 use Rattle.ats_topology.specs.Port.{port_at}
+use Rattle.ats_streams.specs.Branches.{routes_of}
 use Rattle.ats_streams.specs.Stream.{DeclaredStream}
 use Rattle.ats_network.specs.Sender.{Sender, stream_sender}
 use Rattle.ats_network.specs.Class.{class_at, seen_at}
 use Rattle.ats_network.specs.Network.{DeclaredNetwork}
 use Rattle.ats_network.specs.Residence.{residence_after}
 use Rattle.ats_certificate.specs.PortSums.{PortSums, port_sums, uses, is_of, is_used, senders_at}
-use Rattle.ats_certificate.specs.Certificate.{row_of, IsBefore, FitsLink, bound_of, residence_needed, bound_along}
-use Rattle.ats_certificate.specs.Certificate.{IsInTime, Holds}
+use Rattle.ats_certificate.specs.Certificate.{row_of, IsBefore, FitsLink, bound_of, residence_needed, bound_on}
+use Rattle.ats_certificate.specs.Certificate.{IsInTime, MeetsDeadline, Holds}
 use Rattle.ats_certificate.specs.declared.row.Row.{Row}
 use Rattle.ats_soundness_law.specs.Rules.{Rule, rows_are_there, higher_is_right, equal_is_right, bursts_are_right}
 use Rattle.ats_soundness_law.specs.Rules.{lower_is_right, least_is_right, bound_follows, load_fits, wait_is_enough}
@@ -152,8 +153,17 @@ kept_by frames_may_stay network given h =
     (residence_after network.topology row.port)) given h
 
 -- the rows are of used ports and classes and in order, and the streams are in time
+abbrev meets_deadline : List Row → DeclaredStream → List ℕ → Bool
+meets_deadline given stream route = nat_le (bound_on given stream route) (PS_PER_NS * stream.deadline_ns)
+
 abbrev is_in_time : List Row → DeclaredStream → Bool
-is_in_time given stream = nat_le (bound_along given stream) (PS_PER_NS * stream.deadline_ns)
+is_in_time given stream = list_all (meets_deadline given stream) (routes_of stream.ports stream.branches)
+
+in_time_by : (given : List Row) (stream : DeclaredStream) → is_in_time given stream ≡ true → IsInTime given stream
+in_time_by given stream h =
+    all_by (λ route. MeetsDeadline stream (bound_on given stream route)) (meets_deadline given stream)
+    (λ route. le_of (bound_on given stream route) (PS_PER_NS * stream.deadline_ns))
+    (routes_of stream.ports stream.branches) h
 
 abbrev pub rest_passes : DeclaredNetwork → List Row → Bool
 rest_passes network given =
@@ -170,8 +180,7 @@ rest_by network given h =
     record {
       used = AllPass-from_list_all (λ (row : Row). is_used network row.port row.class) given first.0;
       ordered = pairs_by IsBefore is_before before_by given second.0;
-      in_time = all_by (IsInTime given) (is_in_time given)
-          (λ stream. le_of (bound_along given stream) (PS_PER_NS * stream.deadline_ns)) network.streams second.1;
+      in_time = all_by (IsInTime given) (is_in_time given) (in_time_by given) network.streams second.1;
     }
 
 -- the rules in their order

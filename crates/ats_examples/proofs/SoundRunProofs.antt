@@ -75,32 +75,33 @@ three_not_kept keeps =
 -- so the first bridge holds the second back for longer than the bound
 two_not_served : ¬ IsServed two_rows (sender_at over_two 0) (travel_at (two_over_two 163868000) 1)
 two_not_served served =
-    let over : 137196000 ≤ 0 + 13836000 = served.prompt.1.0 in
+    let over : 137196000 ≤ 0 + 13836000 = (served 0 (lit< tt)).prompt.1.0 in
     absurd (omega arith)
 
 three_not_served : ¬ IsServed three_rows (sender_at over_three 0) (travel_at (two_over_three 177704000) 1)
 three_not_served served =
-    let over : 137196000 ≤ 0 + 13836000 = served.prompt.1.0 in
+    let over : 137196000 ≤ 0 + 13836000 = (served 0 (lit< tt)).prompt.1.0 in
     absurd (omega arith)
 
 -- behind it the bounds leave no more time
 two_not_contained : ¬ IsContained two_rows (sender_at over_two 0) (travel_at (two_over_two 163868001) 1)
 two_not_contained contained =
-    let over : 163868001 ≤ 151032000 + 12836000 = contained.1 in
+    let over : 163868001 ≤ 151032000 + 12836000 = (contained 0 (lit< tt)).1 in
     absurd (omega arith)
 
 not_so_late : ¬ IsContained two_rows (sender_at over_two 0) (travel_at eligible_later 1)
 not_so_late contained =
-    let over : 151032001 ≤ 137196000 + 13836000 = contained.0 in
+    let over : 151032001 ≤ 137196000 + 13836000 = (contained 0 (lit< tt)).0 in
     absurd (omega arith)
 
 three_not_contained : ¬ IsContained three_rows (sender_at over_three 0) (travel_at (two_over_three 177704001) 1)
 three_not_contained contained =
-    let over : 177704001 ≤ 164868000 + 12836000 = contained.1.1 in
+    let over : 177704001 ≤ 164868000 + 12836000 = (contained 0 (lit< tt)).1.1 in
     absurd (omega arith)
 
 -- by containment
-contained_in : (network : DeclaredNetwork) (rows : List Row) (run : List Travel) (j : Travel) → IsCertified network rows
+pub contained_in : (network : DeclaredNetwork) (rows : List Row) (run : List Travel) (j : Travel)
+    → IsCertified network rows
     → IsLegal network run → Contains run j → IsOfStream network j
     → IsContained rows (sender_at network j.release.sender) j
 contained_in network rows run j c legal there stream = containment network rows c.rules c.holds run legal j there stream
@@ -174,7 +175,7 @@ babbler_contained = record {
   certified = fork_certified;
   legal = babbler_legal;
   babbles = babbles;
-  not_served = λ served. served.prompt.1;
+  not_served = λ served. (served 0 (lit< tt)).prompt.1;
   keeps = beside_kept;
   served = served_in fork fork_rows babbler (travel_at babbler 0) fork_certified babbler_legal (0, lit< tt, refl)
       (lit< tt) beside_kept;

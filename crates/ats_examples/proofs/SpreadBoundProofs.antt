@@ -42,7 +42,7 @@ next_kept = keeps_by over_two_ranged (releases_of (arriving_next 26872000)) (tal
 
 next_late : ¬ IsServed two_rows (sender_at over_two_ranged 0) (travel_at (arriving_next 26872001) 0)
 next_late served =
-    let late : 26872001 ≤ 13036000 + 13836000 = served.prompt.1.1.0 in
+    let late : 26872001 ≤ 13036000 + 13836000 = (served 0 (lit< tt)).prompt.1.1.0 in
     absurd (omega arith)
 
 -- where the residence is 1 ns shorter, the last frame is discarded
@@ -50,7 +50,7 @@ short_unsound : ¬ IsSound (ranged 12463) line_rows
 short_unsound = unsound_by (ranged 12463) line_rows (last_is_late 14812000) 2
     (legal_by (ranged 12463) (last_is_late 14812000) refl) (2, lit< tt, refl) (lit< tt)
     (keeps_by (ranged 12463) (releases_of (last_is_late 14812000)) (talker_of (ranged 12463) 0) refl refl)
-    (λ served. served.prompt.1)
+    (λ served. (served 0 (lit< tt)).prompt.1)
 
 pub paces_are_sound : PacesAreSound
 paces_are_sound = record {
@@ -89,7 +89,7 @@ unserved run frame broken others keeps not_served = record {
 
 latest_unserved : ¬ IsServed line_rows (sender_at ranged_line 0) (travel_at (arriving 13836001) 0)
 latest_unserved served =
-    let late : 13836001 ≤ 0 + 13836000 = served.prompt.1.0 in
+    let late : 13836001 ≤ 0 + 13836000 = (served 0 (lit< tt)).prompt.1.0 in
     absurd (omega arith)
 
 not_so_early : ¬ Keeps links ranged_line (last_is_late 14811999)
@@ -105,7 +105,7 @@ not_in_order keeps =
 
 overtaken_unserved : ¬ IsServed line_rows (sender_at ranged_line 0) (travel_at overtaken 1)
 overtaken_unserved served =
-    let late : 19884000 ≤ 0 + 13836000 = served.prompt.1.0 in
+    let late : 19884000 ≤ 0 + 13836000 = (served 0 (lit< tt)).prompt.1.0 in
     absurd (omega arith)
 
 pub link_rule_counts : LinkRuleCounts
@@ -114,7 +114,7 @@ link_rule_counts = record {
       (keeps_by ranged_line (releases_of (arriving 13836001)) (talker_of ranged_line 0) refl refl) latest_unserved;
   earliest = unserved (last_is_late 14811999) 2 not_so_early refl
       (keeps_by ranged_line (releases_of (last_is_late 14811999)) (talker_of ranged_line 0) refl refl)
-      (λ served. served.prompt.1);
+      (λ served. (served 0 (lit< tt)).prompt.1);
   order = unserved overtaken 1 not_in_order refl
       (keeps_by ranged_line (releases_of overtaken) (talker_of ranged_line 0) refl refl) overtaken_unserved;
 }

@@ -38,6 +38,7 @@ too_late = record {
       ∷ record { arrival = record { 0 = at_bridge 22 }; verdict = Late (record { 0 = 33372000 }); sent = None }
       ∷ [];
   ending = Discard;
+  copies = [];
 }
 
 -- the next two wait behind the other's frame, and two more until their bucket has room too

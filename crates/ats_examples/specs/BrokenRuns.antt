@@ -41,7 +41,13 @@ too_long arrival = record { arrival = record { 0 = arrival }; verdict = Size; se
 -- a frame of the stream that is released at 0, with so many octets, these records and this ending
 abbrev pub ended : ℕ → List HopRecord → Ending → List Travel
 ended size hops ending =
-    record { release = record { at = record { 0 = 0 }; sender = 0; octets = size }; hops = hops; ending = ending } ∷ []
+    record {
+      release = record { at = record { 0 = 0 }; sender = 0; octets = size };
+      hops = hops;
+      ending = ending;
+      copies = [];
+    }
+    ∷ []
 
 -- a discarded frame arrives at the listener
 abbrev pub discarded_and_sunk : List Travel

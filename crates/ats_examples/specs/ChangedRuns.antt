@@ -35,6 +35,7 @@ not_received =
       release = record { at = record { 0 = 0 }; sender = 0; octets = 1522 };
       hops = hop 0 0 0 12336000 ∷ hop 13836000 13836000 13836000 26172000 ∷ [];
       ending = Discard;
+      copies = [];
     }
     ∷ []
 

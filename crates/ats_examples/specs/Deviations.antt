@@ -1,12 +1,12 @@
 use Rattle.std.specs.Prelude.{◌≢◌, List, [], ◌∷◌, None}
 use Rattle.ats_network.specs.Network.{DeclaredNetwork}
 use Rattle.ats_group.specs.declared.verdict.Verdict.TheVariants.{Size}
-use Rattle.ats_trace.specs.Journey.{Travel}
+use Rattle.ats_trace.specs.Journey.{Travel, no_leg}
 use Rattle.ats_trace.specs.declared.journey.Ending.TheVariants.{Discard}
 use Rattle.ats_examples.specs.Networks.{line_and_flow}
 use Rattle.ats_examples.specs.Runs.{hop, sunk}
-use Rattle.ats_trace.specs.Parts.{Part, in_order, octets, way, released, links, waits, takes, apart, chosen, prompt}
-use Rattle.ats_trace.specs.Parts.{groups, flows, Keeps}
+use Rattle.ats_trace.specs.Parts.{Part, in_order, octets, way, released, copies, links, waits, takes, apart, chosen}
+use Rattle.ats_trace.specs.Parts.{prompt, groups, flows, Keeps}
 
 -- For each part of a legal run a run that breaks it alone.
 
@@ -23,6 +23,7 @@ deviation octets =
       release = record { at = record { 0 = 0 }; sender = 0; octets = 63 };
       hops = hop 0 0 0 664000 ∷ record { arrival = record { 0 = 2164000 }; verdict = Size; sent = None } ∷ [];
       ending = Discard;
+      copies = [];
     }
     ∷ []
 -- the frame that the bridge sends does not arrive
@@ -31,6 +32,7 @@ deviation way =
       release = record { at = record { 0 = 0 }; sender = 0; octets = 1522 };
       hops = hop 0 0 0 12336000 ∷ hop 13836000 13836000 13836000 26172000 ∷ [];
       ending = Discard;
+      copies = [];
     }
     ∷ []
 -- the listener's arrival is 1 ps late
@@ -39,6 +41,12 @@ deviation links = sunk 0 0 1522 (hop 0 0 0 12336000 ∷ hop 13836000 13836000 13
 deviation released =
     sunk 0 1 1522 (hop 0 0 0 12336000 ∷ hop 13836000 13836000 13836000 26172000 ∷ []) 26672000
     ∷ sunk 1 0 1522 (hop 1 2 12336000 24672000 ∷ hop 26172000 26172000 26172000 38508000 ∷ []) 39008000
+    ∷ []
+-- something is told of a copy, though there is no second listener
+deviation copies =
+    record (sunk 0 0 1522 (hop 0 0 0 12336000 ∷ hop 13836000 13836000 13836000 26172000 ∷ []) 26672000) {
+      copies = no_leg ∷ [];
+    }
     ∷ []
 -- the bridge starts the frame 1 ps before it is eligible
 deviation waits = sunk 0 0 1522 (hop 0 0 0 12336000 ∷ hop 13836000 13836000 13835999 26171999 ∷ []) 26671999 ∷ []

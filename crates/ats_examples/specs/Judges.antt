@@ -25,6 +25,7 @@ discarded = record {
   release = record { at = record { 0 = 0 }; sender = 0; octets = 1522 };
   hops = hop 0 0 0 12336000 ∷ record { arrival = record { 0 = 13836000 }; verdict = Size; sent = None } ∷ [];
   ending = Discard;
+  copies = [];
 }
 
 -- the run is legal by that judge, and the frame's talker keeps its buckets; but the certificate's bounds do not hold,

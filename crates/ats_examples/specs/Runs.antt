@@ -22,6 +22,7 @@ sunk at sender octets hops arrival =
       release = record { at = record { 0 = at }; sender = sender; octets = octets };
       hops = hops;
       ending = Sink (record { 0 = arrival });
+      copies = [];
     }
 
 -- one frame of the stream over the line
@@ -37,6 +38,7 @@ long_frame =
       release = record { at = record { 0 = 0 }; sender = 0; octets = 1523 };
       hops = hop 0 0 0 12344000 ∷ record { arrival = record { 0 = 13844000 }; verdict = Size; sent = None } ∷ [];
       ending = Discard;
+      copies = [];
     }
     ∷ []
 
@@ -78,6 +80,7 @@ late =
       hops = hop 0 0 12336000 24672000
           ∷ record { arrival = record { 0 = 26172000 }; verdict = Late (record { 0 = 137196000 }); sent = None } ∷ [];
       ending = Discard;
+      copies = [];
     }
     ∷ []
 

@@ -46,6 +46,7 @@ last_is_late arrival = before_last
           ∷ record { arrival = record { 0 = arrival }; verdict = Late (record { 0 = 27276000 }); sent = None }
           ∷ [];
       ending = Discard;
+      copies = [];
     }
     ∷ []
 

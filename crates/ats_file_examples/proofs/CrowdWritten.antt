@@ -4,7 +4,7 @@ use Rattle.ats_explain_text.specs.Text as explain
 use Rattle.ats_explain_text.specs.Text.{explain_text}
 use Rattle.ats_network_text.specs.Text as show
 use Rattle.ats_network_text.specs.Text.{show_text}
-use Rattle.ats_verdict_text.specs.Text.{accepted_text, hop_line, stream_lines}
+use Rattle.ats_verdict_text.specs.Text.{accepted_text, hop_line, listener_lines}
 use Rattle.ats_file_examples.specs.Network.{crowd}
 use Rattle.ats_file_examples.specs.Records.{crowd_rows}
 use Rattle.ats_file_examples.specs.Shown.{CrowdIsWritten, accepted, explained, shown}
@@ -16,7 +16,7 @@ unfolding digits show.show_text show.port_line show.classes_text show.sender_lin
 show_is = refl
 
 check_is : accepted_text crowd crowd_rows ≡ accepted
-unfolding digits hop_line stream_lines
+unfolding digits hop_line listener_lines
 check_is = refl
 
 explain_is : explain_text crowd ≡ explained

@@ -7,8 +7,8 @@ use Rattle.std.proofs.lemmas.List.Sorted.{IsPermutation-refl}
 use Rattle.ats_network.specs.Network.{DeclaredNetwork}
 use Rattle.ats_trace.specs.Eligibility.{IsJudged, declared_by, offer_of, residence_of_groups}
 use Rattle.ats_trace.specs.Journey.{Travel}
-use Rattle.ats_trace.specs.Parts.{in_order, octets, way, released, links, waits, takes, apart, chosen, prompt, flows}
-use Rattle.ats_trace.specs.Parts.{groups}
+use Rattle.ats_trace.specs.Parts.{in_order, octets, way, released, copies, links, waits, takes, apart, chosen}
+use Rattle.ats_trace.specs.Parts.{prompt, groups, flows}
 use Rattle.ats_trace.specs.Projections.{Handed, handed_by}
 use Rattle.ats_trace.specs.Run.{IsLegalBy}
 use Rattle.ats_lrq.specs.Judge.{lrq_judge}
@@ -53,6 +53,7 @@ legal_with network run passed judged =
         octets = kept octets (λ e. cc) k d within;
         way = (kept way (λ e. cc) k d within).1;
         released = kept released (λ e. cc) k d within;
+        copies = kept copies (λ e. cc) k d within;
       };
       ports = λ port within. record {
         waits = kept waits (λ e. cc) port within;

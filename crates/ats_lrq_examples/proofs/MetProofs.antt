@@ -124,7 +124,7 @@ soon_not_spaced keeps =
 
 soon_not_served : ¬ IsServed line_rows (sender_at line_of_bursts 0) (second_of too_soon)
 soon_not_served served =
-    let over : 137196000 ≤ 123359999 + 13836000 = served.prompt.1.0 in
+    let over : 137196000 ≤ 123359999 + 13836000 = (served 0 (lit< tt)).prompt.1.0 in
     absurd (omega arith)
 
 pub spacing_counts : SpacingCounts
@@ -154,7 +154,7 @@ at_once_keeps = keeps_by line_of_bursts (releases_of out_of_order) (talker_of li
 
 at_once_not_served : ¬ IsServed line_rows (sender_at line_of_bursts 0) (travel_at out_of_order 0)
 at_once_not_served served =
-    let over : 26172000 ≤ 0 + 13836000 = served.prompt.1.0 in
+    let over : 26172000 ≤ 0 + 13836000 = (served 0 (lit< tt)).prompt.1.0 in
     absurd (omega arith)
 
 pub regulator_counts : RegulatorCounts

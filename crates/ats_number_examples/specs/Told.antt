@@ -23,6 +23,7 @@ ends sender verdict = record {
   release = record { at = record { 0 = 5 }; sender = sender; octets = 64 };
   hops = hop 5 5 5 10 ∷ record { arrival = record { 0 = 15 }; verdict = verdict; sent = None } ∷ [];
   ending = Discard;
+  copies = [];
 }
 
 -- of the stream three frames arrive, two are late and four of a wrong size; of the flow two arrive, and two are of a

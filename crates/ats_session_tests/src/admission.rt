@@ -101,6 +101,7 @@ fn admitted(
 fn late(rt: &impl Abort, sum: u128) -> Reason {
     Reason::Deadline {
         stream: Name::new(b"a").expect(rt, "a name"),
+        listener: None,
         sum,
     }
 }

@@ -5,4 +5,6 @@
 #[cfg(test)]
 mod admission;
 #[cfg(test)]
+mod listeners;
+#[cfg(test)]
 mod requests;

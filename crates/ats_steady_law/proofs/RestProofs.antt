@@ -9,7 +9,7 @@ use Rattle.ats_trace.specs.declared.journey.Ending.TheVariants.{Discard}
 use Rattle.ats_trace.specs.declared.journey.HopRecord.{HopRecord}
 use Rattle.ats_examples.specs.Networks.{line}
 use Rattle.ats_examples.specs.Runs.{hop, one_frame, sunk}
-use Rattle.ats_legal_law.specs.Rest.{FillsBy, IsOverBy, IsRecordBy, RestsUntil}
+use Rattle.ats_legal_law.specs.Rest.{FillsBy, IsLegBy, IsOverBy, IsRecordBy, RestsUntil}
 use Rattle.ats_steady_law.specs.Resting.{RestsAreExact}
 
 -- When a run is over and a network has rested, to the picosecond.
@@ -24,6 +24,7 @@ discarded = record {
   hops = hop 0 0 12336000 24672000
       ∷ record { arrival = record { 0 = 26172000 }; verdict = Late (record { 0 = 137196000 }); sent = None } ∷ [];
   ending = Discard;
+  copies = [];
 }
 
 line_rests : RestsUntil line 26672000 150032000
@@ -50,6 +51,7 @@ first_over = record {
       (All-cons (IsRecordBy 26672000) (hop 13836000 13836000 13836000 26172000) []
       (sent_over 13836000 13836000 13836000 26172000 (lit≤ tt) (lit≤ tt) (lit≤ tt)) (All-nil (IsRecordBy 26672000)));
   ending = lit≤ tt;
+  copies = All-nil (IsLegBy 26672000);
 }
 
 -- the verdict of the second frame tells a later time
@@ -64,6 +66,7 @@ second_over = record {
       (All-cons (IsRecordBy 26672000) late_record []
       (record { arrival = lit≤ tt; eligible = tt; sent = tt }) (All-nil (IsRecordBy 26672000)));
   ending = tt;
+  copies = All-nil (IsLegBy 26672000);
 }
 
 not_before : ¬ All (IsOverBy 26671999) one_frame

@@ -280,6 +280,7 @@ one_journey gap k = record {
   octets = record { least = lit≤ tt; most = lit≤ tt };
   way = tt;
   released = (refl, refl);
+  copies = tt;
 }
 
 long : (gap n : ℕ) → length (steady_from gap 0 n) ≡ n

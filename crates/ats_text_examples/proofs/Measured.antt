@@ -11,11 +11,12 @@ use Rattle.std.proofs.lemmas.List.Folds.{list_all-map}
 use Rattle.std.proofs.lemmas.List.FromFn.{get_or-map-range_with_len}
 use Rattle.std.proofs.lemmas.List.Sums.{AllPass-from_list_all}
 use Rattle.std.proofs.lemmas.Option.{get_or_from_slice_get, none-some, same_Some, slice_get_within, slice_get-map}
-use Rattle.ats_streams.specs.Stream.{DeclaredStream}
+use Rattle.ats_certificate.specs.Certificate.{bound_along}
 use Rattle.ats_tally.specs.declared.reason.Reason.{Reason}
 use Rattle.ats_tally.proofs.Lists.{Contains-found}
+use Rattle.ats_bound.specs.Least.{least_certificate}
 use Rattle.ats_bound.proofs.NoneHolds.{no_reason_held}
-use Rattle.ats_explain.specs.Margins.{is_no_slacker, is_tightest, margin_of, margins_of}
+use Rattle.ats_explain.specs.Margins.{StreamListener, all_listeners, is_no_slacker, is_tightest, margin_of, margins_of}
 use Rattle.ats_explain.specs.declared.margin.Margin.{Margin}
 use Rattle.ats_trace.specs.Journey.{Travel}
 use Rattle.ats_trace.specs.declared.journey.Ending.{Ending}
@@ -26,9 +27,8 @@ use Rattle.ats_replay.specs.declared.summary.Summary.{Summary}
 use Rattle.ats_command_due.specs.Generated.{sums_unless}
 use Rattle.ats_text_examples.specs.Measures.{ArrivedAfter, BoundIsLeastSum, IsWorst, MeasuresAreMeant}
 use Rattle.ats_text_examples.specs.Measures.{SummaryHasWorst, SumsAreWorked, TightestIsTightest, TightestIsWorked}
-use Rattle.ats_text_examples.specs.Measures.{least_sum}
 
--- What the tightest stream, the worst delay and a printed bound are.
+-- What the tightest listener, the worst delay and a printed bound are.
 
 -- what a search finds passes
 found_passes : {X : Type 0} (test : X → Bool) (xs : List X) (x : X) → find test xs ≡ Some x → test x ≡ true
@@ -44,21 +44,21 @@ no_slacker : (a b : Margin) → is_no_slacker a b ≡ true → a.deadline + b.su
 no_slacker a b h = grind (arith, nat_tests)
 
 tightest_is_tightest : TightestIsTightest
-tightest_is_tightest network stream found = record {
-  there = Contains-found test network.streams stream found;
-  least = λ k d within. no_slacker (margin_of network stream) (margin_of network (get_or network.streams k d))
-      (AllPass-from_list_all passing network.streams all k d within);
+tightest_is_tightest network one found = record {
+  there = Contains-found test (all_listeners network) one found;
+  least = λ k d within. no_slacker (margin_of network one) (margin_of network (get_or (all_listeners network) k d))
+      (AllPass-from_list_all passing (all_listeners network) all k d within);
 }
   where
-    test : DeclaredStream → Bool
-    test s = is_tightest (margins_of network) (margin_of network s)
+    test : StreamListener → Bool
+    test other = is_tightest (margins_of network) (margin_of network other)
 
-    passing : DeclaredStream → Bool
-    passing s = is_no_slacker (margin_of network stream) (margin_of network s)
+    passing : StreamListener → Bool
+    passing other = is_no_slacker (margin_of network one) (margin_of network other)
 
-    all : list_all passing network.streams ≡ true
-    all = sym (list_all-map (is_no_slacker (margin_of network stream)) (margin_of network) network.streams)
-        ∙ found_passes test network.streams stream found
+    all : list_all passing (all_listeners network) ≡ true
+    all = sym (list_all-map (is_no_slacker (margin_of network one)) (margin_of network) (all_listeners network))
+        ∙ found_passes test (all_listeners network) one found
 
 -- the greater of two numbers is one of them
 max_one : (a b : ℕ) → (max a b ≡ a) ⊎ (max a b ≡ b)
@@ -184,10 +184,10 @@ bound_is_least_sum : BoundIsLeastSum
 bound_is_least_sum network rows place stream rules holds named =
     ap (λ (reason : Option Reason). bound_of network (sums_unless network reason) place)
     (no_reason_held network rows rules holds)
-    ∙ ap (λ (b : Bool). cond b (slice_get (map (least_sum network) network.streams) place) None)
+    ∙ ap (λ (b : Bool). cond b (slice_get (map (bound_along (least_certificate network)) network.streams) place) None)
     (lt-ltb place (length network.streams) (slice_get_within network.streams place stream named))
-    ∙ slice_get-map (least_sum network) network.streams place
-    ∙ ap (option_map (least_sum network)) named
+    ∙ slice_get-map (bound_along (least_certificate network)) network.streams place
+    ∙ ap (option_map (bound_along (least_certificate network))) named
 
 tightest_is_worked : TightestIsWorked
 tightest_is_worked = record {

@@ -1,14 +1,15 @@
 use Rattle.std.specs.Prelude.{◌≡◌, ℕ, ◌+◌, ◌-◌, ◌*◌, ◌≤◌, ◌<◌, ◌⊎◌, List, [], ◌∷◌, All, Contains, codes, Some, None}
-use Rattle.std.specs.Prelude.{slice_get}
+use Rattle.std.specs.Prelude.{slice_get, Option}
+use Rattle.std.specs.Option.{option_map}
 use Rattle.ats_num.specs.declared.time.Ps.{Ps}
 use Rattle.ats_num.specs.declared.time.TheConstants.{PS_PER_NS}
 use Rattle.ats_streams.specs.Stream.{DeclaredStream, declared_stream, with_burst}
 use Rattle.ats_network.specs.Network.{DeclaredNetwork, IsNetwork, declared_network}
 use Rattle.ats_lrq.specs.Narrow.{narrowed}
-use Rattle.ats_certificate.specs.Certificate.{Holds, bound_along}
+use Rattle.ats_certificate.specs.Certificate.{Holds, bound_along, bound_on}
 use Rattle.ats_certificate.specs.declared.row.Row.{Row}
 use Rattle.ats_bound.specs.Least.{least_certificate}
-use Rattle.ats_explain.specs.Margins.{tightest_stream}
+use Rattle.ats_explain.specs.Margins.{StreamListener, all_listeners, tightest_listener}
 use Rattle.ats_trace.specs.Journey.{Travel}
 use Rattle.ats_trace.specs.declared.journey.Ending.TheVariants.{Sink}
 use Rattle.ats_replay.specs.Report.{bound_of}
@@ -17,25 +18,29 @@ use Rattle.ats_replay.specs.declared.summary.Summary.{Summary}
 use Rattle.ats_command_due.specs.Generated.{least_sums}
 use Rattle.ats_text_examples.specs.Worked.{u, v, way, wide, way_with}
 
--- What the tightest stream, the worst delay and a printed bound are.
+-- What the tightest listener, the worst delay and a printed bound are.
 
--- the sum of a stream's least bounds
-abbrev pub least_sum : DeclaredNetwork → DeclaredStream → ℕ
-least_sum network stream = bound_along (least_certificate network) stream
+-- the sum of a stream's least bounds along the route to one of its listeners
+abbrev pub least_sum : DeclaredNetwork → StreamListener → ℕ
+least_sum network one = bound_on (least_certificate network) one.0 one.1.route
 
--- a stream has no more slack than another: the deadline of each less its sum
-abbrev pub HasNoMoreSlack : DeclaredNetwork → DeclaredStream → DeclaredStream → Type 0
-HasNoMoreSlack network stream other =
-    PS_PER_NS * stream.deadline_ns + least_sum network other ≤ PS_PER_NS * other.deadline_ns + least_sum network stream
+-- a listener has no more slack than another: the deadline of each one's stream less its sum
+abbrev pub HasNoMoreSlack : DeclaredNetwork → StreamListener → StreamListener → Type 0
+HasNoMoreSlack network one other =
+    PS_PER_NS * one.0.deadline_ns + least_sum network other ≤ PS_PER_NS * other.0.deadline_ns + least_sum network one
 
--- the tightest stream is one of the network's, and none has less slack
-pub record IsTightest (network : DeclaredNetwork) (stream : DeclaredStream) : Type 0 where
-  pub there : Contains network.streams stream
-  pub least : All (HasNoMoreSlack network stream) network.streams
+-- the tightest listener is one of the network's, and none has less slack
+pub record IsTightest (network : DeclaredNetwork) (one : StreamListener) : Type 0 where
+  pub there : Contains (all_listeners network) one
+  pub least : All (HasNoMoreSlack network one) (all_listeners network)
 
 abbrev pub TightestIsTightest : Type 0
-TightestIsTightest = (network : DeclaredNetwork) (stream : DeclaredStream)
-    → tightest_stream network ≡ Some stream → IsTightest network stream
+TightestIsTightest = (network : DeclaredNetwork) (one : StreamListener)
+    → tightest_listener network ≡ Some one → IsTightest network one
+
+-- the stream of the tightest listener
+abbrev pub tightest_stream : DeclaredNetwork → Option DeclaredStream
+tightest_stream network = option_map (λ (one : StreamListener). one.0) (tightest_listener network)
 
 -- a stream like `v` but for its name
 abbrev pub twin : DeclaredStream
@@ -76,7 +81,7 @@ SummaryHasWorst = (run : List Travel) (senders sender : ℕ) (summary : Summary)
 abbrev pub BoundIsLeastSum : Type 0
 BoundIsLeastSum = (network : DeclaredNetwork) (rows : List Row) (place : ℕ) (stream : DeclaredStream)
     → IsNetwork network → Holds network rows → slice_get network.streams place ≡ Some stream
-    → bound_of network (least_sums network) place ≡ Some (least_sum network stream)
+    → bound_of network (least_sums network) place ≡ Some (bound_along (least_certificate network) stream)
 
 -- the sums of both streams, which are told of neither where one is late; and both bursts narrowed to a longest frame
 pub record SumsAreWorked : Type 0 where

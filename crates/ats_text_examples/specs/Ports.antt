@@ -88,4 +88,4 @@ pub record PortsAreWorked : Type 0 where
   pub second_sum : bound_along wide_rows (v 300000) ≡ 261014682
   pub free : reason_of wide ≡ None
   pub stays : reason_of way ≡ Some (Residence 0 5 30804082)
-  pub late : reason_of (way_with 40000 200000) ≡ Some (Deadline (codes "v") 261014682)
+  pub late : reason_of (way_with 40000 200000) ≡ Some (Deadline (codes "v") None 261014682)

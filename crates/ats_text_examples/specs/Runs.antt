@@ -36,6 +36,7 @@ late_travel released start end arrival eligible = record {
   hops = sent_hop released.at.0 released.at.0 start end
       ∷ record { arrival = at arrival; verdict = Late (at eligible); sent = None } ∷ [];
   ending = Discard;
+  copies = [];
 }
 
 abbrev pub size_travel : Release → ℕ → ℕ → ℕ → Travel
@@ -44,6 +45,7 @@ size_travel released start end arrival = record {
   hops = sent_hop released.at.0 released.at.0 start end
       ∷ record { arrival = at arrival; verdict = Size; sent = None } ∷ [];
   ending = Discard;
+  copies = [];
 }
 
 -- one frame that arrived, two that were late, and three of an undeclared size
@@ -53,6 +55,7 @@ journeys =
       release = release 1001 0 501;
       hops = sent_hop 1001 1001 1102 5203 ∷ sent_hop 6304 7405 8506 9607 ∷ sent_hop 10708 11809 12910 14011 ∷ [];
       ending = Sink (at 15112);
+      copies = [];
     }
     ∷ late_travel (release 2001 1 602) 5204 5305 6306 77777
     ∷ size_travel (release 3001 2 1403) 5306 5407 6408

@@ -1,4 +1,4 @@
-use Rattle.std.specs.Prelude.{◌≡◌, ℕ, List, [], ◌∷◌, ◌++◌, length, codes, decimal}
+use Rattle.std.specs.Prelude.{◌≡◌, ℕ, List, [], ◌∷◌, ◌++◌, length, codes, decimal, None}
 use Rattle.ats_topology.specs.Topology.{DeclaredTopology}
 use Rattle.ats_network.specs.Network.{DeclaredNetwork}
 use Rattle.ats_conform.specs.declared.broken.Broken.TheVariants.{Size, Bucket}
@@ -36,7 +36,7 @@ pub record VerdictsAreWritten : Type 0 where
   pub of_network : refusal_text over (Network (Overloaded 0 6 18)) ≡ codes "overloaded s1>b1 6 18"
   pub overloaded : reason_text over (Overloaded 3 5 2000000000019) ≡ codes "overloaded b2>b1 5 2000000000019"
   pub residence : reason_text over (Residence 2 4 20) ≡ codes "residence b1>b2 4 20"
-  pub deadline : reason_text over (Deadline (codes "v") 21) ≡ codes "deadline v 21"
+  pub deadline : reason_text over (Deadline (codes "v") None 21) ≡ codes "deadline v 21"
   pub refused : refused_text (codes "deadline v 21") ≡ codes "refused deadline v 21\n"
   pub size : broken_text (Size 22) ≡ codes "size 22"
   pub bucket : broken_text (Bucket 23 24) ≡ codes "bucket 23 24"
@@ -52,7 +52,7 @@ abbrev pub given : List Answer
 given =
     Admitted 6 1001 ∷ Admitted 5 1002 ∷ Withdrawn ∷ Refused NameTaken ∷ Refused NameUnknown ∷ Refused Limit
     ∷ Refused (Because (Residence 0 5 1003))
-    ∷ Refused (NoClass (Overloaded 0 1 1004 ∷ Deadline (codes "u") 1005 ∷ Residence 2 3 1006 ∷ [])) ∷ []
+    ∷ Refused (NoClass (Overloaded 0 1 1004 ∷ Deadline (codes "u") None 1005 ∷ Residence 2 3 1006 ∷ [])) ∷ []
 
 abbrev pub lines : List ℕ
 lines =

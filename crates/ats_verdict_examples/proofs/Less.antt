@@ -1,8 +1,9 @@
-use Rattle.std.proofs.Common.{ℕ, zero, suc, ◌<◌, [], ◌∷◌, length, All}
-use Rattle.std.proofs.Common.{refl, sym, arith, lit<, lit≤}
+use Rattle.std.proofs.Common.{ℕ, zero, suc, ◌<◌, List, [], ◌∷◌, length, get_or, All}
+use Rattle.std.proofs.Common.{refl, sym, ap, arith, lit<, lit≤}
 use Rattle.std.specs.Prelude.{IsTrue, nat_lt, ◌==◌}
 use Rattle.std.specs.List.{list_any}
 use Rattle.std.proofs.lemmas.Bool.{false≢true}
+use Rattle.ats_streams.specs.Branches.{trunk_of}
 use Rattle.ats_bound.specs.Laws.{IsAnswered}
 use Rattle.ats_bound.specs.Least.{least_certificate}
 use Rattle.ats_bound.specs.Reason.{overload}
@@ -44,14 +45,16 @@ less_is_met = record {
   falls = nothing_rises (of_three 91352) (of_two 91352) y 4 6 (less_by 91352) three_in_time (lit≤ tt) refl;
   sum = refl;
   sum_left = refl;
-  no_more = no_sum_rises (of_three 91352) (of_two 91352) y (x_until 91352) (less_by 91352) three_in_time refl;
+  no_more = no_sum_rises (of_three 91352) (of_two 91352) y (x_until 91352)
+      (trunk_of (x_until 91352).ports (x_until 91352).branches) (less_by 91352) three_in_time refl;
   meets = refl;
   apart = refl;
   same = other_ports_stay (of_three 91352) (of_two 91352) y 9 6 (less_by 91352) refl;
   shares_some = refl;
   shares_none = refl;
   sum_of_z = refl;
-  same_sum = other_sums_stay (of_three 91352) (of_two 91352) y z (less_by 91352) three_in_time refl;
+  same_sum = ap (λ (sums : List ℕ). get_or sums 0 0)
+      (other_sums_stay (of_three 91352) (of_two 91352) y z (less_by 91352) three_in_time refl);
 }
   where
     held : IsAnswered (of_three 91352)

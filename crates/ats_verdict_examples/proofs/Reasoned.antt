@@ -21,7 +21,7 @@ use Rattle.ats_verdict_examples.proofs.NetworkProofs.{line_late, line_in_time, p
 abbrev number_in : Reason → ℕ
 number_in (Overloaded port class load) = port
 number_in (Residence port class need) = need
-number_in (Deadline stream sum) = sum
+number_in (Deadline stream listener sum) = sum
 
 reason_by : (network : DeclaredNetwork) (reason other : Reason) → IsNetwork network → reason_of network ≡ Some reason
     → reason ≢ other → HasReason network reason other
@@ -45,7 +45,7 @@ not_second same = let e : ◌≡◌ {A = ℕ} 0 2 = ap number_in same in absurd 
 not_overloaded : Residence 0 6 12336000 ≢ Overloaded 0 6 150000000000
 not_overloaded same = let e : ◌≡◌ {A = ℕ} 12336000 0 = ap number_in same in absurd (omega arith)
 
-not_less : Deadline (codes "a") 26672000 ≢ Deadline (codes "a") 26671000
+not_less : Deadline (codes "a") None 26672000 ≢ Deadline (codes "a") None 26671000
 not_less same = let e : ◌≡◌ {A = ℕ} 26672000 26671000 = ap number_in same in absurd (omega arith)
 
 pub reasons_are_met : ReasonsAreMet
@@ -54,7 +54,7 @@ reasons_are_met = record {
   overstays = reason_by (pair 12335) (Residence 0 6 12336000) (Overloaded 0 6 150000000000) pair_over refl
       not_overloaded;
   may_stay = none_by (pair 12336) pair_fits refl;
-  late = reason_by (line_until 26671) (Deadline (codes "a") 26672000) (Deadline (codes "a") 26671000) line_late refl
-      not_less;
+  late = reason_by (line_until 26671) (Deadline (codes "a") None 26672000) (Deadline (codes "a") None 26671000)
+      line_late refl not_less;
   in_time = none_by (line_until 26672) line_in_time refl;
 }

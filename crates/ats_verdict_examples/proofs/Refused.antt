@@ -1,4 +1,4 @@
-use Rattle.std.proofs.Common.{◌≡◌, true, List, [], ◌∷◌, Some, refl, sym, ◌∙◌}
+use Rattle.std.proofs.Common.{◌≡◌, true, List, [], ◌∷◌, Some, None, refl, sym, ◌∙◌}
 use Rattle.std.specs.Prelude.{codes, AllPairs}
 use Rattle.std.proofs.lemmas.Option.{none-some}
 use Rattle.ats_network.specs.Network.{DeclaredNetwork, IsNetwork}
@@ -49,5 +49,5 @@ refusals_are_met = record {
   short = refused_by line (with_second short_row) (WaitTooSmall 2 6 11664000) line_is refl refl;
   overstays = refused_by (pair 12335) (pair_rows (row_with 0 6 0 150000000000 13008 0 672 12336000 14508000))
       (Network (Residence 0 6 12336000)) pair_over refl refl;
-  late = refused_by (line_until 26671) line_rows (Network (Deadline (codes "a") 26672000)) line_late refl refl;
+  late = refused_by (line_until 26671) line_rows (Network (Deadline (codes "a") None 26672000)) line_late refl refl;
 }

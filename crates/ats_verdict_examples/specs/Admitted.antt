@@ -34,9 +34,9 @@ pub record LowestIsHigher : Type 0 where
   pub after : after_all bridged (Lowest (small (codes "c") 1 28016) ∷ [])
       ≡ and_stream bridged (small (codes "c") 6 28016)
   pub in_class_five : answers bridged (Admit (small (codes "c") 5 28016) ∷ [])
-      ≡ Refused (Because (Deadline (codes "c") 30757334)) ∷ []
+      ≡ Refused (Because (Deadline (codes "c") None 30757334)) ∷ []
   pub in_class_six : answers bridged (Admit (small (codes "c") 6 28015) ∷ [])
-      ≡ Refused (Because (Deadline (codes "c") 28016000)) ∷ []
+      ≡ Refused (Because (Deadline (codes "c") None 28016000)) ∷ []
 
 -- a stream that is admitted stands last, with the class that it asks for, and a denial leaves all as it was; of one
 -- name with a flow none is admitted, and a flow is no stream to withdraw. One that is withdrawn leaves the others in

@@ -93,7 +93,7 @@ pub record ClausesAreFirst : Type 0 where
   pub overstay : refusal_of with_overstay (row_before 100000000 0 ∷ row_behind 100000000 ∷ row_before 100000000 4 ∷ [])
       ≡ Some (Network (Residence 0 6 11664000))
   pub late : refusal_of with_late (row_before 100000000 0 ∷ row_behind 100000000 ∷ row_before 100000000 4 ∷ [])
-      ≡ Some (Network (Deadline (codes "a") 39008000))
+      ≡ Some (Network (Deadline (codes "a") None 39008000))
   pub none : refusal_of with_none (row_before 100000000 0 ∷ row_behind 100000000 ∷ row_before 100000000 4 ∷ []) ≡ None
 
 -- of two that break one clause the first is named
@@ -151,7 +151,7 @@ of_two_classes upper lower = two_within 1000000 upper lower
 pub record ReasonsAreFirst : Type 0 where
   pub overload : reason_of with_overload ≡ Some (Overloaded 2 6 1200000000000)
   pub overstay : reason_of with_overstay ≡ Some (Residence 0 6 11664000)
-  pub late : reason_of with_late ≡ Some (Deadline (codes "a") 39008000)
+  pub late : reason_of with_late ≡ Some (Deadline (codes "a") None 39008000)
   pub none : reason_of with_none ≡ None
   pub both_classes : reason_of (of_two_classes 1100000000 600000000) ≡ Some (Overloaded 0 5 1700000000000)
   pub staying_class : reason_of (two_within 1 100000000 100000000) ≡ Some (Residence 0 5 26666667)

@@ -47,12 +47,12 @@ pub record LateIsMet : Type 0 where
   pub less : IsLessBy (of_three 91351) (of_two 91351) y
   pub rules : IsNetwork (of_three 91351)
   pub free_left : reason_of (of_two 91351) ≡ None
-  pub reason : reason_of (of_three 91351) ≡ Some (Deadline (codes "x") 91352000)
-  pub along : reason_along (of_three 91351) y ≡ Some (Deadline (codes "x") 91352000)
-  pub judged : reason_judged (of_three 91351) y ≡ Some (Deadline (codes "x") 91352000)
+  pub reason : reason_of (of_three 91351) ≡ Some (Deadline (codes "x") None 91352000)
+  pub along : reason_along (of_three 91351) y ≡ Some (Deadline (codes "x") None 91352000)
+  pub judged : reason_judged (of_three 91351) y ≡ Some (Deadline (codes "x") None 91352000)
   pub near : AreNear (of_three 91351) y (1 ∷ 0 ∷ [])
-  pub late : late_near (of_three 91351) y ≡ Some (Deadline (codes "x") 91352000)
-  pub lowest : found_there (lowest_late (of_three 91351) (1 ∷ 0 ∷ [])) ≡ Some (Deadline (codes "x") 91352000)
+  pub late : late_near (of_three 91351) y ≡ Some (Deadline (codes "x") None 91352000)
+  pub lowest : found_there (lowest_late (of_three 91351) (1 ∷ 0 ∷ [])) ≡ Some (Deadline (codes "x") None 91352000)
 
 -- a stream that overloads each of its ports, which stand in descending order: port 1 is found, which is the last of
 -- them

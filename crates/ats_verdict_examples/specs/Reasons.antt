@@ -33,5 +33,5 @@ pub record ReasonsAreMet : Type 0 where
   pub overloaded : HasReason fast (Overloaded 0 6 2000000000000) (Overloaded 2 6 2000000000000)
   pub overstays : HasReason (pair 12335) (Residence 0 6 12336000) (Overloaded 0 6 150000000000)
   pub may_stay : HasNoReason (pair 12336)
-  pub late : HasReason (line_until 26671) (Deadline (codes "a") 26672000) (Deadline (codes "a") 26671000)
+  pub late : HasReason (line_until 26671) (Deadline (codes "a") None 26672000) (Deadline (codes "a") None 26671000)
   pub in_time : HasNoReason (line_until 26672)

@@ -43,4 +43,4 @@ pub record RefusalsAreMet : Type 0 where
   pub short : AreRefusedBy line (with_second short_row) (WaitTooSmall 2 6 11664000)
   pub overstays : AreRefusedBy (pair 12335) (pair_rows (row_with 0 6 0 150000000000 13008 0 672 12336000 14508000))
       (Network (Residence 0 6 12336000))
-  pub late : AreRefusedBy (line_until 26671) line_rows (Network (Deadline (codes "a") 26672000))
+  pub late : AreRefusedBy (line_until 26671) line_rows (Network (Deadline (codes "a") None 26672000))

@@ -36,7 +36,7 @@ asked =
     ∷ Withdraw (codes "c") ∷ Lowest (small (codes "c") 1) ∷ Withdraw (codes "c") ∷ Lowest (large (codes "d") 1) ∷ []
 
 abbrev pub late_a : ℕ → Reason
-late_a sum = Deadline (codes "a") sum
+late_a sum = Deadline (codes "a") None sum
 
 -- by a large stream in any class the first one is late, in class 7 by more
 abbrev pub late_in_each : List Reason

@@ -77,6 +77,7 @@ no_travel = record {
   release = record { at = record { 0 = 0 }; sender = 0; octets = 0 };
   hops = [];
   ending = Discard;
+  copies = [];
 }
 
 longer : IsGreatestDelay regulated 0 150032000

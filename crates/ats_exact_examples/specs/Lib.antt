@@ -1,0 +1,6 @@
+pub mod Waits
+pub mod Records
+pub mod Faults
+pub mod Ports
+pub mod Orders
+pub mod Only

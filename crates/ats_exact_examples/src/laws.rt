@@ -1,0 +1,39 @@
+//! What laws that hold one way only leave open, on closed examples and as laws of their own.
+
+ghost use Rattle.ats_exact_examples.specs.Waits.{WaitsMayGrow};
+ghost use Rattle.ats_exact_examples.specs.Records.{FirstFaultsAreNamed};
+ghost use Rattle.ats_exact_examples.specs.Faults.{FaultsAreFirst};
+ghost use Rattle.ats_exact_examples.specs.Ports.{GroupsCrossPorts};
+ghost use Rattle.ats_exact_examples.specs.Orders.{OrdersAreExact};
+ghost use Rattle.ats_exact_examples.specs.Only.{NothingElseIsRead};
+
+/// A longer wait covers too, and makes larger buffers there and behind.
+pub fn waits_may_grow()
+    ensures { WaitsMayGrow }
+{}
+
+/// Of two faulty records of a certificate or a schedule the first is named, whatever the faults.
+pub fn first_faults_are_named()
+    ensures { FirstFaultsAreNamed }
+{}
+
+/// The fault that is told of a certificate or a schedule is that of the first record that has one, and that one is
+/// told.
+pub fn faults_are_first()
+    ensures { FaultsAreFirst }
+{}
+
+/// Streams of one class that come by one port are one group, also where they go on by different ports.
+pub fn groups_cross_ports()
+    ensures { GroupsCrossPorts }
+{}
+
+/// Keys, waits and turns for any number of senders, streams and frames.
+pub fn orders_are_exact()
+    ensures { OrdersAreExact }
+{}
+
+/// No other numbers, rates, words or identities are read.
+pub fn nothing_else_is_read()
+    ensures { NothingElseIsRead }
+{}

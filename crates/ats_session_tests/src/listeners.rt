@@ -1,0 +1,105 @@
+//! Admission to a network whose stream has two listeners.
+
+ghost use Rattle.std.specs.Prelude.{◌≡◌, ◌≢◌, IsTrue};
+ghost use Rattle.ats_topology.specs.Port.{port_at};
+ghost use Rattle.ats_session_tests.specs.Forks.{fork, fork_ports};
+
+use ats_admission::Session;
+use ats_admission_text::answered;
+use ats_network::Network;
+use ats_network_file::read_network;
+use ats_num::Name;
+use ats_request_file::read_requests;
+use ats_streams::{Branch, Stream};
+use std::alloc::AllocGlobal;
+use std::process::Abort;
+
+// One bridge between three stations.
+const FORK: &[u8] = b"format = 1\n[[station]]\nname = \"s1\"\n[[station]]\nname = \"s2\"\n\
+    [[station]]\nname = \"s3\"\n\
+    [[bridge]]\nname = \"b1\"\nprocessing_ns = 1000\nresidence_ns = 1000000\n\
+    [[link]]\na = \"s1\"\nb = \"b1\"\nmbps = 1000\npropagation_ns = 500\n\
+    [[link]]\na = \"b1\"\nb = \"s2\"\nmbps = 1000\npropagation_ns = 500\n\
+    [[link]]\na = \"b1\"\nb = \"s3\"\nmbps = 1000\npropagation_ns = 500\n";
+
+const REQUESTS: &[u8] = b"admit d s2 s3 5 100000000 12336 64 1522 1000000\n\
+    admit d s2 s3 lowest 10000000 672 64 64 1000000\n\
+    admit c s1 s2 5 100000000 12336 64 1522 1000000\n\
+    withdraw a\n\
+    admit c s1 s2 5 100000000 12336 64 1522 1000000\n";
+
+const ANSWERS: &[u8] = b"denied d deadline a s3 39008000\n\
+    admitted d 1 17050667\n\
+    denied c deadline a 51344000\n\
+    withdrawn a\n\
+    admitted c 5 26672000\n\
+    streams 2\n";
+
+// Whether two ports lead to different nodes.
+fn part(network: &Network, one: usize, other: usize) -> bool
+    ensures { IsTrue result
+        → (port_at network.now.topology.ports one).to ≢ (port_at network.now.topology.ports other).to }
+{
+    let ports = network.topology().ports();
+    let Some(one) = ports.get(one) else {
+        return false;
+    };
+    let Some(other) = ports.get(other) else {
+        return false;
+    };
+    one.to != other.to
+}
+
+// A stream `a` of class 6 from s1 to s2 and to s3, which the bridge copies to port 4.
+#[tactic(auto, using(crate::proofs::Forks::fork_branches))]
+fn to_both(rt: &(impl Abort + AllocGlobal)) -> Stream
+    ensures ports { result.ports ≡ fork_ports }
+    ensures branches { result.branches ≡ fork }
+{
+    let branch = Branch {
+        first: 2,
+        leg: 0,
+        hop: 1,
+    };
+    Stream::new(
+        rt.alloc(),
+        Name::new(b"a").expect(rt, "a name"),
+        Vec::from_slice(rt.alloc(), &[0, 2, 4]).expect(rt, "room"),
+        Vec::from_slice(rt.alloc(), &[branch]).expect(rt, "room"),
+        &[6],
+        100_000_000,
+        12336,
+        64,
+        1522,
+        30_000,
+        None,
+    )
+    .expect(rt, "a stream")
+}
+
+// Adds this stream.
+fn push(rt: &(impl Abort + AllocGlobal), network: &mut Network) {
+    let stream = to_both(rt);
+    assert!(rt; network.valid_path(&[0, 2]));
+    assert!(rt; network.valid_path(&[0, 4]));
+    assert!(rt; part(network, 2, 4));
+    network.push_stream(stream).expect(rt, "a stream more");
+}
+
+// A session over the bridge with this stream.
+fn session(rt: &(impl Abort + AllocGlobal)) -> Session {
+    let mut network = read_network(rt.alloc(), FORK).expect(rt, "a network");
+    push(rt, &mut network);
+    match Session::open(rt.alloc(), network) {
+        Ok(session) => session,
+        Err(_) => panic!(rt; "no session"),
+    }
+}
+
+#[test]
+fn names_the_listener(rt: HostRuntime) {
+    let mut session = session(&rt);
+    let requests = read_requests(rt.alloc(), REQUESTS, session.network()).expect(&rt, "requests");
+    let text = answered(rt.alloc(), &mut session, requests).expect(&rt, "room");
+    assert!(rt; text.as_slice() == ANSWERS);
+}

@@ -1,0 +1,4 @@
+pub mod InTimeProofs
+pub mod RefusalProofs
+pub mod SettingsProofs
+pub mod TextProofs

@@ -1,0 +1,4 @@
+pub mod InTime
+pub mod Refusals
+pub mod Settings
+pub mod Texts
