@@ -30,4 +30,4 @@ legs_are_shown = record { classes = refl; in_another_order = refl; in_another_cl
 
 pub explanation_is_written : ExplanationIsWritten
 unfolding digits explain_text stream_line wait_text bound_text hop_line explain.port_line counts_text
-explanation_is_written = record { explain = refl }
+explanation_is_written = record { explain = refl; in_another_order = refl }

@@ -3,7 +3,7 @@ use Rattle.ats_network.specs.Network.{IsNetwork}
 use Rattle.ats_settings.specs.declared.setting.Setting.{Setting}
 use Rattle.ats_settings_law.specs.Laws.{AreOnlySettings}
 use Rattle.ats_settings_text.specs.Text.{settings_text}
-use Rattle.ats_tree_examples.specs.Networks.{split, split_by_class, tree}
+use Rattle.ats_tree_examples.specs.Networks.{split, split_by_class, tree, turned}
 
 -- What bridges are told of streams with several listeners.
 
@@ -35,6 +35,14 @@ tree_settings =
     ∷ told_of 0 100000000 1000000 7 8 10 6 ∷ told_of 0 100000000 1000000 7 8 12 6
     ∷ []
 
+-- with the listeners in another order: of settings of one place, that of the ports
+abbrev pub turned_settings : List Setting
+turned_settings =
+    told_of 0 100000000 1000000 5 0 6 6 ∷ told_of 0 100000000 1000000 5 0 2 6
+    ∷ told_of 0 100000000 1000000 6 2 4 6 ∷ told_of 0 100000000 1000000 6 2 8 6
+    ∷ told_of 0 100000000 1000000 7 8 12 6 ∷ told_of 0 100000000 1000000 7 8 10 6
+    ∷ []
+
 abbrev pub split_set : List ℕ
 split_set =
     codes "bridge,received_from,class,stream,rate_bps,burst_bits,max_octets,residence_ns,sent_to,class_there\n"
@@ -44,10 +52,12 @@ split_set =
 -- the bridge where a branch begins is told of the stream once for each port by which its frames go on. They come from
 -- one port, and one scheduler judges them, so both settings tell the same group and the same of the scheduler; the
 -- class behind is that at each port of its own. Over the tree each setting names the port before on the route, which
--- need not be the one before among the stream's ports
+-- need not be the one before among the stream's ports; and settings of one place are in the order of the stream's
+-- ports, which need not be that of their numbers
 pub record BridgesAreTold : Type 0 where
   pub rules : IsNetwork split
   pub over_one : AreOnlySettings split split_settings
   pub by_class : AreOnlySettings split_by_class settings_by_class
   pub over_three : AreOnlySettings tree tree_settings
+  pub in_another_order : AreOnlySettings turned turned_settings
   pub written : settings_text split split_settings ≡ split_set

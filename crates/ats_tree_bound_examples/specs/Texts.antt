@@ -120,6 +120,17 @@ to_bridge =
 abbrev pub to_station : List ℕ
 to_station = codes " lower 0 - bursts 11664000 higher 0 frame 672000 latency 500000 bound 12836000\n"
 
+-- the lines of ports, in the order of their numbers
+abbrev pub loads : List ℕ
+loads =
+    codes "port s1>b1 load 100000000000\n"
+    ++ codes "port b1>b2 load 100000000000\n"
+    ++ codes "port b2>s2 load 100000000000\n"
+    ++ codes "port b1>s3 load 100000000000\n"
+    ++ codes "port b2>b3 load 100000000000\n"
+    ++ codes "port b3>s4 load 100000000000\n"
+    ++ codes "port b3>s5 load 100000000000\n"
+
 abbrev pub explained : List ℕ
 explained =
     codes "stream a sum 40508000 deadline 50000000 slack 9492000\n"
@@ -133,16 +144,29 @@ explained =
     ++ codes "hop b3>s4 6" ++ to_station
     ++ codes "listener a s5 sum 54344000 deadline 50000000 late 4344000\n"
     ++ codes "hop b3>s5 6" ++ to_station
-    ++ codes "port s1>b1 load 100000000000\n"
-    ++ codes "port b1>b2 load 100000000000\n"
-    ++ codes "port b2>s2 load 100000000000\n"
-    ++ codes "port b1>s3 load 100000000000\n"
-    ++ codes "port b2>b3 load 100000000000\n"
-    ++ codes "port b3>s4 load 100000000000\n"
-    ++ codes "port b3>s5 load 100000000000\n"
+    ++ loads
     ++ codes "total streams 1 late 2 over 0 tightest a s4 late 4344000\n"
 
+-- with the listeners in another order
+abbrev pub explained_turned : List ℕ
+explained_turned =
+    codes "stream a sum 26672000 deadline 50000000 slack 23328000\n"
+    ++ codes "hop s1>b1 6" ++ to_bridge
+    ++ codes "hop b1>s3 6" ++ to_station
+    ++ codes "listener a s2 sum 40508000 deadline 50000000 slack 9492000\n"
+    ++ codes "hop b1>b2 6" ++ to_bridge
+    ++ codes "hop b2>s2 6" ++ to_station
+    ++ codes "listener a s5 sum 54344000 deadline 50000000 late 4344000\n"
+    ++ codes "hop b2>b3 6" ++ to_bridge
+    ++ codes "hop b3>s5 6" ++ to_station
+    ++ codes "listener a s4 sum 54344000 deadline 50000000 late 4344000\n"
+    ++ codes "hop b3>s4 6" ++ to_station
+    ++ loads
+    ++ codes "total streams 1 late 2 over 0 tightest a s5 late 4344000\n"
+
 -- each listener has a line, and behind it the hops of its own leg; a port's load counts the stream once; and the totals
--- count listeners that are late, and name the first of two that are as tight
+-- count listeners that are late, and name the first of two that are as tight. Listeners are in the order of legs, which
+-- need not be that of their names
 pub record ExplanationIsWritten : Type 0 where
   pub explain : explain_text (tree_within 50000) ≡ explained
+  pub in_another_order : explain_text (turned_within 50000) ≡ explained_turned
