@@ -16,12 +16,12 @@ use Rattle.ats_examples.proofs.NetworkTest.{network_passes, network_by}
 use Rattle.ats_examples.proofs.RuleTest.{all_pass, holds_by, rest_passes}
 use Rattle.ats_tree_examples.specs.Networks.{split, split_and_flow, by_two_streams, crossed, tree, tree_and_flow}
 use Rattle.ats_tree_examples.specs.Networks.{beside_stream_within, split_nodes, split_links, tree_nodes, tree_links}
-use Rattle.ats_tree_examples.specs.Networks.{tree_within, turned, turned_within}
+use Rattle.ats_tree_examples.specs.Networks.{split_by_class, tree_within, turned, turned_within}
 use Rattle.ats_tree_examples.specs.Bounds.{HasReason, IsBounded, ListenersAreExplained, ListenersHaveBounds}
 use Rattle.ats_tree_examples.specs.Bounds.{ReasonsNameListeners, SumsCountOnce, crossed_rows, rows_beside_flow}
-use Rattle.ats_tree_examples.specs.Bounds.{rows_of_two, split_rows, tree_rows}
+use Rattle.ats_tree_examples.specs.Bounds.{rows_by_class, rows_of_two, split_rows, tree_rows}
 use Rattle.ats_tree_examples.proofs.TreeProofs.{split_is, split_and_flow_is, two_streams_is, crossed_is, tree_is}
-use Rattle.ats_tree_examples.proofs.TreeProofs.{tree_and_flow_is, turned_is}
+use Rattle.ats_tree_examples.proofs.TreeProofs.{by_class_is, tree_and_flow_is, turned_is}
 
 pub sums_count_once : SumsCountOnce
 sums_count_once = record {
@@ -53,12 +53,14 @@ listeners_have_bounds = record {
   over_one = bounded split split_rows split_is refl refl refl;
   beside_flow = bounded split_and_flow rows_beside_flow split_and_flow_is refl refl refl;
   with_two = bounded by_two_streams rows_of_two two_streams_is refl refl refl;
+  by_class = bounded split_by_class rows_by_class by_class_is refl refl refl;
   against = bounded crossed crossed_rows crossed_is refl refl refl;
   over_three = bounded tree tree_rows tree_is refl refl refl;
   in_another_order = bounded turned tree_rows turned_is refl refl refl;
   not_of_trunk = not_of_trunk;
   sums_over_one = refl;
   sums_of_two = refl;
+  sums_by_class = refl;
   sums_against = refl;
   sums_over_three = refl;
   sums_in_another_order = refl;

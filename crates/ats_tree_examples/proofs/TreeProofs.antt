@@ -56,7 +56,7 @@ round_is = network_by (tree_nodes 1000000) ring_links round.streams [] refl refl
 pub split_and_stream_is : IsNetwork split_and_stream
 split_and_stream_is = network_by (split_nodes 1000000) split_links split_and_stream.streams [] refl refl
 
-by_class_is : IsNetwork split_by_class
+pub by_class_is : IsNetwork split_by_class
 by_class_is = network_by (split_nodes 100000) split_links split_by_class.streams [] refl refl
 
 ranged_is : IsNetwork split_ranged

@@ -14,7 +14,7 @@ use Rattle.ats_explain.specs.Totals.{over_count, totals_of}
 use Rattle.ats_explain.specs.declared.totals.Totals.{Totals}
 use Rattle.ats_examples.specs.Rows.{line_rows, next_row_with_flow, row_of_line, row_with, row_with_two}
 use Rattle.ats_tree_examples.specs.Networks.{split, split_and_flow, by_two_streams, crossed, tree, tree_and_flow}
-use Rattle.ats_tree_examples.specs.Networks.{beside_stream_within, tree_within, turned, turned_within}
+use Rattle.ats_tree_examples.specs.Networks.{beside_stream_within, split_by_class, tree_within, turned, turned_within}
 
 -- What bounds, certificates and reasons say of the worked networks.
 
@@ -49,6 +49,13 @@ abbrev pub rows_of_two : List Row
 rows_of_two =
     row_with 0 6 0 200000000000 24672 0 672 24000000 26172000 ∷ row_of_line 2 12836000 ∷ row_of_line 4 12836000 ∷ []
 
+-- where the branch has another class than the trunk, its port's row is of that class, and counts the stream with those
+-- of that class there
+abbrev pub rows_by_class : List Row
+rows_by_class =
+    row_with 0 6 0 150000000000 24672 0 672 24000000 26172000 ∷ row_of_line 2 12836000
+    ∷ row_with 4 5 0 150000000000 24672 0 672 24000000 25172000 ∷ []
+
 abbrev pub crossed_rows : List Row
 crossed_rows = row_of_line 0 13836000 ∷ row_of_line 1 12836000 ∷ row_with_two ∷ row_of_line 4 13836000 ∷ []
 
@@ -69,12 +76,14 @@ pub record ListenersHaveBounds : Type 0 where
   pub over_one : IsBounded split split_rows
   pub beside_flow : IsBounded split_and_flow rows_beside_flow
   pub with_two : IsBounded by_two_streams rows_of_two
+  pub by_class : IsBounded split_by_class rows_by_class
   pub against : IsBounded crossed crossed_rows
   pub over_three : IsBounded tree tree_rows
   pub in_another_order : IsBounded turned tree_rows
   pub not_of_trunk : ¬ Holds split line_rows
   pub sums_over_one : sums_for split split_rows ≡ 26672000 ∷ 26672000 ∷ []
   pub sums_of_two : sums_for by_two_streams rows_of_two ≡ 39008000 ∷ 39008000 ∷ []
+  pub sums_by_class : sums_for split_by_class rows_by_class ≡ 39008000 ∷ 51344000 ∷ 51344000 ∷ []
   pub sums_against : sums_for crossed crossed_rows ≡ 39008000 ∷ 39008000 ∷ 26672000 ∷ []
   pub sums_over_three : sums_for tree tree_rows ≡ 40508000 ∷ 26672000 ∷ 54344000 ∷ 54344000 ∷ []
   pub sums_in_another_order : sums_for turned tree_rows ≡ 26672000 ∷ 40508000 ∷ 54344000 ∷ 54344000 ∷ []
