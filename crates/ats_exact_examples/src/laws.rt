@@ -28,7 +28,7 @@ pub fn groups_cross_ports()
     ensures { GroupsCrossPorts }
 {}
 
-/// Keys, waits and turns for any number of senders, streams and frames.
+/// Keys of any two senders, the wait of one frame with a great number, and turns of three and five streams.
 pub fn orders_are_exact()
     ensures { OrdersAreExact }
 {}
