@@ -26,14 +26,16 @@ const REQUESTS: &[u8] = b"admit d s2 s3 5 100000000 12336 64 1522 1000000\n\
     admit d s2 s3 lowest 10000000 672 64 64 1000000\n\
     admit c s1 s2 5 100000000 12336 64 1522 1000000\n\
     withdraw a\n\
-    admit c s1 s2 5 100000000 12336 64 1522 1000000\n";
+    admit c s1 s2 5 100000000 12336 64 1522 1000000\n\
+    admit e s2 s3 5 100000000 12336 64 1522 1000000\n";
 
 const ANSWERS: &[u8] = b"denied d deadline a s3 39008000\n\
     admitted d 1 17050667\n\
     denied c deadline a 51344000\n\
     withdrawn a\n\
     admitted c 5 26672000\n\
-    streams 2\n";
+    admitted e 5 28016000\n\
+    streams 3\n";
 
 // Whether two ports lead to different nodes.
 fn part(network: &Network, one: usize, other: usize) -> bool
