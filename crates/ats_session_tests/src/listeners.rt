@@ -1,4 +1,4 @@
-//! Admission to a network whose stream has two listeners.
+//! A network whose stream has two listeners: admission to it, and what is printed of it.
 
 ghost use Rattle.std.specs.Prelude.{◌≡◌, ◌≢◌, IsTrue};
 ghost use Rattle.ats_topology.specs.Port.{port_at};
@@ -8,8 +8,11 @@ use ats_admission::Session;
 use ats_admission_text::answered;
 use ats_network::Network;
 use ats_network_file::read_network;
+use ats_network_text::show;
 use ats_num::Name;
 use ats_request_file::read_requests;
+use ats_settings::settings;
+use ats_settings_text::write_settings;
 use ats_streams::{Branch, Stream};
 use std::alloc::AllocGlobal;
 use std::process::Abort;
@@ -36,6 +39,21 @@ const ANSWERS: &[u8] = b"denied d deadline a s3 39008000\n\
     admitted c 5 26672000\n\
     admitted e 5 28016000\n\
     streams 3\n";
+
+const SHOWN: &[u8] = b"port 0 s1>b1 1000 1500000\n\
+    port 1 b1>s1 1000 500000\n\
+    port 2 b1>s2 1000 500000\n\
+    port 3 s2>b1 1000 1500000\n\
+    port 4 b1>s3 1000 500000\n\
+    port 5 s3>b1 1000 1500000\n\
+    stream a 6 s1>b1 b1>s2\n\
+    listener a s3 6 b1>s3\n\
+    total ports 6 streams 1 flows 0\n";
+
+const SETTINGS: &[u8] =
+    b"bridge,received_from,class,stream,rate_bps,burst_bits,max_octets,residence_ns,sent_to,class_there\n\
+    b1,s1>b1,6,a,100000000,12336,1522,1000000,b1>s2,6\n\
+    b1,s1>b1,6,a,100000000,12336,1522,1000000,b1>s3,6\n";
 
 // Whether two ports lead to different nodes.
 fn part(network: &Network, one: usize, other: usize) -> bool
@@ -88,11 +106,16 @@ fn push(rt: &(impl Abort + AllocGlobal), network: &mut Network) {
     network.push_stream(stream).expect(rt, "a stream more");
 }
 
-// A session over the bridge with this stream.
-fn session(rt: &(impl Abort + AllocGlobal)) -> Session {
+// The bridge with this stream.
+fn with_both(rt: &(impl Abort + AllocGlobal)) -> Network {
     let mut network = read_network(rt.alloc(), FORK).expect(rt, "a network");
     push(rt, &mut network);
-    match Session::open(rt.alloc(), network) {
+    network
+}
+
+// A session over it.
+fn session(rt: &(impl Abort + AllocGlobal)) -> Session {
+    match Session::open(rt.alloc(), with_both(rt)) {
         Ok(session) => session,
         Err(_) => panic!(rt; "no session"),
     }
@@ -104,4 +127,18 @@ fn names_the_listener(rt: HostRuntime) {
     let requests = read_requests(rt.alloc(), REQUESTS, session.network()).expect(&rt, "requests");
     let text = answered(rt.alloc(), &mut session, requests).expect(&rt, "room");
     assert!(rt; text.as_slice() == ANSWERS);
+}
+
+#[test]
+fn shows_each_listener(rt: HostRuntime) {
+    let text = show(rt.alloc(), &with_both(&rt)).expect(&rt, "room");
+    assert!(rt; text.as_slice() == SHOWN);
+}
+
+#[test]
+fn sets_each_port_of_a_branch(rt: HostRuntime) {
+    let network = with_both(&rt);
+    let told = settings(rt.alloc(), &network).expect(&rt, "room");
+    let text = write_settings(rt.alloc(), &network, &told).expect(&rt, "room");
+    assert!(rt; text.as_slice() == SETTINGS);
 }
