@@ -6,7 +6,8 @@ ghost use Rattle.ats_tree_bound_examples.specs.Settings.{BridgesAreTold};
 ghost use Rattle.ats_tree_bound_examples.specs.Texts.{BoundsAreWritten, ExplanationIsWritten, LegsAreShown};
 ghost use Rattle.ats_tree_bound_examples.specs.Texts.{ReasonsAreWritten};
 
-/// A frame is in time where it is so at each listener: not where it is late at one alone, by its sum or its deadline.
+/// A frame is in time where it is so at each listener: not where it is late at one alone by its sum, or at some by its
+/// deadline.
 pub fn deadlines_are_for_each()
     ensures { DeadlinesAreForEach }
 {}
@@ -32,7 +33,7 @@ pub fn legs_are_shown()
     ensures { LegsAreShown }
 {}
 
-/// What `explain` prints where two of four listeners are late.
+/// What `explain` prints where two of four listeners are late, in the order of legs.
 pub fn explanation_is_written()
     ensures { ExplanationIsWritten }
 {}
