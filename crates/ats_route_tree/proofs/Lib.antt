@@ -1,0 +1,9 @@
+pub mod Known
+pub mod Places
+pub mod Apart
+pub mod Grow
+pub mod Shrink
+pub mod Found
+pub mod Counts
+pub mod Walked
+pub mod Right

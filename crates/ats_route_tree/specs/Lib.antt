@@ -1,0 +1,4 @@
+pub mod Legs
+pub mod LegsView
+pub mod Steps
+pub mod Laws
