@@ -81,3 +81,13 @@ pub fork_tree : (topology : DeclaredTopology) (ports : List ℕ) (branches : Lis
 fork_tree topology ports branches e f one other part =
     subst (λ (ps : List ℕ). IsTree topology ps branches) (sym e)
     (subst (IsTree topology fork_ports) (sym f) (is_tree topology one other part))
+
+-- where two routes are valid, all those of a list of just these two are
+pub both_valid : (topology given : DeclaredTopology) (routes : List (List ℕ)) (one other : List ℕ) → given ≡ topology
+    → routes ≡ one ∷ other ∷ [] → IsValidPath topology one → IsValidPath topology other
+    → All (IsValidPath given) routes
+both_valid topology given routes one other e f first second =
+    subst (λ (t : DeclaredTopology). All (IsValidPath t) routes) (sym e)
+    (subst (All (IsValidPath topology)) (sym f)
+    (All-cons (IsValidPath topology) one (other ∷ []) first
+    (All-cons (IsValidPath topology) other [] second (All-nil (IsValidPath topology)))))

@@ -1,7 +1,8 @@
-//! A network whose stream has two listeners: admission to it, and what is printed of it.
+//! A network whose stream has two listeners: admission to it, what is printed of it, and the legs found over it.
 
-ghost use Rattle.std.specs.Prelude.{◌≡◌, ◌≢◌, IsTrue};
+ghost use Rattle.std.specs.Prelude.{◌≡◌, ◌≢◌, [], ◌∷◌, IsTrue};
 ghost use Rattle.ats_topology.specs.Port.{port_at};
+ghost use Rattle.ats_route_tree.specs.LegsView.{paths_view};
 ghost use Rattle.ats_session_tests.specs.Forks.{fork, fork_ports};
 
 use ats_admission::Session;
@@ -11,6 +12,7 @@ use ats_network_file::read_network;
 use ats_network_text::show;
 use ats_num::Name;
 use ats_request_file::read_requests;
+use ats_route_tree::{Legs, legs_of};
 use ats_settings::settings;
 use ats_settings_text::write_settings;
 use ats_streams::{Branch, Stream};
@@ -113,6 +115,31 @@ fn with_both(rt: &(impl Abort + AllocGlobal)) -> Network {
     network
 }
 
+// A list of two routes.
+fn both(rt: &(impl Abort + AllocGlobal), one: &[u32], other: &[u32]) -> Vec<Vec<u32>>
+    ensures { paths_view result ≡ one.now ∷ other.now ∷ [] }
+{
+    let one = Vec::from_slice(rt.alloc(), one).expect(rt, "room");
+    let other = Vec::from_slice(rt.alloc(), other).expect(rt, "room");
+    let mut routes = Vec::new(rt.alloc());
+    routes.push(one).expect(rt, "room");
+    routes.push(other).expect(rt, "room");
+    routes
+}
+
+// The legs that have two routes, if a tree has them.
+fn legs_with(
+    rt: &(impl Abort + AllocGlobal),
+    network: &Network,
+    one: &[u32],
+    other: &[u32],
+) -> Option<Legs> {
+    assert!(rt; network.valid_path(one));
+    assert!(rt; network.valid_path(other));
+    let routes = both(rt, one, other);
+    legs_of(rt.alloc(), network.topology(), &routes).expect(rt, "room")
+}
+
 // A session over it.
 fn session(rt: &(impl Abort + AllocGlobal)) -> Session {
     match Session::open(rt.alloc(), with_both(rt)) {
@@ -141,4 +168,20 @@ fn sets_each_port_of_a_branch(rt: HostRuntime) {
     let told = settings(rt.alloc(), &network).expect(&rt, "room");
     let text = write_settings(rt.alloc(), &network, &told).expect(&rt, "room");
     assert!(rt; text.as_slice() == SETTINGS);
+}
+
+#[test]
+fn finds_the_legs(rt: HostRuntime) {
+    let network = read_network(rt.alloc(), FORK).expect(&rt, "a network");
+    let Some(legs) = legs_with(&rt, &network, &[0, 2], &[0, 4]) else {
+        panic!(rt; "no legs");
+    };
+    let branch = Branch {
+        first: 2,
+        leg: 0,
+        hop: 1,
+    };
+    assert!(rt; legs.ports.as_slice() == [0, 2, 4].as_slice());
+    assert!(rt; legs.branches.as_slice() == [branch].as_slice());
+    assert!(rt; legs_with(&rt, &network, &[0, 2], &[0, 2]).is_none());
 }
