@@ -1,5 +1,6 @@
 use Rattle.std.specs.Prelude.{ℕ, ◌+◌, ◌*◌, ℤ, pos, negsuc, Bool, ◌&&◌, ◌==◌, nat_le, List, [], ◌∷◌, length, slice_index}
 use Rattle.std.specs.Prelude.{Option, Some, None, option_and_then, if◌then◌else◌}
+use Rattle.std.specs.Option.{option_map, option_or}
 use Rattle.std.specs.Char.{is_digit, digit_value}
 use Rattle.ats_num.specs.Name.{name_of}
 use Rattle.toml.specs.Data.{Data, Items, no_items, item, as_str, as_integer, as_array}
@@ -76,3 +77,16 @@ all_in kind (item d ds) = in_front (kind d) (all_in kind ds)
 -- an array whose items are all of one kind, as a list
 abbrev pub list_in : {A : Type 0} → (Data → Option A) → Data → Option (List A)
 list_in kind d = as_array d >>= all_in kind
+
+-- an array of names, of so many at least
+abbrev pub names_in : ℕ → Data → Option (List (List ℕ))
+names_in least d = list_in name_in d >>= λ names. some_where (nat_le least (length names)) names
+
+-- an array of paths, one at least, each an array of at least two names
+abbrev pub paths_in : Data → Option (List (List (List ℕ)))
+paths_in d = list_in (names_in 2) d >>= λ paths. some_where (nat_le 1 (length paths)) paths
+
+-- one name or, where several may stand there, an array of at least one
+abbrev pub one_or_more : Bool → Data → Option (List (List ℕ))
+one_or_more several d =
+    option_or (option_map (λ name. name ∷ []) (name_in d)) (if several then names_in 1 d else None)

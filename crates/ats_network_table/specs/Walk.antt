@@ -6,9 +6,11 @@ use Rattle.toml.specs.Data.{Data, Members, no_members, member, get_member}
 use Rattle.ats_network_table.specs.Words.{key_text, keys_of}
 use Rattle.ats_num.specs.Failure.{◌>>=◌, or_fault, ok_where}
 use Rattle.ats_network_table.specs.Kinds.{name_in, whole_in, long_in, address_in, list_in}
+use Rattle.ats_network_table.specs.Kinds.{paths_in, one_or_more}
 use Rattle.ats_network_table.specs.declared.format.Format.{Format}
-use Rattle.ats_network_table.specs.declared.format.Format.TheVariants.{One, Two}
+use Rattle.ats_network_table.specs.declared.format.Format.TheVariants.{One, Two, Three}
 use Rattle.ats_network_table.specs.declared.table.Table.{Table}
+use Rattle.ats_network_table.specs.declared.table.Table.TheVariants.{Stream}
 use Rattle.ats_network_table.specs.declared.key.Key.{Key}
 use Rattle.ats_network_table.specs.declared.key.Key.TheVariants as key
 use Rattle.ats_network_table.specs.declared.fault.DocumentFault.{DocumentFault}
@@ -26,15 +28,25 @@ pub record Entry : Type 0 where
 abbrev pub has : Entry → Key → Bool
 has e k = is_some (get_member (key_text k) e.members)
 
--- a key of the table's list has to stand there: all but the arrays at the top, the deadline, and these: a path, or both
--- its ends; a class, or classes; address and VLAN, or neither
+-- a table may declare several listeners: a stream does in format 3
+abbrev pub may_branch : Format → Table → Bool
+may_branch Three Stream = true
+may_branch format table = false
+
+-- several paths stand in a table that may have them
+abbrev pub has_paths : Entry → Bool
+has_paths e = may_branch e.format e.table && has e key.Paths
+
+-- a key of the table's list has to stand there: all but the arrays at the top, the deadline, and these: a path, or
+-- paths, or both ends; a class, or classes; address and VLAN, or neither
 abbrev pub is_due : Entry → Key → Bool
 is_due e key.Station = false
 is_due e key.Bridge = false
 is_due e key.Link = false
 is_due e key.Stream = false
 is_due e key.Flow = false
-is_due e key.Path = not (has e key.From || has e key.To)
+is_due e key.Path = not (has e key.From || has e key.To || has_paths e)
+is_due e key.Paths = false
 is_due e key.From = has e key.To
 is_due e key.To = has e key.From
 is_due e key.Class = not (has e key.Classes)
@@ -92,12 +104,22 @@ short_at e k = whole_at e k 0 4294967295
 abbrev pub long_at : Entry → Key → Result ℕ DocumentFault
 long_at e k = whole_at e k 0 9223372036854775807
 
--- the names of a path, at least two, which has none of its ends beside it
+-- the names of a path, at least two, which has neither an end nor paths beside it
 abbrev pub path_at : Entry → Result (List (List ℕ)) DocumentFault
 path_at e =
-    if has e key.From || has e key.To then Err (wrong_kind e key.Path)
+    if has e key.From || has e key.To || has e key.Paths then Err (wrong_kind e key.Path)
     else (at e key.Path (list_in name_in)
     >>= λ names. ok_where (nat_le 2 (length names)) (wrong_kind e key.Path) names)
+
+-- the names of several paths, one at least, each of two at least, which have neither a path nor an end beside them
+abbrev pub paths_at : Entry → Result (List (List (List ℕ))) DocumentFault
+paths_at e =
+    if has e key.Path || has e key.From || has e key.To then Err (wrong_kind e key.Paths)
+    else at e key.Paths paths_in
+
+-- the names of the listeners of a stream: one or, where several may be declared, an array of at least one
+abbrev pub listeners_at : Entry → Result (List (List ℕ)) DocumentFault
+listeners_at e = at e key.To (one_or_more (may_branch e.format e.table))
 
 -- the classes of a stream: one, or a list in its place
 abbrev pub classes_at : Entry → Result (List ℕ) DocumentFault
@@ -107,12 +129,12 @@ classes_at e =
     >>= λ class. ok_where (not (has e key.Classes)) (wrong_kind e key.Classes) (class ∷ []))
     else at e key.Classes (list_in long_in)
 
--- the format of the file, 1 or 2
+-- the format of the file, 1, 2 or 3
 abbrev pub format_of : ℕ → Format
-format_of n = if n == 1 then One else Two
+format_of n = if n == 1 then One else if n == 2 then Two else Three
 
 abbrev pub format_at : Entry → Result Format DocumentFault
-format_at top = whole_at top key.Format 1 2 >>= λ n. Ok (format_of n)
+format_at top = whole_at top key.Format 1 3 >>= λ n. Ok (format_of n)
 
 -- the deadline; an absent one is a second
 abbrev pub deadline_at : Entry → Result ℕ DocumentFault

@@ -2,7 +2,7 @@ use Rattle.std.specs.Prelude.{ℕ, List, [], ◌∷◌, codes}
 use Rattle.ats_network_table.specs.declared.table.Table.{Table}
 use Rattle.ats_network_table.specs.declared.table.Table.TheVariants.{Top, Station, Bridge, Link, Stream, Flow}
 use Rattle.ats_network_table.specs.declared.format.Format.{Format}
-use Rattle.ats_network_table.specs.declared.format.Format.TheVariants.{One, Two}
+use Rattle.ats_network_table.specs.declared.format.Format.TheVariants.{One, Two, Three}
 use Rattle.ats_network_table.specs.declared.key.Key.{Key}
 use Rattle.ats_network_table.specs.declared.key.Key.TheVariants as key
 
@@ -38,6 +38,7 @@ key_text key.ResidenceNs = codes "residence_ns"
 key_text key.ProcessingMinNs = codes "processing_min_ns"
 key_text key.ProcessingMaxNs = codes "processing_max_ns"
 key_text key.Classes = codes "classes"
+key_text key.Paths = codes "paths"
 key_text key.Format = codes "format"
 key_text key.Station = codes "station"
 key_text key.Bridge = codes "bridge"
@@ -49,15 +50,27 @@ key_text key.Flow = codes "flow"
 abbrev pub least_processing_key : Format → Key
 least_processing_key One = key.ProcessingNs
 least_processing_key Two = key.ProcessingMinNs
+least_processing_key Three = key.ProcessingMinNs
 
 abbrev pub greatest_processing_key : Format → Key
 greatest_processing_key One = key.ProcessingNs
 greatest_processing_key Two = key.ProcessingMaxNs
+greatest_processing_key Three = key.ProcessingMaxNs
 
 -- the keys of a bridge in files of a format
 abbrev pub bridge_keys : Format → List Key
 bridge_keys One = key.Name ∷ key.ProcessingNs ∷ key.ResidenceNs ∷ []
-bridge_keys Two = key.Name ∷ key.ProcessingMinNs ∷ key.ProcessingMaxNs ∷ key.ResidenceNs ∷ []
+bridge_keys format = key.Name ∷ key.ProcessingMinNs ∷ key.ProcessingMaxNs ∷ key.ResidenceNs ∷ []
+
+-- the keys of a stream behind those of its routes
+abbrev pub keys_behind_routes : List Key
+keys_behind_routes = key.From ∷ key.To ∷ key.Class ∷ key.Classes ∷ key.RateBps ∷ key.BurstBits ∷ key.MinOctets
+    ∷ key.MaxOctets ∷ key.DeadlineNs ∷ key.Address ∷ key.Vlan ∷ []
+
+-- the keys of a stream: in format 3 it may have several paths
+abbrev pub stream_keys : Format → List Key
+stream_keys Three = key.Name ∷ key.Path ∷ key.Paths ∷ keys_behind_routes
+stream_keys format = key.Name ∷ key.Path ∷ keys_behind_routes
 
 -- the keys that a table may have in files of a format, in the order in which faults are looked for
 abbrev pub keys_of : Format → Table → List Key
@@ -65,6 +78,5 @@ keys_of format Top = key.Format ∷ key.Station ∷ key.Bridge ∷ key.Link ∷ 
 keys_of format Station = key.Name ∷ []
 keys_of format Bridge = bridge_keys format
 keys_of format Link = key.A ∷ key.B ∷ key.Mbps ∷ key.PropagationNs ∷ []
-keys_of format Stream = key.Name ∷ key.Path ∷ key.From ∷ key.To ∷ key.Class ∷ key.Classes ∷ key.RateBps
-    ∷ key.BurstBits ∷ key.MinOctets ∷ key.MaxOctets ∷ key.DeadlineNs ∷ key.Address ∷ key.Vlan ∷ []
+keys_of format Stream = stream_keys format
 keys_of format Flow = key.Name ∷ key.Path ∷ key.From ∷ key.To ∷ key.MaxOctets ∷ []

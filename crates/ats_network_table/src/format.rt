@@ -4,13 +4,15 @@ ghost use Rattle.std.specs.Prelude.{◌≡◌};
 
 use crate::key::Key;
 
-/// A format of network files. They differ in the keys of a bridge alone.
+/// A format of network files. They differ in the keys of a bridge, and in what streams declare of their routes.
 #[derive(Clone, Copy)]
 pub enum Format {
     /// Format 1: a bridge processes each frame in the same time, `processing_ns`.
     One,
     /// Format 2: a bridge processes each frame in a time from `processing_min_ns` to `processing_max_ns`.
     Two,
+    /// Format 3: as format 2, and a stream may have several listeners, by `paths` or by an array with `to`.
+    Three,
 }
 
 impl Format {
@@ -22,7 +24,7 @@ impl Format {
     {
         match self {
             Format::One => Key::ProcessingNs,
-            Format::Two => Key::ProcessingMinNs,
+            Format::Two | Format::Three => Key::ProcessingMinNs,
         }
     }
 
@@ -32,7 +34,7 @@ impl Format {
     {
         match self {
             Format::One => Key::ProcessingNs,
-            Format::Two => Key::ProcessingMaxNs,
+            Format::Two | Format::Three => Key::ProcessingMaxNs,
         }
     }
 }

@@ -45,8 +45,10 @@ pub enum Key {
     ProcessingMinNs,
     /// How long a bridge processes a frame at most, in nanoseconds, in format 2.
     ProcessingMaxNs,
-    /// A stream's traffic classes, one for each port of its path.
+    /// A stream's traffic classes, one for each of its ports.
     Classes,
+    /// The paths of a stream, one to each listener, in format 3.
+    Paths,
     /// The format's number, in the top table.
     Format,
     /// The array of stations.
@@ -90,6 +92,7 @@ impl Key {
             Key::ProcessingMinNs => "processing_min_ns",
             Key::ProcessingMaxNs => "processing_max_ns",
             Key::Classes => "classes",
+            Key::Paths => "paths",
             Key::Format => "format",
             Key::Station => "station",
             Key::Bridge => "bridge",

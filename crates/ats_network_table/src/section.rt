@@ -1,15 +1,17 @@
 //! The walk over one table of a network file.
 
-ghost use Rattle.std.specs.Prelude.{◌≡◌, ◌≤◌, ◌<◌, ◌^◌, option_map, length, IfOk, IfErr, OnErr, Some, None};
+ghost use Rattle.std.specs.Prelude.{◌≡◌, ◌≤◌, ◌<◌, ◌^◌, option_map, length, map, IfOk, IfErr, OnErr};
+ghost use Rattle.std.specs.Prelude.{Some, None};
 ghost use Rattle.std.specs.Option.{ForSome};
 ghost use Rattle.toml.specs.Data.{get_member};
 ghost use Rattle.toml.specs.View.{view, items_view, table_view};
 ghost use Rattle.ats_network_table.specs.Words.{key_text};
 ghost use Rattle.ats_network_table.specs.Walk.{has, is_due, is_missing, missing_key, formed, wrong_kind, at};
-ghost use Rattle.ats_network_table.specs.Walk.{name_at, whole_at, short_at, long_at, format_at, path_at, classes_at};
+ghost use Rattle.ats_network_table.specs.Walk.{name_at, whole_at, short_at, long_at, format_at, path_at, paths_at};
+ghost use Rattle.ats_network_table.specs.Walk.{classes_at, has_paths, listeners_at, may_branch};
 ghost use Rattle.ats_network_table.specs.Walk.{IsIdentity, identity_at, deadline_at};
 ghost use Rattle.ats_num.specs.Failure.{or_fault, GivesSeen};
-ghost use Rattle.ats_network_table.specs.Kinds.{address_in, all_in, list_in};
+ghost use Rattle.ats_network_table.specs.Kinds.{address_in, all_in, list_in, names_in, paths_in};
 
 use crate::fault::DocumentFault;
 use crate::format::Format;
@@ -72,6 +74,23 @@ impl<'a> Section<'a> {
         self.value(key).is_some()
     }
 
+    // Whether the table may declare several listeners.
+    fn may_branch(&self) -> bool
+        ensures { result ≡ may_branch (entry_of self.now).format (entry_of self.now).table }
+    {
+        match (self.format, self.table) {
+            (Format::Three, Table::Stream) => true,
+            _ => false,
+        }
+    }
+
+    /// Whether several paths stand in a table that may have them: in that of a stream, in format 3.
+    pub fn has_paths(&self) -> bool
+        ensures { result ≡ has_paths (entry_of self.now) }
+    {
+        self.may_branch() && self.has(Key::Paths)
+    }
+
     // Whether a key of the table's list has to stand there.
     fn is_due(&self, key: Key) -> bool
         ensures { result ≡ is_due (entry_of self.now) key }
@@ -82,7 +101,8 @@ impl<'a> Section<'a> {
             Key::Link => false,
             Key::Stream => false,
             Key::Flow => false,
-            Key::Path => !(self.has(Key::From) || self.has(Key::To)),
+            Key::Path => !(self.has(Key::From) || self.has(Key::To) || self.has_paths()),
+            Key::Paths => false,
             Key::From => self.has(Key::To),
             Key::To => self.has(Key::From),
             Key::Class => !self.has(Key::Classes),
@@ -207,27 +227,28 @@ impl<'a> Section<'a> {
     ///
     /// # Errors
     ///
-    /// `WrongKind` of the key `format`, where neither 1 nor 2 stands with it.
+    /// `WrongKind` of the key `format`, where none of 1, 2 and 3 stands with it.
     pub fn format_given(&self) -> Result<Format, DocumentFault>
         ensures { result ≡ format_at (entry_of self.now) }
     {
-        match self.whole(Key::Format, 1, 2)? {
+        match self.whole(Key::Format, 1, 3)? {
             1 => Ok(Format::One),
-            _ => Ok(Format::Two),
+            2 => Ok(Format::Two),
+            _ => Ok(Format::Three),
         }
     }
 
-    /// The names of a path, at least two, which has none of its ends beside it.
+    /// The names of a path, at least two, which has neither an end nor paths beside it.
     ///
     /// # Errors
     ///
-    /// `WrongKind` of the key `path`, where `from` or `to` stands beside it, or no array of two names
-    /// or more stands with it.
+    /// `WrongKind` of the key `path`, where `from`, `to` or `paths` stands beside it, or no array of two
+    /// names or more stands with it.
     pub fn path(&self, alloc: Global) -> Result<Vec<Name>, Failure<DocumentFault>>
         ensures value { GivesSeen (λ names. names.items) result (path_at (entry_of self.now)) }
         ensures long { IfOk result (λ names. 2 ≤ length names.items) }
     {
-        if self.has(Key::From) || self.has(Key::To) {
+        if self.has(Key::From) || self.has(Key::To) || self.has(Key::Paths) {
             return Err(Failure::Fault(self.wrong_kind(Key::Path)));
         }
         let names = self.list(alloc, Key::Path)?;
@@ -235,6 +256,40 @@ impl<'a> Section<'a> {
             return Err(Failure::Fault(self.wrong_kind(Key::Path)));
         }
         Ok(names)
+    }
+
+    /// The names of several paths, one at least, each of two at least, which have neither a path nor an end
+    /// beside them.
+    ///
+    /// # Errors
+    ///
+    /// `WrongKind` of the key `paths`, where `path`, `from` or `to` stands beside it, or no array of one
+    /// array or more, each of two names or more, stands with it.
+    pub fn paths(&self, alloc: Global) -> Result<Vec<Vec<Name>>, Failure<DocumentFault>>
+        ensures { GivesSeen (λ paths. map (λ names. names.items) paths.items) result (paths_at (entry_of self.now)) }
+    {
+        if self.has(Key::Path) || self.has(Key::From) || self.has(Key::To) {
+            return Err(Failure::Fault(self.wrong_kind(Key::Paths)));
+        }
+        paths_in(alloc, self.at(Key::Paths)?, self.wrong_kind(Key::Paths))
+    }
+
+    /// The names of the listeners of a stream: one or, in format 3, an array of at least one.
+    ///
+    /// # Errors
+    ///
+    /// `WrongKind` of the key `to`, where neither stands with it.
+    pub fn listeners(&self, alloc: Global) -> Result<Vec<Name>, Failure<DocumentFault>>
+        ensures { GivesSeen (λ names. names.items) result (listeners_at (entry_of self.now)) }
+    {
+        let value = self.at(Key::To)?;
+        if let Some(name) = name_in(value) {
+            return Ok(vec![in alloc; name]?);
+        }
+        if !self.may_branch() {
+            return Err(Failure::Fault(self.wrong_kind(Key::To)));
+        }
+        names_in(alloc, value, 1, self.wrong_kind(Key::To))
     }
 
     /// The classes of a stream, each 0 to 2^63 - 1: one, or a list in its place.
@@ -326,4 +381,59 @@ fn items_in<T: FromValue>(
         items.push(item)?;
     }
     Ok(items)
+}
+
+// The names of an array of so many at least, or this fault where a value is none.
+fn names_in(
+    alloc: Global,
+    value: &Value,
+    least: usize,
+    fault: DocumentFault,
+) -> Result<Vec<Name>, Failure<DocumentFault>>
+    ensures { GivesSeen (λ names. names.items) result (or_fault fault (names_in least (view value.now))) }
+{
+    let Some(values) = value.as_array() else {
+        return Err(Failure::Fault(fault));
+    };
+    let names: Vec<Name> = items_in(alloc, values.as_slice(), fault)?;
+    if names.len() < least {
+        return Err(Failure::Fault(fault));
+    }
+    Ok(names)
+}
+
+// The paths of an array of one at least, or this fault where a value is none.
+fn paths_in(
+    alloc: Global,
+    value: &Value,
+    fault: DocumentFault,
+) -> Result<Vec<Vec<Name>>, Failure<DocumentFault>>
+    ensures { GivesSeen (λ paths. map (λ names. names.items) paths.items) result
+        (or_fault fault (paths_in (view value.now))) }
+{
+    let Some(values) = value.as_array() else {
+        return Err(Failure::Fault(fault));
+    };
+    let paths = each_path(alloc, values.as_slice(), fault)?;
+    if paths.is_empty() {
+        return Err(Failure::Fault(fault));
+    }
+    Ok(paths)
+}
+
+// The paths that values are, or this fault where one is none.
+fn each_path(
+    alloc: Global,
+    values: &[Value],
+    fault: DocumentFault,
+) -> Result<Vec<Vec<Name>>, Failure<DocumentFault>>
+    ensures { GivesSeen (λ paths. map (λ names. names.items) paths.items) result
+        (or_fault fault (all_in (names_in 2) (items_view values.now))) }
+{
+    let mut paths = Vec::with_capacity(alloc, values.len())?;
+    for value in values {
+        let names = names_in(alloc, value, 2, fault)?;
+        paths.push(names)?;
+    }
+    Ok(paths)
 }

@@ -14,7 +14,7 @@ use std::marker::Model;
 use toml::Value;
 
 // The keys of all tables, the more frequent ones first.
-const ALL_KEYS: [Key; 27] = [
+const ALL_KEYS: [Key; 28] = [
     Key::Name,
     Key::Path,
     Key::Class,
@@ -36,6 +36,7 @@ const ALL_KEYS: [Key; 27] = [
     Key::ProcessingMinNs,
     Key::ProcessingMaxNs,
     Key::Classes,
+    Key::Paths,
     Key::Format,
     Key::Station,
     Key::Bridge,
@@ -48,7 +49,7 @@ const ALL_KEYS: [Key; 27] = [
 #[derive(Drop)]
 pub(crate) struct Slots<'a> {
     members: &'a toml::Table,
-    values: [Option<&'a Value>; 27],
+    values: [Option<&'a Value>; 28],
     // Whether each member's text is that of one of all keys.
     all_named: bool,
 }
@@ -72,7 +73,7 @@ impl<'a> Slots<'a> {
     pub(crate) fn of(members: &'a toml::Table) -> Self
         ensures { result ≡ members.now.entries }
     {
-        let mut values = [None; 27];
+        let mut values = [None; 28];
         let mut all_named = true;
         'members: for (text, value) in members.iter() {
             match slot_named(text.as_str()) {
@@ -132,7 +133,7 @@ fn at<'a>(values: &[Option<&'a Value>], place: usize) -> Option<&'a Value>
 // The place of a key among all keys.
 fn slot_of(key: Key) -> usize
     ensures place { result ≡ slot_of key }
-    ensures within { result < 27 }
+    ensures within { result < 28 }
 {
     key as usize
 }
@@ -140,7 +141,7 @@ fn slot_of(key: Key) -> usize
 // The place of the key that is written so among all keys.
 fn slot_named(text: &str) -> Option<usize>
     ensures place { result ≡ position_from (λ key. bytes_eq text.now (key_text key)) 0 all_keys }
-    ensures within { IfSome result (λ i. i < 27) }
+    ensures within { IfSome result (λ i. i < 28) }
 {
     ALL_KEYS
         .iter()

@@ -1,7 +1,7 @@
 //! The tables of a network file.
 
 ghost use Rattle.std.specs.Prelude.{◌≡◌};
-ghost use Rattle.ats_network_table.specs.Words.{bridge_keys};
+ghost use Rattle.ats_network_table.specs.Words.{bridge_keys, stream_keys};
 
 use crate::format::Format;
 use crate::key::Key;
@@ -56,21 +56,7 @@ impl Table {
             Table::Station => &[Key::Name],
             Table::Bridge => bridge_keys(format),
             Table::Link => &[Key::A, Key::B, Key::Mbps, Key::PropagationNs],
-            Table::Stream => &[
-                Key::Name,
-                Key::Path,
-                Key::From,
-                Key::To,
-                Key::Class,
-                Key::Classes,
-                Key::RateBps,
-                Key::BurstBits,
-                Key::MinOctets,
-                Key::MaxOctets,
-                Key::DeadlineNs,
-                Key::Address,
-                Key::Vlan,
-            ],
+            Table::Stream => stream_keys(format),
             Table::Flow => &[Key::Name, Key::Path, Key::From, Key::To, Key::MaxOctets],
         }
     }
@@ -82,11 +68,50 @@ fn bridge_keys(format: Format) -> &'static [Key]
 {
     match format {
         Format::One => &[Key::Name, Key::ProcessingNs, Key::ResidenceNs],
-        Format::Two => &[
+        Format::Two | Format::Three => &[
             Key::Name,
             Key::ProcessingMinNs,
             Key::ProcessingMaxNs,
             Key::ResidenceNs,
+        ],
+    }
+}
+
+// The keys of a stream in files of a format.
+fn stream_keys(format: Format) -> &'static [Key]
+    ensures { result.now ≡ stream_keys format }
+{
+    match format {
+        Format::One | Format::Two => &[
+            Key::Name,
+            Key::Path,
+            Key::From,
+            Key::To,
+            Key::Class,
+            Key::Classes,
+            Key::RateBps,
+            Key::BurstBits,
+            Key::MinOctets,
+            Key::MaxOctets,
+            Key::DeadlineNs,
+            Key::Address,
+            Key::Vlan,
+        ],
+        Format::Three => &[
+            Key::Name,
+            Key::Path,
+            Key::Paths,
+            Key::From,
+            Key::To,
+            Key::Class,
+            Key::Classes,
+            Key::RateBps,
+            Key::BurstBits,
+            Key::MinOctets,
+            Key::MaxOctets,
+            Key::DeadlineNs,
+            Key::Address,
+            Key::Vlan,
         ],
     }
 }

@@ -10,10 +10,11 @@ pub data DeclaredRoute : Type 0 where
   path : List (List ℕ) → DeclaredRoute
   ends : List ℕ → List ℕ → DeclaredRoute
 
--- what a file declares of a stream; its classes are those that stand there
+-- what a file declares of a stream: a route to each of its listeners, that to the first one first, and the classes that
+-- stand there
 pub record DeclaredStream : Type 0 where
   pub name : List ℕ
-  pub route : DeclaredRoute
+  pub routes : List DeclaredRoute
   pub classes : List ℕ
   pub rate_bps : ℕ
   pub burst_bits : ℕ
@@ -43,7 +44,6 @@ IsRoute (ends from to) = Unit {0}
 
 -- what each stream entry keeps
 pub record IsStreamEntry (stream : DeclaredStream) : Type 0 where
-  pub route : IsRoute stream.route
   pub identity : ForSome stream.identity IsIdentity
 
 -- the limits that each document keeps

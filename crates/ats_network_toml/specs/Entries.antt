@@ -1,7 +1,7 @@
-use Rattle.std.specs.Prelude.{Result, Ok, if◌then◌else◌}
+use Rattle.std.specs.Prelude.{List, [], ◌∷◌, map, Result, Ok, if◌then◌else◌}
 use Rattle.ats_num.specs.Failure.{◌>>=◌}
 use Rattle.ats_network_table.specs.Walk.{Entry, has, formed, name_at, short_at, long_at, path_at, classes_at}
-use Rattle.ats_network_table.specs.Walk.{deadline_at, identity_at}
+use Rattle.ats_network_table.specs.Walk.{deadline_at, has_paths, identity_at, listeners_at, paths_at}
 use Rattle.ats_network_table.specs.Words.{least_processing_key, greatest_processing_key}
 use Rattle.ats_network_table.specs.declared.key.Key.TheVariants as key
 use Rattle.ats_network_table.specs.declared.fault.DocumentFault.{DocumentFault}
@@ -16,6 +16,13 @@ abbrev pub route_at : Entry → Result DeclaredRoute DocumentFault
 route_at e =
     if has e key.Path then (path_at e >>= λ names. Ok (path names))
     else (name_at e key.From >>= λ from. name_at e key.To >>= λ to. Ok (ends from to))
+
+-- the routes of a stream, one to each listener: its path, its paths, or those from one node to each of the others
+abbrev pub routes_at : Entry → Result (List DeclaredRoute) DocumentFault
+routes_at e =
+    if has e key.Path then (path_at e >>= λ names. Ok (path names ∷ []))
+    else if has_paths e then (paths_at e >>= λ paths. Ok (map path paths))
+    else (name_at e key.From >>= λ from. listeners_at e >>= λ listeners. Ok (map (ends from) listeners))
 
 abbrev pub station_in : Entry → Result StationEntry DocumentFault
 station_in e = do
@@ -55,13 +62,13 @@ abbrev pub stream_in : Entry → Result DeclaredStream DocumentFault
 stream_in e = do
   well ← formed e
   name ← name_at e key.Name
-  route ← route_at e
+  routes ← routes_at e
   classes ← classes_at e
   numbers ← numbers_in e
   identity ← identity_at e
   Ok (record {
     name = name;
-    route = route;
+    routes = routes;
     classes = classes;
     rate_bps = numbers.rate_bps;
     burst_bits = numbers.burst_bits;

@@ -85,6 +85,13 @@ document_in tree = arrays_in (record { format = One; table = Top; number = 0; me
 abbrev pub tree_of : List ℕ → Option Members
 tree_of text = if is_utf8 text then parse_document text else None
 
+-- the format of a text, where its top table gives one
+abbrev pub format_in : List ℕ → Result Format DocumentFault
+format_in text = do
+  tree ← or_fault NotToml (tree_of text)
+  arrays ← arrays_in (record { format = One; table = Top; number = 0; members = tree })
+  Ok arrays.format
+
 -- what a text declares, or its first fault
 abbrev pub document_of : List ℕ → Result DeclaredDocument DocumentFault
 document_of text = or_fault NotToml (tree_of text) >>= document_in

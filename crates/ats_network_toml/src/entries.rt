@@ -107,7 +107,7 @@ impl FromSection for LinkEntry {
     }
 }
 
-/// How a stream or a flow goes through the network.
+/// How a flow goes through the network.
 #[derive(Drop)]
 pub enum Route {
     /// By these nodes, at least two, from talker to listener.
@@ -121,7 +121,7 @@ impl Route {
     ghost use Rattle.ats_network_toml.specs.Entries.{route_at};
     ghost use Rattle.ats_network_toml.specs.Views.{route_view};
 
-    // The way of a stream or a flow: its path, or its two ends.
+    // The way of a flow: its path, or its two ends.
     fn read(alloc: Global, section: &Section) -> Result<Self, Failure<DocumentFault>>
         ensures value { GivesSeen route_view result (route_at (entry_of section.now)) }
         ensures route { IfOk result (λ route. IsRoute (route_view route)) }
@@ -135,15 +135,45 @@ impl Route {
     }
 }
 
-/// A stream. Contracts see its path and its classes as lists.
+/// How a stream goes through the network to each of its listeners, to the first one first.
+#[derive(Drop)]
+pub enum Routes {
+    /// To each by these nodes, at least two, from talker to listener.
+    Paths(Vec<Vec<Name>>),
+    /// From this node to each of those, by paths that are to be found.
+    Ends(Name, Vec<Name>),
+}
+
+impl Routes {
+    ghost use Rattle.ats_network_toml.specs.Entries.{routes_at};
+    ghost use Rattle.ats_network_toml.specs.Views.{routes_view};
+
+    // The ways of a stream: its path, its paths, or its ends.
+    fn read(alloc: Global, section: &Section) -> Result<Self, Failure<DocumentFault>>
+        ensures { GivesSeen routes_view result (routes_at (entry_of section.now)) }
+    {
+        if section.has(Key::Path) {
+            let path = section.path(alloc)?;
+            return Ok(Routes::Paths(vec![in alloc; path]?));
+        }
+        if section.has_paths() {
+            return Ok(Routes::Paths(section.paths(alloc)?));
+        }
+        let from = section.name(Key::From)?;
+        let listeners = section.listeners(alloc)?;
+        Ok(Routes::Ends(from, listeners))
+    }
+}
+
+/// A stream. Contracts see its routes and its classes as lists.
 #[derive(Drop)]
 pub struct StreamEntry {
     /// Its name.
     pub name: Name,
-    /// Its way through the network.
-    pub route: Route,
-    /// Its traffic class, or its classes along its path, each 0 to 2^63 - 1: whether they are classes, one or as many
-    /// as the path has ports, is not judged here, nor the range of the other numbers.
+    /// Its ways through the network, one to each listener.
+    pub routes: Routes,
+    /// Its traffic class, or its classes at its ports, each 0 to 2^63 - 1: whether they are classes, one or as many as
+    /// it has ports, is not judged here, nor the range of the other numbers.
     pub classes: Vec<u64>,
     /// Its committed rate in bits per second.
     pub rate_bps: u64,
@@ -162,13 +192,13 @@ pub struct StreamEntry {
 
 impl Model for StreamEntry {
     ghost use Rattle.ats_network_toml.specs.Document.{DeclaredStream, IsStreamEntry};
-    ghost use Rattle.ats_network_toml.specs.Views.{route_view};
+    ghost use Rattle.ats_network_toml.specs.Views.{routes_view};
 
     ghost Value = { DeclaredStream };
 
     ghost view = { λ s. record {
       name = s.name;
-      route = route_view s.route;
+      routes = routes_view s.routes;
       classes = s.classes.items;
       rate_bps = s.rate_bps;
       burst_bits = s.burst_bits;
@@ -180,7 +210,7 @@ impl Model for StreamEntry {
 
     ghost invariant = { λ s. IsStreamEntry (record {
       name = s.name;
-      route = route_view s.route;
+      routes = routes_view s.routes;
       classes = s.classes.items;
       rate_bps = s.rate_bps;
       burst_bits = s.burst_bits;
@@ -199,13 +229,13 @@ impl FromSection for StreamEntry {
     fn read(alloc: Global, section: &Section) -> Result<Self, Failure<DocumentFault>> {
         section.formed()?;
         let name = section.name(Key::Name)?;
-        let route = Route::read(alloc, section)?;
+        let routes = Routes::read(alloc, section)?;
         let classes = section.classes(alloc)?;
         let numbers = StreamNumbers::read(section)?;
         let identity = section.identity()?;
         Ok(StreamEntry {
             name,
-            route,
+            routes,
             classes,
             rate_bps: numbers.rate_bps,
             burst_bits: numbers.burst_bits,

@@ -8,5 +8,5 @@ pub mod reading;
 mod tables;
 
 pub use document::{Document, Parts};
-pub use entries::{BridgeEntry, FlowEntry, LinkEntry, Route, StationEntry, StreamEntry};
+pub use entries::{BridgeEntry, FlowEntry, LinkEntry, Route, Routes, StationEntry, StreamEntry};
 pub use reading::read_document;
