@@ -1,3 +1,5 @@
+pub mod AllCounts
+pub mod Counts
 pub mod Ends
 pub mod Opens
 pub mod Rooms

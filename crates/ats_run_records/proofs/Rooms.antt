@@ -10,79 +10,78 @@ use Rattle.std.proofs.lemmas.Bool.{cases_eq}
 use Rattle.ats_trace.specs.declared.journey.HopRecord.{HopRecord}
 use Rattle.ats_trace.specs.declared.journey.Journey.{Journey}
 use Rattle.ats_trace.specs.declared.journey.Span.{Span}
-use Rattle.ats_run_records.specs.declared.slot.Slot.{Slot}
 use Rattle.ats_run_records.specs.Progress.{Progress, no_progress, progress_at}
-use Rattle.ats_run_records.specs.Inside.{progress_of, progresses, no_journey, no_span, no_slot, span_at, slot_at}
+use Rattle.ats_run_records.specs.Inside.{progress_of, progresses, no_journey, no_span, span_at}
 use Rattle.ats_run_records.specs.Inside.{IsLaid}
 
--- what is kept of the frame with this number
-abbrev pub row_at : List Journey → List Span → List Slot → ℕ → Journey × (Span × Slot)
-row_at journeys spans slots i = (get_or journeys i no_journey, (span_at spans i, slot_at slots i))
+-- what is kept of the leg with this row
+abbrev pub row_at : List Journey → List Span → List ℕ → ℕ → Journey × (Span × ℕ)
+row_at journeys spans frames i = (get_or journeys i no_journey, (span_at spans i, get_or frames i 0))
 
--- each list has one entry for each of so many frames
-pub record AreEven (n : ℕ) (journeys : List Journey) (spans : List Span) (slots : List Slot) : Type 0 where
+-- each list has one entry for each of so many rows
+pub record AreEven (n : ℕ) (journeys : List Journey) (spans : List Span) (frames : List ℕ) : Type 0 where
   pub rows : length journeys ≡ n
   pub spanned : length spans ≡ n
-  pub slotted : length slots ≡ n
+  pub framed : length frames ≡ n
 
-pub even-laid : (journeys : List Journey) (spans : List Span) (slots : List Slot) (hops : List HopRecord)
-    → IsLaid journeys spans slots hops → AreEven (length journeys) journeys spans slots
-even-laid journeys spans slots hops laid = record { rows = refl; spanned = laid.spanned; slotted = laid.slotted }
+pub even-laid : (journeys : List Journey) (spans : List Span) (frames : List ℕ) (hops : List HopRecord)
+    → IsLaid journeys spans frames hops → AreEven (length journeys) journeys spans frames
+even-laid journeys spans frames hops laid = record { rows = refl; spanned = laid.spanned; framed = laid.framed }
 
-length-rows : (n : ℕ) (journeys : List Journey) (spans : List Span) (slots : List Slot)
-    → AreEven n journeys spans slots → length (zip journeys (zip spans slots)) ≡ n
-length-rows n journeys spans slots even =
+length-rows : (n : ℕ) (journeys : List Journey) (spans : List Span) (frames : List ℕ)
+    → AreEven n journeys spans frames → length (zip journeys (zip spans frames)) ≡ n
+length-rows n journeys spans frames even =
     omega (
       arith,
       even.rows,
       even.spanned,
-      even.slotted,
-      length-zip spans slots,
-      length-zip journeys (zip spans slots),
+      even.framed,
+      length-zip spans frames,
+      length-zip journeys (zip spans frames),
     )
 
-pub length-progresses : (n : ℕ) (journeys : List Journey) (spans : List Span) (slots : List Slot)
-    (hops : List HopRecord) → AreEven n journeys spans slots → length (progresses journeys spans slots hops) ≡ n
-length-progresses n journeys spans slots hops even =
-    length-map (zip journeys (zip spans slots)) (progress_of hops) ∙ length-rows n journeys spans slots even
+pub length-progresses : (n : ℕ) (journeys : List Journey) (spans : List Span) (frames : List ℕ)
+    (hops : List HopRecord) → AreEven n journeys spans frames → length (progresses journeys spans frames hops) ≡ n
+length-progresses n journeys spans frames hops even =
+    length-map (zip journeys (zip spans frames)) (progress_of hops) ∙ length-rows n journeys spans frames even
 
-pub progresses-at : (n : ℕ) (journeys : List Journey) (spans : List Span) (slots : List Slot)
-    (hops : List HopRecord) (i : ℕ) → AreEven n journeys spans slots → i < n
-    → progress_at (progresses journeys spans slots hops) i ≡ progress_of hops (row_at journeys spans slots i)
-progresses-at n journeys spans slots hops i even within =
-    let row : Journey × (Span × Slot) = (no_journey, (no_span, no_slot)) in
-    let long : length (zip spans slots) ≡ n = omega (arith, even.spanned, even.slotted, length-zip spans slots) in
-    get_or-map (progress_of hops) (zip journeys (zip spans slots)) i row no_progress
-    (omega (arith, length-rows n journeys spans slots even))
-    ∙ ap (progress_of hops) (get_or-zip journeys (zip spans slots) i row (omega (arith, even.rows)) (omega arith)
-    ∙ ap (λ (s : Span × Slot). (get_or journeys i no_journey, s))
-    (get_or-zip spans slots i (no_span, no_slot) (omega (arith, even.spanned)) (omega (arith, even.slotted))))
+pub progresses-at : (n : ℕ) (journeys : List Journey) (spans : List Span) (frames : List ℕ)
+    (hops : List HopRecord) (i : ℕ) → AreEven n journeys spans frames → i < n
+    → progress_at (progresses journeys spans frames hops) i ≡ progress_of hops (row_at journeys spans frames i)
+progresses-at n journeys spans frames hops i even within =
+    let empty : Journey × (Span × ℕ) = (no_journey, (no_span, 0)) in
+    let long : length (zip spans frames) ≡ n = omega (arith, even.spanned, even.framed, length-zip spans frames) in
+    get_or-map (progress_of hops) (zip journeys (zip spans frames)) i empty no_progress
+    (omega (arith, length-rows n journeys spans frames even))
+    ∙ ap (progress_of hops) (get_or-zip journeys (zip spans frames) i empty (omega (arith, even.rows)) (omega arith)
+    ∙ ap (λ (s : Span × ℕ). (get_or journeys i no_journey, s))
+    (get_or-zip spans frames i (no_span, 0) (omega (arith, even.spanned)) (omega (arith, even.framed))))
 
--- where one frame's progress changes and no other one's, the list of all changes in its place
-pub changed : (n : ℕ) (journeys rows : List Journey) (spans places : List Span) (slots marks : List Slot)
-    (hops made : List HopRecord) (frame : ℕ) (p : Progress)
-    → AreEven n journeys spans slots → AreEven n rows places marks → frame < n
-    → progress_of made (row_at rows places marks frame) ≡ p
-    → ((i : ℕ) → i < n → i ≢ frame
-    → progress_of made (row_at rows places marks i) ≡ progress_of hops (row_at journeys spans slots i))
-    → progresses rows places marks made ≡ set (progresses journeys spans slots hops) frame p
-changed n journeys rows spans places slots marks hops made frame p old new within here there =
-    let before : List Progress = progresses journeys spans slots hops in
+-- where the progress of one row changes and no other one, the list of all changes in its place
+pub changed : (n : ℕ) (journeys rows : List Journey) (spans places : List Span) (frames marks : List ℕ)
+    (hops made : List HopRecord) (row : ℕ) (p : Progress)
+    → AreEven n journeys spans frames → AreEven n rows places marks → row < n
+    → progress_of made (row_at rows places marks row) ≡ p
+    → ((i : ℕ) → i < n → i ≢ row
+    → progress_of made (row_at rows places marks i) ≡ progress_of hops (row_at journeys spans frames i))
+    → progresses rows places marks made ≡ set (progresses journeys spans frames hops) row p
+changed n journeys rows spans places frames marks hops made row p old new within here there =
+    let before : List Progress = progresses journeys spans frames hops in
     let after : List Progress = progresses rows places marks made in
-    let long : length before ≡ n = length-progresses n journeys spans slots hops old in
+    let long : length before ≡ n = length-progresses n journeys spans frames hops old in
     let as_long : length after ≡ n = length-progresses n rows places marks made new in
-    let set_long : length (set before frame p) ≡ length before = length-set before frame p in
-    ext_get_or no_progress after (set before frame p) (omega arith)
+    let set_long : length (set before row p) ≡ length before = length-set before row p in
+    ext_get_or no_progress after (set before row p) (omega arith)
     (λ i below.
     (let below_n : i < n = omega arith in
-    progresses-at n rows places marks made i new below_n ∙ elim (cases_eq i frame) [
+    progresses-at n rows places marks made i new below_n ∙ elim (cases_eq i row) [
       | inl same ↦
           ap (λ (k : ℕ). progress_of made (row_at rows places marks k)) same ∙ here
-          ∙ sym (ap (λ (k : ℕ). get_or (set before frame p) k no_progress) same
-          ∙ get_or-set_same before frame p no_progress (omega arith))
+          ∙ sym (ap (λ (k : ℕ). get_or (set before row p) k no_progress) same
+          ∙ get_or-set_same before row p no_progress (omega arith))
       | inr other ↦
-          there i below_n other ∙ sym (progresses-at n journeys spans slots hops i old below_n)
-          ∙ sym (get_or-set_other before frame i p no_progress other)
+          there i below_n other ∙ sym (progresses-at n journeys spans frames hops i old below_n)
+          ∙ sym (get_or-set_other before row i p no_progress other)
     ]))
 
 -- a record outside of a range is no part of it

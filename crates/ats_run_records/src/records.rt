@@ -1,122 +1,152 @@
 //! The records of all frames of a run.
 
-ghost use Rattle.std.specs.Prelude.{◌≡◌, ◌<◌, ◌≤◌, length, map, All, IfOk, IsSome, Some};
-ghost use Rattle.std.specs.Prelude.{slice_set};
-ghost use Rattle.ats_trace.specs.declared.run.TheConstants.{MAX_FRAMES};
-ghost use Rattle.ats_run_records.specs.Progress.{progress_at, opened, with_hop, with_sent, with_ending, finished};
-ghost use Rattle.ats_run_records.specs.Inside.{IsLaid, progresses};
-ghost use Rattle.ats_run_records.specs.declared.slot.TheConstants.{MAX_ROOM};
+ghost use Rattle.std.specs.Prelude.{◌≡◌, ◌<◌, ◌≤◌, length, IfOk};
+ghost use Rattle.ats_trace.specs.Releases.{AreReleases, HaveFewPorts};
+ghost use Rattle.ats_trace.specs.Stored.{row_of};
+ghost use Rattle.ats_trace.specs.declared.run.TheConstants.{MAX_HOPS};
+ghost use Rattle.ats_run_records.specs.Progress.{progress_at, opened, with_leg, with_hop, with_sent, with_ending};
+ghost use Rattle.ats_run_records.specs.Progress.{finished};
 
-use crate::opening::{no_hop, rows_of, slots_of, spans_of, total_of};
-use crate::slot::Slot;
+use crate::opening::{firsts_of, no_hop, rows_of};
+use ats_network::Network;
 use ats_num::Ps;
-use ats_trace::{Ending, HopRecord, Journey, Release, Run, Span};
+use ats_trace::{Ending, HopRecord, Journey, Release, Run, Span, row_of};
 use std::alloc::{AllocError, Global};
 use std::marker::Model;
 
-/// What has happened so far to each frame of a run, by frame number. Contracts see one list with the release of each
-/// frame, how many hop records it may get, those that it has, and its ending, where it has one.
+/// What has happened so far to each frame of a run along each of its legs. A leg is named by its row: first stand the
+/// rows of the trunks, by frame number, and then those of the copies, frame by frame. Contracts see these rows in one
+/// list, each with the frame's number and release, the leg's number among those of its sender, how many hop records
+/// there may be along it, those that there are, and the ending; and for each frame the place of its first copy.
 #[derive(Drop)]
 pub struct Records {
     journeys: Vec<Journey>,
     spans: Vec<Span>,
-    slots: Vec<Slot>,
+    frames: Vec<u32>, // for each row the number of its frame
+    firsts: Vec<u32>, // for each frame the place of its first copy, or where it would be
     hops: Vec<HopRecord>,
 }
 
 impl Model for Records {
-    ghost use Rattle.std.specs.Prelude.{List};
-    ghost use Rattle.ats_run_records.specs.Progress.{Progress};
+    ghost use Rattle.ats_run_records.specs.Progress.{Ledger};
 
-    ghost Value = { List Progress };
+    ghost Value = { Ledger };
 
-    ghost use Rattle.ats_run_records.specs.Inside.{IsLaid, progresses};
+    ghost use Rattle.ats_run_records.specs.Inside.{AreRecords, ledger_of};
 
-    ghost view = { λ r. progresses r.journeys.items r.spans.items r.slots.items r.hops.items };
+    ghost view = { λ r. ledger_of r.journeys.items r.spans.items r.frames.items r.firsts.items r.hops.items };
 
-    ghost invariant = { λ r. IsLaid r.journeys.items r.spans.items r.slots.items r.hops.items };
+    ghost invariant = { λ r. AreRecords r.journeys.items r.spans.items r.frames.items r.firsts.items r.hops.items };
 }
 
 impl Records {
-    /// The records of frames with these releases, at most 200,000, each of which may get as many hop
-    /// records as its room says, at most 16. There are as many rooms as releases. `AllocError` where
-    /// memory runs out.
-    pub fn open(alloc: Global, releases: &[Release], rooms: &[u32]) -> Result<Records, AllocError>
-        requires few { length releases.now ≤ MAX_FRAMES }
-        requires rooms { length rooms.now ≡ length releases.now }
-        requires most { All (λ room. room ≤ MAX_ROOM) rooms.now }
-        ensures { IfOk result (λ records. records ≡ opened releases.now rooms.now) }
+    /// The records of frames with these releases over a network, along each leg of which there may be a hop record for
+    /// each of the leg's ports. Conditions: the releases may be run on the network, and the ports of the frames are
+    /// together at most 3,200,000. `AllocError` where memory runs out.
+    pub fn open(alloc: Global, net: &Network, releases: &[Release]) -> Result<Records, AllocError>
+        requires releases { AreReleases net.now releases.now }
+        requires few_ports { HaveFewPorts net.now releases.now }
+        ensures { IfOk result (λ records. records ≡ opened net.now releases.now) }
     {
+        let _rules = net.topology(); // for what a network keeps
+        let (firsts, count) = firsts_of(alloc, net, releases)?;
+        let rows = rows_of(alloc, net, releases, count)?;
+        let hops = vec![in alloc; no_hop(); rows.room as usize]?;
         Ok(Records {
-            journeys: rows_of(alloc, releases)?,
-            spans: spans_of(alloc, rooms)?,
-            slots: slots_of(alloc, rooms)?,
-            hops: vec![in alloc; no_hop(); total_of(rooms)]?,
+            journeys: rows.journeys,
+            spans: rows.spans,
+            frames: rows.frames,
+            firsts,
+            hops,
         })
     }
 
-    /// The number of frames.
+    /// The number of rows: of the legs of all frames.
     pub fn len(&self) -> usize
-        ensures value { result ≡ length self.now }
-        ensures bounded { length self.now ≤ MAX_FRAMES }
+        ensures value { result ≡ length self.now.legs }
+        ensures bounded { length self.now.legs ≤ MAX_HOPS }
     {
         self.journeys.len()
     }
 
-    /// The release of a frame.
-    pub fn release(&self, frame: u32) -> Release
-        requires { frame < length self.now }
-        ensures { result ≡ (progress_at self.now frame).release }
+    /// The row of a frame's leg, which is counted from 0 among the legs of its sender.
+    pub fn row_of(&self, frame: u32, leg: u32) -> u32
+        requires frame { frame < length self.now.firsts }
+        requires there { row_of self.now.firsts frame leg < length self.now.legs }
+        ensures { result ≡ row_of self.now.firsts frame leg }
     {
-        self.journeys[frame as usize].release
+        row_of(&self.firsts, frame, leg) as u32
     }
 
-    /// The hop records that a frame has, in the order of its path.
-    pub fn hops_of(&self, frame: u32) -> &[HopRecord]
-        requires { frame < length self.now }
-        ensures { result.now ≡ (progress_at self.now frame).hops }
+    /// The number of the frame of a row.
+    pub fn frame(&self, row: u32) -> u32
+        requires { row < length self.now.legs }
+        ensures { result ≡ (progress_at self.now.legs row).frame }
     {
-        let span = self.spans[frame as usize];
+        self.frames[row as usize]
+    }
+
+    /// The number of the leg of a row among the legs of its sender: 0 for a trunk.
+    pub fn leg(&self, row: u32) -> u32
+        requires { row < length self.now.legs }
+        ensures { result ≡ (progress_at self.now.legs row).leg }
+    {
+        u32::from(self.spans[row as usize].leg)
+    }
+
+    /// The release of the frame of a row.
+    pub fn release(&self, row: u32) -> Release
+        requires { row < length self.now.legs }
+        ensures { result ≡ (progress_at self.now.legs row).release }
+    {
+        self.journeys[row as usize].release
+    }
+
+    /// The hop records of a row, in the order of the leg's ports.
+    pub fn hops_of(&self, row: u32) -> &[HopRecord]
+        requires { row < length self.now.legs }
+        ensures { result.now ≡ (progress_at self.now.legs row).hops }
+    {
+        let span = self.spans[row as usize];
         let first = span.first as usize;
         &self.hops[first..first + span.count as usize]
     }
 
-    /// Adds one hop record more to those of a frame, which has fewer than it may get. It takes no memory.
-    pub fn push(&mut self, frame: u32, hop: HopRecord)
-        requires frame { frame < length self.old }
-        requires room { length (progress_at self.old frame).hops < (progress_at self.old frame).room }
-        ensures { self.new ≡ slice_set self.old frame (with_hop (progress_at self.old frame) hop) }
+    /// Adds one hop record more to those of a row, which has fewer than it may get. It takes no memory.
+    pub fn push(&mut self, row: u32, hop: HopRecord)
+        requires row { row < length self.old.legs }
+        requires room { length (progress_at self.old.legs row).hops < (progress_at self.old.legs row).room }
+        ensures { self.new ≡ with_leg self.old row (with_hop (progress_at self.old.legs row) hop) }
     {
-        let span = &mut self.spans[frame as usize];
-        self.hops[(span.first + span.count) as usize] = hop;
+        let span = &mut self.spans[row as usize];
+        self.hops[span.first as usize + span.count as usize] = hop;
         span.count += 1;
     }
 
-    /// Tells in the last hop record of a frame when its transmission starts and ends. It takes no memory.
-    pub fn send(&mut self, frame: u32, start: Ps, end: Ps)
-        requires frame { frame < length self.old }
-        requires last { 0 < length (progress_at self.old frame).hops }
-        ensures { self.new ≡ slice_set self.old frame (with_sent (progress_at self.old frame) start end) }
+    /// Tells in the last hop record of a row when its transmission starts and ends. It takes no memory.
+    pub fn send(&mut self, row: u32, start: Ps, end: Ps)
+        requires row { row < length self.old.legs }
+        requires last { 0 < length (progress_at self.old.legs row).hops }
+        ensures { self.new ≡ with_leg self.old row (with_sent (progress_at self.old.legs row) start end) }
     {
-        let span = self.spans[frame as usize];
-        let place = (span.first + span.count - 1) as usize;
+        let span = self.spans[row as usize];
+        let place = span.first as usize + span.count as usize - 1;
         self.hops[place].sent = Some((start, end));
     }
 
-    /// Ends the journey of a frame. It takes no memory.
-    pub fn close(&mut self, frame: u32, ending: Ending)
-        requires { frame < length self.old }
-        ensures { self.new ≡ slice_set self.old frame (with_ending (progress_at self.old frame) ending) }
+    /// Tells how the leg of a row ended. It takes no memory.
+    pub fn close(&mut self, row: u32, ending: Ending)
+        requires { row < length self.old.legs }
+        ensures { self.new ≡ with_leg self.old row (with_ending (progress_at self.old.legs row) ending) }
     {
-        self.journeys[frame as usize].ending = ending;
-        self.slots[frame as usize].is_over = true;
+        self.journeys[row as usize].ending = ending;
     }
 
-    /// The run of these records, in which each journey has ended. It takes no memory.
+    /// The run of these records, in which a leg of which no ending was told has ended with `Discard`. It takes no
+    /// memory.
     pub fn finish(self) -> Run
-        requires { All (λ progress. IsSome progress.ending) self }
-        ensures { result ≡ map finished self }
+        ensures { result ≡ finished self }
     {
-        Run::new(self.journeys, self.spans, self.hops)
+        Run::new(self.journeys, self.spans, self.firsts, self.hops)
     }
 }

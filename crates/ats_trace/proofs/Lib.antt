@@ -1,4 +1,5 @@
 pub mod ExactLinks
+pub mod FewPorts
 pub mod Legs
 pub mod OneListener
 pub mod OneVerdict

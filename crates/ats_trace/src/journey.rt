@@ -34,20 +34,24 @@ pub enum Ending {
     Discard,
 }
 
-/// The row of one frame in a run.
+/// The row of one leg of a frame in a run.
 #[derive(Clone, Copy, Debug, PartialEq, Eq)]
 pub struct Journey {
-    /// Its release.
+    /// The frame's release.
     pub release: Release,
-    /// How it ended.
+    /// How it ended along the leg.
     pub ending: Ending,
 }
 
-/// Where the hop records of one frame stand among those of a run.
+/// Where the hop records of one leg of a frame stand among those of a run.
 #[derive(Clone, Copy, Debug, PartialEq, Eq)]
 pub struct Span {
     /// The place of the first.
     pub first: u32,
-    /// How many there are: one for each port of the frame's path that it came to.
-    pub count: u32,
+    /// The number of the leg among those of the frame's sender: 0 for the trunk.
+    pub leg: u16,
+    /// How many there are: one for each port of the leg that the frame came to.
+    pub count: u8,
+    /// How many there is room for: one for each port of the leg.
+    pub room: u8,
 }

@@ -6,4 +6,4 @@ pub mod laws;
 pub mod run;
 
 pub use journey::{Ending, HopRecord, Journey, Release, Span};
-pub use run::Run;
+pub use run::{MAX_FRAMES, MAX_HOPS, Run, row_of};

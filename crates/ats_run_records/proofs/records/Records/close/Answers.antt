@@ -1,21 +1,18 @@
-use Rattle.std.proofs.Common.{arith}
-use Rattle.ats_run_records.proofs.Writes.{length-all}
-use Rattle.ats_run_records.proofs.Ends.{closed_row, laid-close, view-close}
+use Rattle.std.proofs.Common.{ap, arith}
+use Rattle.ats_run_records.specs.Progress.{Ledger}
+use Rattle.ats_run_records.proofs.Writes.{in-rows}
+use Rattle.ats_run_records.proofs.Ends.{closed_row, records-close, told-again, view-close}
 use Rattle.ats_run_records.proofs.records.Records.close.Goals as goal
 
 pub index_mut-requires : goal.index_mut-requires
-index_mut-requires c = omega (arith, c.requires, length-all _ _ _ _ _ c.self.view_is c.self.invariant)
-
-pub index_mut-requires-2 : goal.index_mut-requires-2
-index_mut-requires-2 c =
-    omega (arith, c.requires, length-all _ _ _ _ _ c.self.view_is c.self.invariant, c.self.invariant.slotted)
+index_mut-requires c = omega (arith, c.requires, in-rows c.self.invariant c.self.view_is)
 
 pub invariant_of-self : goal.invariant_of-self
 invariant_of-self c =
-    laid-close c.args.frame (closed_row c.index_mut.result.now c.args.ending) c.index_mut-2.result.now
-    c.self.view_is c.self.invariant c.requires c.index_mut-2.ensures.value
+    records-close c.args.row (closed_row c.index_mut.result.now c.args.ending) c.self.invariant
 
 pub returns : goal.returns
 returns c =
-    view-close c.args.frame c.index_mut.result.now c.index_mut-2.result.now c.args.ending c.self.view_is
-    c.self.invariant c.requires c.index_mut.ensures.value c.index_mut-2.ensures.value
+    told-again _ _ _ _ _ _ c.self.view_is
+    (view-close c.args.row c.index_mut.result.now c.args.ending (ap (λ (l : Ledger). l.legs) c.self.view_is)
+    c.self.invariant.laid c.requires c.index_mut.ensures.value)

@@ -5,12 +5,12 @@ use Rattle.ats_trace.proofs.run.Run.is_empty.Goals as goal
 
 pub returns : goal.returns
 returns c =
-    let journeys = c.self.inside.journeys in
-    let none = none-run _ journeys.items (length-run _ _ _ _ c.self.view_is c.self.invariant.spanned) in (
+    let firsts = c.self.inside.firsts in
+    let none = none-run _ firsts.items (length-run _ _ _ _ _ c.self.view_is c.self.invariant) in (
       λ empty.
-          (let zero : vec_len journeys ≡ 0 = eqb-true _ 0 (sym c.is_empty.ensures ∙ empty) in
+          (let zero : vec_len firsts ≡ 0 = eqb-true _ 0 (sym c.is_empty.ensures ∙ empty) in
           none.0 (omega (arith, zero))),
       λ empty.
-          (let zero : length journeys.items ≡ 0 = none.1 empty in
-          c.is_empty.ensures ∙ eq-eqb (vec_len journeys) 0 (omega (arith, zero))),
+          (let zero : length firsts.items ≡ 0 = none.1 empty in
+          c.is_empty.ensures ∙ eq-eqb (vec_len firsts) 0 (omega (arith, zero))),
     )
