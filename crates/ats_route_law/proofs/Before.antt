@@ -349,3 +349,21 @@ port_before_is_one topology s leg hop is in_legs short =
     by (Some x) e (inr none) =
         let some : 1 ≤ length (lead_on s leg) + hop = not_first s leg hop x is.branches in_legs e in
         absurd (has_one (length (lead_on s leg) + hop - 1) (omega (arith, some)) none)
+
+-- so on each route the port before one is that in front of it there
+pub before_on_route : (topology : DeclaredTopology) (s : Sender) (n i : ℕ) → IsSender topology s
+    → n ≤ length s.branches → suc i < length (leg_at (routes_of s.ports s.branches) n)
+    → port_before s (get_or (leg_at (routes_of s.ports s.branches) n) (suc i) 0)
+    ≡ Some (get_or (leg_at (routes_of s.ports s.branches) n) i 0)
+before_on_route topology s n i is within short =
+    subst (λ (route : List ℕ). port_before s (get_or route (suc i) 0) ≡ Some (get_or route i 0)) (sym whole)
+    (ap (port_before s) (sym at.at.is)
+    ∙ port_before_is_one topology s at.leg at.hop is
+    (omega (arith, at.at.in_legs, legs-length 0 s.ports s.branches)) at.at.in_leg
+    ∙ at.front)
+  where
+    whole : leg_at (routes_of s.ports s.branches) n ≡ route_on s n
+    whole = route-at s.ports s.branches n [] within
+
+    at : Comes s (route_on s n) i
+    at = comes s is.branches n n (omega arith) within i (omega (arith, short, ap (λ (l : List ℕ). length l) whole))

@@ -1,3 +1,6 @@
 pub mod Places
+pub mod Ends
 pub mod Before
 pub mod Standing
+pub mod Leads
+pub mod Ways

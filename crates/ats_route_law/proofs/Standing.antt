@@ -3,7 +3,7 @@ use Rattle.std.proofs.Common.{◌≡◌, ◌≢◌, ℕ, zero, suc, ◌+◌, ◌
 use Rattle.std.proofs.Common.{refl, sym, ap, ◌∙◌, arith, length-drop, length-take, drop}
 use Rattle.std.specs.List.{concat, slice_range}
 use Rattle.std.proofs.lemmas.Option.{none-some}
-use Rattle.ats_streams.specs.Branches.{Ascend, BeginsEarlier, first_from, leg_at, legs_from, legs_of, no_branch}
+use Rattle.ats_streams.specs.Branches.{Ascend, BeginsEarlier, first_from, legs_from, legs_of, no_branch}
 use Rattle.ats_streams.specs.declared.branch.Branch.{Branch}
 use Rattle.ats_streams.proofs.BranchLemmas.{IsPlaced, begins_at, legs-length, placed}
 use Rattle.ats_topology.specs.Topology.{DeclaredTopology}
@@ -11,6 +11,7 @@ use Rattle.ats_network.specs.Class.{port_before}
 use Rattle.ats_network.specs.Sender.{Sender}
 use Rattle.ats_network.specs.Senders.{IsSender}
 use Rattle.ats_trace.proofs.Legs.{Stands, concat-legs_of, place_is, place_of, place_within, stands}
+use Rattle.ats_route_law.proofs.Ends.{branch_some}
 use Rattle.ats_route_law.specs.Laws.{port_to, ports_of_leg}
 use Rattle.ats_route_law.proofs.Before.{IsSomewhere, port_before_is_one, somewhere}
 
@@ -44,27 +45,12 @@ at_place topology s leg hop place is in_legs in_leg there =
     ∙ ap (λ (k : ℕ). get_or (concat legs) k 0) (sym at)
     ∙ place_is legs leg hop (omega (arith, legs-length 0 s.ports s.branches, in_legs)) in_leg
 
--- the leg of a branch has a port
-leg_some : (at : ℕ) (ports : List ℕ) (branches : List Branch) (n : ℕ) → Ascend at branches (length ports)
-    → n < length branches → 0 < length (leg_at (legs_from at ports branches) (suc n))
-leg_some at ports [] n ascend within = absurd (omega arith)
-leg_some at ports (b ∷ []) zero ascend within = omega (arith, length-drop b.first ports, ascend.1)
-leg_some at ports (b ∷ c ∷ branches) zero ascend within = omega (
-  arith,
-  length-take (c.first - b.first) (drop b.first ports),
-  length-drop b.first ports,
-  ascend.1,
-  ascend.2.0,
-  ascend.2.1,
-)
-leg_some at ports (b ∷ branches) (suc n) ascend within = leg_some b.first ports branches n ascend.2 (omega arith)
-
 -- where a branch begins, it is the one that leads there
 pub before_branch : (topology : DeclaredTopology) (s : Sender) (n : ℕ) → IsSender topology s → n < length s.branches
     → port_before s (get_or s.ports (get_or s.branches n no_branch).first 0)
     ≡ Some (port_to s (get_or s.branches n no_branch))
 before_branch topology s n is within =
-    let some : 0 < length (ports_of_leg s (suc n)) = leg_some 0 s.ports s.branches n is.branches.places within in
+    let some : 0 < length (ports_of_leg s (suc n)) = branch_some 0 s.ports s.branches n is.branches.places within in
     ap (port_before s) (at_place topology s (suc n) 0 (get_or s.branches n no_branch).first is (omega arith) some
     (omega arith))
     ∙ port_before_is_one topology s (suc n) 0 is (omega arith) some
