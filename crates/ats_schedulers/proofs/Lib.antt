@@ -1,2 +1,3 @@
+pub mod LegPlaces
 pub mod Listing
 pub mod Places

@@ -1,10 +1,10 @@
 -- The lists of residences, schedulers and first places, and one entry more.
 use Rattle.std.proofs.Common.{◌≡◌, ◌∙◌, ℕ, zero, suc, ◌+◌, ◌-◌, ◌*◌, ◌<◌, ◌≤◌, List, [], ◌∷◌, ◌++◌, length}
-use Rattle.std.proofs.Common.{get_or, map, take}
+use Rattle.std.proofs.Common.{get_or, map, take, drop}
 use Rattle.std.proofs.Common.{refl, sym, ap, subst, arith, length-append}
-use Rattle.std.specs.List.{All, flat_map, range_with_len}
-use Rattle.std.proofs.lemmas.List.{flat_map_more, length-map, length-take, take_more}
-use Rattle.std.proofs.lemmas.List.Elements.{All-append, All-cons, All-head, All-nil, All-tail}
+use Rattle.std.specs.List.{All, flat_map, range_with_len, slice_range}
+use Rattle.std.proofs.lemmas.List.{append_assoc, flat_map_more, map-append, take_more}
+use Rattle.std.proofs.lemmas.List.Elements.{All-append, All-cons, All-drop, All-head, All-nil, All-tail, All-take}
 use Rattle.std.proofs.lemmas.List.Folds.{length-flat_map-take}
 use Rattle.std.proofs.lemmas.List.FromFn.{map-range_with_len_more}
 use Rattle.std.proofs.lemmas.List.Sums.{sum_by-cons}
@@ -15,6 +15,8 @@ use Rattle.ats_group.specs.declared.member.Member.{Member}
 use Rattle.ats_group.specs.declared.member.TheConstants.{MAX_RESIDENCE_NS}
 use Rattle.ats_topology.specs.Topology.{DeclaredTopology, IsTopology, HasLawfulPorts}
 use Rattle.ats_topology.proofs.Rules.{ports_are_lawful}
+use Rattle.ats_streams.specs.Branches.{legs_from}
+use Rattle.ats_streams.specs.declared.branch.Branch.{Branch}
 use Rattle.ats_streams.specs.Stream.{DeclaredStream, IsStream}
 use Rattle.ats_streams.specs.declared.stream.TheConstants.{MAX_CLASS}
 use Rattle.ats_network.specs.Network.{DeclaredNetwork, IsNetwork, ports_together}
@@ -24,8 +26,9 @@ use Rattle.ats_network.specs.Class.{class_at}
 use Rattle.ats_network.proofs.ClassLemmas.{class_along-at, class_at-le}
 use Rattle.ats_network.proofs.SenderLemmas.{each_is_sender}
 use Rattle.ats_schedulers.specs.Inside.{IsListable}
-use Rattle.ats_schedulers.specs.Schedulers.{first_of, member_behind, residence_of}
-use Rattle.ats_schedulers.specs.Schedulers.{members_of, stream_members}
+use Rattle.ats_schedulers.specs.Schedulers.{first_of, leg_members, member_behind, members_of, residence_of}
+use Rattle.ats_schedulers.specs.Schedulers.{stream_members}
+use Rattle.ats_schedulers.proofs.LegPlaces.{counted_all}
 
 -- one residence more
 pub residences_more : (network : DeclaredNetwork) (group : ℕ)
@@ -83,32 +86,23 @@ each_listable network is =
     below : (p n : ℕ) → p < n → n ≤ 4096 → p < 4096
     below p n within few = omega arith
 
--- a stream has a scheduler behind each of its ports but the last
-pub count_is : (stream : DeclaredStream) → length (stream_members stream) ≡ length stream.ports - 1
-count_is stream =
-    let mapped : length (stream_members stream) ≡ length (take (length stream.ports - 1) stream.ports) =
-    simp length-map in
-    mapped ∙ counted (length stream.ports) stream.ports refl
-  where
-    counted : (n : ℕ) (path : List ℕ) → n ≡ length path → length (take (n - 1) path) ≡ n - 1
-    counted n path e = let cut = length-take (n - 1) path in omega (arith, cut)
-
--- so streams have at most as many as they have ports together
-all_few : (streams : List DeclaredStream) → length (flat_map stream_members streams) ≤ ports_together streams
-all_few [] = omega arith
-all_few (s ∷ streams) =
+-- streams have at most as many schedulers as they have ports together
+all_few : (streams : List DeclaredStream) → All IsStream streams
+    → length (flat_map stream_members streams) ≤ ports_together streams
+all_few [] each = omega arith
+all_few (s ∷ streams) each =
     omega (
       arith,
       length-append (stream_members s) (flat_map stream_members streams),
-      count_is s,
+      counted_all (stream_sender s) 0 s.ports s.branches (All-head IsStream s streams each).branches.places,
       sum_by-cons (λ (t : DeclaredStream). length t.ports) s streams,
-      all_few streams,
+      all_few streams (All-tail IsStream s streams each),
     )
 
 -- and those of a network fewer than 100,000
 pub members_few : (network : DeclaredNetwork) → IsNetwork network
     → length (flat_map stream_members network.streams) < 100000
-members_few network is = let few = all_few network.streams in omega (arith, few, is.few_ports)
+members_few network is = let few = all_few network.streams is.streams in omega (arith, few, is.few_ports)
 
 -- the first streams have no more
 pub so_far_few : (streams : List DeclaredStream) (i : ℕ) (d : DeclaredStream)
@@ -142,11 +136,35 @@ places_more streams i n members firsts after so_far places count more =
     ∙ ap (λ (k : ℕ). map (first_of streams) (range_with_len 0 i) ++ k ∷ []) (count ∙ ap length so_far)
     ∙ sym (firsts_more streams i)
 
+-- one port more of a leg
+pub port_more : (s : Sender) (path : List ℕ) (hop : ℕ) (front members after : List Member) (m : Member)
+    → hop < length path → members ≡ front ++ map (member_behind s) (take hop path) → after ≡ members ++ m ∷ []
+    → m ≡ member_behind s (get_or path hop 0) → after ≡ front ++ map (member_behind s) (take (hop + 1) path)
+port_more s path hop front members after m within so_far more is =
+    let before : List Member = map (member_behind s) (take hop path) in
+    more ∙ ap (λ (ms : List Member). ms ++ m ∷ []) so_far
+    ∙ append_assoc front before (m ∷ [])
+    ∙ ap (λ (own : List Member). front ++ own)
+    (ap (λ (x : Member). before ++ x ∷ []) is
+    ∙ sym (map-append (member_behind s) (take hop path) (get_or path hop 0 ∷ []))
+    ∙ sym (ap (map (member_behind s)) (take_more path hop 0 within)))
+
+-- one leg more
+pub legs_more : (s : Sender) (legs : List (List ℕ)) (i : ℕ) (front members after : List Member) → i < length legs
+    → members ≡ front ++ flat_map (leg_members s) (take i legs) → after ≡ members ++ leg_members s (get_or legs i [])
+    → after ≡ front ++ flat_map (leg_members s) (take (i + 1) legs)
+legs_more s legs i front members after within so_far more =
+    more ∙ ap (λ (before : List Member). before ++ leg_members s (get_or legs i [])) so_far
+    ∙ append_assoc front (flat_map (leg_members s) (take i legs)) (leg_members s (get_or legs i []))
+    ∙ ap (λ (own : List Member). front ++ own)
+    (flat_map_more (leg_members s) [] (take i legs) (get_or legs i [])
+    ∙ sym (ap (flat_map (leg_members s)) (take_more legs i [] within)))
+
 -- the schedulers of a stream are members of groups behind its ports
 stream_members_are : (ports : ℕ) (s : DeclaredStream) → IsStream s
     → All (λ class. class ≤ MAX_CLASS) s.classes → All (λ p. p < ports) s.ports
     → All (IsMember (8 * ports)) (stream_members s)
-stream_members_are ports s is classes within = along (length s.ports - 1) s.ports within
+stream_members_are ports s is classes within = over 0 s.branches
   where
     made : (p : ℕ) → p < ports → IsMember (8 * ports) (member_behind (stream_sender s) p)
     made p below =
@@ -160,6 +178,22 @@ stream_members_are ports s is classes within = along (length s.ports - 1) s.port
     along (suc n) (p ∷ path) each = All-cons (IsMember (8 * ports)) (member_behind (stream_sender s) p)
         (map (member_behind (stream_sender s)) (take n path)) (made p (All-head (λ q. q < ports) p path each))
         (along n path (All-tail (λ q. q < ports) p path each))
+
+    leg : (path : List ℕ) → All (λ p. p < ports) path
+        → All (IsMember (8 * ports)) (leg_members (stream_sender s) path)
+    leg path each = along (length path - 1) path each
+
+    over : (at : ℕ) (branches : List Branch)
+        → All (IsMember (8 * ports)) (flat_map (leg_members (stream_sender s)) (legs_from at s.ports branches))
+    over at [] = All-append (IsMember (8 * ports)) (leg_members (stream_sender s) (drop at s.ports)) []
+        (leg (drop at s.ports) (All-drop (λ p. p < ports) at s.ports within)) (All-nil (IsMember (8 * ports)))
+    over at (b ∷ branches) =
+        let own : List ℕ = slice_range s.ports at b.first in
+        All-append (IsMember (8 * ports)) (leg_members (stream_sender s) own)
+        (flat_map (leg_members (stream_sender s)) (legs_from b.first s.ports branches))
+        (leg own (All-take (λ p. p < ports) (b.first - at) (drop at s.ports)
+        (All-drop (λ p. p < ports) at s.ports within)))
+        (over b.first branches)
 
 -- and so are those of all streams
 pub members_are : (network : DeclaredNetwork) → IsNetwork network

@@ -1,6 +1,7 @@
 use Rattle.std.specs.Prelude.{ℕ, ◌+◌, ◌-◌, ◌*◌, ◌/◌, ◌<◌, ◌≤◌, List, length, map, take, unwrap_or}
 use Rattle.std.specs.List.{flat_map, range_with_len}
 use Rattle.ats_group.specs.declared.member.Member.{Member}
+use Rattle.ats_streams.specs.Branches.{leg_at, legs_of}
 use Rattle.ats_streams.specs.Stream.{DeclaredStream}
 use Rattle.ats_network.specs.Class.{class_at}
 use Rattle.ats_network.specs.Network.{DeclaredNetwork}
@@ -25,13 +26,19 @@ residences_of network = map (residence_of network) (range_with_len 0 (8 * length
 abbrev pub member_behind : Sender → ℕ → Member
 member_behind s port = record { group = group_behind port (class_at s port); declared = declared_of s }
 
--- the ports of a path but the last: behind each of them is a bridge, at which the path goes on
+-- the ports of a leg but the last: behind each of them is a bridge, at which the leg goes on
 abbrev pub ports_to_bridges : List ℕ → List ℕ
 ports_to_bridges path = take (length path - 1) path
 
--- the schedulers of a stream along its path
+-- the schedulers of a sender along one of its legs
+abbrev pub leg_members : Sender → List ℕ → List Member
+leg_members s path = map (member_behind s) (ports_to_bridges path)
+
+-- the schedulers of a stream, leg after leg: where a branch begins, there is none of its own, since the frame comes
+-- there by the port before, and meets the one scheduler behind it
 abbrev pub stream_members : DeclaredStream → List Member
-stream_members stream = map (member_behind (stream_sender stream)) (ports_to_bridges stream.ports)
+stream_members stream =
+    flat_map (leg_members (stream_sender stream)) (legs_of stream.ports stream.branches)
 
 -- the schedulers of all streams, one stream after the other
 abbrev pub members_of : DeclaredNetwork → List Member
@@ -41,12 +48,23 @@ members_of network = flat_map stream_members network.streams
 abbrev pub first_of : List DeclaredStream → ℕ → ℕ
 first_of streams stream = length (flat_map stream_members (take stream streams))
 
--- the place of the scheduler that a stream's frame meets before it comes to a hop
-abbrev pub scheduler_of : DeclaredNetwork → ℕ → ℕ → ℕ
-scheduler_of network stream hop = first_of network.streams stream + (hop - 1)
+-- the place of a leg's first scheduler among those of its sender: behind those of the legs before it
+abbrev pub first_in : Sender → ℕ → ℕ
+first_in s leg = length (flat_map (leg_members s) (take leg (legs_of s.ports s.branches)))
 
--- a hop of a stream's path that comes behind a scheduler
-pub record IsHop (network : DeclaredNetwork) (stream hop : ℕ) : Type 0 where
+-- the ports of a leg of the sender with a number
+abbrev pub leg_ports : DeclaredNetwork → ℕ → ℕ → List ℕ
+leg_ports network sender leg = leg_at (legs_of (sender_at network sender).ports (sender_at network sender).branches) leg
+
+-- the place of the scheduler that a stream's frame meets before it comes to a hop of a leg: the one behind the port
+-- before
+abbrev pub scheduler_of : DeclaredNetwork → ℕ → ℕ → ℕ → ℕ
+scheduler_of network stream leg hop =
+    first_of network.streams stream + first_in (sender_at network stream) leg + (hop - 1)
+
+-- a hop of a stream's leg that comes behind a scheduler of the leg
+pub record IsHop (network : DeclaredNetwork) (stream leg hop : ℕ) : Type 0 where
   pub exists : stream < length network.streams
+  pub of_stream : leg ≤ length (sender_at network stream).branches
   pub later : 1 ≤ hop
-  pub within : hop < length (sender_at network stream).ports
+  pub within : hop < length (leg_ports network stream leg)

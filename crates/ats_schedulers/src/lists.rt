@@ -2,11 +2,12 @@
 
 ghost use Rattle.std.specs.Prelude.{◌≡◌, ℕ, ◌-◌, ◌*◌, ◌++◌, ◌<◌, ◌≤◌, length, All, IfOk, OnOk, slice_index_or};
 ghost use Rattle.std.specs.List.{flat_map};
+ghost use Rattle.ats_streams.specs.Branches.{first_from, leg_at, legs_of};
 ghost use Rattle.ats_group.specs.declared.member.TheConstants.{MAX_RESIDENCE_NS};
 ghost use Rattle.ats_network.specs.Sender.{stream_sender};
 ghost use Rattle.ats_schedulers.specs.Inside.{AreListed, IsListable};
-ghost use Rattle.ats_schedulers.specs.Schedulers.{member_behind, residence_of, residences_of};
-ghost use Rattle.ats_schedulers.specs.Schedulers.{stream_members};
+ghost use Rattle.ats_schedulers.specs.Schedulers.{leg_members, member_behind, residence_of};
+ghost use Rattle.ats_schedulers.specs.Schedulers.{residences_of, stream_members};
 
 use ats_group::Member;
 use ats_network::Network;
@@ -38,27 +39,51 @@ pub(crate) fn residences_of(alloc: Global, network: &Network) -> Result<Vec<u32>
     Ok(residences)
 }
 
-// The scheduler of a stream behind the port of a hop.
-fn member(stream: &Stream, hop: usize) -> Member
+// The scheduler of a stream behind the port at a place among its ports.
+fn member(stream: &Stream, place: usize) -> Member
     requires stream { IsListable stream.now }
-    requires hop { hop < length stream.now.ports }
-    ensures { result ≡ member_behind (stream_sender stream.now) (slice_index_or stream.now.ports hop 0) }
+    requires place { place < length stream.now.ports }
+    ensures { result ≡ member_behind (stream_sender stream.now) (slice_index_or stream.now.ports place 0) }
 {
-    let class = stream.classes()[hop];
+    let class = stream.classes()[place];
     Member {
-        group: CLASSES * stream.ports()[hop] + u32::from(class),
+        group: CLASSES * stream.ports()[place] + u32::from(class),
         declared: stream.declared(),
     }
 }
 
-// Appends the schedulers of a stream: one behind each of its ports but the last.
-#[tactic(auto, using(std::proofs::lemmas::List::map_more, ats_streams::proofs::BranchLemmas::some_port))]
+/// The place of the first port of a leg among those of its stream.
+pub(crate) fn first_place(stream: &Stream, leg: u32) -> u32
+    requires { leg ≤ length stream.now.branches }
+    ensures { result ≡ first_from 0 stream.now.branches leg }
+{
+    if leg == 0 {
+        return 0;
+    }
+    stream.branch(leg).first
+}
+
+// Appends the schedulers of a stream along one leg: one behind each of its ports but the last.
+fn push_leg(members: &mut Vec<Member>, stream: &Stream, leg: u32) -> Result<(), AllocError>
+    requires stream { IsListable stream.now }
+    requires leg { leg ≤ length stream.now.branches }
+    ensures { OnOk result (members.new.items ≡ members.old.items
+        ++ leg_members (stream_sender stream.now) (leg_at (legs_of stream.now.ports stream.now.branches) leg)) }
+{
+    let first = first_place(stream, leg) as usize;
+    for hop in 0..stream.leg(leg).len() - 1 {
+        members.push(member(stream, first + hop))?;
+    }
+    Ok(())
+}
+
+// Appends the schedulers of a stream, leg after leg.
 fn push_stream(members: &mut Vec<Member>, stream: &Stream) -> Result<(), AllocError>
     requires { IsListable stream.now }
     ensures { OnOk result (members.new.items ≡ members.old.items ++ stream_members stream.now) }
 {
-    for hop in 0..stream.ports().len() - 1 {
-        members.push(member(stream, hop))?;
+    for leg in 0..stream.legs() {
+        push_leg(members, stream, leg)?;
     }
     Ok(())
 }

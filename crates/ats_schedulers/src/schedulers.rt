@@ -3,11 +3,11 @@
 ghost use Rattle.std.specs.Prelude.{◌≡◌, ℕ, ◌-◌, ◌*◌, ◌<◌, ◌≤◌, length, All, IfOk, slice_index_or};
 ghost use Rattle.ats_group.specs.GroupsState.{AreMembers, member_at};
 ghost use Rattle.ats_group.specs.declared.member.TheConstants.{MAX_RESIDENCE_NS};
-ghost use Rattle.ats_network.specs.Network.{HasOneListener};
 ghost use Rattle.ats_network.specs.Senders.{sender_at};
-ghost use Rattle.ats_schedulers.specs.Schedulers.{IsHop, member_behind, members_of, residences_of, scheduler_of};
+ghost use Rattle.ats_schedulers.specs.Schedulers.{IsHop, leg_ports, member_behind, members_of, residences_of};
+ghost use Rattle.ats_schedulers.specs.Schedulers.{scheduler_of};
 
-use crate::lists::{listed, residences_of};
+use crate::lists::{first_place, listed, residences_of};
 use ats_group::Member;
 use ats_network::Network;
 use std::alloc::{AllocError, Global};
@@ -15,7 +15,7 @@ use std::marker::Model;
 
 /// The groups of schedulers of a network, and their members. The group behind port `p` for class `c`
 /// has the number `8 * p + c`. It stands at the bridge that the port leads to, and has as members
-/// those streams whose path goes on from there and which are of this class at the port. Contracts
+/// those streams of which a leg goes on from there and which are of this class at the port. Contracts
 /// see the network.
 #[derive(Drop)]
 pub struct Schedulers<'a> {
@@ -37,10 +37,9 @@ impl<'a> Model for Schedulers<'a> {
 }
 
 impl<'a> Schedulers<'a> {
-    /// The schedulers of a network in which each stream has one listener. It takes time and memory linear in the number
-    /// of ports and the sum of the paths' lengths. `AllocError` where there is no memory for them.
+    /// The schedulers of a network. It takes time and memory linear in the number of ports of the network and of its
+    /// streams. `AllocError` where there is no memory for them.
     pub fn new(alloc: Global, network: &'a Network) -> Result<Self, AllocError>
-        requires one_listener { HasOneListener network.now }
         ensures { IfOk result (λ schedulers. schedulers ≡ network.now) }
     {
         let residence_list = residences_of(alloc, network)?;
@@ -63,7 +62,7 @@ impl<'a> Schedulers<'a> {
         self.residence_list.as_slice()
     }
 
-    /// The members of all groups: for each stream, and for each port of its path but the last, the
+    /// The members of all groups: for each stream, leg after leg, and for each port of a leg but its last, the
     /// scheduler behind this port, with what the stream declares.
     pub fn members(&self) -> &[Member]
         ensures value { result.now ≡ members_of self.now }
@@ -73,15 +72,16 @@ impl<'a> Schedulers<'a> {
     }
 
     /// The place, among the members, of the scheduler that a stream's frame meets before it comes to
-    /// a hop of its path, counted from 0: any hop but the first. It takes no memory.
-    pub fn scheduler(&self, stream: u32, hop: u32) -> u32
-        requires { IsHop self.now stream hop }
-        ensures place { result ≡ scheduler_of self.now stream hop }
+    /// a hop of a leg, both counted from 0: any hop but the first. It takes no memory.
+    pub fn scheduler(&self, stream: u32, leg: u32, hop: u32) -> u32
+        requires { IsHop self.now stream leg hop }
+        ensures place { result ≡ scheduler_of self.now stream leg hop }
         ensures within { result < length (members_of self.now) }
-        ensures member { member_at (members_of self.now) result
-            ≡ member_behind (sender_at self.now stream) (slice_index_or (sender_at self.now stream).ports (hop - 1) 0) }
+        ensures member { member_at (members_of self.now) result ≡ member_behind (sender_at self.now stream)
+            (slice_index_or (leg_ports self.now stream leg) (hop - 1) 0) }
     {
         let firsts = self.firsts.as_slice();
-        firsts[stream as usize] + (hop - 1)
+        let ports_before = first_place(&self.network.streams()[stream as usize], leg);
+        firsts[stream as usize] + (ports_before - leg) + (hop - 1) // each leg before has one scheduler less than ports
     }
 }
