@@ -11,24 +11,24 @@ use Rattle.ats_engine_steps.specs.declared.stage.Stage.TheVariants.{Coming, Due,
 use Rattle.ats_engine_steps.specs.declared.turn.Turn.{Turn}
 use Rattle.ats_engine_steps.specs.declared.turn.Turn.TheVariants.{Selecting}
 
--- the moments of a frame or a port with this number
+-- the moments of a leg or a port with this number
 abbrev pub end_moment : ℕ → Ps → Moment
-end_moment frame at = record { at = at; phase = TRANSMISSION_END; id = frame }
+end_moment row at = record { at = at; phase = TRANSMISSION_END; id = row }
 
 abbrev pub arrival_moment : ℕ → Ps → Moment
-arrival_moment frame at = record { at = at; phase = ARRIVAL; id = frame }
+arrival_moment row at = record { at = at; phase = ARRIVAL; id = row }
 
 abbrev pub eligible_moment : ℕ → Ps → Moment
-eligible_moment frame at = record { at = at; phase = ELIGIBLE; id = frame }
+eligible_moment row at = record { at = at; phase = ELIGIBLE; id = row }
 
 abbrev pub selection_moment : ℕ → Ps → Moment
 selection_moment port at = record { at = at; phase = SELECTION; id = port }
 
 -- the moment of an event at a time
 abbrev pub moment_at : Event → Ps → Moment
-moment_at (End frame) at = end_moment frame at
-moment_at (Arrival frame) at = arrival_moment frame at
-moment_at (Eligibility frame) at = eligible_moment frame at
+moment_at (End row) at = end_moment row at
+moment_at (Arrival row) at = arrival_moment row at
+moment_at (Eligibility row) at = eligible_moment row at
 moment_at (Selection port) at = selection_moment port at
 
 -- the event that happens at a moment: its phase and its number tell it
@@ -38,18 +38,19 @@ event_of moment =
     else (if moment.phase == ARRIVAL then Arrival moment.id
     else (if moment.phase == ELIGIBLE then Eligibility moment.id else Selection moment.id))
 
--- when a frame at this stage arrives, becomes eligible, or has been sent; no more than one of them is still to happen
+-- when a frame at this stage of a leg arrives, becomes eligible, or has been sent; no more than one of them is still to
+-- happen
 abbrev pub arrival_by : ℕ → Stage → Option Moment
-arrival_by frame (Coming at) = Some (arrival_moment frame at)
-arrival_by frame stage = None
+arrival_by row (Coming at) = Some (arrival_moment row at)
+arrival_by row stage = None
 
 abbrev pub eligibility_by : ℕ → Stage → Option Moment
-eligibility_by frame (Due at) = Some (eligible_moment frame at)
-eligibility_by frame stage = None
+eligibility_by row (Due at) = Some (eligible_moment row at)
+eligibility_by row stage = None
 
 abbrev pub end_by : ℕ → Stage → Option Moment
-end_by frame (Sending until) = Some (end_moment frame until)
-end_by frame stage = None
+end_by row (Sending until) = Some (end_moment row until)
+end_by row stage = None
 
 -- when a port selects
 abbrev pub selection_by : ℕ → Turn → Option Moment
@@ -58,9 +59,9 @@ selection_by port turn = None
 
 -- when an event is to happen, if it is
 abbrev pub moment_of : {T : Type 0} → Course T → Event → Option Moment
-moment_of course (End frame) = end_by frame (stage_at course frame)
-moment_of course (Arrival frame) = arrival_by frame (stage_at course frame)
-moment_of course (Eligibility frame) = eligibility_by frame (stage_at course frame)
+moment_of course (End row) = end_by row (stage_at course row)
+moment_of course (Arrival row) = arrival_by row (stage_at course row)
+moment_of course (Eligibility row) = eligibility_by row (stage_at course row)
 moment_of course (Selection port) = selection_by port (turn_at course port)
 
 -- a moment is not before another one by its time and its phase

@@ -1,16 +1,19 @@
-use Rattle.std.specs.Prelude.{◌≡◌, ℕ, ◌<◌, List, [], ◌∷◌, length, Some, None}
+use Rattle.std.specs.Prelude.{◌≡◌, ℕ, zero, suc, ◌<◌, ◌≤◌, List, [], ◌∷◌, length, Option, Some, None}
+use Rattle.std.specs.Prelude.{slice_get, slice_index_or}
 use Rattle.ats_num.specs.declared.time.Ps.{Ps}
+use Rattle.ats_streams.specs.Branches.{no_branch}
 use Rattle.ats_network.specs.Network.{DeclaredNetwork, senders_of}
 use Rattle.ats_num.specs.Wire.{IsFrameSize}
 use Rattle.ats_group.specs.declared.verdict.Verdict.TheVariants.{Eligible}
-use Rattle.ats_trace.specs.Journey.{IsWay, IsReleased}
-use Rattle.ats_trace.specs.declared.journey.Ending.{Ending}
+use Rattle.ats_trace.specs.Journey.{BeginsAs, IsWay, IsReleased}
+use Rattle.ats_trace.specs.Stored.{row_of}
+use Rattle.ats_trace.specs.declared.journey.Ending.TheVariants.{Discard}
 use Rattle.ats_trace.specs.declared.journey.HopRecord.{HopRecord}
 use Rattle.ats_trace.specs.declared.journey.Release.{Release}
-use Rattle.ats_run_records.specs.Progress.{Progress}
-use Rattle.ats_engine_steps.specs.Course.{path_of}
+use Rattle.ats_run_records.specs.Progress.{Progress, progress_at}
+use Rattle.ats_engine_steps.specs.Course.{Course, path_of, sender_of}
 use Rattle.ats_engine_steps.specs.declared.stage.Stage.{Stage}
-use Rattle.ats_engine_steps.specs.declared.stage.Stage.TheVariants.{Coming, Due, Waiting, Sending, Over}
+use Rattle.ats_engine_steps.specs.declared.stage.Stage.TheVariants.{Apart, Coming, Due, Waiting, Sending, Over}
 
 -- a hop record of a frame that is eligible at this time and was not sent yet
 pub record IsDueAt (e : Ps) (hop : HopRecord) : Type 0 where
@@ -37,7 +40,7 @@ pub record IsSent (hop : HopRecord) : Type 0 where
   pub verdict : hop.verdict ≡ Eligible eligible
   pub sent : hop.sent ≡ Some times
 
--- the frame was sent by each port that it came to, and more ports of its path follow
+-- the frame was sent by each port that it came to, and more ports of the leg follow
 abbrev pub Goes : List ℕ → List HopRecord → Type 0
 Goes [] hops = ⊥
 Goes (p ∷ path) [] = Unit {0}
@@ -50,38 +53,60 @@ Stands Last (p ∷ path) [] = ⊥
 Stands Last (p ∷ path) (hop ∷ []) = Last hop
 Stands Last (p ∷ path) (hop ∷ next ∷ hops) = IsSent hop × Stands Last path (next ∷ hops)
 
--- the frame comes to its first port when it is released
-abbrev pub ComesAtRelease : Release → List HopRecord → Ps → Type 0
-ComesAtRelease release [] at = at ≡ release.at
-ComesAtRelease release (hop ∷ hops) at = IsReleased release (hop ∷ hops)
+-- a leg begins as it has to: the trunk when the frame is released; a branch, where the frame came to the hop at which
+-- it begins, as the record there
+abbrev pub HasBegun : ℕ → Release → Option HopRecord → List HopRecord → Type 0
+HasBegun zero release start hops = IsReleased release hops
+HasBegun (suc copy) release (Some start) hops = BeginsAs start hops
+HasBegun (suc copy) release None hops = ⊥
 
--- the journey is not over, and stands so
+-- or the frame comes to the first port of its trunk when it is released
+abbrev pub BeginsBy : ℕ → Release → Option HopRecord → List HopRecord → Ps → Type 0
+BeginsBy zero release start [] at = at ≡ release.at
+BeginsBy leg release start hops at = HasBegun leg release start hops
+
+-- the way along the leg is not over, and stands so
 pub record IsOpen (IsHere : Type 0) (progress : Progress) : Type 0 where
   pub here : IsHere
-  pub unended : progress.ending ≡ None
+  pub unended : progress.ending ≡ Discard
 
--- the journey has ended: it is whole
-pub record IsWhole (path : List ℕ) (progress : Progress) : Type 0 where
-  pub end : Ending
-  pub ended : progress.ending ≡ Some end
-  pub way : IsWay path progress.hops end
-  pub released : IsReleased progress.release progress.hops
+-- the way along the leg has ended: it is whole
+pub record IsWhole (path : List ℕ) (start : Option HopRecord) (progress : Progress) : Type 0 where
+  pub way : IsWay path progress.hops progress.ending
+  pub begun : HasBegun progress.leg progress.release start progress.hops
 
--- a frame is as far as its stage says
-abbrev pub IsAtStage : List ℕ → Progress → Stage → Type 0
-IsAtStage path progress (Coming at) =
-    IsOpen (Goes path progress.hops × ComesAtRelease progress.release progress.hops at) progress
-IsAtStage path progress (Due at) =
-    IsOpen (Stands (IsDueAt at) path progress.hops × IsReleased progress.release progress.hops) progress
-IsAtStage path progress Waiting =
-    IsOpen (Stands IsUnsent path progress.hops × IsReleased progress.release progress.hops) progress
-IsAtStage path progress (Sending until) =
-    IsOpen (Stands (IsSentUntil until) path progress.hops × IsReleased progress.release progress.hops) progress
-IsAtStage path progress Over = IsWhole path progress
+-- the frame stands at a port of the leg, where its record says this
+abbrev pub StandsBy : (HopRecord → Type 0) → List ℕ → Option HopRecord → Progress → Type 0
+StandsBy Last path start progress = IsOpen
+    (Stands Last path progress.hops × HasBegun progress.leg progress.release start progress.hops) progress
 
--- what is kept of each frame
-pub record IsFrame (network : DeclaredNetwork) (progress : Progress) (stage : Stage) : Type 0 where
+-- a frame is as far along a leg as its stage says, where this is the record at the hop at which the leg begins
+abbrev pub IsAtStage : List ℕ → Option HopRecord → Progress → Stage → Type 0
+IsAtStage path start progress Apart =
+    IsOpen ((progress.hops ≡ []) × (start ≡ None) × (1 ≤ progress.leg)) progress
+IsAtStage path start progress (Coming at) =
+    IsOpen (Goes path progress.hops × BeginsBy progress.leg progress.release start progress.hops at) progress
+IsAtStage path start progress (Due at) = StandsBy (IsDueAt at) path start progress
+IsAtStage path start progress Waiting = StandsBy IsUnsent path start progress
+IsAtStage path start progress (Sending until) = StandsBy (IsSentUntil until) path start progress
+IsAtStage path start progress Over = IsWhole path start progress
+
+-- the record that a frame has at the hop where one of its legs begins, if it came there; nothing leads to the trunk
+abbrev pub start_by : DeclaredNetwork → List ℕ → List Progress → ℕ → Progress → Option HopRecord
+start_by network firsts records zero progress = None
+start_by network firsts records (suc copy) progress =
+    slice_get (progress_at records (row_of firsts progress.frame
+    (slice_index_or (sender_of network progress).branches copy no_branch).leg)).hops
+    (slice_index_or (sender_of network progress).branches copy no_branch).hop
+
+abbrev pub start_of : {T : Type 0} → DeclaredNetwork → Course T → Progress → Option HopRecord
+start_of network course progress = start_by network course.firsts course.records progress.leg progress
+
+-- what is kept of each leg of a frame
+pub record IsFrame {T : Type 0} (network : DeclaredNetwork) (course : Course T) (progress : Progress) (stage : Stage)
+    : Type 0 where
   pub sender : progress.release.sender < length (senders_of network)
   pub octets : IsFrameSize progress.release.octets
+  pub leg : progress.leg ≤ length (sender_of network progress).branches
   pub room : progress.room ≡ length (path_of network progress)
-  pub stands : IsAtStage (path_of network progress) progress stage
+  pub stands : IsAtStage (path_of network progress) (start_of network course progress) progress stage

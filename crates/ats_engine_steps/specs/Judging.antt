@@ -6,10 +6,11 @@ use Rattle.ats_network.specs.Senders.{sender_at}
 use Rattle.ats_network.specs.Class.{class_at}
 use Rattle.ats_group.specs.Group.{State, first, verdicts_of, state_after}
 use Rattle.ats_group.specs.GroupsState.{GroupsState, AreGroups, time_at, empty_at}
-use Rattle.ats_schedulers.specs.Schedulers.{group_behind, residences_of, members_of, scheduler_of, IsHop}
-use Rattle.ats_trace.specs.Projections.{Handed, handed_by}
+use Rattle.ats_schedulers.specs.Schedulers.{group_behind, residences_of, members_of, leg_ports, scheduler_of}
+use Rattle.ats_schedulers.specs.Schedulers.{IsHop}
+use Rattle.ats_trace.specs.Projections.{Handed}
 use Rattle.ats_trace.specs.Eligibility.{IsPassed, declared_by, offer_of, residence_of_groups}
-use Rattle.ats_engine_steps.specs.Course.{Course, travels}
+use Rattle.ats_engine_steps.specs.Course.{Course, handed_so_far}
 
 -- the groups are those of the network
 pub record AreGroupsOf (network : DeclaredNetwork) (groups : GroupsState) : Type 0 where
@@ -21,14 +22,14 @@ pub record AreGroupsOf (network : DeclaredNetwork) (groups : GroupsState) : Type
 pub record IsStateOf (network : DeclaredNetwork) (groups : GroupsState) (port class : ℕ) (state : State)
     : Type 0 where
   pub time : time_at groups.times (group_behind port class) ≡ state.time
-  pub empties : (stream hop : ℕ) → IsHop network stream hop
-      → slice_index (sender_at network stream).ports (hop - 1) ≡ port → class_at (sender_at network stream) port ≡ class
-      → empty_at groups.empties (scheduler_of network stream hop) ≡ state.empty stream
+  pub empties : (stream leg hop : ℕ) → IsHop network stream leg hop
+      → slice_index (leg_ports network stream leg) (hop - 1) ≡ port → class_at (sender_at network stream) port ≡ class
+      → empty_at groups.empties (scheduler_of network stream leg hop) ≡ state.empty stream
 
 -- the frames that came behind a port in a class were judged by the group there, and it keeps what they left
 pub record IsGroupOf {T : Type 0} (network : DeclaredNetwork) (course : Course T) (port class : ℕ) : Type 0 where
   pub arrivals : List Handed
-  pub same : IsPermutation (handed_by network (travels course) port class) arrivals
+  pub same : IsPermutation (handed_so_far network course port class) arrivals
   pub in_order : IsNonDecreasing (map (λ (h : Handed). h.crossing.arrival) arrivals)
   pub verdicts : map (λ (h : Handed). h.verdict) arrivals
       ≡ verdicts_of (declared_by network) (residence_of_groups network port) (first (declared_by network))
@@ -40,4 +41,4 @@ pub record IsGroupOf {T : Type 0} (network : DeclaredNetwork) (course : Course T
 
 -- and flows' frames by their size alone
 abbrev pub ArePassed : {T : Type 0} → DeclaredNetwork → Course T → ℕ → Type 0
-ArePassed network course port = All (IsPassed network) (handed_by network (travels course) port 0)
+ArePassed network course port = All (IsPassed network) (handed_so_far network course port 0)

@@ -4,8 +4,8 @@ use Rattle.ats_topology.specs.Port.{port_at, spread_of}
 use Rattle.ats_topology.specs.declared.port.Port.{Port}
 use Rattle.ats_network.specs.Network.{DeclaredNetwork}
 use Rattle.ats_trace.specs.Links.{KeepsLinkRule, KeepsPace, in_order_from}
-use Rattle.ats_trace.specs.Projections.{Crossing, crossings_by}
-use Rattle.ats_engine_steps.specs.Course.{Course, travels, arrives_from_at}
+use Rattle.ats_trace.specs.Projections.{Crossing}
+use Rattle.ats_engine_steps.specs.Course.{Course, crossings_so_far, arrives_from_at}
 
 -- when a frame arrives behind a port that has sent it until this time, where the next frame may arrive from `from` on
 abbrev pub arrival_behind : (ℕ → ℕ → ℕ) → Port → ℕ → ℕ → ℕ → ℕ
@@ -14,7 +14,7 @@ arrival_behind wait port frame end from = max (end + port.earliest.0 + wait fram
 -- behind a port frames arrive by the pace, and what is kept of its last arrival is so
 pub record IsPaced {T : Type 0} (wait : ℕ → ℕ → ℕ) (network : DeclaredNetwork) (course : Course T) (port : ℕ)
     : Type 0 where
-  pub rule : KeepsLinkRule (port_at network.topology.ports port) (crossings_by network (travels course) port)
-  pub pace : KeepsPace wait (port_at network.topology.ports port) (crossings_by network (travels course) port)
-  pub next : arrives_from_at course port ≡ in_order_from END (crossings_by network (travels course) port)
-  pub ended : All (λ (x : Crossing). x.sent.end ≤ course.last.at.0) (crossings_by network (travels course) port)
+  pub rule : KeepsLinkRule (port_at network.topology.ports port) (crossings_so_far network course port)
+  pub pace : KeepsPace wait (port_at network.topology.ports port) (crossings_so_far network course port)
+  pub next : arrives_from_at course port ≡ in_order_from END (crossings_so_far network course port)
+  pub ended : All (λ (x : Crossing). x.sent.end ≤ course.last.at.0) (crossings_so_far network course port)

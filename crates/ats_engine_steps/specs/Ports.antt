@@ -1,5 +1,5 @@
 use Rattle.std.specs.Prelude.{◌≡◌, ◌≢◌, ℕ, ◌<◌, ◌≤◌, ◌==◌, ◌&&◌, Bool, true, false, List, [], length, map}
-use Rattle.std.specs.Prelude.{◌++◌, slice_index, slice_index_or, count_by, All, AllPairs, Contains, IsPermutation}
+use Rattle.std.specs.Prelude.{◌++◌, take, slice_index, slice_index_or, count_by, All, AllPairs, Contains, IsPermutation}
 use Rattle.std.specs.List.{list_any}
 use Rattle.ats_num.specs.declared.time.Ps.{Ps}
 use Rattle.ats_topology.specs.Port.{port_at}
@@ -11,9 +11,8 @@ use Rattle.ats_transmit.specs.Picks.{IsFirstStart}
 use Rattle.ats_transmit.specs.declared.offer.Offer.{Offer}
 use Rattle.ats_transmit.specs.declared.sent.Sent.{Sent}
 use Rattle.ats_events.specs.declared.phase.TheConstants.{SELECTION}
-use Rattle.ats_trace.specs.Projections.{sent_by}
-use Rattle.ats_run_records.specs.Progress.{Progress}
-use Rattle.ats_engine_steps.specs.Course.{Course, travels, stage_at, turn_at, place_at, offer_at, sender_of, path_of}
+use Rattle.ats_run_records.specs.Progress.{Progress, progress_at}
+use Rattle.ats_engine_steps.specs.Course.{Course, sent_so_far, stage_at, turn_at, place_at, offer_at, sender_of}
 use Rattle.ats_engine_steps.specs.declared.stage.Stage.TheVariants.{Waiting, Sending}
 use Rattle.ats_engine_steps.specs.declared.turn.Turn.{Turn}
 use Rattle.ats_engine_steps.specs.declared.turn.Turn.TheVariants.{Resting, Selecting, Occupied}
@@ -22,14 +21,15 @@ use Rattle.ats_engine_steps.specs.declared.turn.Turn.TheVariants.{Resting, Selec
 abbrev pub port_state_at : {T : Type 0} → Course T → ℕ → PortState T
 port_state_at course port = slice_index_or course.ports port (opened 0 [] course.tie)
 
--- the port is on the path of a frame, which has this class there
+-- the port is one of those of a frame's sender, which has this class there
 abbrev pub passes : DeclaredNetwork → ℕ → ℕ → Progress → Bool
 passes network port class progress =
-    list_any (λ p. p == port) (path_of network progress) && class_at (sender_of network progress) port == class
+    list_any (λ p. p == port) (sender_of network progress).ports && class_at (sender_of network progress) port == class
 
--- how many frames of a class a port may be offered: all of those whose path has it
-abbrev pub room_of : DeclaredNetwork → List Progress → ℕ → ℕ → ℕ
-room_of network records port class = count_by (passes network port class) records
+-- how many frames of a class a port may be offered: all of those that pass it
+abbrev pub room_of : {T : Type 0} → DeclaredNetwork → Course T → ℕ → ℕ → ℕ
+room_of network course port class =
+    count_by (passes network port class) (take (length course.firsts) course.records)
 
 -- a port does next what its turn says
 abbrev pub IsTurn : {T : Type 0} → PortState T → Turn → Type 0
@@ -37,20 +37,23 @@ IsTurn standing Resting = (standing.is_sending ≡ false) × (standing.held ≡ 
 IsTurn standing (Selecting at) = (standing.is_sending ≡ false) × IsFirstStart standing.held standing.sent at.0
 IsTurn standing Occupied = standing.is_sending ≡ true
 
--- a frame waits at a port, to which it was offered so
+-- a frame waits at a port of one of its legs, to which it was offered so
 pub record IsHeld {T : Type 0} (network : DeclaredNetwork) (course : Course T) (port : ℕ) (offer : Offer)
     : Type 0 where
-  pub within : offer.frame < length course.records
-  pub stage : stage_at course offer.frame ≡ Waiting
-  pub place : place_at network course offer.frame ≡ port
-  pub same : offer_at network course offer.frame ≡ offer
+  pub row : ℕ
+  pub within : row < length course.records
+  pub stage : stage_at course row ≡ Waiting
+  pub place : place_at network course row ≡ port
+  pub same : offer_at network course row ≡ offer
 
 -- the frame is the one that a port sends
 pub record IsUnderWay {T : Type 0} (network : DeclaredNetwork) (course : Course T) (port : ℕ) (sent : Sent)
     : Type 0 where
-  pub within : sent.frame < length course.records
-  pub stage : stage_at course sent.frame ≡ Sending sent.end
-  pub place : place_at network course sent.frame ≡ port
+  pub row : ℕ
+  pub within : row < length course.records
+  pub named : (progress_at course.records row).frame ≡ sent.frame
+  pub stage : stage_at course row ≡ Sending sent.end
+  pub place : place_at network course row ≡ port
 
 -- a port sends this frame
 pub record Sends {T : Type 0} (standing : PortState T) (frame until : ℕ) : Type 0 where
@@ -68,28 +71,28 @@ pub record IsOfNetwork {T : Type 0} (network : DeclaredNetwork) (course : Course
     : Type 0 where
   pub ps_per_bit : standing.ps_per_bit ≡ (port_at network.topology.ports port).ps_per_bit
   pub tie : standing.tie ≡ course.tie
-  pub rooms : (class : ℕ) → class ≤ 7 → slice_index standing.rooms class ≡ room_of network course.records port class
+  pub rooms : (class : ℕ) → class ≤ 7 → slice_index standing.rooms class ≡ room_of network course port class
 
 -- it is lawful, and its transmissions are those of the run so far
 pub record HasSentSoFar {T : Type 0} (key : T → ℕ → ℕ → ℕ) (network : DeclaredNetwork) (course : Course T) (port : ℕ)
     (standing : PortState T) : Type 0 where
   pub lawful : IsLawfulPort key standing
-  pub sent : IsPermutation (transmissions standing.sent) (sent_by network (travels course) port)
+  pub sent : IsPermutation (transmissions standing.sent) (sent_so_far network course port)
 
 -- a port holds the frames that wait there, each once
 pub record HoldsWaiting {T : Type 0} (network : DeclaredNetwork) (course : Course T) (port : ℕ) (standing : PortState T)
     : Type 0 where
   pub held : All (IsHeld network course port) standing.held
-  pub waiting : (frame : ℕ) → frame < length course.records → stage_at course frame ≡ Waiting
-      → place_at network course frame ≡ port → Contains standing.held (offer_at network course frame)
+  pub waiting : (row : ℕ) → row < length course.records → stage_at course row ≡ Waiting
+      → place_at network course row ≡ port → Contains standing.held (offer_at network course row)
   pub apart : AllPairs (λ (x y : ℕ). x ≢ y) (frames_at standing)
 
 -- a port sends the frame that is being sent there
 pub record SendsThere {T : Type 0} (network : DeclaredNetwork) (course : Course T) (port : ℕ) (standing : PortState T)
     : Type 0 where
   pub under_way : standing.is_sending ≡ true → IsUnderWay network course port (last_of standing.sent)
-  pub sending : (frame : ℕ) (until : Ps) → frame < length course.records → stage_at course frame ≡ Sending until
-      → place_at network course frame ≡ port → Sends standing frame until.0
+  pub sending : (row : ℕ) (until : Ps) → row < length course.records → stage_at course row ≡ Sending until
+      → place_at network course row ≡ port → Sends standing (progress_at course.records row).frame until.0
 
 -- a port's last start is no later than the last event, and where it is at that time, that was a selection or later; a
 -- finished transmission has ended by then, and each frame that it holds was eligible

@@ -5,7 +5,8 @@ use Rattle.ats_engine_steps.specs.declared.state.State.{State}
 abbrev pub course_of : {T : Type 0} → State T → Course T
 course_of state = record {
   stages = state.stages.items;
-  records = state.records;
+  records = state.records.legs;
+  firsts = state.records.firsts;
   ports = state.ports.items;
   turns = state.turns.items;
   arrives_from = state.arrives_from.items;

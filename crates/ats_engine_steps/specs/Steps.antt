@@ -1,7 +1,11 @@
-use Rattle.std.specs.Prelude.{◌≡◌, ℕ, ◌+◌, ◌-◌, ◌==◌, List, [], ◌∷◌, ◌++◌, length, slice_index, slice_set}
-use Rattle.std.specs.Prelude.{false, None, IsPermutation, if◌then◌else◌}
+use Rattle.std.specs.Prelude.{◌≡◌, ℕ, ◌+◌, ◌-◌, ◌≤◌, ◌==◌, ◌&&◌, Bool, List, [], ◌∷◌, ◌++◌, length, map, filter}
+use Rattle.std.specs.Prelude.{slice_index, slice_index_or, slice_set, false, Option, Some, None, Contains}
+use Rattle.std.specs.Prelude.{if◌then◌else◌, IsPermutation}
+use Rattle.std.specs.List.{range_with_len}
 use Rattle.ats_num.specs.declared.time.Ps.{Ps}
 use Rattle.ats_topology.specs.Port.{port_at}
+use Rattle.ats_streams.specs.Branches.{leg_at, no_branch}
+use Rattle.ats_streams.specs.declared.branch.Branch.{Branch}
 use Rattle.ats_network.specs.Network.{DeclaredNetwork}
 use Rattle.ats_network.specs.Class.{class_at}
 use Rattle.ats_events.specs.declared.moment.Moment.{Moment}
@@ -13,7 +17,9 @@ use Rattle.ats_schedulers.specs.Schedulers.{scheduler_of}
 use Rattle.ats_transmit.specs.Picks.{Starts}
 use Rattle.ats_transmit.specs.State.{PortState, IsLawfulPort}
 use Rattle.ats_trace.specs.Eligibility.{declared_by}
-use Rattle.ats_trace.specs.declared.journey.Ending.TheVariants.{Sink, Discard}
+use Rattle.ats_trace.specs.Journey.{legs_at}
+use Rattle.ats_trace.specs.Stored.{row_of}
+use Rattle.ats_trace.specs.declared.journey.Ending.TheVariants.{Sink}
 use Rattle.ats_trace.specs.declared.journey.HopRecord.{HopRecord}
 use Rattle.ats_run_records.specs.Progress.{Progress, progress_at, with_hop, with_sent, with_ending}
 use Rattle.ats_engine_steps.specs.Course.{Course, place_at, offer_at, turn_at, arrives_from_at, sender_of, path_of}
@@ -27,17 +33,17 @@ use Rattle.ats_engine_steps.specs.declared.stage.Stage.TheVariants.{Coming, Due,
 use Rattle.ats_engine_steps.specs.declared.turn.Turn.{Turn}
 use Rattle.ats_engine_steps.specs.declared.turn.Turn.TheVariants.{Resting, Selecting, Occupied}
 
--- what a step does to one frame: how far it is then, what has happened to it, and what is to happen
+-- what a step does to one leg: how far the frame is along it then, what has happened there, and what is to happen
 pub record Move : Type 0 where
   pub stage : Stage
   pub progress : Progress
   pub entries : List (Moment × Event)
 
--- the frame takes the move, at this moment
+-- the leg with a row takes the move, at this moment
 abbrev pub moved : {T : Type 0} → Course T → Moment → ℕ → Move → Course T
-moved course now frame move = record course {
-  stages = slice_set course.stages frame move.stage;
-  records = slice_set course.records frame move.progress;
+moved course now row move = record course {
+  stages = slice_set course.stages row move.stage;
+  records = slice_set course.records row move.progress;
   last = now;
 }
 
@@ -53,6 +59,11 @@ abbrev pub selections : ℕ → Turn → List (Moment × Event)
 selections port (Selecting at) = (selection_moment port at, Selection port) ∷ []
 selections port turn = []
 
+-- the scheduler that a frame meets when it comes to the next port of a leg: the one behind the port before
+abbrev pub scheduler_before : DeclaredNetwork → Progress → ℕ
+scheduler_before network progress =
+    scheduler_of network progress.release.sender progress.leg (length progress.hops)
+
 -- the verdict on a frame that comes to a node now: at its own station it is eligible; at a bridge a stream's frame is
 -- judged by the group behind the port that it left, and a flow's frame by its size
 abbrev pub judged_by : DeclaredNetwork → GroupsState → ℕ → Progress → ℕ → Verdict
@@ -60,10 +71,9 @@ judged_by network groups class progress now =
     if class == 0
     then (if is_declared_size (declared_by network progress.release.sender) progress.release.octets
     then Eligible (record { 0 = now }) else Size)
-    else verdict_of groups (scheduler_of network progress.release.sender (length progress.hops)) now
-    progress.release.octets
+    else verdict_of groups (scheduler_before network progress) now progress.release.octets
 
--- the class in which a frame came, behind the port of its last record
+-- the class in which a frame came along a leg, behind the port of its last record there
 abbrev pub class_behind : DeclaredNetwork → Progress → ℕ
 class_behind network progress =
     class_at (sender_of network progress) (slice_index (path_of network progress) (length progress.hops - 1))
@@ -78,36 +88,80 @@ abbrev pub groups_now : DeclaredNetwork → GroupsState → Progress → ℕ →
 groups_now network groups progress now =
     if length progress.hops == 0 then groups
     else (if class_behind network progress == 0 then groups
-    else value_after groups (scheduler_of network progress.release.sender (length progress.hops)) now
-    progress.release.octets)
+    else value_after groups (scheduler_before network progress) now progress.release.octets)
 
 -- the hop record of a frame that came at this time
 abbrev pub came : Ps → Verdict → HopRecord
 came at verdict = record { arrival = at; verdict = verdict; sent = None }
 
--- a frame with this verdict becomes eligible, or is discarded
-abbrev pub comes_by : ℕ → Progress → Ps → Verdict → Move
-comes_by frame progress at (Eligible e) = record {
-  stage = Due e;
-  progress = with_hop progress (came at (Eligible e));
-  entries = (eligible_moment frame e, Eligibility frame) ∷ [];
-}
-comes_by frame progress at verdict = record {
-  stage = Over;
-  progress = with_ending (with_hop progress (came at verdict)) Discard;
-  entries = [];
+-- a branch begins at a hop of a leg
+abbrev pub begins_at : ℕ → ℕ → Branch → Bool
+begins_at leg hop b = b.leg == leg && b.hop == hop
+
+-- the copy with a leg's number of the frame of a leg begins at a hop of it
+abbrev pub begins_in : DeclaredNetwork → Progress → ℕ → ℕ → Bool
+begins_in network progress hop copy =
+    begins_at progress.leg hop (slice_index_or (sender_of network progress).branches (copy - 1) no_branch)
+
+-- then this is its row, where the copies of each frame begin at these rows
+abbrev pub row_begun : DeclaredNetwork → List ℕ → Progress → ℕ → ℕ → Option ℕ
+row_begun network firsts progress hop copy =
+    if begins_in network progress hop copy then Some (row_of firsts progress.frame copy) else None
+
+-- the rows of the legs to which a frame comes at a hop of a leg, where the copies of each frame begin at these rows:
+-- that of the leg, and those of the legs that begin there
+abbrev pub rows_at : DeclaredNetwork → List ℕ → ℕ → Progress → ℕ → List ℕ
+rows_at network firsts row progress hop =
+    row ∷ map (row_of firsts progress.frame) (filter (begins_in network progress hop)
+    (range_with_len 1 (length (sender_of network progress).branches)))
+
+-- those to which it comes next
+abbrev pub rows_next : {T : Type 0} → DeclaredNetwork → Course T → ℕ → List ℕ
+rows_next network course row = rows_at network course.firsts row (progress_at course.records row)
+    (length (progress_at course.records row).hops)
+
+-- of a list, the elements at these places are new ones
+abbrev pub set_each : {X : Type 0} → List ℕ → (ℕ → X) → List X → List X
+set_each [] new xs = xs
+set_each (n ∷ places) new xs = set_each places new (slice_set xs n (new n))
+
+-- how far a frame with this verdict is
+abbrev pub stage_by : Verdict → Stage
+stage_by (Eligible e) = Due e
+stage_by verdict = Over
+
+-- when it is eligible, if it is
+abbrev pub due_by : Verdict → Option Ps
+due_by (Eligible e) = Some e
+due_by verdict = None
+
+-- it becomes eligible at the same time along each of these legs
+abbrev pub due_entries : Option Ps → List ℕ → List (Moment × Event)
+due_entries (Some e) rows = map (λ (row : ℕ). (eligible_moment row e, Eligibility row)) rows
+due_entries None rows = []
+
+-- it gets a hop record along a leg
+abbrev pub entered : {T : Type 0} → Course T → ℕ → Ps → Verdict → Course T
+entered course row at verdict = record course {
+  stages = slice_set course.stages row (stage_by verdict);
+  records = slice_set course.records row (with_hop (progress_at course.records row) (came at verdict));
 }
 
--- an arrival: the frame gets a hop record with its verdict
-pub record Comes {T : Type 0} (network : DeclaredNetwork) (old new : Course T) (now : Moment) (frame : ℕ)
-    (entries : List (Moment × Event)) : Type 0 where
-  pub move : Move
-  pub is : move ≡ comes_by frame (progress_at old.records frame) now.at
-      (verdict_now network old.groups (progress_at old.records frame) now.at.0)
-  pub becomes : new ≡ record (moved old now frame move) {
-    groups = groups_now network old.groups (progress_at old.records frame) now.at.0;
+-- an arrival: one group judges the frame, once, and each leg to which it comes gets a hop record with its arrival and
+-- its verdict; where it is eligible, it is so along each of them at this time
+pub record Comes {T : Type 0} (network : DeclaredNetwork) (old new : Course T) (now : Moment) (row : ℕ)
+    (due : Option Ps) : Type 0 where
+  pub verdict : Verdict
+  pub rows : List ℕ
+  pub judged : verdict ≡ verdict_now network old.groups (progress_at old.records row) now.at.0
+  pub next : rows ≡ rows_next network old row
+  pub becomes : new ≡ record old {
+    stages = set_each rows (λ (n : ℕ). stage_by verdict) old.stages;
+    records = set_each rows (λ (n : ℕ). with_hop (progress_at old.records n) (came now.at verdict)) old.records;
+    groups = groups_now network old.groups (progress_at old.records row) now.at.0;
+    last = now;
   }
-  pub brings : entries ≡ move.entries
+  pub brings : due ≡ due_by verdict
 
 -- the turn of a port that was offered a frame
 abbrev pub turn_once_offered : Turn → Ps → Turn
@@ -119,64 +173,73 @@ abbrev pub selections_once_offered : ℕ → Turn → Ps → List (Moment × Eve
 selections_once_offered port Resting at = (selection_moment port at, Selection port) ∷ []
 selections_once_offered port turn at = []
 
--- a frame becomes eligible: its port holds it from now on
+-- a frame becomes eligible along a leg: its port holds it from now on
 pub record BecomesEligible {T : Type 0} (key : T → ℕ → ℕ → ℕ) (network : DeclaredNetwork)
-    (old new : Course T) (now : Moment) (frame : ℕ) (entries : List (Moment × Event)) : Type 0 where
+    (old new : Course T) (now : Moment) (row : ℕ) (entries : List (Moment × Event)) : Type 0 where
   pub port : ℕ
   pub standing : PortState T
-  pub place : place_at network old frame ≡ port
-  pub held : IsPermutation (offer_at network old frame ∷ (port_state_at old port).held) standing.held
+  pub place : place_at network old row ≡ port
+  pub held : IsPermutation (offer_at network old row ∷ (port_state_at old port).held) standing.held
   pub rest : standing ≡ record (port_state_at old port) { held = standing.held }
   pub lawful : IsLawfulPort key standing
-  pub becomes : new ≡ with_port (moved old now frame (record {
+  pub becomes : new ≡ with_port (moved old now row (record {
     stage = Waiting;
-    progress = progress_at old.records frame;
+    progress = progress_at old.records row;
     entries = [];
   })) port standing (turn_once_offered (turn_at old port) now.at)
   pub brings : entries ≡ selections_once_offered port (turn_at old port) now.at
 
+-- a port and a frame that passes it name a leg: that of the frame which has the port, with this row
+pub record IsLegAt {T : Type 0} (network : DeclaredNetwork) (course : Course T) (frame port row : ℕ) : Type 0 where
+  pub leg : ℕ
+  pub there : leg ≤ length (sender_of network (progress_at course.records frame)).branches
+  pub has : Contains (leg_at (legs_at network (progress_at course.records frame).release.sender) leg) port
+  pub is : row ≡ row_of course.firsts frame leg
+
 -- a port selects: one of the frames that it holds is sent from now on
-pub record Selects {T : Type 0} (key : T → ℕ → ℕ → ℕ) (old new : Course T) (now : Moment) (port : ℕ)
-    (entries : List (Moment × Event)) : Type 0 where
+pub record Selects {T : Type 0} (key : T → ℕ → ℕ → ℕ) (network : DeclaredNetwork) (old new : Course T) (now : Moment)
+    (port : ℕ) (entries : List (Moment × Event)) : Type 0 where
   pub frame : ℕ
+  pub row : ℕ
   pub end : Ps
   pub standing : PortState T
   pub starts : Starts (key old.tie) (port_state_at old port) standing now.at.0 frame end.0
+  pub named : IsLegAt network old frame port row
   pub lawful : IsLawfulPort key standing
-  pub becomes : new ≡ with_port (moved old now frame (record {
+  pub becomes : new ≡ with_port (moved old now row (record {
     stage = Sending end;
-    progress = with_sent (progress_at old.records frame) now.at end;
+    progress = with_sent (progress_at old.records row) now.at end;
     entries = [];
   })) port standing Occupied
-  pub brings : entries ≡ (end_moment frame end, End frame) ∷ []
+  pub brings : entries ≡ (end_moment row end, End row) ∷ []
 
--- a frame that was sent arrives behind the port at this time: at the next port of its path, or at its listener
+-- a frame that was sent arrives behind the port at this time: at the next port of the leg, or at the leg's listener
 abbrev pub leaves_for : DeclaredNetwork → ℕ → Progress → Ps → Move
-leaves_for network frame progress at =
+leaves_for network row progress at =
     if length progress.hops == length (path_of network progress)
     then record { stage = Over; progress = with_ending progress (Sink at); entries = [] }
     else record {
       stage = Coming at;
       progress = progress;
-      entries = (arrival_moment frame at, Arrival frame) ∷ [];
+      entries = (arrival_moment row at, Arrival row) ∷ [];
     }
 
 -- a transmission ends: the frame is on its way behind the port, which is free
 pub record Ends {T : Type 0} (key : T → ℕ → ℕ → ℕ) (wait : ℕ → ℕ → ℕ) (network : DeclaredNetwork)
-    (old new : Course T) (now : Moment) (frame : ℕ) (entries : List (Moment × Event)) : Type 0 where
+    (old new : Course T) (now : Moment) (row : ℕ) (entries : List (Moment × Event)) : Type 0 where
   pub port : ℕ
   pub arrival : Ps
   pub standing : PortState T
   pub turn : Turn
   pub move : Move
-  pub place : place_at network old frame ≡ port
-  pub arrives : arrival.0 ≡ arrival_behind wait (port_at network.topology.ports port) frame now.at.0
-      (arrives_from_at old port)
+  pub place : place_at network old row ≡ port
+  pub arrives : arrival.0 ≡ arrival_behind wait (port_at network.topology.ports port)
+      (progress_at old.records row).frame now.at.0 (arrives_from_at old port)
   pub free : standing ≡ record (port_state_at old port) { is_sending = false }
   pub lawful : IsLawfulPort key standing
   pub next : IsTurn standing turn
-  pub is : move ≡ leaves_for network frame (progress_at old.records frame) arrival
-  pub becomes : new ≡ record (with_port (moved old now frame move) port standing turn) {
+  pub is : move ≡ leaves_for network row (progress_at old.records row) arrival
+  pub becomes : new ≡ record (with_port (moved old now row move) port standing turn) {
     arrives_from = slice_set old.arrives_from port (record { 0 = arrival.0 + 1 });
   }
   pub brings : entries ≡ move.entries ++ selections port turn

@@ -7,14 +7,14 @@ use ats_events::Moment;
 use ats_events::phase::{ARRIVAL, ELIGIBLE, SELECTION, TRANSMISSION_END};
 use ats_num::Ps;
 
-/// What happens at a moment of a run. Frames and ports are named by their numbers.
+/// What happens at a moment of a run. Legs of frames are named by their rows, and ports by their numbers.
 #[derive(Clone, Copy, Debug, PartialEq, Eq)]
 pub enum Event {
-    /// The transmission of this frame ends.
+    /// The transmission of a frame along this leg ends.
     End(u32),
-    /// This frame comes to the next port of its path, or is released.
+    /// A frame comes to the next port of this leg, or is released.
     Arrival(u32),
-    /// This frame becomes eligible.
+    /// A frame becomes eligible along this leg.
     Eligibility(u32),
     /// This port selects a frame.
     Selection(u32),
@@ -42,9 +42,9 @@ impl Event {
         ensures { result ≡ (moment_at self time, self) }
     {
         let (phase, id) = match self {
-            Event::End(frame) => (TRANSMISSION_END, frame),
-            Event::Arrival(frame) => (ARRIVAL, frame),
-            Event::Eligibility(frame) => (ELIGIBLE, frame),
+            Event::End(row) => (TRANSMISSION_END, row),
+            Event::Arrival(row) => (ARRIVAL, row),
+            Event::Eligibility(row) => (ELIGIBLE, row),
             Event::Selection(port) => (SELECTION, port),
         };
         let moment = Moment {

@@ -5,13 +5,14 @@ ghost use Rattle.ats_run_records.specs.Progress.{progress_at};
 ghost use Rattle.ats_engine_steps.specs.Conditions.{MayCome};
 ghost use Rattle.ats_engine_steps.specs.Steps.{verdict_now, groups_now};
 
+use crate::legs::class_of;
 use ats_group::{Groups, Verdict};
 use ats_network::Network;
 use ats_num::Ps;
 use ats_run_records::Records;
 use ats_schedulers::Schedulers;
 
-/// The verdict on a frame that comes now to the next port of its path, by the group behind the port
+/// The verdict on a frame that comes now to the next port of a leg, by the group behind the port
 /// before.
 pub(crate) fn judge(
     net: &Network,
@@ -19,20 +20,21 @@ pub(crate) fn judge(
     records: &Records,
     groups: &mut Groups,
     now: Ps,
-    frame: u32,
+    row: u32,
 ) -> Verdict
     requires schedulers { schedulers.now ≡ net.now }
-    requires may_come { MayCome net.now records.now groups.old now.0 frame }
-    ensures verdict { result ≡ verdict_now net.now groups.old (progress_at records.now frame) now.0 }
-    ensures groups { groups.new ≡ groups_now net.now groups.old (progress_at records.now frame) now.0 }
+    requires may_come { MayCome net.now records.now.legs groups.old now.0 row }
+    ensures verdict { result ≡ verdict_now net.now groups.old (progress_at records.now.legs row) now.0 }
+    ensures groups { groups.new ≡ groups_now net.now groups.old (progress_at records.now.legs row) now.0 }
 {
-    let hops = records.hops_of(frame).len() as u32;
+    let hops = records.hops_of(row).len() as u32;
     if hops == 0 {
         return Verdict::Eligible(now);
     }
-    let release = records.release(frame);
-    if net.sender_class(release.sender, hops - 1) != 0 {
-        let member = schedulers.scheduler(release.sender, hops);
+    let release = records.release(row);
+    let leg = records.leg(row);
+    if class_of(net, release.sender, leg, hops - 1) != 0 {
+        let member = schedulers.scheduler(release.sender, leg, hops);
         return groups.process(member, now, release.octets);
     }
     if net.sender(release.sender).allows(release.octets) {

@@ -6,7 +6,8 @@ ghost use Rattle.ats_num.specs.declared.time.TheConstants.{END};
 ghost use Rattle.ats_num.specs.declared.pace.TheConstants.{MAX_SPREAD};
 ghost use Rattle.ats_topology.specs.Port.{port_at, spread_of};
 ghost use Rattle.ats_network.specs.Network.{senders_of};
-ghost use Rattle.ats_run_records.specs.Progress.{progress_at};
+ghost use Rattle.ats_run_records.specs.Progress.{progress_at, with_leg};
+ghost use Rattle.ats_engine_steps.specs.Course.{sender_of};
 ghost use Rattle.ats_engine_steps.specs.Paces.{arrival_behind};
 ghost use Rattle.ats_engine_steps.specs.Ports.{IsTurn};
 ghost use Rattle.ats_engine_steps.specs.Steps.{leaves_for, selections};
@@ -67,32 +68,34 @@ pub(crate) fn selection_of(port: u32, turn: Turn) -> Option<(Moment, Event)>
     }
 }
 
-/// A frame that was sent arrives behind the port at this time: at the next port of its path, or at
-/// its listener.
+/// A frame that was sent along a leg arrives behind the port at this time: at the next port of the leg, or at
+/// the leg's listener.
 pub(crate) fn leave(
     net: &Network,
     stages: &mut Vec<Stage>,
     records: &mut Records,
-    frame: u32,
+    row: u32,
     at: Ps,
 ) -> Option<(Moment, Event)>
-    requires stages { frame < length stages.old.items }
-    requires records { frame < length records.old }
-    requires sender { (progress_at records.old frame).release.sender < length (senders_of net.now) }
-    ensures stages { stages.new.items ≡ slice_set stages.old.items frame
-        (leaves_for net.now frame (progress_at records.old frame) at).stage }
-    ensures records { records.new ≡ slice_set records.old frame
-        (leaves_for net.now frame (progress_at records.old frame) at).progress }
-    ensures entries { option_to_list result ≡ (leaves_for net.now frame (progress_at records.old frame) at).entries }
+    requires stages { row < length stages.old.items }
+    requires records { row < length records.old.legs }
+    requires sender { (progress_at records.old.legs row).release.sender < length (senders_of net.now) }
+    requires leg { (progress_at records.old.legs row).leg
+        ≤ length (sender_of net.now (progress_at records.old.legs row)).branches }
+    ensures stages { stages.new.items ≡ slice_set stages.old.items row
+        (leaves_for net.now row (progress_at records.old.legs row) at).stage }
+    ensures records { records.new ≡ with_leg records.old row
+        (leaves_for net.now row (progress_at records.old.legs row) at).progress }
+    ensures entries { option_to_list result ≡ (leaves_for net.now row (progress_at records.old.legs row) at).entries }
 {
-    let release = records.release(frame);
-    let hops = records.hops_of(frame).len();
-    let ports = net.sender_ports(release.sender).len();
+    let release = records.release(row);
+    let hops = records.hops_of(row).len();
+    let ports = net.sender_leg(release.sender, records.leg(row)).len();
     if hops == ports {
-        records.close(frame, Ending::Sink(at));
-        stages[frame as usize] = Stage::Over;
+        records.close(row, Ending::Sink(at));
+        stages[row as usize] = Stage::Over;
         return None;
     }
-    stages[frame as usize] = Stage::Coming(at);
-    Some(Event::Arrival(frame).at(at))
+    stages[row as usize] = Stage::Coming(at);
+    Some(Event::Arrival(row).at(at))
 }

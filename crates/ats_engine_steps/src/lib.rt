@@ -4,6 +4,7 @@
 pub mod event;
 mod judging;
 mod leaving;
+mod legs;
 mod offering;
 pub mod stage;
 pub mod state;
@@ -13,5 +14,5 @@ pub mod turn;
 pub use event::Event;
 pub use stage::Stage;
 pub use state::State;
-pub use steps::{become_eligible, come, end, select};
+pub use steps::{become_eligible, come, end, row_begun, select};
 pub use turn::Turn;

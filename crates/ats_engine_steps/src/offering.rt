@@ -5,20 +5,21 @@ ghost use Rattle.ats_run_records.specs.Progress.{progress_at, last_hop};
 ghost use Rattle.ats_engine_steps.specs.Conditions.{IsPlaced};
 ghost use Rattle.ats_engine_steps.specs.Course.{place_of, offer_of, eligibility_of};
 
+use crate::legs::class_of;
 use ats_group::Verdict;
 use ats_network::Network;
 use ats_num::Ps;
 use ats_run_records::Records;
 use ats_transmit::Offer;
 
-/// The port of a frame's last hop record.
-pub(crate) fn place_of(net: &Network, records: &Records, frame: u32) -> u32
-    requires { IsPlaced net.now records.now frame }
-    ensures { result ≡ place_of net.now (progress_at records.now frame) }
+/// The port of a leg's last hop record.
+pub(crate) fn place_of(net: &Network, records: &Records, row: u32) -> u32
+    requires { IsPlaced net.now records.now.legs row }
+    ensures { result ≡ place_of net.now (progress_at records.now.legs row) }
 {
-    let hops = records.hops_of(frame).len();
-    let release = records.release(frame);
-    net.sender_ports(release.sender)[hops - 1]
+    let hops = records.hops_of(row).len();
+    let release = records.release(row);
+    net.sender_leg(release.sender, records.leg(row))[hops - 1]
 }
 
 /// The time of a verdict, where the frame is eligible.
@@ -32,18 +33,18 @@ fn eligibility_of(verdict: Verdict) -> Ps
     }
 }
 
-/// A frame as the port of its last hop record is offered it.
-pub(crate) fn offer_of(net: &Network, records: &Records, frame: u32) -> Offer
-    requires { IsPlaced net.now records.now frame }
-    ensures { result ≡ offer_of net.now frame (progress_at records.now frame) }
+/// A frame as the port of a leg's last hop record is offered it.
+pub(crate) fn offer_of(net: &Network, records: &Records, row: u32) -> Offer
+    requires { IsPlaced net.now records.now.legs row }
+    ensures { result ≡ offer_of net.now (progress_at records.now.legs row) }
 {
-    let hops = records.hops_of(frame);
+    let hops = records.hops_of(row);
     let last = hops[hops.len() - 1];
-    let release = records.release(frame);
+    let release = records.release(row);
     Offer {
-        frame,
+        frame: records.frame(row),
         sender: release.sender,
-        class: net.sender_class(release.sender, hops.len() as u32 - 1),
+        class: class_of(net, release.sender, records.leg(row), hops.len() as u32 - 1),
         eligible: eligibility_of(last.verdict),
         octets: release.octets,
     }

@@ -1,11 +1,13 @@
-//! How far a frame is.
+//! How far a frame is along a leg.
 
 use ats_num::Ps;
 
-/// How far a frame is on its way.
+/// How far a frame is on its way along a leg.
 #[derive(Clone, Copy, Debug, PartialEq, Eq)]
 pub enum Stage {
-    /// It comes to the next port of its path at this time, and to the first one when it is released.
+    /// It has not come to where the leg begins, which is a branch.
+    Apart,
+    /// It comes to the next port of the leg at this time, and to the first one of the trunk when it is released.
     Coming(Ps),
     /// It came to a port, where it becomes eligible at this time.
     Due(Ps),
@@ -13,6 +15,6 @@ pub enum Stage {
     Waiting,
     /// A port sends it until this time.
     Sending(Ps),
-    /// Its journey has ended.
+    /// Its way along the leg has ended.
     Over,
 }

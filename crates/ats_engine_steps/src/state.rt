@@ -11,9 +11,9 @@ use ats_transmit::Port;
 /// Where a run stands between two events.
 #[derive(Drop)]
 pub struct State<T: Tie> {
-    /// How far each frame is, by its number.
+    /// How far each frame is along each of its legs, by their rows.
     pub stages: Vec<Stage>,
-    /// What has happened to each frame.
+    /// What has happened to each frame along them.
     pub records: Records,
     /// The ports, by their numbers.
     pub ports: Vec<Port<T>>,

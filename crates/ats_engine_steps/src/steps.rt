@@ -1,14 +1,19 @@
 //! What each kind of event makes of a run. Each function gives what is to happen then.
 
-ghost use Rattle.std.specs.Prelude.{◌≡◌, ◌<◌, ◌≤◌, [], ◌∷◌, ◌++◌, length};
+ghost use Rattle.std.specs.Prelude.{◌≡◌, ◌<◌, ◌≤◌, [], ◌∷◌, ◌++◌, length, IsTrue};
 ghost use Rattle.std.specs.Option.{option_to_list};
-ghost use Rattle.ats_engine_steps.specs.Conditions.{MayComeNow, MayBeOffered, MayEnd, MaySelect};
+ghost use Rattle.ats_network.specs.Network.{senders_of};
+ghost use Rattle.ats_trace.specs.Stored.{row_of};
+ghost use Rattle.ats_run_records.specs.Progress.{progress_at};
+ghost use Rattle.ats_engine_steps.specs.Conditions.{HasRoom, MayComeNow, MayBeOffered, MayEnd, MaySelect};
+ghost use Rattle.ats_engine_steps.specs.Course.{sender_of};
 ghost use Rattle.ats_engine_steps.specs.Seen.{course_of};
-ghost use Rattle.ats_engine_steps.specs.Steps.{BecomesEligible, Comes, Ends, Selects};
+ghost use Rattle.ats_engine_steps.specs.Steps.{BecomesEligible, Comes, Ends, Selects, begins_in, entered, row_begun};
 
 use crate::event::Event;
 use crate::judging::judge;
 use crate::leaving::{arrival_behind, leave, link_of, selection_of, turn_of};
+use crate::legs::{begins, leg_with};
 use crate::offering::{offer_of, place_of};
 use crate::stage::Stage;
 use crate::state::State;
@@ -17,22 +22,23 @@ use ats_events::Moment;
 use ats_group::Verdict;
 use ats_network::Network;
 use ats_num::{Pace, Ps, Tie};
+use ats_run_records::Records;
 use ats_schedulers::Schedulers;
-use ats_trace::{Ending, HopRecord};
+use ats_trace::HopRecord;
 use ats_transmit::Pick;
 
-/// A frame comes to the next port of its path: the node decides on it, and it becomes eligible at
-/// the moment that this gives, or is discarded.
+/// A frame comes to the next port of a leg: the node decides on it, once, and it becomes eligible at the time
+/// that this gives, along this leg and each that begins there, or is discarded.
 pub fn come<T: Tie>(
     net: &Network,
     schedulers: &Schedulers,
     state: &mut State<T>,
     now: Moment,
-    frame: u32,
-) -> Option<(Moment, Event)>
+    row: u32,
+) -> Option<Ps>
     requires schedulers { schedulers.now ≡ net.now }
-    requires may_come { MayComeNow net.now (course_of state.old) now.at.0 frame }
-    ensures { Comes net.now (course_of state.old) (course_of state.new) now frame (option_to_list result) }
+    requires may_come { MayComeNow net.now (course_of state.old) now.at.0 row }
+    ensures { Comes net.now (course_of state.old) (course_of state.new) now row result }
 {
     let verdict = judge(
         net,
@@ -40,40 +46,76 @@ pub fn come<T: Tie>(
         &state.records,
         &mut state.groups,
         now.at,
-        frame,
+        row,
     );
+    let sender = state.records.release(row).sender;
+    let hop = state.records.hops_of(row).len() as u32;
+    enter(state, row, now.at, verdict);
+    for copy in 1..net.sender_legs(sender) {
+        if let Some(other) = row_begun(net, &state.records, row, hop, copy) {
+            enter(state, other, now.at, verdict);
+        }
+    }
+    state.last = now;
+    match verdict {
+        Verdict::Eligible(at) => Some(at),
+        Verdict::Late(_) => None,
+        Verdict::Size => None,
+    }
+}
+
+/// The row of the copy of a frame with a leg's number, where that leg begins at a hop of the leg of this row.
+pub fn row_begun(net: &Network, records: &Records, row: u32, hop: u32, copy: u32) -> Option<u32>
+    requires row { row < length records.now.legs }
+    requires sender { (progress_at records.now.legs row).release.sender < length (senders_of net.now) }
+    requires frame { (progress_at records.now.legs row).frame < length records.now.firsts }
+    requires copy { (1 ≤ copy) × (copy ≤ length (sender_of net.now (progress_at records.now.legs row)).branches) }
+    requires there { IsTrue (begins_in net.now (progress_at records.now.legs row) hop copy)
+        → row_of records.now.firsts (progress_at records.now.legs row).frame copy < length records.now.legs }
+    ensures { result ≡ row_begun net.now records.now.firsts (progress_at records.now.legs row) hop copy }
+{
+    let leg = records.leg(row);
+    if begins(net, records.release(row).sender, copy, leg, hop) {
+        return Some(records.row_of(records.frame(row), copy));
+    }
+    None
+}
+
+// A frame that came at this time with this verdict gets a hop record along a leg.
+fn enter<T: Tie>(state: &mut State<T>, row: u32, at: Ps, verdict: Verdict)
+    requires stages { row < length state.old.stages.items }
+    requires room { HasRoom state.old.records.legs row }
+    ensures { course_of state.new ≡ entered (course_of state.old) row at verdict }
+{
     let hop = HopRecord {
-        arrival: now.at,
+        arrival: at,
         verdict,
         sent: None,
     };
-    state.records.push(frame, hop);
-    state.last = now;
-    let Verdict::Eligible(at) = verdict else {
-        state.records.close(frame, Ending::Discard);
-        state.stages[frame as usize] = Stage::Over;
-        return None;
+    state.records.push(row, hop);
+    state.stages[row as usize] = match verdict {
+        Verdict::Eligible(eligible) => Stage::Due(eligible),
+        Verdict::Late(_) => Stage::Over,
+        Verdict::Size => Stage::Over,
     };
-    state.stages[frame as usize] = Stage::Due(at);
-    Some(Event::Eligibility(frame).at(at))
 }
 
-/// A frame becomes eligible: its port holds it from now on, and where the port has rested it
+/// A frame becomes eligible along a leg: its port holds it from now on, and where the port has rested it
 /// selects at the moment that this gives.
 pub fn become_eligible<T: Tie>(
     net: &Network,
     state: &mut State<T>,
     now: Moment,
-    frame: u32,
+    row: u32,
 ) -> Option<(Moment, Event)>
-    requires { MayBeOffered net.now (course_of state.old) now.at.0 frame }
-    ensures { BecomesEligible T.key net.now (course_of state.old) (course_of state.new) now frame
+    requires { MayBeOffered net.now (course_of state.old) now.at.0 row }
+    ensures { BecomesEligible T.key net.now (course_of state.old) (course_of state.new) now row
         (option_to_list result) }
 {
-    let offer = offer_of(net, &state.records, frame);
-    let port = place_of(net, &state.records, frame);
+    let offer = offer_of(net, &state.records, row);
+    let port = place_of(net, &state.records, row);
     state.ports[port as usize].offer(offer);
-    state.stages[frame as usize] = Stage::Waiting;
+    state.stages[row as usize] = Stage::Waiting;
     state.last = now;
     let turn = state.turns[port as usize];
     match turn {
@@ -86,23 +128,31 @@ pub fn become_eligible<T: Tie>(
     }
 }
 
-/// A port selects: one of the frames that it holds is sent from now on, until the moment that this gives.
-pub fn select<T: Tie>(state: &mut State<T>, now: Moment, port: u32) -> (Moment, Event)
-    requires { MaySelect (course_of state.old) now.at.0 port }
-    ensures { Selects T.key (course_of state.old) (course_of state.new) now port (result ∷ []) }
+/// A port selects: one of the frames that it holds is sent from now on, along the leg that has the port, until the
+/// moment that this gives.
+pub fn select<T: Tie>(
+    net: &Network,
+    state: &mut State<T>,
+    now: Moment,
+    port: u32,
+) -> (Moment, Event)
+    requires { MaySelect net.now (course_of state.old) now.at.0 port }
+    ensures { Selects T.key net.now (course_of state.old) (course_of state.new) now port (result ∷ []) }
 {
     let pick = state.ports[port as usize].select(now.at);
     let Pick::Start { frame, end } = pick else {
         unreachable!()
     };
+    let leg = leg_with(net, state.records.release(frame).sender, port);
+    let row = state.records.row_of(frame, leg);
     state.turns[port as usize] = Turn::Occupied;
-    state.stages[frame as usize] = Stage::Sending(end);
-    state.records.send(frame, now.at, end);
+    state.stages[row as usize] = Stage::Sending(end);
+    state.records.send(row, now.at, end);
     state.last = now;
-    Event::End(frame).at(end)
+    Event::End(row).at(end)
 }
 
-/// The transmission of a frame ends: the frame is on its way behind the port, and this gives the
+/// The transmission of a frame along a leg ends: the frame is on its way behind the port, and this gives the
 /// moment at which it arrives there, where that is at a port; and the moment at which the port
 /// selects again, where it holds a frame.
 pub fn end<T: Tie, P: Pace>(
@@ -110,22 +160,22 @@ pub fn end<T: Tie, P: Pace>(
     state: &mut State<T>,
     pace: &P,
     now: Moment,
-    frame: u32,
+    row: u32,
 ) -> (Option<(Moment, Event)>, Option<(Moment, Event)>)
-    requires { MayEnd net.now (course_of state.old) now.at.0 frame }
-    ensures { Ends T.key (P.wait pace.now) net.now (course_of state.old) (course_of state.new) now frame
+    requires { MayEnd net.now (course_of state.old) now.at.0 row }
+    ensures { Ends T.key (P.wait pace.now) net.now (course_of state.old) (course_of state.new) now row
         (option_to_list result.0 ++ option_to_list result.1) }
 {
-    let port = place_of(net, &state.records, frame);
+    let port = place_of(net, &state.records, row);
     let standing = &mut state.ports[port as usize];
     standing.finish(now.at);
     let turn = turn_of(standing);
     state.turns[port as usize] = turn;
     let link = link_of(net, port);
     let from = state.arrives_from[port as usize];
-    let at = arrival_behind(&link, pace, frame, now.at, from);
+    let at = arrival_behind(&link, pace, state.records.frame(row), now.at, from);
     state.arrives_from[port as usize] = Ps(at.0 + 1);
     state.last = now;
-    let arrival = leave(net, &mut state.stages, &mut state.records, frame, at);
+    let arrival = leave(net, &mut state.stages, &mut state.records, row, at);
     (arrival, selection_of(port, turn))
 }

@@ -16,7 +16,7 @@ returns-in-Resting g c =
     let is = turn-read old port (Resting) c.index-turn.result.now listed
     c.index-turn.ensures c.in-Resting.is in
     rw c.at.ensures
-    (offered g.T.Tie.key c.args.net.now old c.args.now c.args.frame port c.index_mut.result.now c.offer.new.self
+    (offered g.T.Tie.key c.args.net.now old c.args.now c.args.row port c.index_mut.result.now c.offer.new.self
     c.offer_of-offer.result Resting (set old.turns port (Selecting c.args.now.at))
     ((selection_moment port c.args.now.at, Selection port) ∷ [])
     c.place_of-port.ensures was
@@ -32,7 +32,7 @@ returns-in-Selecting g c =
     let was = port-read old port c.index_mut.result.now within c.index_mut.ensures.value in
     let is = turn-read old port (Selecting c.in-Selecting.field-0) c.index-turn.result.now listed
     c.index-turn.ensures c.in-Selecting.is in
-    offered g.T.Tie.key c.args.net.now old c.args.now c.args.frame port c.index_mut.result.now c.offer.new.self
+    offered g.T.Tie.key c.args.net.now old c.args.now c.args.row port c.index_mut.result.now c.offer.new.self
     c.offer_of-offer.result (Selecting c.in-Selecting.field-0) (old.turns) ([])
     c.place_of-port.ensures was
     c.offer_of-offer.ensures c.offer.ensures.held
@@ -48,7 +48,7 @@ returns-in-Occupied g c =
     let was = port-read old port c.index_mut.result.now within c.index_mut.ensures.value in
     let is = turn-read old port (Occupied) c.index-turn.result.now listed
     c.index-turn.ensures c.in-Occupied.is in
-    offered g.T.Tie.key c.args.net.now old c.args.now c.args.frame port c.index_mut.result.now c.offer.new.self
+    offered g.T.Tie.key c.args.net.now old c.args.now c.args.row port c.index_mut.result.now c.offer.new.self
     c.offer_of-offer.result (Occupied) (old.turns) ([])
     c.place_of-port.ensures was
     c.offer_of-offer.ensures c.offer.ensures.held

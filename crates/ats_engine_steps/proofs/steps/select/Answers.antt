@@ -1,10 +1,12 @@
-use Rattle.std.proofs.Common.{All, ℕ, ◌<◌, ◌≤◌, length, sym, subst, arith}
+use Rattle.std.proofs.Common.{ℕ, ◌<◌, ◌≤◌, length, refl, subst, sym, arith}
+use Rattle.std.specs.Prelude.{Contains}
+use Rattle.ats_network.specs.Network.{senders_of}
+use Rattle.ats_network.specs.Senders.{sender_at}
+use Rattle.ats_trace.specs.declared.journey.Release.{Release}
 use Rattle.ats_transmit.specs.Picks.{MaySend}
 use Rattle.ats_transmit.specs.State.{PortState}
-use Rattle.ats_transmit.specs.declared.offer.Offer.{Offer}
-use Rattle.ats_run_records.specs.Progress.{progress_at}
 use Rattle.ats_engine_steps.specs.Seen.{course_of}
-use Rattle.ats_engine_steps.proofs.Stepping.{port-read, started-frame, selected}
+use Rattle.ats_engine_steps.proofs.Stepping.{named-leg, port-read, selected, started-there}
 use Rattle.ats_engine_steps.proofs.steps.select.Goals as goal
 
 pub select-pick-requires-clause-due : goal.select-pick-requires-clause-due
@@ -14,39 +16,77 @@ select-pick-requires-clause-due g c =
     subst (λ (s : PortState g.row.T.Denot). (time : ℕ) → MaySend s.held s.sent time → c.args.now.at.0 ≤ time) (sym was)
     c.requires.due.first
 
+pub release-requires : goal.release-requires
+release-requires g c =
+    let old = course_of {T = g.row.T.Denot} c.args.state.now in
+    let was = port-read old c.args.port c.index_mut.result.now c.requires.within c.index_mut.ensures.value in
+    let there = started-there _ c.args.net.now old c.args.port _ _ _ _ _ was c.in-Start.ensures.pick.1
+    c.requires.there in
+    there.trunk
+
+pub leg_with-leg-requires-clause-sender : goal.leg_with-leg-requires-clause-sender
+leg_with-leg-requires-clause-sender g c =
+    let old = course_of {T = g.row.T.Denot} c.args.state.now in
+    let was = port-read old c.args.port c.index_mut.result.now c.requires.within c.index_mut.ensures.value in
+    let there = started-there _ c.args.net.now old c.args.port _ _ _ _ _ was c.in-Start.ensures.pick.1
+    c.requires.there in
+    subst (λ (r : Release). r.sender < length (senders_of c.args.net.now)) (sym c.release.ensures) there.sender
+
+pub leg_with-leg-requires-clause-passes : goal.leg_with-leg-requires-clause-passes
+leg_with-leg-requires-clause-passes g c =
+    let old = course_of {T = g.row.T.Denot} c.args.state.now in
+    let was = port-read old c.args.port c.index_mut.result.now c.requires.within c.index_mut.ensures.value in
+    let there = started-there _ c.args.net.now old c.args.port _ _ _ _ _ was c.in-Start.ensures.pick.1
+    c.requires.there in
+    subst (λ (r : Release). Contains (sender_at c.args.net.now r.sender).ports c.args.port) (sym c.release.ensures)
+    there.passes
+
+pub row_of-row-requires-clause-frame : goal.row_of-row-requires-clause-frame
+row_of-row-requires-clause-frame g c =
+    let old = course_of {T = g.row.T.Denot} c.args.state.now in
+    let was = port-read old c.args.port c.index_mut.result.now c.requires.within c.index_mut.ensures.value in
+    let there = started-there _ c.args.net.now old c.args.port _ _ _ _ _ was c.in-Start.ensures.pick.1
+    c.requires.there in
+    there.numbered
+
+pub row_of-row-requires-clause-there : goal.row_of-row-requires-clause-there
+row_of-row-requires-clause-there g c =
+    let old = course_of {T = g.row.T.Denot} c.args.state.now in
+    let was = port-read old c.args.port c.index_mut.result.now c.requires.within c.index_mut.ensures.value in
+    let there = started-there _ c.args.net.now old c.args.port _ _ _ _ _ was c.in-Start.ensures.pick.1
+    c.requires.there in
+    let named = named-leg c.args.net.now old c.in-Start.frame c.args.port c.leg_with-leg.result _
+    c.release.result c.release.ensures c.leg_with-leg.ensures.leg c.leg_with-leg.ensures.has refl in
+    (there.came _ named).0
+
 pub index_mut-requires-3 : goal.index_mut-requires-3
 index_mut-requires-3 g c =
     let old = course_of {T = g.row.T.Denot} c.args.state.now in
     let was = port-read old c.args.port c.index_mut.result.now c.requires.within c.index_mut.ensures.value in
-    let below : c.in-Start.frame < length c.args.state.now.records =
-    started-frame _ _ _ _ _ _ c.in-Start.ensures.pick.1 (λ (f : ℕ). f < length c.args.state.now.records)
-    (subst (λ (s : PortState g.row.T.Denot). All (λ (o : Offer). o.frame < length c.args.state.now.records) s.held)
-    (sym was) c.requires.known) in
-    omega (arith, c.requires.stages)
+    let there = started-there _ c.args.net.now old c.args.port _ _ _ _ _ was c.in-Start.ensures.pick.1
+    c.requires.there in
+    let named = named-leg c.args.net.now old c.in-Start.frame c.args.port c.leg_with-leg.result c.row_of-row.result
+    c.release.result c.release.ensures c.leg_with-leg.ensures.leg c.leg_with-leg.ensures.has c.row_of-row.ensures in
+    omega (arith, c.requires.stages, (there.came c.row_of-row.result named).0)
 
-pub send-requires-clause-frame : goal.send-requires-clause-frame
-send-requires-clause-frame g c =
+pub send-requires : goal.send-requires
+send-requires g c =
     let old = course_of {T = g.row.T.Denot} c.args.state.now in
     let was = port-read old c.args.port c.index_mut.result.now c.requires.within c.index_mut.ensures.value in
-    started-frame _ _ _ _ _ _ c.in-Start.ensures.pick.1 (λ (f : ℕ). f < length c.args.state.now.records)
-    (subst (λ (s : PortState g.row.T.Denot). All (λ (o : Offer). o.frame < length c.args.state.now.records) s.held)
-    (sym was) c.requires.known)
-
-pub send-requires-clause-last : goal.send-requires-clause-last
-send-requires-clause-last g c =
-    let old = course_of {T = g.row.T.Denot} c.args.state.now in
-    let was = port-read old c.args.port c.index_mut.result.now c.requires.within c.index_mut.ensures.value in
-    started-frame _ _ _ _ _ _ c.in-Start.ensures.pick.1
-    (λ (f : ℕ). 0 < length (progress_at c.args.state.now.records f).hops)
-    (subst (λ (s : PortState g.row.T.Denot).
-    All (λ (o : Offer). 0 < length (progress_at c.args.state.now.records o.frame).hops) s.held) (sym was)
-    c.requires.came)
+    let there = started-there _ c.args.net.now old c.args.port _ _ _ _ _ was c.in-Start.ensures.pick.1
+    c.requires.there in
+    let named = named-leg c.args.net.now old c.in-Start.frame c.args.port c.leg_with-leg.result c.row_of-row.result
+    c.release.result c.release.ensures c.leg_with-leg.ensures.leg c.leg_with-leg.ensures.has c.row_of-row.ensures in
+    let came = there.came c.row_of-row.result named in
+    record { row = came.0; last = came.1 }
 
 pub returns : goal.returns
 returns g c =
     let old = course_of {T = g.row.T.Denot} c.args.state.now in
     let was = port-read old c.args.port c.index_mut.result.now c.requires.within c.index_mut.ensures.value in
+    let named = named-leg c.args.net.now old c.in-Start.frame c.args.port c.leg_with-leg.result c.row_of-row.result
+    c.release.result c.release.ensures c.leg_with-leg.ensures.leg c.leg_with-leg.ensures.has c.row_of-row.ensures in
     rw c.at.ensures
-    (selected g.T.Tie.key old c.args.now c.args.port c.in-Start.frame c.in-Start.end c.index_mut.result.now
-    c.select-pick.new.self c.send.new.self was c.requires.tie c.in-Start.ensures.pick.1 c.in-Start.ensures.lawful
-    c.send.ensures)
+    (selected g.T.Tie.key c.args.net.now old c.args.now c.args.port c.in-Start.frame c.row_of-row.result
+    c.in-Start.end c.index_mut.result.now c.select-pick.new.self c.send.new.self was c.requires.tie
+    c.in-Start.ensures.pick.1 named c.in-Start.ensures.lawful c.send.ensures)
