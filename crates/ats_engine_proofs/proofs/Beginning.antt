@@ -1,138 +1,98 @@
 -- The lists of a run that is to begin.
-use Rattle.std.proofs.Common.{◌≡◌, ℕ, zero, suc, ◌+◌, ◌*◌, ◌<◌, ◌≤◌, List, [], ◌∷◌, ◌++◌, length, map, get_or, All}
-use Rattle.std.proofs.Common.{refl, ap, ◌∙◌, arith}
-use Rattle.std.specs.List.{zip, filter, sum_by}
-use Rattle.std.specs.Prelude.{◌==◌, ◌&&◌}
-use Rattle.std.proofs.lemmas.List.{length-map}
-use Rattle.std.proofs.lemmas.List.Elements.{All-map}
-use Rattle.std.proofs.lemmas.List.Sums.{sum_by-le}
-use Rattle.ats_network.specs.Network.{DeclaredNetwork, HasOneListener, IsNetwork}
-use Rattle.ats_network.specs.Sender.{Sender}
+use Rattle.std.proofs.Common.{◌≡◌, ℕ, zero, suc, ◌+◌, ◌*◌, ◌<◌, ◌≤◌, List, [], ◌∷◌, ◌++◌, length, map, get_or}
+use Rattle.std.proofs.Common.{All, refl, ap, ◌∙◌, arith}
+use Rattle.std.specs.List.{flat_map, range_with_len, sum_by, zip}
+use Rattle.std.proofs.lemmas.List.Elements.{All-nil, All-cons, All-head, All-tail, All-append, All-map}
+use Rattle.std.proofs.lemmas.List.FromFn.{get_or-range_with_len, length-range_with_len}
+use Rattle.std.proofs.lemmas.List.Sums.{sum_by-append, sum_by-cons}
+use Rattle.ats_num.specs.Wire.{IsFrameSize}
+use Rattle.ats_network.specs.Network.{DeclaredNetwork, IsNetwork, senders_of}
 use Rattle.ats_network.specs.Senders.{sender_at}
-use Rattle.ats_network.proofs.SenderLemmas.{sender_path}
 use Rattle.ats_events.specs.declared.moment.Moment.{Moment}
-use Rattle.ats_trace.specs.Journey.{Travel}
-use Rattle.ats_trace.specs.Projections.{Hop, Crossing, Handed, hops_along, crossings_along, handed_along, hops_from}
-use Rattle.ats_trace.specs.Projections.{crossings_from, handed_from, sent_by, crossings_by, handed_by}
-use Rattle.ats_trace.specs.Releases.{IsRelease}
-use Rattle.ats_trace.specs.declared.journey.Ending.{Ending}
-use Rattle.ats_trace.specs.declared.journey.Ending.TheVariants.{Sink}
+use Rattle.ats_trace.specs.Releases.{IsRelease, ports_of_frames}
 use Rattle.ats_trace.specs.declared.journey.Release.{Release}
-use Rattle.ats_run_records.specs.Progress.{Progress, unmoved, opened}
-use Rattle.ats_engine_steps.specs.Course.{travels_of}
+use Rattle.ats_run_records.specs.Progress.{Progress, copies_of_frame, copies_opened, leg_opened, trunks_opened}
+use Rattle.ats_run_records.proofs.AllCounts.{AreCounted, frames-counted, have-senders, no_release, rooms-all_copies}
+use Rattle.ats_run_records.proofs.AllCounts.{rooms-trunks}
+use Rattle.ats_run_records.proofs.Opens.{rooms_of}
+use Rattle.ats_engine_steps.specs.Course.{path_of, sender_of}
 use Rattle.ats_engine_steps.specs.Bounds.{most_hop, most_left}
 use Rattle.ats_engine_steps.specs.Entries.{arrival_moment}
+use Rattle.ats_engine_steps.specs.Invariant.{opened_again}
 use Rattle.ats_engine_steps.specs.declared.event.Event.{Event}
 use Rattle.ats_engine_steps.specs.declared.event.Event.TheVariants.{Arrival}
 use Rattle.ats_engine_steps.specs.declared.stage.Stage.{Stage}
-use Rattle.ats_engine_steps.specs.declared.stage.Stage.TheVariants.{Coming}
-use Rattle.ats_engine_proofs.specs.Opened.{released_from, rooms_of}
-use Rattle.ats_engine_proofs.proofs.OnPaths.{hops_on_path, crossings_on_path, handed_on_path}
+use Rattle.ats_engine_proofs.specs.Opened.{released_from}
 
--- for numbers past the last release
-abbrev pub no_release : Release
-no_release = record { at = record { 0 = 0 }; sender = 0; octets = 0 }
-
--- what is kept of a frame that is to come at its release
-abbrev pub start : DeclaredNetwork → Release → Progress
-start network r = unmoved r (length (sender_at network r.sender).ports)
-
--- its stage
-abbrev pub coming : Release → Stage
-coming r = Coming r.at
-
--- what has happened to it
-abbrev pub still : Release → Travel
-still r = record { release = r; hops = []; ending = Sink r.at; copies = [] }
-
--- its entry, where it has this number
+-- the entry of a release, where the frame has this number
 abbrev pub entry_of : ℕ → Release → Moment × Event
 entry_of frame r = (arrival_moment frame r.at, Arrival frame)
 
--- the records of all frames are those
-pub records-opened : (network : DeclaredNetwork) (releases : List Release)
-    → opened releases (rooms_of network releases) ≡ map (start network) releases
-records-opened network [] = refl
-records-opened network (r ∷ releases) =
-    ap (λ (ps : List Progress). start network r ∷ ps) (records-opened network releases)
+-- a leg along which nothing has happened yet, of a frame that may be run
+pub record IsFreshLeg (network : DeclaredNetwork) (p : Progress) : Type 0 where
+  pub sender : p.release.sender < length (senders_of network)
+  pub octets : IsFrameSize p.release.octets
+  pub leg : p.leg ≤ length (sender_of network p).branches
+  pub room : p.room ≡ length (path_of network p)
+  pub none : p.hops ≡ []
+  pub again : opened_again p ≡ p
 
--- which have the releases
-pub releases-kept : (network : DeclaredNetwork) (releases : List Release)
-    → map (λ (p : Progress). p.release) (map (start network) releases) ≡ releases
-releases-kept network [] = refl
-releases-kept network (r ∷ releases) = ap (λ (rs : List Release). r ∷ rs) (releases-kept network releases)
+-- a copy
+pub record IsFreshCopy (network : DeclaredNetwork) (p : Progress) : Type 0 where
+  pub fresh : IsFreshLeg network p
+  pub copy : 1 ≤ p.leg
 
--- and with the stages they make those travels
-pub travels-opened : (network : DeclaredNetwork) (releases : List Release)
-    → travels_of (map coming releases) (map (start network) releases) ≡ map still releases
-travels-opened network [] = refl
-travels-opened network (r ∷ releases) = ap (λ (js : List Travel). still r ∷ js) (travels-opened network releases)
+-- so is each leg that is opened
+pub leg-fresh : (network : DeclaredNetwork) (frame : ℕ) (r : Release) (leg : ℕ) → IsRelease network r
+    → leg ≤ length (sender_at network r.sender).branches → IsFreshLeg network (leg_opened network frame r leg)
+leg-fresh network frame r leg is within =
+    record { sender = is.sender; octets = is.octets; leg = within; room = refl; none = refl; again = refl }
 
--- a frame without hop records was not sent
-none-along : (frame : ℕ) (r : Release) (s : Sender) (path : List ℕ) → hops_along frame r s path [] ≡ []
-none-along frame r s [] = refl
-none-along frame r s (p ∷ path) = refl
+-- the trunks
+pub trunks-fresh : (network : DeclaredNetwork) (frame : ℕ) (releases : List Release) → All (IsRelease network) releases
+    → All (IsFreshLeg network) (trunks_opened network frame releases)
+trunks-fresh network frame [] each = All-nil (IsFreshLeg network)
+trunks-fresh network frame (r ∷ releases) each =
+    All-cons (IsFreshLeg network) (leg_opened network frame r 0) (trunks_opened network (frame + 1) releases)
+    (leg-fresh network frame r 0 (All-head (IsRelease network) r releases each) (omega arith))
+    (trunks-fresh network (frame + 1) releases (All-tail (IsRelease network) r releases each))
 
--- it has not crossed a port
-none-crossed_along : (frame : ℕ) (r : Release) (s : Sender) (path : List ℕ) (ending : Ending)
-    → crossings_along frame r s path [] ending ≡ []
-none-crossed_along frame r s [] ending = refl
-none-crossed_along frame r s (p ∷ path) ending = refl
+-- and the copies
+frame-fresh : (network : DeclaredNetwork) (frame : ℕ) (r : Release) → IsRelease network r
+    → All (IsFreshCopy network) (copies_of_frame network frame r)
+frame-fresh network frame r is =
+    let n : ℕ = length (sender_at network r.sender).branches in
+    All-map (IsFreshCopy network) (leg_opened network frame r) (range_with_len 1 n)
+    (λ i d h.
+    (let below : i < n = omega (arith, h, length-range_with_len 1 n) in
+    let same : get_or (range_with_len 1 n) i d ≡ 1 + i = get_or-range_with_len 1 n i d below in
+    record {
+      fresh = leg-fresh network frame r (get_or (range_with_len 1 n) i d) is (omega arith);
+      copy = omega arith;
+    }))
 
--- and was not handed on
-none-handed_along : (frame : ℕ) (r : Release) (s : Sender) (path : List ℕ) → handed_along frame r s path [] ≡ []
-none-handed_along frame r s [] = refl
-none-handed_along frame r s (p ∷ path) = refl
+pub copies-fresh : (network : DeclaredNetwork) (frame : ℕ) (releases : List Release) → All (IsRelease network) releases
+    → All (IsFreshCopy network) (copies_opened network frame releases)
+copies-fresh network frame [] each = All-nil (IsFreshCopy network)
+copies-fresh network frame (r ∷ releases) each =
+    All-append (IsFreshCopy network) (copies_of_frame network frame r) (copies_opened network (frame + 1) releases)
+    (frame-fresh network frame r (All-head (IsRelease network) r releases each))
+    (copies-fresh network (frame + 1) releases (All-tail (IsRelease network) r releases each))
 
--- so no frame was sent in such a run
-none-from : (network : DeclaredNetwork) → HasOneListener network → (frame : ℕ) (releases : List Release)
-    → hops_from network frame (map still releases) ≡ []
-none-from network alone frame [] = refl
-none-from network alone frame (r ∷ releases) =
-    let s : Sender = sender_at network r.sender in
-    ap (λ (hs : List Hop). hs ++ hops_from network (frame + 1) (map still releases))
-    (hops_on_path network alone frame (still r) ∙ none-along frame r s s.ports)
-    ∙ none-from network alone (frame + 1) releases
+-- legs along which nothing has happened are as they were before anything happened
+pub opened-again : (network : DeclaredNetwork) (ps : List Progress) → All (IsFreshLeg network) ps
+    → map opened_again ps ≡ ps
+opened-again network [] fresh = refl
+opened-again network (p ∷ ps) fresh =
+    ap (λ (q : Progress). q ∷ map opened_again ps) (All-head (IsFreshLeg network) p ps fresh).again
+    ∙ ap (λ (qs : List Progress). p ∷ qs) (opened-again network ps (All-tail (IsFreshLeg network) p ps fresh))
 
--- none has crossed a port
-none-crossed_from : (network : DeclaredNetwork) → HasOneListener network → (frame : ℕ) (releases : List Release)
-    → crossings_from network frame (map still releases) ≡ []
-none-crossed_from network alone frame [] = refl
-none-crossed_from network alone frame (r ∷ releases) =
-    let s : Sender = sender_at network r.sender in
-    ap (λ (xs : List Crossing). xs ++ crossings_from network (frame + 1) (map still releases))
-    (crossings_on_path network alone frame (still r) ∙ none-crossed_along frame r s s.ports (Sink r.at))
-    ∙ none-crossed_from network alone (frame + 1) releases
-
--- and none was handed on
-none-handed_from : (network : DeclaredNetwork) → HasOneListener network → (frame : ℕ) (releases : List Release)
-    → handed_from network frame (map still releases) ≡ []
-none-handed_from network alone frame [] = refl
-none-handed_from network alone frame (r ∷ releases) =
-    let s : Sender = sender_at network r.sender in
-    ap (λ (hs : List Handed). hs ++ handed_from network (frame + 1) (map still releases))
-    (handed_on_path network alone frame (still r) ∙ none-handed_along frame r s s.ports)
-    ∙ none-handed_from network alone (frame + 1) releases
-
--- so it is at each port: none was sent
-pub none-sent : (network : DeclaredNetwork) → HasOneListener network → (releases : List Release) (port : ℕ)
-    → sent_by network (map still releases) port ≡ []
-none-sent network alone releases port =
-    ap (λ (hs : List Hop). map (λ (h : Hop). h.sent) (filter (λ (h : Hop). h.port == port) hs))
-    (none-from network alone 0 releases)
-
--- none has crossed it
-pub none-crossed : (network : DeclaredNetwork) → HasOneListener network → (releases : List Release) (port : ℕ)
-    → crossings_by network (map still releases) port ≡ []
-none-crossed network alone releases port =
-    ap (filter (λ (x : Crossing). x.port == port)) (none-crossed_from network alone 0 releases)
-
--- and none was handed on in a class
-pub none-handed : (network : DeclaredNetwork) → HasOneListener network → (releases : List Release) (port class : ℕ)
-    → handed_by network (map still releases) port class ≡ []
-none-handed network alone releases port class =
-    ap (filter (λ (h : Handed). h.crossing.port == port && h.crossing.sent.class == class))
-    (none-handed_from network alone 0 releases)
+-- where nothing is projected from each of these, nothing is from all
+pub nothing-from : {X Y : Type 0} (f : X → List Y) (xs : List X) → All (λ (x : X). f x ≡ []) xs → flat_map f xs ≡ []
+nothing-from f [] none = refl
+nothing-from {X} {Y} f (x ∷ xs) none =
+    ap (λ (ys : List Y). ys ++ flat_map f xs) (All-head (λ (x : X). f x ≡ []) x xs none)
+    ∙ nothing-from f xs (All-tail (λ (x : X). f x ≡ []) x xs none)
 
 -- the entry of each release
 pub length-released : (first : ℕ) (releases : List Release) → length (released_from first releases) ≡ length releases
@@ -154,32 +114,35 @@ pub entry-at : (releases : List Release) (i : ℕ) (d : Moment × Event) → i <
 entry-at releases i d within =
     released-at 0 releases i d within ∙ ap (λ (n : ℕ). entry_of n (get_or releases i no_release)) (omega arith)
 
--- what the frames take at the most
-rows-opened : (network : DeclaredNetwork) (releases : List Release)
-    → zip (map coming releases) (map (start network) releases)
-    ≡ map (λ (r : Release). (coming r, start network r)) releases
-rows-opened network [] = refl
-rows-opened network (r ∷ releases) =
-    ap (λ (rows : List (Stage × Progress)). (coming r, start network r) ∷ rows) (rows-opened network releases)
+-- the rooms of all legs are as many as the ports of all frames
+pub rooms-opened : (network : DeclaredNetwork) (frame other : ℕ) (releases : List Release) → IsNetwork network
+    → All (IsRelease network) releases
+    → rooms_of (trunks_opened network frame releases ++ copies_opened network other releases)
+    ≡ ports_of_frames network releases
+rooms-opened network frame other releases rules each =
+    let trunks : List Progress = trunks_opened network frame releases in
+    let copies : List Progress = copies_opened network other releases in
+    let counted : AreCounted network releases =
+    frames-counted network releases rules (have-senders network releases each) in
+    omega (
+      arith,
+      sum_by-append (λ (p : Progress). p.room) trunks copies,
+      rooms-trunks network frame releases,
+      rooms-all_copies network other releases,
+      counted.rooms,
+    )
 
--- a frame has at most 16 hops to come
-most-one : (network : DeclaredNetwork) (r : Release) → IsNetwork network → HasOneListener network
-    → IsRelease network r → most_left (coming r, start network r) ≤ 16 * most_hop
-most-one network r rules alone is =
-    let path = (sender_path network r.sender rules alone is.sender).path in omega (arith, path.most)
+-- at this stage a leg counts no more than its room
+abbrev pub IsEarly : Stage → Type 0
+IsEarly stage = (p : Progress) → most_left (stage, p) ≤ p.room * most_hop
 
--- so all frames have at most 16 times as many as there are
-pub most-opened : (network : DeclaredNetwork) (releases : List Release) → IsNetwork network
-    → HasOneListener network → All (IsRelease network) releases
-    → sum_by most_left (zip (map coming releases) (map (start network) releases)) ≤ length releases * (16 * most_hop)
-most-opened network releases rules alone each =
-    let row : Release → Stage × Progress = λ (r : Release). (coming r, start network r) in
-    let few : All (λ (x : Stage × Progress). most_left x ≤ 16 * most_hop) (map row releases) =
-    All-map (λ (x : Stage × Progress). most_left x ≤ 16 * most_hop) row releases
-    (λ k d h. most-one network (get_or releases k d) rules alone (each k d h)) in
-    let sum = sum_by-le most_left (16 * most_hop) (map row releases) few in
-    let long : length (map row releases) ≡ length releases = length-map releases row in
-    let same : sum_by most_left (zip (map coming releases) (map (start network) releases))
-    ≡ sum_by most_left (map row releases) =
-    ap (sum_by most_left) (rows-opened network releases) in
-    omega arith
+-- so all legs count no more than all rooms
+pub most-early : (stages : List Stage) (ps : List Progress) → All IsEarly stages
+    → sum_by most_left (zip stages ps) ≤ sum_by (λ (p : Progress). p.room) ps * most_hop
+most-early [] ps early = omega arith
+most-early (s ∷ stages) [] early = omega arith
+most-early (s ∷ stages) (p ∷ ps) early =
+    let room : Progress → ℕ = λ (p : Progress). p.room in
+    let here = All-head IsEarly s stages early p in
+    let rest = most-early stages ps (All-tail IsEarly s stages early) in
+    omega (arith, here, rest, sum_by-cons most_left (s, p) (zip stages ps), sum_by-cons room p ps)

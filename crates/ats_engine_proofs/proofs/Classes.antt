@@ -1,13 +1,13 @@
 -- No frame is of a class above 7.
 use Rattle.std.proofs.Common.{◌≡◌, ℕ, ◌+◌, ◌<◌, ◌≤◌, Bool, false, cond, List, [], ◌∷◌, All, get_or, length, Option}
-use Rattle.std.proofs.Common.{None, Some, refl, sym, ap, ◌∙◌, subst, arith}
+use Rattle.std.proofs.Common.{None, Some, refl, ap, ◌∙◌, arith}
 use Rattle.std.specs.List.{filter}
 use Rattle.std.specs.Prelude.{◌==◌, ◌&&◌, IfSome}
 use Rattle.std.proofs.Math.Bool.{and-false}
 use Rattle.std.proofs.lemmas.Bool.{ne_eqb}
 use Rattle.std.proofs.lemmas.List.Elements.{All-nil, All-cons, All-head, All-tail, All-append}
 use Rattle.ats_num.specs.declared.time.Ps.{Ps}
-use Rattle.ats_network.specs.Network.{DeclaredNetwork, HasOneListener, IsNetwork, senders_of}
+use Rattle.ats_network.specs.Network.{DeclaredNetwork, IsNetwork, senders_of}
 use Rattle.ats_network.specs.Sender.{Sender}
 use Rattle.ats_network.specs.Senders.{IsSender, sender_at}
 use Rattle.ats_network.specs.Class.{class_at}
@@ -16,12 +16,11 @@ use Rattle.ats_network.proofs.SenderLemmas.{sender_keeps}
 use Rattle.ats_group.specs.declared.verdict.Verdict.{Verdict}
 use Rattle.ats_group.specs.declared.verdict.Verdict.TheVariants.{Eligible, Late, Size}
 use Rattle.ats_port_rule.specs.Transmission.{Transmission}
-use Rattle.ats_trace.specs.Journey.{Travel}
-use Rattle.ats_trace.specs.Projections.{Handed, transmission_by, transmission_of, handed_at, handed_along}
+use Rattle.ats_trace.specs.Journey.{Leg, Travel, legs_at, legs_in}
+use Rattle.ats_trace.specs.Projections.{Handed, transmission_by, transmission_of, handed_at, handed_along, handed_over}
 use Rattle.ats_trace.specs.Projections.{journey_handed, handed_from, handed_by}
 use Rattle.ats_trace.specs.declared.journey.HopRecord.{HopRecord}
 use Rattle.ats_trace.specs.declared.journey.Release.{Release}
-use Rattle.ats_engine_proofs.proofs.OnPaths.{handed_on_path}
 
 -- what the frame was sent in
 abbrev IsLow : Handed → Type 0
@@ -58,27 +57,35 @@ low-along frame r s (p ∷ path) (hop ∷ hops) low =
     (low-transmission frame r (class_at s p) hop.verdict hop.sent (low p)))
     (low-along frame r s path hops low)
 
--- which no sender has
-low-journey : (network : DeclaredNetwork) (frame : ℕ) (j : Travel) → IsNetwork network → HasOneListener network
+-- nor along legs
+low-over : (frame : ℕ) (r : Release) (s : Sender) (paths : List (List ℕ)) (legs : List Leg)
+    → ((port : ℕ) → class_at s port ≤ 7) → All IsLow (handed_over frame r s paths legs)
+low-over frame r s [] legs low = All-nil IsLow
+low-over frame r s (path ∷ paths) [] low = All-nil IsLow
+low-over frame r s (path ∷ paths) (leg ∷ legs) low =
+    All-append IsLow (handed_along frame r s path leg.hops) (handed_over frame r s paths legs)
+    (low-along frame r s path leg.hops low) (low-over frame r s paths legs low)
+
+-- no sender has such a class
+low-journey : (network : DeclaredNetwork) (frame : ℕ) (j : Travel) → IsNetwork network
     → j.release.sender < length (senders_of network) → All IsLow (journey_handed network frame j)
-low-journey network frame j rules alone within =
+low-journey network frame j rules within =
     let s : Sender = sender_at network j.release.sender in
     let is : IsSender network.topology s = sender_keeps network j.release.sender rules within in
-    subst (All IsLow) (sym (handed_on_path network alone frame j))
-    (low-along frame j.release s s.ports j.hops (λ port. class_at-le s port is.classes))
+    low-over frame j.release s (legs_at network j.release.sender) (legs_in j) (λ port. class_at-le s port is.classes)
 
 -- the sender of a journey is one of the network
 abbrev pub IsKnown : DeclaredNetwork → Travel → Type 0
 IsKnown network j = j.release.sender < length (senders_of network)
 
 -- so it is in a whole run
-low-from : (network : DeclaredNetwork) (frame : ℕ) (run : List Travel) → IsNetwork network → HasOneListener network
+low-from : (network : DeclaredNetwork) (frame : ℕ) (run : List Travel) → IsNetwork network
     → All (IsKnown network) run → All IsLow (handed_from network frame run)
-low-from network frame [] rules alone known = All-nil IsLow
-low-from network frame (j ∷ run) rules alone known =
+low-from network frame [] rules known = All-nil IsLow
+low-from network frame (j ∷ run) rules known =
     All-append IsLow (journey_handed network frame j) (handed_from network (frame + 1) run)
-    (low-journey network frame j rules alone (All-head (IsKnown network) j run known))
-    (low-from network (frame + 1) run rules alone (All-tail (IsKnown network) j run known))
+    (low-journey network frame j rules (All-head (IsKnown network) j run known))
+    (low-from network (frame + 1) run rules (All-tail (IsKnown network) j run known))
 
 -- what fails the test everywhere leaves nothing
 filter-none : {X : Type 0} (test : X → Bool) (xs : List X) → All (λ (x : X). test x ≡ false) xs → filter test xs ≡ []
@@ -90,9 +97,9 @@ filter-none {X} test (x ∷ xs) fails =
 
 -- so no port has handed one on
 pub none-above : (network : DeclaredNetwork) (run : List Travel) (port class : ℕ) → IsNetwork network
-    → HasOneListener network → All (IsKnown network) run → 8 ≤ class → handed_by network run port class ≡ []
-none-above network run port class rules alone known high =
-    let low = low-from network 0 run rules alone known in
+    → All (IsKnown network) run → 8 ≤ class → handed_by network run port class ≡ []
+none-above network run port class rules known high =
+    let low = low-from network 0 run rules known in
     filter-none (λ (h : Handed). h.crossing.port == port && h.crossing.sent.class == class) (handed_from network 0 run)
     (λ k d h. fails (get_or (handed_from network 0 run) k d) (low k d h))
   where

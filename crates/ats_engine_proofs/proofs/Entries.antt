@@ -1,10 +1,10 @@
 -- The entries of the agenda: after each step, in any order, how many they are, and their moments.
-use Rattle.std.proofs.Common.{◌≡◌, ℕ, ◌+◌, ◌-◌, ◌*◌, ◌<◌, ◌≤◌, Bool, true, false, List, [], ◌∷◌, ◌++◌, length, get_or}
-use Rattle.std.proofs.Common.{set, All, Some, map, IsPermutation, refl, sym, ap, ◌∙◌, subst, inl, inr, arith}
+use Rattle.std.proofs.Common.{◌≡◌, ℕ, ◌+◌, ◌*◌, ◌<◌, ◌≤◌, Bool, true, false, List, [], ◌∷◌, ◌++◌, length, get_or}
+use Rattle.std.proofs.Common.{set, All, Option, Some, map, IsPermutation, refl, sym, ap, ◌∙◌, subst, inl, inr, arith}
 use Rattle.std.specs.Prelude.{◌≢◌, ◌==◌, AllPairs, slice_index_or, if◌then◌else◌}
 use Rattle.std.proofs.lemmas.Bool.{cases_lt, true≢false}
-use Rattle.std.proofs.lemmas.List.{get_or-map, length-map}
-use Rattle.std.proofs.lemmas.List.Elements.{All-append, All-cons, All-head, All-map, All-nil}
+use Rattle.std.proofs.lemmas.List.{length-map}
+use Rattle.std.proofs.lemmas.List.Elements.{All-append, All-cons, All-contains_itself, All-map, All-nil}
 use Rattle.std.proofs.lemmas.List.Sorted.{All-permutation, Contains-permutation}
 use Rattle.std.proofs.Math.Nat.{mul-le-mul_right}
 use Rattle.std.proofs.lemmas.Option.{none-some, IfSome_then}
@@ -15,8 +15,7 @@ use Rattle.ats_topology.specs.Port.{port_at, no_port}
 use Rattle.ats_topology.specs.Topology.{DeclaredTopology, IsTopology}
 use Rattle.ats_topology.specs.declared.link.TheConstants.{MAX_LINKS}
 use Rattle.ats_topology.proofs.Rules.{ports_are_lawful}
-use Rattle.ats_network.specs.Network.{DeclaredNetwork, IsNetwork}
-use Rattle.ats_network.proofs.SenderLemmas.{sender_keeps}
+use Rattle.ats_network.specs.Network.{DeclaredNetwork}
 use Rattle.ats_group.specs.Judge.{OnEligible}
 use Rattle.ats_group.specs.declared.verdict.Verdict.{Verdict}
 use Rattle.ats_group.specs.declared.verdict.Verdict.TheVariants.{Eligible, Late, Size}
@@ -24,137 +23,164 @@ use Rattle.ats_transmit.specs.Sending.{last_end}
 use Rattle.ats_transmit.specs.State.{PortState}
 use Rattle.ats_run_records.specs.Progress.{Progress, progress_at, with_ending}
 use Rattle.ats_trace.specs.declared.journey.Ending.TheVariants.{Sink}
-use Rattle.ats_trace.specs.declared.journey.HopRecord.{HopRecord}
 use Rattle.ats_events.specs.declared.moment.Moment.{Moment}
 use Rattle.ats_events.specs.declared.phase.TheConstants.{TRANSMISSION_END, ARRIVAL, ELIGIBLE}
 use Rattle.ats_events.specs.Order.{IsInRange, IsIrreflexive, IsTransitive, IsTimed}
 use Rattle.ats_trace.specs.declared.journey.Release.{Release}
+use Rattle.ats_trace.specs.declared.run.TheConstants.{MAX_HOPS}
 use Rattle.ats_engine_steps.specs.Bounds.{all_left, horizon}
 use Rattle.ats_engine_steps.specs.Course.{Course, stage_at, turn_at, place_at, path_of}
 use Rattle.ats_engine_steps.specs.Entries.{AreAwaited, IsReached, moment_of, arrival_moment, eligible_moment}
-use Rattle.ats_engine_steps.specs.Entries.{end_moment}
+use Rattle.ats_engine_steps.specs.Entries.{arrival_by, eligibility_by, end_by, end_moment}
 use Rattle.ats_engine_steps.specs.Entries.{selection_moment}
 use Rattle.ats_engine_steps.specs.Invariant.{Holds}
-use Rattle.ats_engine_steps.specs.Frames.{IsFrame, IsDueAt, IsSentUntil, Stands}
-use Rattle.ats_engine_steps.specs.Ports.{IsHeld, IsTurn, Sends, port_state_at}
-use Rattle.ats_engine_steps.specs.Steps.{Comes, BecomesEligible, Selects, Ends, Move, comes_by, verdict_now, selections}
-use Rattle.ats_engine_steps.specs.Steps.{selections_once_offered, turn_once_offered}
+use Rattle.ats_engine_steps.specs.Frames.{IsFrame, IsDueAt, IsSentUntil}
+use Rattle.ats_engine_steps.specs.Ports.{IsTurn, Sends, port_state_at}
+use Rattle.ats_engine_steps.specs.Steps.{Comes, BecomesEligible, Selects, Ends, Move, due_by, due_entries}
+use Rattle.ats_engine_steps.specs.Steps.{rows_next, selections, selections_once_offered, set_each, stage_by}
+use Rattle.ats_engine_steps.specs.Steps.{turn_once_offered}
 use Rattle.ats_engine_steps.specs.declared.event.Event.{Event}
 use Rattle.ats_engine_steps.specs.declared.event.Event.TheVariants.{End, Arrival, Eligibility, Selection}
 use Rattle.ats_engine_steps.specs.declared.stage.Stage.{Stage}
-use Rattle.ats_engine_steps.specs.declared.stage.Stage.TheVariants.{Coming, Due, Waiting, Sending, Over}
+use Rattle.ats_engine_steps.specs.declared.stage.Stage.TheVariants.{Apart, Coming, Due, Waiting, Sending, Over}
 use Rattle.ats_engine_steps.specs.declared.turn.Turn.{Turn}
 use Rattle.ats_engine_steps.specs.declared.turn.Turn.TheVariants.{Resting, Selecting, Occupied}
 use Rattle.ats_engine_proofs.specs.Next.{IsNext, IsAfter}
+use Rattle.ats_engine_proofs.proofs.Allowed.{may-come}
 use Rattle.ats_engine_proofs.proofs.Awaited.{Brings}
+use Rattle.ats_engine_proofs.proofs.Begun.{next-or-apart}
 use Rattle.ats_engine_proofs.proofs.Counting.{numbers_below}
-use Rattle.ats_engine_proofs.proofs.Fates.{entries_by, Steps, Turns, brings_one, brings_both}
-use Rattle.ats_engine_proofs.proofs.Placed.{stands-at_most}
-use Rattle.ats_engine_proofs.proofs.Ways.{stands-some}
+use Rattle.ats_engine_proofs.proofs.Fates.{entries_by, Enters, IsFreeRow, Steps, Turns, brings_one, brings_both}
+use Rattle.ats_engine_proofs.proofs.Fates.{brings_each, stage_due}
+use Rattle.ats_engine_proofs.proofs.FewRows.{rows-few}
+use Rattle.ats_engine_proofs.proofs.ListFacts.{pairs-map}
+use Rattle.ats_engine_proofs.proofs.Placed.{IsStanding, standing-place}
+use Rattle.ats_engine_proofs.proofs.Rows.{next-own, set_each-at, set_each-off}
+use Rattle.ats_engine_proofs.proofs.Travels.{selects-stage}
 use Rattle.ats_engine_proofs.proofs.Stages.{next-coming, next-due, next-sending, next-selecting, stage-within}
 use Rattle.ats_engine_proofs.proofs.Stages.{turn-within}
 use Rattle.ats_engine_proofs.proofs.Verdicts.{IsSoon, soon_now}
 use Rattle.ats_engine_proofs.proofs.Events.{phase_of, number_of, IsOf, is-of, same-event, is-within, place_by}
 use Rattle.ats_engine_proofs.proofs.Events.{place-below}
 use Rattle.ats_engine_proofs.proofs.Events.{event_at, at-place, number-below, phase-below}
-use Rattle.ats_engine_proofs.proofs.Follow.{awaited-by, next-of, arrival-here, eligibility-here, selection-here}
+use Rattle.ats_engine_proofs.proofs.Follow.{awaited-by, next-of, eligibility-here, selection-here}
 use Rattle.ats_engine_proofs.proofs.Follow.{end-here}
-use Rattle.ats_engine_proofs.proofs.Follow.{set-here, set-elsewhere, turned-here, turned-elsewhere, frame-within}
+use Rattle.ats_engine_proofs.proofs.Follow.{set-here, set-elsewhere, turned-here, turned-elsewhere, row-within}
 
--- a move brings the entry of the stage that it leads to
-comes-entries : (frame : ℕ) (p : Progress) (at : Ps) (v : Verdict)
-    → (comes_by frame p at v).entries ≡ entries_by frame (comes_by frame p at v).stage
-comes-entries frame p at (Eligible e) = refl
-comes-entries frame p at (Late e) = refl
-comes-entries frame p at Size = refl
-
--- so does one that is the same
-moved-entries : (frame : ℕ) (m n : Move) → m ≡ n → n.entries ≡ entries_by frame n.stage
-    → m.entries ≡ entries_by frame m.stage
-moved-entries frame m n same is = subst (λ (x : Move). x.entries ≡ entries_by frame x.stage) (sym same) is
+-- a move that is the same as one that brings the entry of its stage does so too
+moved-entries : (row : ℕ) (m n : Move) → m ≡ n → n.entries ≡ entries_by row n.stage
+    → m.entries ≡ entries_by row m.stage
+moved-entries row m n same is = subst (λ (x : Move). x.entries ≡ entries_by row x.stage) (sym same) is
 
 -- where a frame that was sent goes, by whether that was its last port
 abbrev pub left_by : ℕ → Progress → Progress → Ps → Bool → Move
-left_by frame over p at last =
+left_by row over p at last =
     if last then record { stage = Over; progress = over; entries = [] }
-    else record { stage = Coming at; progress = p; entries = (arrival_moment frame at, Arrival frame) ∷ [] }
+    else record { stage = Coming at; progress = p; entries = (arrival_moment row at, Arrival row) ∷ [] }
 
 -- it brings the entry of its stage
-leaves-entries : (frame : ℕ) (p q : Progress) (at : Ps) (last : Bool)
-    → (left_by frame p q at last).entries ≡ entries_by frame (left_by frame p q at last).stage
-leaves-entries frame p q at true = refl
-leaves-entries frame p q at false = refl
+leaves-entries : (row : ℕ) (p q : Progress) (at : Ps) (last : Bool)
+    → (left_by row p q at last).entries ≡ entries_by row (left_by row p q at last).stage
+leaves-entries row p q at true = refl
+leaves-entries row p q at false = refl
 
--- a frame that comes becomes eligible later, if it does
-comes-later : (now : Moment) (frame : ℕ) (p : Progress) (v : Verdict) → now.phase ≡ ARRIVAL
-    → OnEligible v (IsSoon now.at.0) → All (λ (x : Moment × Event). IsAfter now x.0) (comes_by frame p now.at v).entries
-comes-later now frame p (Eligible e) is soon =
-    All-cons (λ (x : Moment × Event). IsAfter now x.0) (eligible_moment frame e, Eligibility frame) []
-    (record { time = soon.0; phase = λ same. omega arith }) (All-nil (λ (x : Moment × Event). IsAfter now x.0))
-comes-later now frame p (Late e) is soon = All-nil (λ (x : Moment × Event). IsAfter now x.0)
-comes-later now frame p Size is soon = All-nil (λ (x : Moment × Event). IsAfter now x.0)
+-- a frame that comes becomes eligible later, if it does, along each leg
+due-later : (now : Moment) (rows : List ℕ) (v : Verdict) → now.phase ≡ ARRIVAL → OnEligible v (IsSoon now.at.0)
+    → All (λ (x : Moment × Event). IsAfter now x.0) (due_entries (due_by v) rows)
+due-later now rows (Eligible e) is soon =
+    All-map (λ (x : Moment × Event). IsAfter now x.0) (λ (n : ℕ). (eligible_moment n e, Eligibility n)) rows
+    (λ k d h. record { time = soon.0; phase = λ same. omega arith })
+due-later now rows (Late e) is soon = All-nil (λ (x : Moment × Event). IsAfter now x.0)
+due-later now rows Size is soon = All-nil (λ (x : Moment × Event). IsAfter now x.0)
 
 -- what a frame that comes brings is later
 pub comes-after : {T : Type 0} {key : T → ℕ → ℕ → ℕ} {wait : ℕ → ℕ → ℕ} {network : DeclaredNetwork}
-    {releases : List Release} {old new : Course T} {now : Moment} {frame : ℕ} {entries more : List (Moment × Event)}
-    → IsNext key wait network releases old now (Arrival frame) entries → Comes network old new now frame more
-    → All (λ (entry : Moment × Event). IsAfter now entry.0) more
-comes-after {T} {key} {wait} {network} {releases} {old} {new} {now} {frame} {entries} {more} next step =
-    let After : List (Moment × Event) → Type 0 = λ (es : List (Moment × Event)). All (λ (x : Moment × Event).
-    IsAfter now x.0) es in
-    let p : Progress = progress_at old.records frame in
-    subst After (sym (step.brings ∙ ap (λ (m : Move). m.entries) step.is))
-    (comes-later now frame p (verdict_now network old.groups p now.at.0) (next-of next).phase
-    (soon_now network old.groups p now.at.0 next.holds.rules next.holds.members))
+    {releases : List Release} {old new : Course T} {now : Moment} {row : ℕ} {entries : List (Moment × Event)}
+    {due : Option Ps} → IsNext key wait network releases old now (Arrival row) entries
+    → Comes network old new now row due
+    → All (λ (entry : Moment × Event). IsAfter now entry.0) (due_entries due (rows_next network old row))
+comes-after {T} {key} {wait} {network} {releases} {old} {new} {now} {row} {entries} {due} next step =
+    let rows : List ℕ = rows_next network old row in
+    let soon : OnEligible step.verdict (IsSoon now.at.0) =
+    subst (λ (v : Verdict). OnEligible v (IsSoon now.at.0)) (sym step.judged)
+    (soon_now network old.groups (progress_at old.records row) now.at.0 next.holds.rules next.holds.members) in
+    subst (λ (d : Option Ps). All (λ (x : Moment × Event). IsAfter now x.0) (due_entries d rows)) (sym step.brings)
+    (due-later now rows step.verdict (next-of next).phase soon)
+
+-- a frame that comes had no other event to happen, and neither had one that has not come to where a leg begins
+free-coming : {T : Type 0} (old : Course T) (row : ℕ) (at : Ps) → stage_at old row ≡ Coming at
+    → IsFreeRow (moment_of old) (Arrival row) row
+free-coming old row at was = record {
+  end = λ m is. absurd (none-some m (ap (end_by row) (sym was) ∙ is));
+  arrival = λ m is. refl;
+  eligibility = λ m is. absurd (none-some m (ap (eligibility_by row) (sym was) ∙ is));
+}
+
+free-apart : {T : Type 0} (old : Course T) (happened : Event) (row : ℕ) → stage_at old row ≡ Apart
+    → IsFreeRow (moment_of old) happened row
+free-apart old happened row was = record {
+  end = λ m is. absurd (none-some m (ap (end_by row) (sym was) ∙ is));
+  arrival = λ m is. absurd (none-some m (ap (arrival_by row) (sym was) ∙ is));
+  eligibility = λ m is. absurd (none-some m (ap (eligibility_by row) (sym was) ∙ is));
+}
+
+-- the stage that a verdict brings
+stage-by_due : (v : Verdict) → stage_by v ≡ stage_due (due_by v)
+stage-by_due (Eligible e) = refl
+stage-by_due (Late e) = refl
+stage-by_due Size = refl
+
+-- an arrival sets the rows of the legs to which the frame comes
+pub comes-enters : {T : Type 0} {key : T → ℕ → ℕ → ℕ} {wait : ℕ → ℕ → ℕ} {network : DeclaredNetwork}
+    {releases : List Release} {old new : Course T} {now : Moment} {row : ℕ} {entries : List (Moment × Event)}
+    {due : Option Ps} → IsNext key wait network releases old now (Arrival row) entries
+    → Comes network old new now row due → Enters old new row (rows_next network old row) due
+comes-enters {T} {key} {wait} {network} {releases} {old} {new} {now} {row} {entries} {due} next step =
+    let rows : List ℕ = rows_next network old row in
+    let may = may-come next in
+    let was : stage_at old row ≡ Coming now.at = next-coming next in
+    let even : length old.stages ≡ length old.records = next.holds.shape.stages in
+    let Free : ℕ → Type 0 = IsFreeRow (moment_of old) (Arrival row) in
+    let staged : new.stages ≡ set_each rows (λ (n : ℕ). stage_by step.verdict) old.stages =
+    ap (λ (c : Course T). c.stages) step.becomes
+    ∙ ap (λ (ns : List ℕ). set_each ns (λ (n : ℕ). stage_by step.verdict) old.stages) step.next in
+    record {
+      own = next-own network old row;
+      apart = may.apart;
+      free = λ k d h. (
+          let n : ℕ = get_or rows k d in
+          elim (next-or-apart next.holds row may.may_come.room.within k d h) as (λ _. Free n) [
+            | inl same ↦ subst Free (sym same) (free-coming old row now.at was)
+            | inr apart ↦ free-apart old (Arrival row) n apart.stage
+          ]);
+      becomes = λ k d h. (
+          let n : ℕ = get_or rows k d in
+          ap (λ (ss : List Stage). get_or ss n Over) staged
+          ∙ set_each-at rows (λ (n : ℕ). stage_by step.verdict) old.stages n Over
+          (All-contains_itself rows k d h) (omega (arith, (may.next k d h).within))
+          ∙ stage-by_due step.verdict ∙ ap stage_due (sym step.brings));
+      stages = λ n off. ap (λ (ss : List Stage). get_or ss n Over) staged
+          ∙ set_each-off rows (λ (n : ℕ). stage_by step.verdict) old.stages n Over off;
+      turns = λ port. ap (λ (c : Course T). turn_at c port) step.becomes;
+    }
 
 -- the events that are to happen after a frame came
 pub comes-awaited : {T : Type 0} {key : T → ℕ → ℕ → ℕ} {wait : ℕ → ℕ → ℕ} {network : DeclaredNetwork}
-    {releases : List Release} {old new : Course T} {now : Moment} {frame : ℕ} {entries more : List (Moment × Event)}
-    → IsNext key wait network releases old now (Arrival frame) entries → Comes network old new now frame more
-    → AreAwaited new (more ++ entries)
-comes-awaited {T} {key} {wait} {network} {releases} {old} {new} {now} {frame} {entries} {more} next step =
-    let was : stage_at old frame ≡ Coming now.at = next-coming next in
-    let staged : new.stages ≡ set old.stages frame step.move.stage = ap (λ (c : Course T). c.stages) step.becomes in
-    let p : Progress = progress_at old.records frame in
-    let own : more ≡ entries_by frame step.move.stage = step.brings
-    ∙ moved-entries frame step.move _ step.is
-    (comes-entries frame p now.at (verdict_now network old.groups p now.at.0)) in
-    let steps : Steps old new (Arrival frame) frame 0 (Coming now.at) step.move.stage = record {
-      here = arrival-here frame 0;
-      stages = set-elsewhere old new frame step.move.stage staged;
-      turns = λ port other. ap (λ (c : Course T). turn_at c port) step.becomes;
-      was = was;
-      becomes = set-here new old.stages frame step.move.stage
-          (frame-within old frame (Coming now.at) was (λ e. cc)) staged;
-      end = λ m is. absurd (none-some m is);
-      arrival = λ m is. refl;
-      eligibility = λ m is. absurd (none-some m is);
-    } in
-    awaited-by new more next (ap (λ (c : Course T). c.last) step.becomes)
-    (subst (Brings (moment_of old) (moment_of new) (Arrival frame)) (sym own)
-    (brings_one old new (Arrival frame) frame 0 (Coming now.at) step.move.stage steps (λ e. cc)
-    (ap (λ (c : Course T). turn_at c 0) step.becomes)))
-    (comes-after next step)
-
--- the port of a frame's last hop record is one of the network
-place-within : {T : Type 0} (network : DeclaredNetwork) (course : Course T) (frame : ℕ) (s : Stage)
-    (Last : HopRecord → Type 0) → IsNetwork network → IsFrame network (progress_at course.records frame) s
-    → Stands Last (path_of network (progress_at course.records frame)) (progress_at course.records frame).hops
-    → place_at network course frame < length network.topology.ports
-place-within network course frame s Last rules is stands =
-    let p : Progress = progress_at course.records frame in
-    let some : 0 < length p.hops = stands-some Last (path_of network p) p.hops stands in
-    let most : length p.hops ≤ length (path_of network p) = stands-at_most Last (path_of network p) p.hops stands in
-    (sender_keeps network p.release.sender rules is.sender).ports (length p.hops - 1) 0 (omega arith)
+    {releases : List Release} {old new : Course T} {now : Moment} {row : ℕ} {entries : List (Moment × Event)}
+    {due : Option Ps} → IsNext key wait network releases old now (Arrival row) entries
+    → Comes network old new now row due → AreAwaited new (due_entries due (rows_next network old row) ++ entries)
+comes-awaited {T} {key} {wait} {network} {releases} {old} {new} {now} {row} {entries} {due} next step =
+    awaited-by new (due_entries due (rows_next network old row)) next (ap (λ (c : Course T). c.last) step.becomes)
+    (brings_each (comes-enters next step)) (comes-after next step)
 
 -- what is kept of a frame at this stage
-pub frame-at : {T : Type 0} {key : T → ℕ → ℕ → ℕ} {wait : ℕ → ℕ → ℕ} {network : DeclaredNetwork}
-    {releases : List Release} {course : Course T} {entries : List (Moment × Event)} (frame : ℕ) (s : Stage)
-    → Holds key wait network releases course entries → stage_at course frame ≡ s → s ≢ Over
-    → IsFrame network (progress_at course.records frame) s
-frame-at {T} {key} {wait} {network} {releases} {course} frame s holds was other =
-    subst (IsFrame network (progress_at course.records frame)) was
-    (holds.frames frame (stage-within course frame s holds.shape.stages was other))
+pub row-at : {T : Type 0} {key : T → ℕ → ℕ → ℕ} {wait : ℕ → ℕ → ℕ} {network : DeclaredNetwork}
+    {releases : List Release} {course : Course T} {entries : List (Moment × Event)} (row : ℕ) (s : Stage)
+    → Holds key wait network releases course entries → stage_at course row ≡ s → s ≢ Over
+    → IsFrame network course (progress_at course.records row) s
+row-at {T} {key} {wait} {network} {releases} {course} row s holds was other =
+    subst (IsFrame network course (progress_at course.records row)) was
+    (holds.frames row (stage-within course row s holds.shape.stages was other))
 
 -- a selection that a frame brings which becomes eligible is later
 offered-later : (now : Moment) (port : ℕ) (t : Turn) → now.phase ≡ ELIGIBLE
@@ -167,52 +193,53 @@ offered-later now port Occupied is = All-nil (λ (x : Moment × Event). IsAfter 
 
 -- what a frame that becomes eligible brings is later
 pub offered-after : {T : Type 0} {key : T → ℕ → ℕ → ℕ} {wait : ℕ → ℕ → ℕ} {network : DeclaredNetwork}
-    {releases : List Release} {old new : Course T} {now : Moment} {frame : ℕ} {entries more : List (Moment × Event)}
-    → IsNext key wait network releases old now (Eligibility frame) entries
-    → BecomesEligible key network old new now frame more → All (λ (entry : Moment × Event). IsAfter now entry.0) more
-offered-after {T} {key} {wait} {network} {releases} {old} {new} {now} {frame} {entries} {more} next step =
+    {releases : List Release} {old new : Course T} {now : Moment} {row : ℕ} {entries more : List (Moment × Event)}
+    → IsNext key wait network releases old now (Eligibility row) entries
+    → BecomesEligible key network old new now row more → All (λ (entry : Moment × Event). IsAfter now entry.0) more
+offered-after {T} {key} {wait} {network} {releases} {old} {new} {now} {row} {entries} {more} next step =
     subst (λ (es : List (Moment × Event)). All (λ (x : Moment × Event). IsAfter now x.0) es) (sym step.brings)
     (offered-later now step.port (turn_at old step.port) (next-of next).phase)
 
 -- what a frame that becomes eligible brings, by what its port does next
-offered-brings : {T : Type 0} (old new : Course T) (now : Moment) (frame port : ℕ) (t : Turn)
-    → Steps old new (Eligibility frame) frame port (Due now.at) Waiting → turn_at old port ≡ t
+offered-brings : {T : Type 0} (old new : Course T) (now : Moment) (row port : ℕ) (t : Turn)
+    → Steps old new (Eligibility row) row port (Due now.at) Waiting → turn_at old port ≡ t
     → turn_at new port ≡ turn_once_offered t now.at
-    → Brings (moment_of old) (moment_of new) (Eligibility frame) (selections_once_offered port t now.at)
-offered-brings old new now frame port Resting steps was becomes =
-    brings_both old new (Eligibility frame) frame port (Due now.at) Waiting Resting (Selecting now.at) steps
+    → Brings (moment_of old) (moment_of new) (Eligibility row) (selections_once_offered port t now.at)
+offered-brings old new now row port Resting steps was becomes =
+    brings_both old new (Eligibility row) row port (Due now.at) Waiting Resting (Selecting now.at) steps
     (record { was = was; becomes = becomes; selection = λ m is. absurd (none-some m is) })
-offered-brings old new now frame port (Selecting at) steps was becomes =
-    brings_one old new (Eligibility frame) frame port (Due now.at) Waiting steps (λ e. cc) (becomes ∙ sym was)
-offered-brings old new now frame port Occupied steps was becomes =
-    brings_one old new (Eligibility frame) frame port (Due now.at) Waiting steps (λ e. cc) (becomes ∙ sym was)
+offered-brings old new now row port (Selecting at) steps was becomes =
+    brings_one old new (Eligibility row) row port (Due now.at) Waiting steps (λ e. cc) (becomes ∙ sym was)
+offered-brings old new now row port Occupied steps was becomes =
+    brings_one old new (Eligibility row) row port (Due now.at) Waiting steps (λ e. cc) (becomes ∙ sym was)
 
 -- the events that are to happen after a frame became eligible
 pub offered-awaited : {T : Type 0} {key : T → ℕ → ℕ → ℕ} {wait : ℕ → ℕ → ℕ} {network : DeclaredNetwork}
-    {releases : List Release} {old new : Course T} {now : Moment} {frame : ℕ} {entries more : List (Moment × Event)}
-    → IsNext key wait network releases old now (Eligibility frame) entries
-    → BecomesEligible key network old new now frame more → AreAwaited new (more ++ entries)
-offered-awaited {T} {key} {wait} {network} {releases} {old} {new} {now} {frame} {entries} {more} next step =
-    let was : stage_at old frame ≡ Due now.at = next-due next in
-    let is = frame-at frame (Due now.at) next.holds was (λ e. cc) in
+    {releases : List Release} {old new : Course T} {now : Moment} {row : ℕ} {entries more : List (Moment × Event)}
+    → IsNext key wait network releases old now (Eligibility row) entries
+    → BecomesEligible key network old new now row more → AreAwaited new (more ++ entries)
+offered-awaited {T} {key} {wait} {network} {releases} {old} {new} {now} {row} {entries} {more} next step =
+    let was : stage_at old row ≡ Due now.at = next-due next in
+    let is = row-at row (Due now.at) next.holds was (λ e. cc) in
     let turn : Turn = turn_once_offered (turn_at old step.port) now.at in
-    let staged : new.stages ≡ set old.stages frame Waiting = ap (λ (c : Course T). c.stages) step.becomes in
+    let staged : new.stages ≡ set old.stages row Waiting = ap (λ (c : Course T). c.stages) step.becomes in
     let turned : new.turns ≡ set old.turns step.port turn = ap (λ (c : Course T). c.turns) step.becomes in
-    let place : place_at network old frame < length network.topology.ports =
-    place-within network old frame (Due now.at) (IsDueAt now.at) next.holds.rules is is.stands.here.0 in
-    let steps : Steps old new (Eligibility frame) frame step.port (Due now.at) Waiting = record {
-      here = eligibility-here frame step.port;
-      stages = set-elsewhere old new frame Waiting staged;
+    let here : IsStanding network (IsDueAt now.at) (progress_at old.records row) =
+    record { rules = next.holds.rules; sender = is.sender; leg = is.leg; stands = is.stands.here.0 } in
+    let place : place_at network old row < length network.topology.ports = standing-place here in
+    let steps : Steps old new (Eligibility row) row step.port (Due now.at) Waiting = record {
+      here = eligibility-here row step.port;
+      stages = set-elsewhere old new row Waiting staged;
       turns = turned-elsewhere old new step.port turn turned;
       was = was;
-      becomes = set-here new old.stages frame Waiting (frame-within old frame (Due now.at) was (λ e. cc)) staged;
+      becomes = set-here new old.stages row Waiting (row-within old row (Due now.at) was (λ e. cc)) staged;
       end = λ m is. absurd (none-some m is);
       arrival = λ m is. absurd (none-some m is);
       eligibility = λ m is. refl;
     } in
     awaited-by new more next (ap (λ (c : Course T). c.last) step.becomes)
-    (subst (Brings (moment_of old) (moment_of new) (Eligibility frame)) (sym step.brings)
-    (offered-brings old new now frame step.port (turn_at old step.port) steps refl
+    (subst (Brings (moment_of old) (moment_of new) (Eligibility row)) (sym step.brings)
+    (offered-brings old new now row step.port (turn_at old step.port) steps refl
     (turned-here new old.turns step.port turn (omega (arith, next.holds.shape.turns, step.place)) turned)))
     (offered-after next step)
 
@@ -238,7 +265,8 @@ selecting-within {T} {key} {wait} {network} {releases} {course} {now} {port} nex
 -- when a transmission that starts now ends
 pub selects-end : {T : Type 0} {key : T → ℕ → ℕ → ℕ} {wait : ℕ → ℕ → ℕ} {network : DeclaredNetwork}
     {releases : List Release} {old new : Course T} {now : Moment} {port : ℕ} {entries more : List (Moment × Event)}
-    → IsNext key wait network releases old now (Selection port) entries → (step : Selects key old new now port more)
+    → IsNext key wait network releases old now (Selection port) entries
+    → (step : Selects key network old new now port more)
     → step.end.0 ≡ now.at.0 + (port_at network.topology.ports port).ps_per_bit * bits_of step.starts.started.octets
 selects-end {T} {key} {wait} {network} {releases} {old} {new} {now} {port} next step =
     step.starts.ends ∙ ap (λ (ps : ℕ). now.at.0 + ps * bits_of step.starts.started.octets)
@@ -247,7 +275,7 @@ selects-end {T} {key} {wait} {network} {releases} {old} {new} {now} {port} next 
 -- the end of a transmission that starts is later
 pub selects-after : {T : Type 0} {key : T → ℕ → ℕ → ℕ} {wait : ℕ → ℕ → ℕ} {network : DeclaredNetwork}
     {releases : List Release} {old new : Course T} {now : Moment} {port : ℕ} {entries more : List (Moment × Event)}
-    → IsNext key wait network releases old now (Selection port) entries → Selects key old new now port more
+    → IsNext key wait network releases old now (Selection port) entries → Selects key network old new now port more
     → All (λ (entry : Moment × Event). IsAfter now entry.0) more
 selects-after {T} {key} {wait} {network} {releases} {old} {new} {now} {port} {entries} {more} next step =
     let takes = sending-takes network.topology port step.starts.started.octets next.holds.rules.topology
@@ -255,30 +283,18 @@ selects-after {T} {key} {wait} {network} {releases} {old} {new} {now} {port} {en
     let ends = selects-end next step in
     let later : now.at.0 < step.end.0 = omega arith in
     subst (λ (es : List (Moment × Event)). All (λ (x : Moment × Event). IsAfter now x.0) es) (sym step.brings)
-    (All-cons (λ (x : Moment × Event). IsAfter now x.0) (end_moment step.frame step.end, End step.frame) []
+    (All-cons (λ (x : Moment × Event). IsAfter now x.0) (end_moment step.row step.end, End step.row) []
     (record { time = omega arith; phase = λ same. absurd (omega arith) })
     (All-nil (λ (x : Moment × Event). IsAfter now x.0)))
-
--- the frame that starts was held
-pub selects-held : {T : Type 0} {key : T → ℕ → ℕ → ℕ} {wait : ℕ → ℕ → ℕ} {network : DeclaredNetwork}
-    {releases : List Release} {old new : Course T} {now : Moment} {port : ℕ} {entries more : List (Moment × Event)}
-    → IsNext key wait network releases old now (Selection port) entries → (step : Selects key old new now port more)
-    → IsHeld network old port step.starts.started
-selects-held {T} {key} {wait} {network} {releases} {old} {new} {now} {port} next step =
-    All-head (IsHeld network old port) step.starts.started step.standing.held
-    (All-permutation (IsHeld network old port) (port_state_at old port).held
-    (step.starts.started ∷ step.standing.held) step.starts.held
-    (next.holds.ports port (selecting-within next)).holding.held)
 
 -- the events that are to happen after a selection
 pub selects-awaited : {T : Type 0} {key : T → ℕ → ℕ → ℕ} {wait : ℕ → ℕ → ℕ} {network : DeclaredNetwork}
     {releases : List Release} {old new : Course T} {now : Moment} {port : ℕ} {entries more : List (Moment × Event)}
-    → IsNext key wait network releases old now (Selection port) entries → Selects key old new now port more
+    → IsNext key wait network releases old now (Selection port) entries → Selects key network old new now port more
     → AreAwaited new (more ++ entries)
 selects-awaited {T} {key} {wait} {network} {releases} {old} {new} {now} {port} {entries} {more} next step =
-    let f : ℕ = step.frame in
-    let was : stage_at old f ≡ Waiting =
-    subst (λ (g : ℕ). stage_at old g ≡ Waiting) step.starts.named (selects-held next step).stage in
+    let f : ℕ = step.row in
+    let was : stage_at old f ≡ Waiting = selects-stage next step in
     let staged : new.stages ≡ set old.stages f (Sending step.end) = ap (λ (c : Course T). c.stages) step.becomes in
     let turned : new.turns ≡ set old.turns port Occupied = ap (λ (c : Course T). c.turns) step.becomes in
     let steps : Steps old new (Selection port) f port Waiting (Sending step.end) = record {
@@ -286,7 +302,7 @@ selects-awaited {T} {key} {wait} {network} {releases} {old} {new} {now} {port} {
       stages = set-elsewhere old new f (Sending step.end) staged;
       turns = turned-elsewhere old new port Occupied turned;
       was = was;
-      becomes = set-here new old.stages f (Sending step.end) (frame-within old f Waiting was (λ e. cc)) staged;
+      becomes = set-here new old.stages f (Sending step.end) (row-within old f Waiting was (λ e. cc)) staged;
       end = λ m is. absurd (none-some m is);
       arrival = λ m is. absurd (none-some m is);
       eligibility = λ m is. absurd (none-some m is);
@@ -304,22 +320,24 @@ selects-awaited {T} {key} {wait} {network} {releases} {old} {new} {now} {port} {
 
 -- the frame whose transmission ends next is sent by the port of its last hop record
 pub ending-port : {T : Type 0} {key : T → ℕ → ℕ → ℕ} {wait : ℕ → ℕ → ℕ} {network : DeclaredNetwork}
-    {releases : List Release} {course : Course T} {now : Moment} {frame : ℕ} {entries : List (Moment × Event)}
-    → IsNext key wait network releases course now (End frame) entries
-    → place_at network course frame < length network.topology.ports
-ending-port {T} {key} {wait} {network} {releases} {course} {now} {frame} next =
-    let is = frame-at frame (Sending now.at) next.holds (next-sending next) (λ e. cc) in
-    place-within network course frame (Sending now.at) (IsSentUntil now.at) next.holds.rules is is.stands.here.0
+    {releases : List Release} {course : Course T} {now : Moment} {row : ℕ} {entries : List (Moment × Event)}
+    → IsNext key wait network releases course now (End row) entries
+    → place_at network course row < length network.topology.ports
+ending-port {T} {key} {wait} {network} {releases} {course} {now} {row} next =
+    let is = row-at row (Sending now.at) next.holds (next-sending next) (λ e. cc) in
+    let here : IsStanding network (IsSentUntil now.at) (progress_at course.records row) =
+    record { rules = next.holds.rules; sender = is.sender; leg = is.leg; stands = is.stands.here.0 } in
+    standing-place here
 
 -- which sends it until now
 pub ending-sends : {T : Type 0} {key : T → ℕ → ℕ → ℕ} {wait : ℕ → ℕ → ℕ} {network : DeclaredNetwork}
-    {releases : List Release} {course : Course T} {now : Moment} {frame : ℕ} {entries : List (Moment × Event)}
-    → IsNext key wait network releases course now (End frame) entries
-    → Sends (port_state_at course (place_at network course frame)) frame now.at.0
-ending-sends {T} {key} {wait} {network} {releases} {course} {now} {frame} next =
+    {releases : List Release} {course : Course T} {now : Moment} {row : ℕ} {entries : List (Moment × Event)}
+    → IsNext key wait network releases course now (End row) entries
+    → Sends (port_state_at course (place_at network course row)) (progress_at course.records row).frame now.at.0
+ending-sends {T} {key} {wait} {network} {releases} {course} {now} {row} next =
     let was = next-sending next in
-    (next.holds.ports (place_at network course frame) (ending-port next)).sends.sending frame now.at
-    (stage-within course frame (Sending now.at) next.holds.shape.stages was (λ e. cc)) was refl
+    (next.holds.ports (place_at network course row) (ending-port next)).sends.sending row now.at
+    (stage-within course row (Sending now.at) next.holds.shape.stages was (λ e. cc)) was refl
 
 -- a port that sends goes on with it
 occupied-by : {T : Type 0} (standing : PortState T) (turn : Turn) → standing.is_sending ≡ true → IsTurn standing turn
@@ -329,11 +347,11 @@ occupied-by standing (Selecting at) sending is = absurd (true≢false (sym sendi
 occupied-by standing Occupied sending is = refl
 
 -- what is to happen after the end of a transmission does so later
-leaves-later : (now : Moment) (frame : ℕ) (p q : Progress) (at : Ps) (last : Bool) → now.phase ≡ TRANSMISSION_END
-    → now.at.0 ≤ at.0 → All (λ (x : Moment × Event). IsAfter now x.0) (left_by frame p q at last).entries
-leaves-later now frame p q at true is later = All-nil (λ (x : Moment × Event). IsAfter now x.0)
-leaves-later now frame p q at false is later =
-    All-cons (λ (x : Moment × Event). IsAfter now x.0) (arrival_moment frame at, Arrival frame) []
+leaves-later : (now : Moment) (row : ℕ) (p q : Progress) (at : Ps) (last : Bool) → now.phase ≡ TRANSMISSION_END
+    → now.at.0 ≤ at.0 → All (λ (x : Moment × Event). IsAfter now x.0) (left_by row p q at last).entries
+leaves-later now row p q at true is later = All-nil (λ (x : Moment × Event). IsAfter now x.0)
+leaves-later now row p q at false is later =
+    All-cons (λ (x : Moment × Event). IsAfter now x.0) (arrival_moment row at, Arrival row) []
     (record { time = later; phase = λ same. omega arith }) (All-nil (λ (x : Moment × Event). IsAfter now x.0))
 
 -- and so does the next selection of the port
@@ -349,12 +367,12 @@ selections-later now port standing Occupied is ended next = All-nil (λ (x : Mom
 
 -- what the end of a transmission brings is later
 pub ends-after : {T : Type 0} {key : T → ℕ → ℕ → ℕ} {wait : ℕ → ℕ → ℕ} {network : DeclaredNetwork}
-    {releases : List Release} {old new : Course T} {now : Moment} {frame : ℕ} {entries more : List (Moment × Event)}
-    → IsNext key wait network releases old now (End frame) entries → Ends key wait network old new now frame more
+    {releases : List Release} {old new : Course T} {now : Moment} {row : ℕ} {entries more : List (Moment × Event)}
+    → IsNext key wait network releases old now (End row) entries → Ends key wait network old new now row more
     → All (λ (entry : Moment × Event). IsAfter now entry.0) more
-ends-after {T} {key} {wait} {network} {releases} {old} {new} {now} {frame} {entries} {more} next step =
+ends-after {T} {key} {wait} {network} {releases} {old} {new} {now} {row} {entries} {more} next step =
     let After : Moment × Event → Type 0 = λ (x : Moment × Event). IsAfter now x.0 in
-    let p : Progress = progress_at old.records frame in
+    let p : Progress = progress_at old.records row in
     let phase : now.phase ≡ TRANSMISSION_END = (next-of next).phase in
     let arrives = step.arrives in
     let later : now.at.0 ≤ step.arrival.0 = omega arith in
@@ -364,48 +382,48 @@ ends-after {T} {key} {wait} {network} {releases} {old} {new} {now} {frame} {entr
     subst (λ (es : List (Moment × Event)). All After es) (sym step.brings)
     (All-append After step.move.entries (selections step.port step.turn)
     (subst (λ (m : Move). All After m.entries) (sym step.is)
-    (leaves-later now frame (with_ending p (Sink step.arrival)) p step.arrival
+    (leaves-later now row (with_ending p (Sink step.arrival)) p step.arrival
     (length p.hops == length (path_of network p)) phase later))
     (selections-later now step.port step.standing step.turn phase same step.next))
 
 -- the events that are to happen after the end of a transmission
 pub ends-awaited : {T : Type 0} {key : T → ℕ → ℕ → ℕ} {wait : ℕ → ℕ → ℕ} {network : DeclaredNetwork}
-    {releases : List Release} {old new : Course T} {now : Moment} {frame : ℕ} {entries more : List (Moment × Event)}
-    → IsNext key wait network releases old now (End frame) entries → Ends key wait network old new now frame more
+    {releases : List Release} {old new : Course T} {now : Moment} {row : ℕ} {entries more : List (Moment × Event)}
+    → IsNext key wait network releases old now (End row) entries → Ends key wait network old new now row more
     → AreAwaited new (more ++ entries)
-ends-awaited {T} {key} {wait} {network} {releases} {old} {new} {now} {frame} {entries} {more} next step =
-    let p : Progress = progress_at old.records frame in
+ends-awaited {T} {key} {wait} {network} {releases} {old} {new} {now} {row} {entries} {more} next step =
+    let p : Progress = progress_at old.records row in
     let t : Stage = step.move.stage in
-    let was : stage_at old frame ≡ Sending now.at = next-sending next in
-    let staged : new.stages ≡ set old.stages frame t = ap (λ (c : Course T). c.stages) step.becomes in
+    let was : stage_at old row ≡ Sending now.at = next-sending next in
+    let staged : new.stages ≡ set old.stages row t = ap (λ (c : Course T). c.stages) step.becomes in
     let turned : new.turns ≡ set old.turns step.port step.turn = ap (λ (c : Course T). c.turns) step.becomes in
-    let place : place_at network old frame < length network.topology.ports = ending-port next in
+    let place : place_at network old row < length network.topology.ports = ending-port next in
     let occupied : turn_at old step.port ≡ Occupied = subst (λ (port : ℕ). turn_at old port ≡ Occupied) step.place
-    (occupied-by (port_state_at old (place_at network old frame)) (turn_at old (place_at network old frame))
-    (ending-sends next).sending (next.holds.ports (place_at network old frame) place).turn) in
-    let own : step.move.entries ≡ entries_by frame t =
-    moved-entries frame step.move _ step.is (leaves-entries frame (with_ending p (Sink step.arrival)) p step.arrival
+    (occupied-by (port_state_at old (place_at network old row)) (turn_at old (place_at network old row))
+    (ending-sends next).sending (next.holds.ports (place_at network old row) place).turn) in
+    let own : step.move.entries ≡ entries_by row t =
+    moved-entries row step.move _ step.is (leaves-entries row (with_ending p (Sink step.arrival)) p step.arrival
     (length p.hops == length (path_of network p))) in
-    let steps : Steps old new (End frame) frame step.port (Sending now.at) t = record {
-      here = end-here frame step.port;
-      stages = set-elsewhere old new frame t staged;
+    let steps : Steps old new (End row) row step.port (Sending now.at) t = record {
+      here = end-here row step.port;
+      stages = set-elsewhere old new row t staged;
       turns = turned-elsewhere old new step.port step.turn turned;
       was = was;
-      becomes = set-here new old.stages frame t (frame-within old frame (Sending now.at) was (λ e. cc)) staged;
+      becomes = set-here new old.stages row t (row-within old row (Sending now.at) was (λ e. cc)) staged;
       end = λ m is. refl;
       arrival = λ m is. absurd (none-some m is);
       eligibility = λ m is. absurd (none-some m is);
     } in
-    let turns : Turns old new (End frame) step.port Occupied step.turn = record {
+    let turns : Turns old new (End row) step.port Occupied step.turn = record {
       was = occupied;
       becomes = turned-here new old.turns step.port step.turn
           (omega (arith, next.holds.shape.turns, step.place)) turned;
       selection = λ m is. absurd (none-some m is);
     } in
     awaited-by new more next (ap (λ (c : Course T). c.last) step.becomes)
-    (subst (Brings (moment_of old) (moment_of new) (End frame))
+    (subst (Brings (moment_of old) (moment_of new) (End row))
     (sym (step.brings ∙ ap (λ (es : List (Moment × Event)). es ++ selections step.port step.turn) own))
-    (brings_both old new (End frame) frame step.port (Sending now.at) t Occupied step.turn steps turns))
+    (brings_both old new (End row) row step.port (Sending now.at) t Occupied step.turn steps turns))
     (ends-after next step)
 
 -- what holds does not depend on the order of the entries
@@ -424,7 +442,6 @@ holds-permuted {T} {key} {wait} {network} {releases} {course} {entries} {other} 
     } in
     record {
       rules = holds.rules;
-      one_listener = holds.one_listener;
       shape = holds.shape;
       frames = holds.frames;
       awaited = own;
@@ -440,27 +457,16 @@ holds-permuted {T} {key} {wait} {network} {releases} {course} {entries} {other} 
       };
     }
 
--- what holds of the images of each two elements holds of each two images
-pairs-map : {X : Type 0} (R : ℕ → ℕ → Type 0) (f : X → ℕ) (xs : List X) → AllPairs (λ (a b : X). R (f a) (f b)) xs
-    → AllPairs R (map f xs)
-pairs-map R f [] pairs i j d before within = absurd (omega arith)
-pairs-map {X} R f (x ∷ xs) pairs i j d before within =
-    let long = length-map (x ∷ xs) f in
-    let first = get_or-map f (x ∷ xs) i x d (omega (arith, long)) in
-    let second = get_or-map f (x ∷ xs) j x d (omega (arith, long)) in
-    subst (λ (a : ℕ). R a (get_or (map f (x ∷ xs)) j d)) (sym first)
-    (subst (λ (b : ℕ). R (f (get_or (x ∷ xs) i x)) b) (sym second) (pairs i j x before (omega (arith, long))))
-
--- there is one entry for each frame and each port at most
+-- there is one entry for each leg and each port at most
 pub room-for-all : {T : Type 0} {key : T → ℕ → ℕ → ℕ} {wait : ℕ → ℕ → ℕ} {network : DeclaredNetwork}
     {releases : List Release} {course : Course T} {entries : List (Moment × Event)}
     → Holds key wait network releases course entries
-    → length entries ≤ length releases + length network.topology.ports
+    → length entries ≤ length course.records + length network.topology.ports
 room-for-all {T} {key} {wait} {network} {releases} {course} {entries} holds =
     let Is : Moment × Event → Type 0 = λ (x : Moment × Event). moment_of course x.1 ≡ Some x.0 in
-    let frames : ℕ = length course.stages in
-    let all : ℕ = frames + length course.turns in
-    let place : Moment × Event → ℕ = λ (x : Moment × Event). place_by frames x.1 in
+    let rows : ℕ = length course.stages in
+    let all : ℕ = rows + length course.turns in
+    let place : Moment × Event → ℕ = λ (x : Moment × Event). place_by rows x.1 in
     let each : All Is entries = holds.awaited.each in
     let own : (x : Moment × Event) → Is x → event_at course (place x) ≡ x.1 =
     λ (x : Moment × Event) is. at-place course x.1 x.0 is (is-within course x.1 x.0 is) in
@@ -479,8 +485,6 @@ room-for-all {T} {key} {wait} {network} {releases} {course} {entries} holds =
     omega (
       arith,
       length-map entries place,
-      length-map course.records (λ (p : Progress). p.release),
-      ap (λ (rs : List Release). length rs) holds.shape.released,
       holds.shape.stages,
       holds.shape.turns,
     )
@@ -517,10 +521,12 @@ moments-in-range {T} {key} {wait} {network} {releases} {course} {entries} holds 
       (ports_are_lawful network.topology holds.rules.topology).two_each,
       holds.rules.topology.few_links,
     ) in
+    let rows : length course.records ≤ MAX_HOPS =
+    rows-few holds.rules holds.shape (λ r within. (holds.frames r within).sender) in
     record {
       at = omega arith;
       phase = omega (arith, own.phase);
-      id = omega (arith, own.number, holds.shape.few, holds.shape.stages, holds.shape.turns);
+      id = omega (arith, own.number, rows, holds.shape.stages, holds.shape.turns);
     }
 
 -- a moment that is before another one by a lawful order is not after it by time and phase

@@ -13,21 +13,21 @@ use Rattle.ats_engine_steps.specs.Entries.{eligible_moment, end_moment, selectio
 use Rattle.ats_engine_steps.specs.declared.event.Event.{Event}
 use Rattle.ats_engine_steps.specs.declared.event.Event.TheVariants.{End, Arrival, Eligibility, Selection}
 use Rattle.ats_engine_steps.specs.declared.stage.Stage.{Stage}
-use Rattle.ats_engine_steps.specs.declared.stage.Stage.TheVariants.{Coming, Due, Waiting, Sending, Over}
+use Rattle.ats_engine_steps.specs.declared.stage.Stage.TheVariants.{Apart, Coming, Due, Waiting, Sending, Over}
 use Rattle.ats_engine_steps.specs.declared.turn.Turn.{Turn}
 use Rattle.ats_engine_steps.specs.declared.turn.Turn.TheVariants.{Resting, Selecting, Occupied}
 
 -- the phase of an event's moment, and its number
 abbrev pub phase_of : Event → ℕ
-phase_of (End frame) = TRANSMISSION_END
-phase_of (Arrival frame) = ARRIVAL
-phase_of (Eligibility frame) = ELIGIBLE
+phase_of (End row) = TRANSMISSION_END
+phase_of (Arrival row) = ARRIVAL
+phase_of (Eligibility row) = ELIGIBLE
 phase_of (Selection port) = SELECTION
 
 abbrev pub number_of : Event → ℕ
-number_of (End frame) = frame
-number_of (Arrival frame) = frame
-number_of (Eligibility frame) = frame
+number_of (End row) = row
+number_of (Arrival row) = row
+number_of (Eligibility row) = row
 number_of (Selection port) = port
 
 -- a moment has the phase and the number of its event
@@ -40,33 +40,36 @@ same-of : (event : Event) (own moment : Moment) → IsOf event own → own ≡ m
 same-of event own moment is same = subst (IsOf event) same is
 
 -- those that a frame's stage or a port's turn gives have
-of-end : (frame : ℕ) (stage : Stage) (moment : Moment) → end_by frame stage ≡ Some moment → IsOf (End frame) moment
-of-end frame (Sending until) moment is =
-    same-of (End frame) (end_moment frame until) moment (record { phase = refl; number = refl }) (same_Some _ moment is)
-of-end frame (Coming at) moment is = absurd (none-some moment is)
-of-end frame (Due at) moment is = absurd (none-some moment is)
-of-end frame Waiting moment is = absurd (none-some moment is)
-of-end frame Over moment is = absurd (none-some moment is)
+of-end : (row : ℕ) (stage : Stage) (moment : Moment) → end_by row stage ≡ Some moment → IsOf (End row) moment
+of-end row (Sending until) moment is =
+    same-of (End row) (end_moment row until) moment (record { phase = refl; number = refl }) (same_Some _ moment is)
+of-end row (Coming at) moment is = absurd (none-some moment is)
+of-end row (Due at) moment is = absurd (none-some moment is)
+of-end row Apart moment is = absurd (none-some moment is)
+of-end row Waiting moment is = absurd (none-some moment is)
+of-end row Over moment is = absurd (none-some moment is)
 
-of-arrival : (frame : ℕ) (stage : Stage) (moment : Moment) → arrival_by frame stage ≡ Some moment
-    → IsOf (Arrival frame) moment
-of-arrival frame (Coming at) moment is =
-    same-of (Arrival frame) (arrival_moment frame at) moment (record { phase = refl; number = refl })
+of-arrival : (row : ℕ) (stage : Stage) (moment : Moment) → arrival_by row stage ≡ Some moment
+    → IsOf (Arrival row) moment
+of-arrival row (Coming at) moment is =
+    same-of (Arrival row) (arrival_moment row at) moment (record { phase = refl; number = refl })
     (same_Some _ moment is)
-of-arrival frame (Due at) moment is = absurd (none-some moment is)
-of-arrival frame Waiting moment is = absurd (none-some moment is)
-of-arrival frame (Sending until) moment is = absurd (none-some moment is)
-of-arrival frame Over moment is = absurd (none-some moment is)
+of-arrival row (Due at) moment is = absurd (none-some moment is)
+of-arrival row Apart moment is = absurd (none-some moment is)
+of-arrival row Waiting moment is = absurd (none-some moment is)
+of-arrival row (Sending until) moment is = absurd (none-some moment is)
+of-arrival row Over moment is = absurd (none-some moment is)
 
-of-eligibility : (frame : ℕ) (stage : Stage) (moment : Moment) → eligibility_by frame stage ≡ Some moment
-    → IsOf (Eligibility frame) moment
-of-eligibility frame (Due at) moment is =
-    same-of (Eligibility frame) (eligible_moment frame at) moment (record { phase = refl; number = refl })
+of-eligibility : (row : ℕ) (stage : Stage) (moment : Moment) → eligibility_by row stage ≡ Some moment
+    → IsOf (Eligibility row) moment
+of-eligibility row (Due at) moment is =
+    same-of (Eligibility row) (eligible_moment row at) moment (record { phase = refl; number = refl })
     (same_Some _ moment is)
-of-eligibility frame (Coming at) moment is = absurd (none-some moment is)
-of-eligibility frame Waiting moment is = absurd (none-some moment is)
-of-eligibility frame (Sending until) moment is = absurd (none-some moment is)
-of-eligibility frame Over moment is = absurd (none-some moment is)
+of-eligibility row (Coming at) moment is = absurd (none-some moment is)
+of-eligibility row Apart moment is = absurd (none-some moment is)
+of-eligibility row Waiting moment is = absurd (none-some moment is)
+of-eligibility row (Sending until) moment is = absurd (none-some moment is)
+of-eligibility row Over moment is = absurd (none-some moment is)
 
 of-selection : (port : ℕ) (turn : Turn) (moment : Moment) → selection_by port turn ≡ Some moment
     → IsOf (Selection port) moment
@@ -79,9 +82,9 @@ of-selection port Occupied moment is = absurd (none-some moment is)
 -- so have all moments of events
 pub is-of : {T : Type 0} (course : Course T) (event : Event) (moment : Moment) → moment_of course event ≡ Some moment
     → IsOf event moment
-is-of course (End frame) moment is = of-end frame (stage_at course frame) moment is
-is-of course (Arrival frame) moment is = of-arrival frame (stage_at course frame) moment is
-is-of course (Eligibility frame) moment is = of-eligibility frame (stage_at course frame) moment is
+is-of course (End row) moment is = of-end row (stage_at course row) moment is
+is-of course (Arrival row) moment is = of-arrival row (stage_at course row) moment is
+is-of course (Eligibility row) moment is = of-eligibility row (stage_at course row) moment is
 is-of course (Selection port) moment is = of-selection port (turn_at course port) moment is
 
 -- so a phase and a number tell the event
@@ -105,9 +108,9 @@ same-event (Selection f) (Selection g) p n = ap Selection n
 
 -- the number of an event that is to happen is that of a frame or a port
 abbrev pub IsEventOf : {T : Type 0} → Course T → Event → Type 0
-IsEventOf course (End frame) = frame < length course.stages
-IsEventOf course (Arrival frame) = frame < length course.stages
-IsEventOf course (Eligibility frame) = frame < length course.stages
+IsEventOf course (End row) = row < length course.stages
+IsEventOf course (Arrival row) = row < length course.stages
+IsEventOf course (Eligibility row) = row < length course.stages
 IsEventOf course (Selection port) = port < length course.turns
 
 -- where what an element gives is more than the default gives, its place is in the list
@@ -121,33 +124,33 @@ below-length xs k default next moment none some = elim (cases_lt k (length xs)) 
 -- that of an event with a moment is
 pub is-within : {T : Type 0} (course : Course T) (event : Event) (moment : Moment)
     → moment_of course event ≡ Some moment → IsEventOf course event
-is-within course (End frame) moment is = below-length course.stages frame Over (end_by frame) moment refl is
-is-within course (Arrival frame) moment is = below-length course.stages frame Over (arrival_by frame) moment refl is
-is-within course (Eligibility frame) moment is =
-    below-length course.stages frame Over (eligibility_by frame) moment refl is
+is-within course (End row) moment is = below-length course.stages row Over (end_by row) moment refl is
+is-within course (Arrival row) moment is = below-length course.stages row Over (arrival_by row) moment refl is
+is-within course (Eligibility row) moment is =
+    below-length course.stages row Over (eligibility_by row) moment refl is
 is-within course (Selection port) moment is =
     below-length course.turns port Resting (selection_by port) moment refl is
 
 -- frames and ports numbered together: the frames first
 abbrev pub place_by : ℕ → Event → ℕ
-place_by frames (End frame) = frame
-place_by frames (Arrival frame) = frame
-place_by frames (Eligibility frame) = frame
-place_by frames (Selection port) = frames + port
+place_by rows (End row) = row
+place_by rows (Arrival row) = row
+place_by rows (Eligibility row) = row
+place_by rows (Selection port) = rows + port
 
 -- there are as many places as frames and ports
 pub place-below : {T : Type 0} (course : Course T) (event : Event) → IsEventOf course event
     → place_by (length course.stages) event < length course.stages + length course.turns
-place-below course (End frame) within = omega arith
-place-below course (Arrival frame) within = omega arith
-place-below course (Eligibility frame) within = omega arith
+place-below course (End row) within = omega arith
+place-below course (Arrival row) within = omega arith
+place-below course (Eligibility row) within = omega arith
 place-below course (Selection port) within = omega arith
 
 -- the event that a frame at a stage can have, and the one that is to happen at a place
 abbrev pub event_by : ℕ → Stage → Event
-event_by frame (Coming at) = Arrival frame
-event_by frame (Due at) = Eligibility frame
-event_by frame stage = End frame
+event_by row (Coming at) = Arrival row
+event_by row (Due at) = Eligibility row
+event_by row stage = End row
 
 abbrev pub event_at : {T : Type 0} → Course T → ℕ → Event
 event_at course place =
@@ -155,45 +158,48 @@ event_at course place =
     else Selection (place - length course.stages)
 
 -- an event of a frame that has a moment is that one
-end-only : (frame : ℕ) (stage : Stage) (moment : Moment) → end_by frame stage ≡ Some moment
-    → event_by frame stage ≡ End frame
-end-only frame (Sending until) moment is = refl
-end-only frame (Coming at) moment is = absurd (none-some moment is)
-end-only frame (Due at) moment is = absurd (none-some moment is)
-end-only frame Waiting moment is = refl
-end-only frame Over moment is = refl
+end-only : (row : ℕ) (stage : Stage) (moment : Moment) → end_by row stage ≡ Some moment
+    → event_by row stage ≡ End row
+end-only row (Sending until) moment is = refl
+end-only row (Coming at) moment is = absurd (none-some moment is)
+end-only row (Due at) moment is = absurd (none-some moment is)
+end-only row Apart moment is = refl
+end-only row Waiting moment is = refl
+end-only row Over moment is = refl
 
-arrival-only : (frame : ℕ) (stage : Stage) (moment : Moment) → arrival_by frame stage ≡ Some moment
-    → event_by frame stage ≡ Arrival frame
-arrival-only frame (Coming at) moment is = refl
-arrival-only frame (Due at) moment is = absurd (none-some moment is)
-arrival-only frame Waiting moment is = absurd (none-some moment is)
-arrival-only frame (Sending until) moment is = absurd (none-some moment is)
-arrival-only frame Over moment is = absurd (none-some moment is)
+arrival-only : (row : ℕ) (stage : Stage) (moment : Moment) → arrival_by row stage ≡ Some moment
+    → event_by row stage ≡ Arrival row
+arrival-only row (Coming at) moment is = refl
+arrival-only row (Due at) moment is = absurd (none-some moment is)
+arrival-only row Apart moment is = absurd (none-some moment is)
+arrival-only row Waiting moment is = absurd (none-some moment is)
+arrival-only row (Sending until) moment is = absurd (none-some moment is)
+arrival-only row Over moment is = absurd (none-some moment is)
 
-eligibility-only : (frame : ℕ) (stage : Stage) (moment : Moment) → eligibility_by frame stage ≡ Some moment
-    → event_by frame stage ≡ Eligibility frame
-eligibility-only frame (Due at) moment is = refl
-eligibility-only frame (Coming at) moment is = absurd (none-some moment is)
-eligibility-only frame Waiting moment is = absurd (none-some moment is)
-eligibility-only frame (Sending until) moment is = absurd (none-some moment is)
-eligibility-only frame Over moment is = absurd (none-some moment is)
+eligibility-only : (row : ℕ) (stage : Stage) (moment : Moment) → eligibility_by row stage ≡ Some moment
+    → event_by row stage ≡ Eligibility row
+eligibility-only row (Due at) moment is = refl
+eligibility-only row (Coming at) moment is = absurd (none-some moment is)
+eligibility-only row Apart moment is = absurd (none-some moment is)
+eligibility-only row Waiting moment is = absurd (none-some moment is)
+eligibility-only row (Sending until) moment is = absurd (none-some moment is)
+eligibility-only row Over moment is = absurd (none-some moment is)
 
 -- so an event that has a moment is the one at its place
-at-frame : {T : Type 0} (course : Course T) (frame : ℕ) → frame < length course.stages
-    → event_at course frame ≡ event_by frame (stage_at course frame)
-at-frame course frame within =
-    cond-true (nat_lt frame (length course.stages)) (event_by frame (stage_at course frame))
-    (Selection (frame - length course.stages)) (lt-ltb frame (length course.stages) within)
+at-row : {T : Type 0} (course : Course T) (row : ℕ) → row < length course.stages
+    → event_at course row ≡ event_by row (stage_at course row)
+at-row course row within =
+    cond-true (nat_lt row (length course.stages)) (event_by row (stage_at course row))
+    (Selection (row - length course.stages)) (lt-ltb row (length course.stages) within)
 
 pub at-place : {T : Type 0} (course : Course T) (event : Event) (moment : Moment) → moment_of course event ≡ Some moment
     → IsEventOf course event → event_at course (place_by (length course.stages) event) ≡ event
-at-place course (End frame) moment is within =
-    at-frame course frame within ∙ end-only frame (stage_at course frame) moment is
-at-place course (Arrival frame) moment is within =
-    at-frame course frame within ∙ arrival-only frame (stage_at course frame) moment is
-at-place course (Eligibility frame) moment is within =
-    at-frame course frame within ∙ eligibility-only frame (stage_at course frame) moment is
+at-place course (End row) moment is within =
+    at-row course row within ∙ end-only row (stage_at course row) moment is
+at-place course (Arrival row) moment is within =
+    at-row course row within ∙ arrival-only row (stage_at course row) moment is
+at-place course (Eligibility row) moment is within =
+    at-row course row within ∙ eligibility-only row (stage_at course row) moment is
 at-place course (Selection port) moment is within =
     let place : ℕ = length course.stages + port in
     cond-false (nat_lt place (length course.stages)) (event_by place (stage_at course place))
@@ -203,13 +209,13 @@ at-place course (Selection port) moment is within =
 -- the number and the phase of an event are small
 pub number-below : {T : Type 0} (course : Course T) (event : Event) → IsEventOf course event
     → number_of event < length course.stages + length course.turns
-number-below course (End frame) within = omega arith
-number-below course (Arrival frame) within = omega arith
-number-below course (Eligibility frame) within = omega arith
+number-below course (End row) within = omega arith
+number-below course (Arrival row) within = omega arith
+number-below course (Eligibility row) within = omega arith
 number-below course (Selection port) within = omega arith
 
 pub phase-below : (event : Event) → phase_of event < 4
-phase-below (End frame) = omega arith
-phase-below (Arrival frame) = omega arith
-phase-below (Eligibility frame) = omega arith
+phase-below (End row) = omega arith
+phase-below (Arrival row) = omega arith
+phase-below (Eligibility row) = omega arith
 phase-below (Selection port) = omega arith

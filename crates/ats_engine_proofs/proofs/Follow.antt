@@ -46,32 +46,32 @@ next-of {T} {key} {wait} {network} {releases} {course} {now} {event} next =
     is-of course event now (next-moment next)
 
 -- no event of a frame or a port is one of another
-pub arrival-here : (frame port : ℕ) → IsHere frame port (Arrival frame)
-arrival-here frame port = record {
+pub arrival-here : (row port : ℕ) → IsHere row port (Arrival row)
+arrival-here row port = record {
   ends = λ f n same. cc;
   arrivals = λ f n same. n cc;
   eligibilities = λ f n same. cc;
   selections = λ p n same. cc;
 }
 
-pub eligibility-here : (frame port : ℕ) → IsHere frame port (Eligibility frame)
-eligibility-here frame port = record {
+pub eligibility-here : (row port : ℕ) → IsHere row port (Eligibility row)
+eligibility-here row port = record {
   ends = λ f n same. cc;
   arrivals = λ f n same. cc;
   eligibilities = λ f n same. n cc;
   selections = λ p n same. cc;
 }
 
-pub selection-here : (frame port : ℕ) → IsHere frame port (Selection port)
-selection-here frame port = record {
+pub selection-here : (row port : ℕ) → IsHere row port (Selection port)
+selection-here row port = record {
   ends = λ f n same. cc;
   arrivals = λ f n same. cc;
   eligibilities = λ f n same. cc;
   selections = λ p n same. n cc;
 }
 
-pub end-here : (frame port : ℕ) → IsHere frame port (End frame)
-end-here frame port = record {
+pub end-here : (row port : ℕ) → IsHere row port (End row)
+end-here row port = record {
   ends = λ f n same. n cc;
   arrivals = λ f n same. cc;
   eligibilities = λ f n same. cc;
@@ -79,15 +79,15 @@ end-here frame port = record {
 }
 
 -- the stages once that of one frame is set, and likewise the turns
-pub set-here : {T : Type 0} (new : Course T) (stages : List Stage) (frame : ℕ) (s : Stage) → frame < length stages
-    → new.stages ≡ set stages frame s → stage_at new frame ≡ s
-set-here new stages frame s within is =
-    ap (λ (ss : List Stage). get_or ss frame Over) is ∙ get_or-set_same stages frame s Over within
+pub set-here : {T : Type 0} (new : Course T) (stages : List Stage) (row : ℕ) (s : Stage) → row < length stages
+    → new.stages ≡ set stages row s → stage_at new row ≡ s
+set-here new stages row s within is =
+    ap (λ (ss : List Stage). get_or ss row Over) is ∙ get_or-set_same stages row s Over within
 
-pub set-elsewhere : {T : Type 0} (old new : Course T) (frame : ℕ) (s : Stage) → new.stages ≡ set old.stages frame s
-    → (f : ℕ) → f ≢ frame → stage_at new f ≡ stage_at old f
-set-elsewhere old new frame s is f other =
-    ap (λ (ss : List Stage). get_or ss f Over) is ∙ get_or-set_other old.stages frame f s Over other
+pub set-elsewhere : {T : Type 0} (old new : Course T) (row : ℕ) (s : Stage) → new.stages ≡ set old.stages row s
+    → (f : ℕ) → f ≢ row → stage_at new f ≡ stage_at old f
+set-elsewhere old new row s is f other =
+    ap (λ (ss : List Stage). get_or ss f Over) is ∙ get_or-set_other old.stages row f s Over other
 
 pub turned-here : {T : Type 0} (new : Course T) (turns : List Turn) (port : ℕ) (t : Turn) → port < length turns
     → new.turns ≡ set turns port t → turn_at new port ≡ t
@@ -100,10 +100,10 @@ turned-elsewhere old new port t is p other =
     ap (λ (ts : List Turn). get_or ts p Resting) is ∙ get_or-set_other old.turns port p t Resting other
 
 -- a frame that is not over is one of the run
-pub frame-within : {T : Type 0} (course : Course T) (frame : ℕ) (s : Stage) → stage_at course frame ≡ s → s ≢ Over
-    → frame < length course.stages
-frame-within course frame s is other = elim (cases_lt frame (length course.stages)) as (λ _. frame
+pub row-within : {T : Type 0} (course : Course T) (row : ℕ) (s : Stage) → stage_at course row ≡ s → s ≢ Over
+    → row < length course.stages
+row-within course row s is other = elim (cases_lt row (length course.stages)) as (λ _. row
     < length course.stages) [
       | inl within ↦ within
-      | inr past ↦ absurd (other (sym is ∙ get_or_past course.stages frame Over past))
+      | inr past ↦ absurd (other (sym is ∙ get_or_past course.stages row Over past))
     ]

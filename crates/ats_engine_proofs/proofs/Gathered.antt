@@ -1,152 +1,111 @@
--- What a run gives is gathered from its travels, one by one: where one of them changes, only its own part does.
-use Rattle.std.proofs.Common.{◌≡◌, ℕ, zero, suc, ◌+◌, ◌<◌, Bool, List, [], ◌∷◌, ◌++◌, map, filter, length, get_or, set}
-use Rattle.std.proofs.Common.{All, IsPermutation, refl, ap, ◌∙◌, subst, arith}
+-- What the legs of a run give is gathered row by row: where one row changes, only its own part does.
+use Rattle.std.proofs.Common.{◌≡◌, ℕ, zero, suc, ◌<◌, Bool, List, [], ◌∷◌, ◌++◌, map, filter, length, get_or, set, All}
+use Rattle.std.proofs.Common.{IsPermutation, refl, ap, ◌∙◌, arith}
+use Rattle.std.specs.List.{flat_map, zip}
 use Rattle.std.proofs.lemmas.List.{map-append}
 use Rattle.std.proofs.lemmas.List.Elements.{All-nil, All-append, filter-append}
 use Rattle.std.proofs.lemmas.List.Sorted.{IsPermutation-append_left, IsPermutation-append_right, IsPermutation-middle}
 use Rattle.std.proofs.lemmas.List.Sorted.{IsPermutation-sym, IsPermutation-trans}
 use Rattle.std.specs.Prelude.{◌==◌, ◌&&◌}
-use Rattle.ats_network.specs.Network.{DeclaredNetwork, HasOneListener}
+use Rattle.ats_network.specs.Network.{DeclaredNetwork}
 use Rattle.ats_port_rule.specs.Transmission.{Transmission}
-use Rattle.ats_trace.specs.Journey.{Travel}
-use Rattle.ats_trace.specs.Projections.{Hop, Crossing, Handed, hops_from, crossings_from, handed_from, sent_by}
-use Rattle.ats_trace.specs.Projections.{crossings_by, handed_by}
-use Rattle.ats_engine_proofs.proofs.OnPaths.{path_hops, path_crossings, path_handed, hops_on_path, crossings_on_path}
-use Rattle.ats_engine_proofs.proofs.OnPaths.{handed_on_path}
+use Rattle.ats_trace.specs.Projections.{Hop, Crossing, Handed}
+use Rattle.ats_run_records.specs.Progress.{Progress}
+use Rattle.ats_engine_steps.specs.Course.{Course, leg_hops, leg_crossings, leg_handed, sent_so_far, crossings_so_far}
+use Rattle.ats_engine_steps.specs.Course.{handed_so_far}
+use Rattle.ats_engine_steps.specs.declared.stage.Stage.{Stage}
 
--- what each travel of a run gives by its number, in one list: the travels are numbered from this number on
-abbrev pub gather : {X : Type 0} → (ℕ → Travel → List X) → ℕ → List Travel → List X
-gather part n [] = []
-gather part n (j ∷ run) = part n j ++ gather part (n + 1) run
+-- setting a row that gives the same leaves all as it was
+pub gather-same : {X Y : Type 0} (part : X → List Y) (row : ℕ) (rows : List X) (new d : X)
+    → part new ≡ part (get_or rows row d) → flat_map part (set rows row new) ≡ flat_map part rows
+gather-same part row [] new d same = refl
+gather-same {X} {Y} part zero (x ∷ rows) new d same = ap (λ (ys : List Y). ys ++ flat_map part rows) same
+gather-same {X} {Y} part (suc row) (x ∷ rows) new d same =
+    ap (λ (ys : List Y). part x ++ ys) (gather-same part row rows new d same)
 
--- setting a travel that gives the same leaves all as it was
-pub gather-same : {X : Type 0} (part : ℕ → Travel → List X) (n frame : ℕ) (run : List Travel) (new d : Travel)
-    → part (n + frame) new ≡ part (n + frame) (get_or run frame d) → frame < length run
-    → gather part n (set run frame new) ≡ gather part n run
-gather-same part n frame [] new d same within = refl
-gather-same {X} part n zero (j ∷ run) new d same within =
-    let here : part n new ≡ part n j = subst (λ (m : ℕ). part m new ≡ part m j) (omega arith) same in
-    ap (λ (xs : List X). xs ++ gather part (n + 1) run) here
-gather-same {X} part n (suc frame) (j ∷ run) new d same within =
-    let later : part ((n + 1) + frame) new ≡ part ((n + 1) + frame) (get_or run frame d) =
-    subst (λ (m : ℕ). part m new ≡ part m (get_or run frame d)) (omega arith) same in
-    ap (λ (xs : List X). part n j ++ xs) (gather-same part (n + 1) frame run new d later (omega arith))
+-- setting a row that gives one element more adds it to all
+pub gather-more : {X Y : Type 0} (part : X → List Y) (row : ℕ) (rows : List X) (new d : X) (y : Y)
+    → IsPermutation (y ∷ part (get_or rows row d)) (part new) → row < length rows
+    → IsPermutation (y ∷ flat_map part rows) (flat_map part (set rows row new))
+gather-more part row [] new d y more within = absurd (omega arith)
+gather-more part zero (x ∷ rows) new d y more within =
+    IsPermutation-append_left (flat_map part rows) (y ∷ part x) (part new) more
+gather-more part (suc row) (x ∷ rows) new d y more within =
+    let rest : IsPermutation (y ∷ flat_map part rows) (flat_map part (set rows row new)) =
+    gather-more part row rows new d y more (omega arith) in
+    IsPermutation-trans (y ∷ (part x ++ flat_map part rows)) (part x ++ y ∷ flat_map part rows)
+    (part x ++ flat_map part (set rows row new))
+    (IsPermutation-sym (part x ++ y ∷ flat_map part rows) (y ∷ (part x ++ flat_map part rows))
+    (IsPermutation-middle (part x) y (flat_map part rows)))
+    (IsPermutation-append_right (part x) (y ∷ flat_map part rows) (flat_map part (set rows row new)) rest)
 
--- setting a travel that gives one element more adds it to all
-pub gather-more : {X : Type 0} (part : ℕ → Travel → List X) (n frame : ℕ) (run : List Travel) (new d : Travel) (x : X)
-    → IsPermutation (x ∷ part (n + frame) (get_or run frame d)) (part (n + frame) new) → frame < length run
-    → IsPermutation (x ∷ gather part n run) (gather part n (set run frame new))
-gather-more part n frame [] new d x more within = absurd (omega arith)
-gather-more part n zero (j ∷ run) new d x more within =
-    let here : IsPermutation (x ∷ part n j) (part n new) =
-    subst (λ (m : ℕ). IsPermutation (x ∷ part m j) (part m new)) (omega arith) more in
-    IsPermutation-append_left (gather part (n + 1) run) (x ∷ part n j) (part n new) here
-gather-more part n (suc frame) (j ∷ run) new d x more within =
-    let later : IsPermutation (x ∷ part ((n + 1) + frame) (get_or run frame d)) (part ((n + 1) + frame) new) =
-    subst (λ (m : ℕ). IsPermutation (x ∷ part m (get_or run frame d)) (part m new)) (omega arith) more in
-    let rest : IsPermutation (x ∷ gather part (n + 1) run) (gather part (n + 1) (set run frame new)) =
-    gather-more part (n + 1) frame run new d x later (omega arith) in
-    IsPermutation-trans (x ∷ (part n j ++ gather part (n + 1) run)) (part n j ++ x ∷ gather part (n + 1) run)
-    (part n j ++ gather part (n + 1) (set run frame new))
-    (IsPermutation-sym (part n j ++ x ∷ gather part (n + 1) run) (x ∷ (part n j ++ gather part (n + 1) run))
-    (IsPermutation-middle (part n j) x (gather part (n + 1) run)))
-    (IsPermutation-append_right (part n j) (x ∷ gather part (n + 1) run) (gather part (n + 1) (set run frame new)) rest)
-
--- what holds of all that each travel gives holds of all
-pub gather-all : {X : Type 0} (P : X → Type 0) (part : ℕ → Travel → List X) (n : ℕ) (run : List Travel) (d : Travel)
-    → ((k : ℕ) → k < length run → All P (part (n + k) (get_or run k d))) → All P (gather part n run)
-gather-all P part n [] d each = All-nil P
-gather-all P part n (j ∷ run) d each =
-    let here : All P (part n j) = subst (λ (m : ℕ). All P (part m j)) (omega arith) (each 0 (omega arith)) in
-    All-append P (part n j) (gather part (n + 1) run) here
-    (gather-all P part (n + 1) run d
-    (λ k h. subst (λ (m : ℕ). All P (part m (get_or run k d))) (omega arith) (each (suc k) (omega arith))))
+-- what holds of all that each row gives holds of all
+pub gather-all : {X Y : Type 0} (P : Y → Type 0) (part : X → List Y) (rows : List X) (d : X)
+    → ((k : ℕ) → k < length rows → All P (part (get_or rows k d))) → All P (flat_map part rows)
+gather-all P part [] d each = All-nil P
+gather-all P part (x ∷ rows) d each =
+    All-append P (part x) (flat_map part rows) (each 0 (omega arith))
+    (gather-all P part rows d (λ k h. each (suc k) (omega arith)))
 
 -- what is kept of all is what is kept of each
-pub gather-filter : {X : Type 0} (test : X → Bool) (part : ℕ → Travel → List X) (n : ℕ) (run : List Travel)
-    → filter test (gather part n run) ≡ gather (λ (m : ℕ) (j : Travel). filter test (part m j)) n run
-gather-filter test part n [] = refl
-gather-filter {X} test part n (j ∷ run) =
-    filter-append test (part n j) (gather part (n + 1) run)
-    ∙ ap (λ (xs : List X). filter test (part n j) ++ xs) (gather-filter test part (n + 1) run)
+pub gather-filter : {X Y : Type 0} (test : Y → Bool) (part : X → List Y) (rows : List X)
+    → filter test (flat_map part rows) ≡ flat_map (λ (x : X). filter test (part x)) rows
+gather-filter test part [] = refl
+gather-filter {X} {Y} test part (x ∷ rows) =
+    filter-append test (part x) (flat_map part rows)
+    ∙ ap (λ (ys : List Y). filter test (part x) ++ ys) (gather-filter test part rows)
 
 -- and the images of all are those of each
-pub gather-map : {X Y : Type 0} (f : X → Y) (part : ℕ → Travel → List X) (n : ℕ) (run : List Travel)
-    → map f (gather part n run) ≡ gather (λ (m : ℕ) (j : Travel). map f (part m j)) n run
-gather-map f part n [] = refl
-gather-map {X} {Y} f part n (j ∷ run) =
-    map-append f (part n j) (gather part (n + 1) run)
-    ∙ ap (λ (ys : List Y). map f (part n j) ++ ys) (gather-map f part (n + 1) run)
+pub gather-map : {X Y Z : Type 0} (f : Y → Z) (part : X → List Y) (rows : List X)
+    → map f (flat_map part rows) ≡ flat_map (λ (x : X). map f (part x)) rows
+gather-map f part [] = refl
+gather-map {X} {Y} {Z} f part (x ∷ rows) =
+    map-append f (part x) (flat_map part rows) ∙ ap (λ (zs : List Z). map f (part x) ++ zs) (gather-map f part rows)
 
--- the three projections of a run, before they are taken apart by port
-hops-gathered : (network : DeclaredNetwork) → HasOneListener network → (n : ℕ) (run : List Travel)
-    → hops_from network n run ≡ gather (path_hops network) n run
-hops-gathered network alone n [] = refl
-hops-gathered network alone n (j ∷ run) =
-    ap (λ (hs : List Hop). hs ++ hops_from network (n + 1) run) (hops_on_path network alone n j)
-    ∙ ap (λ (hs : List Hop). path_hops network n j ++ hs) (hops-gathered network alone (n + 1) run)
-
--- the crossings
-crossings-gathered : (network : DeclaredNetwork) → HasOneListener network → (n : ℕ) (run : List Travel)
-    → crossings_from network n run ≡ gather (path_crossings network) n run
-crossings-gathered network alone n [] = refl
-crossings-gathered network alone n (j ∷ run) =
-    ap (λ (xs : List Crossing). xs ++ crossings_from network (n + 1) run) (crossings_on_path network alone n j)
-    ∙ ap (λ (xs : List Crossing). path_crossings network n j ++ xs) (crossings-gathered network alone (n + 1) run)
-
--- and what was handed on
-handed-gathered : (network : DeclaredNetwork) → HasOneListener network → (n : ℕ) (run : List Travel)
-    → handed_from network n run ≡ gather (path_handed network) n run
-handed-gathered network alone n [] = refl
-handed-gathered network alone n (j ∷ run) =
-    ap (λ (hs : List Handed). hs ++ handed_from network (n + 1) run) (handed_on_path network alone n j)
-    ∙ ap (λ (hs : List Handed). path_handed network n j ++ hs) (handed-gathered network alone (n + 1) run)
-
--- what one travel gives to the transmissions of a port
+-- what one leg gives to the transmissions of a port
 abbrev pub hops_at : ℕ → List Hop → List Transmission
 hops_at port hops = map (λ (h : Hop). h.sent) (filter (λ (h : Hop). h.port == port) hops)
 
--- of a whole travel
-abbrev pub sent_part : DeclaredNetwork → ℕ → ℕ → Travel → List Transmission
-sent_part network port n j = hops_at port (path_hops network n j)
+-- of a whole row
+abbrev pub sent_part : DeclaredNetwork → ℕ → Progress → List Transmission
+sent_part network port p = hops_at port (leg_hops network p)
 
 -- to its crossings
 abbrev pub crossings_at : ℕ → List Crossing → List Crossing
 crossings_at port crossings = filter (λ (c : Crossing). c.port == port) crossings
 
--- of a whole travel
-abbrev pub crossings_part : DeclaredNetwork → ℕ → ℕ → Travel → List Crossing
-crossings_part network port n j = crossings_at port (path_crossings network n j)
+-- of a whole row
+abbrev pub crossings_part : DeclaredNetwork → ℕ → Stage × Progress → List Crossing
+crossings_part network port row = crossings_at port (leg_crossings network row)
 
 -- and to the frames of a class that it has handed on
 abbrev pub handed_in : ℕ → ℕ → List Handed → List Handed
 handed_in port class handed =
     filter (λ (h : Handed). h.crossing.port == port && h.crossing.sent.class == class) handed
 
--- of a whole travel
-abbrev pub handed_part : DeclaredNetwork → ℕ → ℕ → ℕ → Travel → List Handed
-handed_part network port class n j = handed_in port class (path_handed network n j)
+-- of a whole row
+abbrev pub handed_part : DeclaredNetwork → ℕ → ℕ → Progress → List Handed
+handed_part network port class p = handed_in port class (leg_handed network p)
 
--- each projection of a run is gathered from what its travels give
-pub sent-gathered : (network : DeclaredNetwork) → HasOneListener network → (run : List Travel) (port : ℕ)
-    → sent_by network run port ≡ gather (sent_part network port) 0 run
-sent-gathered network alone run port =
-    ap (hops_at port) (hops-gathered network alone 0 run)
-    ∙ ap (map (λ (h : Hop). h.sent)) (gather-filter (λ (h : Hop). h.port == port) (path_hops network) 0 run)
+-- each projection of a run is gathered from what its rows give
+pub sent-gathered : {T : Type 0} (network : DeclaredNetwork) (course : Course T) (port : ℕ)
+    → sent_so_far network course port ≡ flat_map (sent_part network port) course.records
+sent-gathered network course port =
+    ap (map (λ (h : Hop). h.sent))
+    (gather-filter (λ (h : Hop). h.port == port) (leg_hops network) course.records)
     ∙ gather-map (λ (h : Hop). h.sent)
-    (λ (n : ℕ) (j : Travel). filter (λ (h : Hop). h.port == port) (path_hops network n j)) 0 run
+    (λ (p : Progress). filter (λ (h : Hop). h.port == port) (leg_hops network p)) course.records
 
 -- the crossings of a port
-pub crossed-gathered : (network : DeclaredNetwork) → HasOneListener network → (run : List Travel) (port : ℕ)
-    → crossings_by network run port ≡ gather (crossings_part network port) 0 run
-crossed-gathered network alone run port =
-    ap (crossings_at port) (crossings-gathered network alone 0 run)
-    ∙ gather-filter (λ (c : Crossing). c.port == port) (path_crossings network) 0 run
+pub crossed-gathered : {T : Type 0} (network : DeclaredNetwork) (course : Course T) (port : ℕ)
+    → crossings_so_far network course port
+    ≡ flat_map (crossings_part network port) (zip course.stages course.records)
+crossed-gathered network course port =
+    gather-filter (λ (c : Crossing). c.port == port) (leg_crossings network) (zip course.stages course.records)
 
 -- and what it has handed on in a class
-pub handed_on-gathered : (network : DeclaredNetwork) → HasOneListener network → (run : List Travel) (port class : ℕ)
-    → handed_by network run port class ≡ gather (handed_part network port class) 0 run
-handed_on-gathered network alone run port class =
-    ap (handed_in port class) (handed-gathered network alone 0 run)
-    ∙ gather-filter (λ (h : Handed). h.crossing.port == port && h.crossing.sent.class == class)
-    (path_handed network) 0 run
+pub handed_on-gathered : {T : Type 0} (network : DeclaredNetwork) (course : Course T) (port class : ℕ)
+    → handed_so_far network course port class ≡ flat_map (handed_part network port class) course.records
+handed_on-gathered network course port class =
+    gather-filter (λ (h : Handed). h.crossing.port == port && h.crossing.sent.class == class) (leg_handed network)
+    course.records

@@ -1,32 +1,26 @@
-use Rattle.std.proofs.Common.{◌≡◌, ℕ, zero, suc, ◌+◌, ◌<◌, ◌≤◌, List, [], ◌∷◌, filter, length, get_or}
-use Rattle.std.proofs.Common.{sym, ap, ◌∙◌, subst, arith, All}
+use Rattle.std.proofs.Common.{◌≡◌, ℕ, zero, suc, ◌+◌, ◌<◌, ◌≤◌, List, [], ◌∷◌, filter, length, map, get_or}
+use Rattle.std.proofs.Common.{subst, arith, All}
 use Rattle.std.specs.Prelude.{◌≢◌, ◌==◌, AllPairs, Option, Some, None}
-use Rattle.std.specs.List.{zip}
+use Rattle.std.specs.List.{flat_map}
 use Rattle.std.proofs.lemmas.Bool.{eqb-true}
-use Rattle.std.proofs.lemmas.List.{get_or-map, length-map}
+use Rattle.std.proofs.lemmas.List.{get_or_default}
 use Rattle.std.proofs.lemmas.List.Elements.{All-nil, All-cons, All-head, All-tail, All-append, All-filter, All-map}
 use Rattle.std.proofs.lemmas.List.Elements.{filter_passes}
-use Rattle.std.proofs.lemmas.Slice.Zip.{get_or-zip, length-zip}
 use Rattle.ats_facts.proofs.Lists.{pairs_head, pairs_tail}
 use Rattle.ats_num.specs.declared.time.Ps.{Ps}
 use Rattle.ats_num.specs.Wire.{bits_of}
 use Rattle.ats_network.specs.Class.{class_at}
-use Rattle.ats_network.specs.Network.{DeclaredNetwork, HasOneListener}
+use Rattle.ats_network.specs.Network.{DeclaredNetwork}
 use Rattle.ats_network.specs.Sender.{Sender}
 use Rattle.ats_group.specs.declared.verdict.Verdict.{Verdict}
 use Rattle.ats_group.specs.declared.verdict.Verdict.TheVariants.{Eligible, Late, Size}
 use Rattle.ats_port_rule.specs.Transmission.{Transmission}
-use Rattle.ats_trace.specs.Journey.{Travel}
-use Rattle.ats_trace.specs.Projections.{Hop, transmission_by, transmission_of, hop_at, hops_along, journey_hops}
-use Rattle.ats_trace.specs.Projections.{hops_from, sent_by}
+use Rattle.ats_trace.specs.Projections.{Hop, transmission_by, transmission_of, hop_at, hops_along}
 use Rattle.ats_trace.specs.declared.journey.Release.{Release}
 use Rattle.ats_trace.specs.declared.journey.HopRecord.{HopRecord}
 use Rattle.ats_run_records.specs.Progress.{Progress, progress_at, no_progress}
-use Rattle.ats_engine_steps.specs.Course.{Course, stage_at, travels, travel_of, sender_of, path_of}
+use Rattle.ats_engine_steps.specs.Course.{Course, leg_hops, sent_so_far}
 use Rattle.ats_engine_steps.specs.Frames.{Stands}
-use Rattle.ats_engine_steps.specs.declared.stage.Stage.{Stage}
-use Rattle.ats_engine_steps.specs.declared.stage.Stage.TheVariants.{Over}
-use Rattle.ats_engine_proofs.proofs.OnPaths.{path_hops, hops_on_path}
 use Rattle.ats_engine_proofs.proofs.Placed.{stands-at_most}
 
 -- what holds of each transmission that a frame may make at a port
@@ -108,61 +102,34 @@ not_sent_last Last frame release sender (p ∷ path) (hop ∷ next ∷ hops) (su
     (not_sent_last Last frame release sender path (next ∷ hops) last (omega arith) none
     (pairs_tail (λ (p q : ℕ). p ≢ q) p path apart) stands.1)
 
--- what holds of the transmissions of each journey holds of those of a run
-pub of_journeys : (P : Hop → Type 0) (network : DeclaredNetwork) → HasOneListener network → (first : ℕ)
-    (run : List Travel)
-    → ((k : ℕ) (d : Travel) → k < length run → All P (path_hops network (first + k) (get_or run k d)))
-    → All P (hops_from network first run)
-of_journeys P network alone first [] each = All-nil P
-of_journeys P network alone first (j ∷ run) each =
-    let own : All P (path_hops network first j) =
-    subst (λ (n : ℕ). All P (path_hops network n j)) (omega arith) (each 0 j (omega arith)) in
-    All-append P (journey_hops network first j) (hops_from network (first + 1) run)
-    (subst (All P) (sym (hops_on_path network alone first j)) own)
-    (of_journeys P network alone (first + 1) run (λ k d h.
-    subst (λ (n : ℕ). All P (path_hops network n (get_or run k d))) (omega arith) (each (suc k) d (omega arith))))
+-- what holds of the transmissions along each leg holds of those along all
+pub of_legs : (P : Hop → Type 0) (network : DeclaredNetwork) (legs : List Progress)
+    → All (λ (p : Progress). All P (leg_hops network p)) legs → All P (flat_map (leg_hops network) legs)
+of_legs P network [] each = All-nil P
+of_legs P network (p ∷ legs) each =
+    let Each : Progress → Type 0 = λ (p : Progress). All P (leg_hops network p) in
+    All-append P (leg_hops network p) (flat_map (leg_hops network) legs) (All-head Each p legs each)
+    (of_legs P network legs (All-tail Each p legs each))
 
 -- so of those of a port
-pub of_port : (Q : Transmission → Type 0) (network : DeclaredNetwork) (run : List Travel) (port : ℕ)
-    → All (λ (h : Hop). h.port ≡ port → Q h.sent) (hops_from network 0 run) → All Q (sent_by network run port)
-of_port Q network run port all =
+pub of_port : (Q : Transmission → Type 0) (hops : List Hop) (port : ℕ)
+    → All (λ (h : Hop). h.port ≡ port → Q h.sent) hops
+    → All Q (map (λ (h : Hop). h.sent) (filter (λ (h : Hop). h.port == port) hops))
+of_port Q hops port all =
     let P : Hop → Type 0 = λ (h : Hop). h.port ≡ port → Q h.sent in
-    let here : List Hop = filter (λ (h : Hop). h.port == port) (hops_from network 0 run) in
+    let here : List Hop = filter (λ (h : Hop). h.port == port) hops in
     All-map Q (λ (h : Hop). h.sent) here (λ k d h.
-    All-filter (λ (h : Hop). h.port == port) P (hops_from network 0 run) all k d h
-    (eqb-true (get_or here k d).port port
-    (filter_passes (λ (h : Hop). h.port == port) (hops_from network 0 run) k d h)))
+    All-filter (λ (h : Hop). h.port == port) P hops all k d h
+    (eqb-true (get_or here k d).port port (filter_passes (λ (h : Hop). h.port == port) hops k d h)))
 
--- the journey of a frame in the run so far
-pub travel_at : {T : Type 0} (course : Course T) (frame : ℕ) (d : Travel)
-    → length course.stages ≡ length course.records → frame < length course.records
-    → get_or (travels course) frame d ≡ travel_of (stage_at course frame, progress_at course.records frame)
-travel_at course frame d same within =
-    let rows : List (Stage × Progress) = zip course.stages course.records in
-    let row : get_or rows frame (Over, no_progress) ≡ (stage_at course frame, progress_at course.records frame) =
-    get_or-zip course.stages course.records frame (Over, no_progress) (omega arith) within in
-    get_or-map travel_of rows frame (Over, no_progress) d (omega (arith, length-zip course.stages course.records))
-    ∙ ap travel_of row
-
--- there is one for each frame
-pub travels_long : {T : Type 0} (course : Course T) → length course.stages ≡ length course.records
-    → length (travels course) ≡ length course.records
-travels_long course same =
-    length-map (zip course.stages course.records) travel_of
-    ∙ omega (arith, length-zip course.stages course.records)
-
--- what holds of each transmission of each frame holds of those of a port in the run so far
-pub of_frames : {T : Type 0} (Q : Transmission → Type 0) (network : DeclaredNetwork) → HasOneListener network
-    → (course : Course T) (port : ℕ) → length course.stages ≡ length course.records
-    → ((frame : ℕ) → frame < length course.records
-    → All (λ (h : Hop). h.port ≡ port → Q h.sent) (hops_along frame (progress_at course.records frame).release
-    (sender_of network (progress_at course.records frame)) (path_of network (progress_at course.records frame))
-    (progress_at course.records frame).hops))
-    → All Q (sent_by network (travels course) port)
-of_frames Q network alone course port same each =
+-- what holds of each transmission along each leg holds of those of a port in the run so far
+pub of_rows : {T : Type 0} (Q : Transmission → Type 0) (network : DeclaredNetwork) (course : Course T) (port : ℕ)
+    → ((row : ℕ) → row < length course.records
+    → All (λ (h : Hop). h.port ≡ port → Q h.sent) (leg_hops network (progress_at course.records row)))
+    → All Q (sent_so_far network course port)
+of_rows Q network course port each =
     let P : Hop → Type 0 = λ (h : Hop). h.port ≡ port → Q h.sent in
-    of_port Q network (travels course) port (of_journeys P network alone 0 (travels course) (λ k d h.
-    let within : k < length course.records = omega (arith, travels_long course same) in
-    subst (λ (n : ℕ). All P (path_hops network n (get_or (travels course) k d))) (omega arith)
-    (subst (λ (j : Travel). All P (path_hops network k j)) (sym (travel_at course k d same within))
-    (each k within))))
+    of_port Q (flat_map (leg_hops network) course.records) port
+    (of_legs P network course.records (λ k d h.
+    subst (λ (p : Progress). All P (leg_hops network p)) (get_or_default course.records k no_progress d h)
+    (each k h)))

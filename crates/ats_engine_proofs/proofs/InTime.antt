@@ -1,15 +1,19 @@
 -- All that a finished run tells was before the time that no run reaches.
-use Rattle.std.proofs.Common.{◌≡◌, ℕ, ◌+◌, ◌<◌, ◌≤◌, List, [], ◌∷◌, map, filter, length, get_or, All, refl}
+use Rattle.std.proofs.Common.{◌≡◌, ℕ, suc, ◌+◌, ◌<◌, ◌≤◌, List, [], ◌∷◌, filter, length, get_or, All, refl}
 use Rattle.std.proofs.Common.{subst, sym, arith, Option, Some, None}
 use Rattle.std.specs.Prelude.{◌==◌, IfSome}
 use Rattle.std.proofs.lemmas.Bool.{eq-eqb}
 use Rattle.std.proofs.lemmas.List.Elements.{All-nil, All-cons, All-head, All-tail}
+use Rattle.std.proofs.lemmas.List.Sorted.{All-permutation}
+use Rattle.std.proofs.lemmas.Option.{get_or_from_slice_get, slice_get_within}
 use Rattle.ats_facts.proofs.Lists.{all_left, all_right, all_unmapped, All-from_filter}
 use Rattle.ats_num.specs.declared.time.Ps.{Ps}
 use Rattle.ats_topology.specs.Port.{port_at, no_port}
 use Rattle.ats_topology.specs.Topology.{IsPort}
 use Rattle.ats_topology.proofs.Rules.{ports_are_lawful}
-use Rattle.ats_network.specs.Network.{DeclaredNetwork, HasOneListener, IsNetwork}
+use Rattle.ats_streams.specs.Branches.{leg_at, legs_of}
+use Rattle.ats_streams.proofs.BranchLemmas.{legs-length}
+use Rattle.ats_network.specs.Network.{DeclaredNetwork, IsNetwork}
 use Rattle.ats_network.specs.Class.{class_at}
 use Rattle.ats_network.specs.Sender.{Sender}
 use Rattle.ats_network.specs.Senders.{IsSender, sender_at}
@@ -18,26 +22,29 @@ use Rattle.ats_group.specs.declared.verdict.Verdict.{Verdict}
 use Rattle.ats_group.specs.declared.verdict.Verdict.TheVariants.{Eligible, Late, Size}
 use Rattle.ats_port_rule.specs.PortRule.{KeepsPortRule}
 use Rattle.ats_port_rule.specs.Transmission.{Transmission}
-use Rattle.ats_trace.specs.Journey.{Travel, IsJourney, IsReleased, IsSentOrEnds, IsWay}
+use Rattle.ats_trace.specs.Journey.{BeginsAs, IsCopy, IsJourney, IsReleased, IsSentOrEnds, IsWay, Leg, Travel, legs_in}
 use Rattle.ats_trace.specs.Projections.{Hop, Crossing, transmission_by, transmission_of, hop_at, hops_along}
-use Rattle.ats_trace.specs.Projections.{crossing_at, crossings_along, journey_hops, journey_crossings, hops_from}
-use Rattle.ats_trace.specs.Projections.{crossings_from, sent_by}
+use Rattle.ats_trace.specs.Projections.{crossing_at, crossings_along, crossings_by, crossings_from, hops_from}
+use Rattle.ats_trace.specs.Projections.{journey_crossings, journey_hops, sent_by}
 use Rattle.ats_trace.specs.Run.{IsLegal}
 use Rattle.ats_trace.specs.declared.journey.Ending.{Ending}
 use Rattle.ats_trace.specs.declared.journey.Ending.TheVariants.{Sink, Discard}
 use Rattle.ats_trace.specs.declared.journey.HopRecord.{HopRecord}
 use Rattle.ats_trace.specs.declared.journey.Release.{Release}
-use Rattle.ats_trace.proofs.OneListener.{sender_alone, way_alone}
+use Rattle.ats_trace.proofs.Legs.{legs_keep}
+use Rattle.ats_trace.proofs.OneVerdict.{copies_many}
 use Rattle.ats_events.specs.declared.moment.Moment.{Moment}
 use Rattle.ats_run_records.specs.Progress.{finished}
-use Rattle.ats_engine_steps.specs.Course.{Course, travels}
+use Rattle.ats_engine_steps.specs.Course.{Course, crossings_so_far, travels}
 use Rattle.ats_engine_steps.specs.Invariant.{Holds}
 use Rattle.ats_engine_steps.specs.declared.event.Event.{Event}
 use Rattle.ats_engine_proofs.specs.InTime.{IsSentBefore, IsEndBefore, IsRunInTime}
 use Rattle.ats_engine_proofs.proofs.Conclusion.{ended-run, run-finished}
-use Rattle.ats_engine_proofs.proofs.LateTimes.{IsEligibleBefore, IsHopDoneBefore, IsJourneyDoneBefore, after_all}
-use Rattle.ats_engine_proofs.proofs.LateTimes.{in-time-with-late}
-use Rattle.ats_engine_proofs.proofs.OnPaths.{path_hops, path_crossings, hops_on_path, crossings_on_path}
+use Rattle.ats_engine_proofs.proofs.Finished.{ledger_in}
+use Rattle.ats_engine_proofs.proofs.EachLeg.{IsRecordOf, crossings-at, each-leg, hops-at, leg_told}
+use Rattle.ats_engine_proofs.proofs.LateTimes.{IsEligibleBefore, IsHopDoneBefore, IsJourneyDoneBefore, IsLegDoneBefore}
+use Rattle.ats_engine_proofs.proofs.LateTimes.{after_all, in-time-with-late}
+use Rattle.ats_engine_proofs.proofs.SoFar.{crossings-so_far}
 
 -- a transmission starts when the frame is eligible or later, and ends when it starts or later
 record IsLater (x : Transmission) : Type 0 where
@@ -93,6 +100,13 @@ comes-released : (time : ℕ) (release : Release) (hops : List HopRecord) (endin
 comes-released time release [] ending before released = absurd released
 comes-released time release (hop ∷ hops) ending before released =
     subst (λ (at : Ps). at.0 < time) (sym released.0) before
+
+-- and so does a copy that begins before it
+comes-begun : (time : ℕ) (start : HopRecord) (hops : List HopRecord) (ending : Ending) → start.arrival.0 < time
+    → BeginsAs start hops → ComesBefore time hops ending
+comes-begun time start [] ending before begun = absurd begun
+comes-begun time start (hop ∷ hops) ending before begun =
+    subst (λ (at : Ps). at.0 < time) (sym begun.0) before
 
 -- a hop record of a frame that was sent and has crossed the port, or was discarded, tells times before this one, and
 -- the frame comes further before it
@@ -194,41 +208,74 @@ release-before time ports frame release sender (p ∷ path) (hop ∷ hops) endin
     (all_left (IsCrossedAt time ports) across (crossings_along frame release sender path hops ending) crossed) in
     subst (IsEligibleBefore time) released.1 done.eligible
 
+-- where a copy comes to its first port before this time, each moment along it is
+copy-before : (time ports frame : ℕ) (release : Release) (sender : Sender) (path : List ℕ) (leg : Leg)
+    (start : Option HopRecord) → All (λ (p : ℕ). p < ports) path → IfSome start (IsRecordOf (IsLegDoneBefore time))
+    → IsCopy start path leg → All (IsLaterAt ports) (hops_along frame release sender path leg.hops)
+    → All (IsCrossedAt time ports) (crossings_along frame release sender path leg.hops leg.ending)
+    → IsLegDoneBefore time leg
+copy-before time ports frame release sender path leg None within known copy later crossed =
+    let over = ended-before time leg.hops leg.ending copy.0 copy.1 in
+    record { hops = over.hops; ending = over.ending }
+copy-before time ports frame release sender path leg (Some start) within known copy later crossed =
+    let there : known.place < length known.leg.hops =
+    slice_get_within known.leg.hops known.place start known.there in
+    let first : IsHopDoneBefore time start =
+    subst (IsHopDoneBefore time) (get_or_from_slice_get known.leg.hops known.place start start known.there)
+    (known.keeps.hops known.place start there) in
+    let way = way-before time ports frame release sender path leg.hops leg.ending within copy.1 later crossed
+    (comes-begun time start leg.hops leg.ending first.arrival copy.0) in
+    record { hops = way.hops; ending = way.ending }
+
 -- so a journey is before it
-journey-before : (network : DeclaredNetwork) (time n : ℕ) (j : Travel) → IsNetwork network → HasOneListener network
+journey-before : (network : DeclaredNetwork) (time n : ℕ) (j : Travel) → IsNetwork network
     → IsJourney network j → All (IsLaterAt (length network.topology.ports)) (journey_hops network n j)
     → All (IsCrossedAt time (length network.topology.ports)) (journey_crossings network n j)
     → IsJourneyDoneBefore time j
-journey-before network time n j rules alone is later crossed =
+journey-before network time n j rules is later crossed =
     let s : Sender = sender_at network j.release.sender in
     let ports : ℕ = length network.topology.ports in
+    let paths : List (List ℕ) = legs_of s.ports s.branches in
     let keeps : IsSender network.topology s = sender_keeps network j.release.sender rules is.sender in
-    let onward : IsWay s.ports j.hops j.ending =
-    way_alone network j (sender_alone network alone j.release.sender) is in
-    let sent : All (IsLaterAt ports) (path_hops network n j) =
-    subst (All (IsLaterAt ports)) (hops_on_path network alone n j) later in
-    let across : All (IsCrossedAt time ports) (path_crossings network n j) =
-    subst (All (IsCrossedAt time ports)) (crossings_on_path network alone n j) crossed in
-    let release : j.release.at.0 < time = release-before time ports n j.release s s.ports j.hops j.ending keeps.ports
-    onward sent across is.released in
-    let way = way-before time ports n j.release s s.ports j.hops j.ending keeps.ports onward sent across
+    let many : length paths ≡ suc (length s.branches) = legs-length 0 s.ports s.branches in
+    let copies : length j.copies ≡ length s.branches = copies_many s j is.copies in
+    let within : (k : ℕ) → k ≤ length s.branches → All (λ (p : ℕ). p < ports) (leg_at paths k) =
+    λ k below. legs_keep (λ (p : ℕ). p < ports) 0 s.ports s.branches keeps.ports k [] (omega (arith, many)) in
+    let sent : (k : ℕ) → k ≤ length s.branches
+    → All (IsLaterAt ports) (hops_along n j.release s (leg_at paths k) (leg_told j k).hops) =
+    λ k below. hops-at (IsLaterAt ports) n j.release s paths (legs_in j) k (omega (arith, many))
+    (omega (arith, copies)) later in
+    let across : (k : ℕ) → k ≤ length s.branches → All (IsCrossedAt time ports)
+    (crossings_along n j.release s (leg_at paths k) (leg_told j k).hops (leg_told j k).ending) =
+    λ k below. crossings-at (IsCrossedAt time ports) n j.release s paths (legs_in j) k (omega (arith, many))
+    (omega (arith, copies)) crossed in
+    let release : j.release.at.0 < time = release-before time ports n j.release s (leg_at paths 0) j.hops j.ending
+    (within 0 (omega arith)) is.way (sent 0 (omega arith)) (across 0 (omega arith)) is.released in
+    let way = way-before time ports n j.release s (leg_at paths 0) j.hops j.ending (within 0 (omega arith)) is.way
+    (sent 0 (omega arith)) (across 0 (omega arith))
     (comes-released time j.release j.hops j.ending release is.released) in
-    record { release = release; hops = way.hops; ending = way.ending }
+    record {
+      release = release;
+      legs = each-leg s j (IsLegDoneBefore time) keeps.branches is.copies
+          (record { hops = way.hops; ending = way.ending })
+          (λ copy start below known begins. copy-before time ports n j.release s (leg_at paths (suc copy))
+          (leg_told j (suc copy)) start (within (suc copy) (omega arith)) known begins (sent (suc copy) (omega arith))
+          (across (suc copy) (omega arith)));
+    }
 
 -- and each journey of a run
 run-before : (network : DeclaredNetwork) (time n : ℕ) (run : List Travel) → IsNetwork network
-    → HasOneListener network → All (IsJourney network) run
-    → All (IsLaterAt (length network.topology.ports)) (hops_from network n run)
+    → All (IsJourney network) run → All (IsLaterAt (length network.topology.ports)) (hops_from network n run)
     → All (IsCrossedAt time (length network.topology.ports)) (crossings_from network n run)
     → All (IsJourneyDoneBefore time) run
-run-before network time n [] rules alone journeys later crossed = All-nil (IsJourneyDoneBefore time)
-run-before network time n (j ∷ run) rules alone journeys later crossed =
+run-before network time n [] rules journeys later crossed = All-nil (IsJourneyDoneBefore time)
+run-before network time n (j ∷ run) rules journeys later crossed =
     let ports : ℕ = length network.topology.ports in
     All-cons (IsJourneyDoneBefore time) j run
-    (journey-before network time n j rules alone (All-head (IsJourney network) j run journeys)
+    (journey-before network time n j rules (All-head (IsJourney network) j run journeys)
     (all_left (IsLaterAt ports) (journey_hops network n j) (hops_from network (n + 1) run) later)
     (all_left (IsCrossedAt time ports) (journey_crossings network n j) (crossings_from network (n + 1) run) crossed))
-    (run-before network time (n + 1) run rules alone (All-tail (IsJourney network) j run journeys)
+    (run-before network time (n + 1) run rules (All-tail (IsJourney network) j run journeys)
     (all_right (IsLaterAt ports) (journey_hops network n j) (hops_from network (n + 1) run) later)
     (all_right (IsCrossedAt time ports) (journey_crossings network n j) (crossings_from network (n + 1) run) crossed))
 
@@ -263,16 +310,19 @@ each-crossed : {T : Type 0} {key : T → ℕ → ℕ → ℕ} {wait : ℕ → �
 each-crossed {T} {key} {wait} {network} {releases} {course} {entries} holds =
     let crossings : List Crossing = crossings_from network 0 (travels course) in
     let ports : ℕ = length network.topology.ports in
-    each-of-port (λ (x : Crossing). x.port) (IsCrossedBefore after_all) ports crossings (λ p within k d h.
+    each-of-port (λ (x : Crossing). x.port) (IsCrossedBefore after_all) ports crossings (λ p within.
     let link : IsPort (length network.topology.nodes) (port_at network.topology.ports p) =
     (ports_are_lawful network.topology holds.rules.topology).each p no_port within in
     let last = holds.bounds.last in
+    let so_far : List Crossing = crossings_so_far network course p in
+    All-permutation (IsCrossedBefore after_all) so_far (crossings_by network (travels course) p)
+    (crossings-so_far holds.shape p) (λ k d h. (
     let ends = (holds.paces p within).ended k d h in
     let arrives = (holds.paces p within).rule.within k d h in
     record {
       end = omega (arith, ends, last);
       arrival = omega (arith, ends, arrives.latest, link.latency, last);
-    })
+    })))
 
 -- where it is legal, each of its moments was before it
 run-done : {T : Type 0} {key : T → ℕ → ℕ → ℕ} {wait : ℕ → ℕ → ℕ} {network : DeclaredNetwork}
@@ -280,16 +330,16 @@ run-done : {T : Type 0} {key : T → ℕ → ℕ → ℕ} {wait : ℕ → ℕ �
     → Holds key wait network releases course entries → IsLegal network (travels course)
     → All (IsJourneyDoneBefore after_all) (travels course)
 run-done {T} {key} {wait} {network} {releases} {course} holds legal =
-    run-before network after_all 0 (travels course) holds.rules holds.one_listener legal.journeys
+    run-before network after_all 0 (travels course) holds.rules legal.journeys
     (each-later network (travels course) legal.ports) (each-crossed holds)
 
 -- so where nothing is to happen any more, all that the run tells was before the end of time
 pub ended-in-time : {T : Type 0} {key : T → ℕ → ℕ → ℕ} {wait : ℕ → ℕ → ℕ} {network : DeclaredNetwork}
     {releases : List Release} {course : Course T} → Holds key wait network releases course []
-    → IsRunInTime (map finished course.records)
+    → IsRunInTime (finished (ledger_in course))
 ended-in-time {T} {key} {wait} {network} {releases} {course} holds =
-    let same : travels course ≡ map finished course.records = run-finished holds in
+    let same : travels course ≡ finished (ledger_in course) = run-finished holds in
     let legal : IsLegal network (travels course) =
-    subst (IsLegal network) (sym same) (ended-run holds).1.legal in
+    subst (IsLegal network) (sym same) (ended-run holds).0.legal in
     subst IsRunInTime same
-    (in-time-with-late network (travels course) holds.rules holds.one_listener legal (run-done holds legal))
+    (in-time-with-late network (travels course) holds.rules legal (run-done holds legal))

@@ -1,27 +1,29 @@
 -- What one more frame does to a group: by the numbers of members and by the numbers of senders it is the same step.
-use Rattle.std.proofs.Common.{◌≡◌, ◌≢◌, ℕ, ◌+◌, ◌-◌, ◌*◌, ◌/◌, ◌<◌, ◌≤◌, List, [], ◌∷◌, ◌++◌, length}
-use Rattle.std.proofs.Common.{get_or, set, AllPairs, sym, ap, ◌∙◌, subst, refl, inl, inr, arith}
-use Rattle.std.specs.Prelude.{ℤ, pos, ◌==◌, if◌then◌else◌}
-use Rattle.std.proofs.lemmas.Bool.{cases_eq, cases_order, cond-true, cond-false, eq-eqb, ne_eqb}
-use Rattle.std.proofs.lemmas.List.{get_or-set_same, get_or-set_other}
+use Rattle.std.proofs.Common.{◌≡◌, ℕ, ◌+◌, ◌-◌, ◌*◌, ◌/◌, ◌<◌, ◌≤◌, List, [], ◌∷◌, ◌++◌, length, get_or, set, map, sym}
+use Rattle.std.proofs.Common.{ap, ◌∙◌, subst, refl, inl, inr, arith}
+use Rattle.std.specs.Prelude.{ℤ, pos, ◌==◌, Contains, if◌then◌else◌}
+use Rattle.std.proofs.lemmas.Bool.{cases_eq, cond-true, cond-false, eq-eqb, ne_eqb}
+use Rattle.std.proofs.lemmas.List.{get_or_default, get_or-set_same, get_or-set_other, length-append, length-map}
 use Rattle.std.proofs.lemmas.List.FromFn.{get_or-map-range_with_len}
 use Rattle.std.proofs.lemmas.Nat.{div-mul-add}
 use Rattle.ats_num.specs.declared.time.Ps.{Ps}
 use Rattle.ats_network.specs.Class.{class_at}
-use Rattle.ats_network.specs.Network.{DeclaredNetwork}
+use Rattle.ats_network.specs.Network.{DeclaredNetwork, IsNetwork, senders_of}
+use Rattle.ats_network.specs.Sender.{flow_sender, stream_sender}
 use Rattle.ats_network.specs.Senders.{sender_at}
 use Rattle.ats_group.specs.Group.{State, Offer, judged, after, next, verdicts_of, state_after, verdict_on, empty_once}
-use Rattle.ats_group.specs.GroupsState.{GroupsState, member_at, time_at, empty_at, group_of, declared_at}
-use Rattle.ats_group.specs.GroupsState.{residence_of, verdict_of, groups_after, no_member}
+use Rattle.ats_group.specs.GroupsState.{GroupsState, member_at, time_at, empty_at, group_of, declared_at, residence_of}
+use Rattle.ats_group.specs.GroupsState.{verdict_of, groups_after, no_member}
 use Rattle.ats_streams.specs.declared.traffic.Declared.{Declared}
 use Rattle.ats_group.specs.declared.member.Member.{Member}
 use Rattle.ats_group.specs.declared.verdict.Verdict.{Verdict}
 use Rattle.ats_group.specs.declared.verdict.Verdict.TheVariants.{Eligible, Late, Size}
 use Rattle.ats_schedulers.specs.Schedulers as schedulers
-use Rattle.ats_schedulers.specs.Schedulers.{IsHop, group_behind, member_behind, residences_of, scheduler_of}
+use Rattle.ats_schedulers.specs.Schedulers.{IsHop, group_behind, leg_ports, member_behind, residences_of, scheduler_of}
 use Rattle.ats_schedulers.proofs.Places.{scheduler_within, scheduler_there, schedulers_are_apart}
 use Rattle.ats_trace.specs.Eligibility.{declared_by, residence_of_groups}
 use Rattle.ats_engine_steps.specs.Judging.{AreGroupsOf, IsStateOf}
+use Rattle.ats_engine_proofs.proofs.LegPorts.{hop-one, leg-one}
 
 -- the verdicts on frames and one more are the verdicts on them, and that on this one
 pub verdicts-more : (declared : ℕ → Declared) (residence : ℕ) (state : State) (offers : List Offer) (offer : Offer)
@@ -58,106 +60,125 @@ residence_behind network port class below few =
     (group_behind port class) (group_behind port class) 0 within (omega arith)
     ∙ ap (residence_of_groups network) whole
 
--- the scheduler that a stream's frame meets before it comes to a hop, behind this port, for its class there
-pub record IsScheduler (network : DeclaredNetwork) (stream hop port class : ℕ) : Type 0 where
-  pub is_hop : IsHop network stream hop
-  pub behind : get_or (sender_at network stream).ports (hop - 1) 0 ≡ port
+-- the scheduler that a stream's frame meets before it comes to a hop of a leg, behind this port, for its class there
+pub record IsScheduler (network : DeclaredNetwork) (stream leg hop port class : ℕ) : Type 0 where
+  pub is_hop : IsHop network stream leg hop
+  pub behind : get_or (leg_ports network stream leg) (hop - 1) 0 ≡ port
   pub in_class : class_at (sender_at network stream) port ≡ class
   pub few : class ≤ 7
 
 -- its member, by its place
-pub member-is : (network : DeclaredNetwork) (groups : GroupsState) (stream hop port class : ℕ)
-    → AreGroupsOf network groups → IsScheduler network stream hop port class
-    → member_at groups.members (scheduler_of network stream hop) ≡ member_behind (sender_at network stream) port
-member-is network groups stream hop port class are is =
-    ap (λ (ms : List Member). member_at ms (scheduler_of network stream hop)) are.members
-    ∙ scheduler_there network stream hop is.is_hop
+pub member-is : (network : DeclaredNetwork) (groups : GroupsState) (stream leg hop port class : ℕ)
+    → AreGroupsOf network groups → IsScheduler network stream leg hop port class
+    → member_at groups.members (scheduler_of network stream leg hop) ≡ member_behind (sender_at network stream) port
+member-is network groups stream leg hop port class are is =
+    ap (λ (ms : List Member). member_at ms (scheduler_of network stream leg hop)) are.members
+    ∙ scheduler_there network stream leg hop is.is_hop
     ∙ ap (member_behind (sender_at network stream)) is.behind
 
 -- its group is that behind the port
-pub group-is : (network : DeclaredNetwork) (groups : GroupsState) (stream hop port class : ℕ)
-    → AreGroupsOf network groups → IsScheduler network stream hop port class
-    → group_of groups (scheduler_of network stream hop) ≡ group_behind port class
-group-is network groups stream hop port class are is =
-    ap (λ (m : Member). m.group) (member-is network groups stream hop port class are is)
+pub group-is : (network : DeclaredNetwork) (groups : GroupsState) (stream leg hop port class : ℕ)
+    → AreGroupsOf network groups → IsScheduler network stream leg hop port class
+    → group_of groups (scheduler_of network stream leg hop) ≡ group_behind port class
+group-is network groups stream leg hop port class are is =
+    ap (λ (m : Member). m.group) (member-is network groups stream leg hop port class are is)
     ∙ ap (group_behind port) is.in_class
 
 -- so it is judged as by the fold over senders
-pub verdict-is : (network : DeclaredNetwork) (groups : GroupsState) (stream hop port class : ℕ) (state : State)
-    (arrival octets : ℕ) → AreGroupsOf network groups → IsScheduler network stream hop port class
+pub verdict-is : (network : DeclaredNetwork) (groups : GroupsState) (stream leg hop port class : ℕ) (state : State)
+    (arrival octets : ℕ) → AreGroupsOf network groups → IsScheduler network stream leg hop port class
     → port < length network.topology.ports → IsStateOf network groups port class state
-    → verdict_of groups (scheduler_of network stream hop) arrival octets
+    → verdict_of groups (scheduler_of network stream leg hop) arrival octets
     ≡ judged (declared_by network) (residence_of_groups network port) state
     (record { member = stream; arrival = arrival; octets = octets })
-verdict-is network groups stream hop port class state arrival octets are is below kept =
-    let member : ℕ = scheduler_of network stream hop in
+verdict-is network groups stream leg hop port class state arrival octets are is below kept =
+    let member : ℕ = scheduler_of network stream leg hop in
     let declared : Declared = declared_by network stream in
     let on : ℕ → ℕ → ℤ → Verdict = λ (r t : ℕ) (b : ℤ). verdict_on declared r t b arrival octets in
     let residence = ap (λ (rs : List ℕ). get_or rs (group_behind port class) 0) are.residences
     ∙ residence_behind network port class below is.few in
     ap (λ (m : Member). verdict_on m.declared (residence_of groups m.group) (time_at groups.times m.group)
-    (empty_at groups.empties member) arrival octets) (member-is network groups stream hop port class are is)
+    (empty_at groups.empties member) arrival octets) (member-is network groups stream leg hop port class are is)
     ∙ ap (λ (c : ℕ). on (residence_of groups (group_behind port c)) (time_at groups.times (group_behind port c))
     (empty_at groups.empties member)) is.in_class
     ∙ ap (λ (r : ℕ). on r (time_at groups.times (group_behind port class)) (empty_at groups.empties member)) residence
     ∙ ap (λ (t : ℕ). on (residence_of_groups network port) t (empty_at groups.empties member)) kept.time
-    ∙ ap (on (residence_of_groups network port) state.time) (kept.empties stream hop is.is_hop is.behind is.in_class)
+    ∙ ap (on (residence_of_groups network port) state.time)
+    (kept.empties stream leg hop is.is_hop is.behind is.in_class)
 
--- a path has a port once, so a stream has one scheduler behind it
-pub one-scheduler : (network : DeclaredNetwork) (stream hop next port class c : ℕ)
-    → AllPairs (λ p q. p ≢ q) (sender_at network stream).ports → IsScheduler network stream hop port class
-    → IsScheduler network stream next port c → hop ≡ next
-one-scheduler network stream hop next port class c apart is other =
-    elim (cases_order (hop - 1) (next - 1)) as (λ _. hop ≡ next) [
-      | inl e ↦ omega (arith, e, is.is_hop.later, other.is_hop.later)
-      | inr r ↦ elim r as (λ _. hop ≡ next) [
-        | inl before ↦ absurd (apart (hop - 1) (next - 1) 0 before
-            (omega (arith, other.is_hop.within, other.is_hop.later)) (is.behind ∙ sym other.behind))
-        | inr after ↦ absurd (apart (next - 1) (hop - 1) 0 after
-            (omega (arith, is.is_hop.within, is.is_hop.later)) (other.behind ∙ sym is.behind))
-      ]
-    ]
+-- a stream is a sender
+stream-known : (network : DeclaredNetwork) (stream : ℕ) → stream < length network.streams
+    → stream < length (senders_of network)
+stream-known network stream exists =
+    omega (
+      arith,
+      exists,
+      length-append (map stream_sender network.streams) (map flow_sender network.flows),
+      length-map network.streams stream_sender,
+    )
+
+-- no two legs have a port, and none has it twice, so a stream has one scheduler behind it
+pub one-scheduler : (network : DeclaredNetwork) (stream leg other hop later port class c : ℕ) → IsNetwork network
+    → IsScheduler network stream leg hop port class → IsScheduler network stream other later port c
+    → (leg ≡ other) × (hop ≡ later)
+one-scheduler network stream leg other hop later port class c rules is too =
+    let known = stream-known network stream is.is_hop.exists in
+    let legs : leg ≡ other =
+    leg-one network stream leg other port rules known (behind-of is) (behind-of too) in
+    let there : IsScheduler network stream leg later port c =
+    subst (λ (l : ℕ). IsScheduler network stream l later port c) (sym legs) too in
+    let hops = hop-one network stream leg (hop - 1) (later - 1) rules known
+    (omega (arith, is.is_hop.within, is.is_hop.later)) (omega (arith, there.is_hop.within, there.is_hop.later))
+    (is.behind ∙ sym there.behind) in
+    (legs, omega (arith, hops, is.is_hop.later, there.is_hop.later))
+  where
+    behind-of : {l h k : ℕ} → IsScheduler network stream l h port k → Contains (leg_ports network stream l) port
+    behind-of {l} {h} {k} at =
+        let below : h - 1 < length (leg_ports network stream l) =
+        omega (arith, at.is_hop.within, at.is_hop.later) in
+        (h - 1, below, get_or_default (leg_ports network stream l) (h - 1) port 0 below ∙ at.behind)
 
 -- what the group of a verdict keeps then: a step further
-pub state-own : (network : DeclaredNetwork) (groups : GroupsState) (stream hop port class : ℕ) (state : State)
-    (arrival octets : ℕ) (v : Verdict) → AllPairs (λ p q. p ≢ q) (sender_at network stream).ports
-    → AreGroupsOf network groups → IsScheduler network stream hop port class
+pub state-own : (network : DeclaredNetwork) (groups : GroupsState) (stream leg hop port class : ℕ) (state : State)
+    (arrival octets : ℕ) (v : Verdict) → IsNetwork network → AreGroupsOf network groups
+    → IsScheduler network stream leg hop port class
     → IsStateOf network groups port class state
-    → IsStateOf network (groups_after groups (scheduler_of network stream hop) octets v) port class
+    → IsStateOf network (groups_after groups (scheduler_of network stream leg hop) octets v) port class
     (after (declared_by network) state (record { member = stream; arrival = arrival; octets = octets }) v)
-state-own network groups stream hop port class state arrival octets (Late e) apart are is kept =
+state-own network groups stream leg hop port class state arrival octets (Late e) rules are is kept =
     record { time = kept.time; empties = kept.empties }
-state-own network groups stream hop port class state arrival octets Size apart are is kept =
+state-own network groups stream leg hop port class state arrival octets Size rules are is kept =
     record { time = kept.time; empties = kept.empties }
-state-own network groups stream hop port class state arrival octets (Eligible e) apart are is kept =
-    let member : ℕ = scheduler_of network stream hop in
-    let group = group-is network groups stream hop port class are is in
+state-own network groups stream leg hop port class state arrival octets (Eligible e) rules are is kept =
+    let member : ℕ = scheduler_of network stream leg hop in
+    let group = group-is network groups stream leg hop port class are is in
     let there : member < length groups.members =
     subst (λ (ms : List Member). member < length ms) (sym are.members)
-    (scheduler_within network stream hop is.is_hop) in
+    (scheduler_within network stream leg hop is.is_hop) in
     let grouped : group_of groups member < length groups.times =
     omega (arith, are.lawful.times, (are.lawful.members member no_member there).group) in
     let once : ℤ = empty_once (declared_at groups member) (empty_at groups.empties member) e.0 octets in
     let once_is : once ≡ empty_once (declared_by network stream) (state.empty stream) e.0 octets =
     ap (λ (m : Member). empty_once m.declared (empty_at groups.empties member) e.0 octets)
-    (member-is network groups stream hop port class are is)
+    (member-is network groups stream leg hop port class are is)
     ∙ ap (λ (b : ℤ). empty_once (declared_by network stream) b e.0 octets)
-    (kept.empties stream hop is.is_hop is.behind is.in_class) in
+    (kept.empties stream leg hop is.is_hop is.behind is.in_class) in
     let none : Ps = record { 0 = 0 } in
     record {
       time = ap (λ (g : ℕ). (get_or (set groups.times (group_of groups member) e) g none).0) (sym group)
           ∙ ap (λ (p : Ps). p.0) (get_or-set_same groups.times (group_of groups member) e none grouped);
-      empties = λ s h is_hop at_port at_class.
-          let Goal : Type 0 = empty_at (set groups.empties member once) (scheduler_of network s h)
+      empties = λ s l h is_hop at_port at_class.
+          let Goal : Type 0 = empty_at (set groups.empties member once) (scheduler_of network s l h)
           ≡ (if s == stream then empty_once (declared_by network s) (state.empty s) e.0 octets else state.empty s) in
           elim (cases_eq s stream) as (λ _. Goal) [
             | inl same ↦ (
-                let own : IsScheduler network stream h port class =
-                subst (λ (n : ℕ). IsScheduler network n h port class) same
+                let own : IsScheduler network stream l h port class =
+                subst (λ (n : ℕ). IsScheduler network n l h port class) same
                 (record { is_hop = is_hop; behind = at_port; in_class = at_class; few = is.few }) in
-                let hops : h ≡ hop = one-scheduler network stream h hop port class class apart own is in
-                let place : scheduler_of network s h ≡ member =
-                ap (λ (n : ℕ). scheduler_of network n h) same ∙ ap (scheduler_of network stream) hops in
+                let one = one-scheduler network stream l leg h hop port class class rules own is in
+                let place : scheduler_of network s l h ≡ member =
+                ap (λ (n : ℕ). scheduler_of network n l h) same
+                ∙ ap (λ (n : ℕ). scheduler_of network stream n h) one.0 ∙ ap (scheduler_of network stream leg) one.1 in
                 ap (empty_at (set groups.empties member once)) place
                 ∙ get_or-set_same groups.empties member once (pos 0)
                 (omega (arith, are.lawful.empties, there))
@@ -165,40 +186,41 @@ state-own network groups stream hop port class state arrival octets (Eligible e)
                 ∙ ap (λ (n : ℕ). empty_once (declared_by network n) (state.empty n) e.0 octets) (sym same)
                 ∙ sym (cond-true (s == stream) _ _ (eq-eqb s stream same)))
             | inr other ↦ (
-                get_or-set_other groups.empties member (scheduler_of network s h) once (pos 0)
-                (λ place. other (schedulers_are_apart network s stream h hop is_hop is.is_hop place).0)
-                ∙ kept.empties s h is_hop at_port at_class
+                get_or-set_other groups.empties member (scheduler_of network s l h) once (pos 0)
+                (λ place. other (schedulers_are_apart network s stream l leg h hop rules is_hop is.is_hop place).0)
+                ∙ kept.empties s l h is_hop at_port at_class
                 ∙ sym (cond-false (s == stream) _ _ (ne_eqb s stream other)))
           ];
     }
 
 -- what any other group keeps stays
-pub state-other : (network : DeclaredNetwork) (groups : GroupsState) (stream hop port class : ℕ) (octets : ℕ)
-    (v : Verdict) (other c : ℕ) (state : State) → AreGroupsOf network groups
-    → IsScheduler network stream hop port class → c ≤ 7 → ¬ ((other ≡ port) × (c ≡ class))
+pub state-other : (network : DeclaredNetwork) (groups : GroupsState) (stream leg hop port class : ℕ) (octets : ℕ)
+    (v : Verdict) (other c : ℕ) (state : State) → IsNetwork network → AreGroupsOf network groups
+    → IsScheduler network stream leg hop port class → c ≤ 7 → ¬ ((other ≡ port) × (c ≡ class))
     → IsStateOf network groups other c state
-    → IsStateOf network (groups_after groups (scheduler_of network stream hop) octets v) other c state
-state-other network groups stream hop port class octets (Late e) other c state are is few apart kept =
+    → IsStateOf network (groups_after groups (scheduler_of network stream leg hop) octets v) other c state
+state-other network groups stream leg hop port class octets (Late e) other c state rules are is few apart kept =
     record { time = kept.time; empties = kept.empties }
-state-other network groups stream hop port class octets Size other c state are is few apart kept =
+state-other network groups stream leg hop port class octets Size other c state rules are is few apart kept =
     record { time = kept.time; empties = kept.empties }
-state-other network groups stream hop port class octets (Eligible e) other c state are is few apart kept =
-    let member : ℕ = scheduler_of network stream hop in
-    let group = group-is network groups stream hop port class are is in
+state-other network groups stream leg hop port class octets (Eligible e) other c state rules are is few apart kept =
+    let member : ℕ = scheduler_of network stream leg hop in
+    let group = group-is network groups stream leg hop port class are is in
     let none : Ps = record { 0 = 0 } in
     record {
       time = ap (λ (p : Ps). p.0) (get_or-set_other groups.times (group_of groups member) (group_behind other c) e none
           (λ same. apart (groups_apart other port c class few is.few (same ∙ group))))
           ∙ kept.time;
-      empties = λ s h is_hop at_port at_class.
-          get_or-set_other groups.empties member (scheduler_of network s h) _ (pos 0) (λ place.
-          let same = schedulers_are_apart network s stream h hop is_hop is.is_hop place in
+      empties = λ s l h is_hop at_port at_class.
+          get_or-set_other groups.empties member (scheduler_of network s l h) _ (pos 0) (λ place.
+          let same = schedulers_are_apart network s stream l leg h hop rules is_hop is.is_hop place in
           let ports : other ≡ port = sym at_port
-          ∙ ap (λ (n : ℕ). get_or (sender_at network n).ports (h - 1) 0) same.0
-          ∙ ap (λ (n : ℕ). get_or (sender_at network stream).ports (n - 1) 0) same.1 ∙ is.behind in
+          ∙ ap (λ (n : ℕ). get_or (leg_ports network n l) (h - 1) 0) same.0
+          ∙ ap (λ (n : ℕ). get_or (leg_ports network stream n) (h - 1) 0) same.1
+          ∙ ap (λ (n : ℕ). get_or (leg_ports network stream leg) (n - 1) 0) same.2 ∙ is.behind in
           let classes : c ≡ class = sym at_class
           ∙ ap (λ (n : ℕ). class_at (sender_at network n) other) same.0
           ∙ ap (class_at (sender_at network stream)) ports ∙ is.in_class in
           apart (ports, classes))
-          ∙ kept.empties s h is_hop at_port at_class;
+          ∙ kept.empties s l h is_hop at_port at_class;
     }

@@ -1,11 +1,12 @@
-use Rattle.std.specs.Prelude.{ℕ, List, ◌++◌}
+use Rattle.std.specs.Prelude.{ℕ, List, ◌++◌, Option}
+use Rattle.ats_num.specs.declared.time.Ps.{Ps}
 use Rattle.ats_num.specs.Pace.{WaitsWithin}
 use Rattle.ats_network.specs.Network.{DeclaredNetwork}
 use Rattle.ats_events.specs.declared.moment.Moment.{Moment}
 use Rattle.ats_trace.specs.declared.journey.Release.{Release}
 use Rattle.ats_engine_steps.specs.Course.{Course}
 use Rattle.ats_engine_steps.specs.Invariant.{Holds}
-use Rattle.ats_engine_steps.specs.Steps.{Comes, BecomesEligible, Selects, Ends}
+use Rattle.ats_engine_steps.specs.Steps.{Comes, BecomesEligible, Selects, Ends, due_entries, rows_next}
 use Rattle.ats_engine_steps.specs.declared.event.Event.{Event}
 use Rattle.ats_engine_steps.specs.declared.event.Event.TheVariants.{End, Arrival, Eligibility, Selection}
 use Rattle.ats_engine_proofs.specs.Next.{IsNext}
@@ -19,15 +20,15 @@ use Rattle.ats_engine_proofs.proofs.Paces.{comes-paces, offered-paces, selects-p
 use Rattle.ats_engine_proofs.proofs.Ports.{comes-ports, offered-ports, selects-ports, ends-ports}
 use Rattle.ats_engine_proofs.proofs.Times.{comes-bounds, offered-bounds, selects-bounds, ends-bounds}
 
--- what holds does so again after each step: a frame that comes
+-- what holds does so again after each step: a frame that comes, along a leg and those that begin there
 pub comes-holds : {T : Type 0} {key : T → ℕ → ℕ → ℕ} {wait : ℕ → ℕ → ℕ} {network : DeclaredNetwork}
-    {releases : List Release} {old new : Course T} {now : Moment} {frame : ℕ} {entries more : List (Moment × Event)}
-    → IsNext key wait network releases old now (Arrival frame) entries → Comes network old new now frame more
-    → Holds key wait network releases new (more ++ entries)
+    {releases : List Release} {old new : Course T} {now : Moment} {row : ℕ} {entries : List (Moment × Event)}
+    {due : Option Ps} → IsNext key wait network releases old now (Arrival row) entries
+    → Comes network old new now row due
+    → Holds key wait network releases new (due_entries due (rows_next network old row) ++ entries)
 comes-holds next step =
     record {
       rules = next.holds.rules;
-      one_listener = next.holds.one_listener;
       shape = comes-shape next step;
       frames = comes-frames next step;
       awaited = comes-awaited next step;
@@ -39,16 +40,15 @@ comes-holds next step =
       bounds = comes-bounds next step;
     }
 
--- a frame that becomes eligible
+-- a frame that becomes eligible along a leg
 pub offered-holds : {T : Type 0} {key : T → ℕ → ℕ → ℕ} {wait : ℕ → ℕ → ℕ} {network : DeclaredNetwork}
-    {releases : List Release} {old new : Course T} {now : Moment} {frame : ℕ} {entries more : List (Moment × Event)}
-    → IsNext key wait network releases old now (Eligibility frame) entries
-    → BecomesEligible key network old new now frame more
+    {releases : List Release} {old new : Course T} {now : Moment} {row : ℕ} {entries more : List (Moment × Event)}
+    → IsNext key wait network releases old now (Eligibility row) entries
+    → BecomesEligible key network old new now row more
     → Holds key wait network releases new (more ++ entries)
 offered-holds next step =
     record {
       rules = next.holds.rules;
-      one_listener = next.holds.one_listener;
       shape = offered-shape next step;
       frames = offered-frames next step;
       awaited = offered-awaited next step;
@@ -63,12 +63,11 @@ offered-holds next step =
 -- a port that selects
 pub selects-holds : {T : Type 0} {key : T → ℕ → ℕ → ℕ} {wait : ℕ → ℕ → ℕ} {network : DeclaredNetwork}
     {releases : List Release} {old new : Course T} {now : Moment} {port : ℕ} {entries more : List (Moment × Event)}
-    → IsNext key wait network releases old now (Selection port) entries → Selects key old new now port more
+    → IsNext key wait network releases old now (Selection port) entries → Selects key network old new now port more
     → Holds key wait network releases new (more ++ entries)
 selects-holds next step =
     record {
       rules = next.holds.rules;
-      one_listener = next.holds.one_listener;
       shape = selects-shape next step;
       frames = selects-frames next step;
       awaited = selects-awaited next step;
@@ -82,13 +81,12 @@ selects-holds next step =
 
 -- a transmission that ends
 pub ends-holds : {T : Type 0} {key : T → ℕ → ℕ → ℕ} {wait : ℕ → ℕ → ℕ} {network : DeclaredNetwork}
-    {releases : List Release} {old new : Course T} {now : Moment} {frame : ℕ} {entries more : List (Moment × Event)}
-    → WaitsWithin wait → IsNext key wait network releases old now (End frame) entries
-    → Ends key wait network old new now frame more → Holds key wait network releases new (more ++ entries)
+    {releases : List Release} {old new : Course T} {now : Moment} {row : ℕ} {entries more : List (Moment × Event)}
+    → WaitsWithin wait → IsNext key wait network releases old now (End row) entries
+    → Ends key wait network old new now row more → Holds key wait network releases new (more ++ entries)
 ends-holds within next step =
     record {
       rules = next.holds.rules;
-      one_listener = next.holds.one_listener;
       shape = ends-shape next step;
       frames = ends-frames next step;
       awaited = ends-awaited next step;

@@ -1,39 +1,43 @@
 -- What verdicts on late frames tell is before the end of time, where each moment of the run is long before it.
-use Rattle.std.proofs.Common.{◌≡◌, ℕ, ◌+◌, ◌<◌, ◌≤◌, Bool, true, false, List, [], ◌∷◌, map, length, get_or}
+use Rattle.std.proofs.Common.{◌≡◌, ℕ, suc, ◌+◌, ◌<◌, ◌≤◌, Bool, true, false, List, [], ◌∷◌, map, length, get_or}
 use Rattle.std.proofs.Common.{All, refl, subst, sym, ap, arith, Option, Some, None, inl, inr}
 use Rattle.std.specs.Prelude.{◌==◌, ◌&&◌, if◌then◌else◌, IfSome}
 use Rattle.std.proofs.lemmas.Bool.{and_parts, and_from, cases_lt, eq-eqb, eqb-true}
 use Rattle.std.proofs.lemmas.List.Elements.{All-nil, All-cons, All-head, All-tail, All-append, All-filter, All-map}
 use Rattle.std.proofs.lemmas.List.Elements.{All-weaker, filter_passes}
 use Rattle.std.proofs.lemmas.List.Sorted.{All-permutation, IsPermutation-sym}
+use Rattle.std.proofs.lemmas.Option.{get_or_from_slice_get, slice_get_within}
 use Rattle.ats_facts.proofs.Lists.{all_left, all_right, all_unmapped, All-from_filter}
 use Rattle.ats_num.specs.declared.time.Ps.{Ps}
 use Rattle.ats_num.specs.declared.time.TheConstants.{END}
-use Rattle.ats_network.specs.Network.{DeclaredNetwork, HasOneListener, IsNetwork}
+use Rattle.ats_network.specs.Network.{DeclaredNetwork, IsNetwork}
 use Rattle.ats_network.specs.Class.{class_at}
 use Rattle.ats_network.specs.Sender.{Sender}
 use Rattle.ats_network.specs.Senders.{IsSender, sender_at}
 use Rattle.ats_network.proofs.SenderLemmas.{sender_keeps}
 use Rattle.ats_group.specs.Group.{Offer}
+use Rattle.ats_streams.specs.Branches.{leg_at, legs_of}
 use Rattle.ats_streams.specs.Traffic.{IsRuled}
+use Rattle.ats_streams.proofs.BranchLemmas.{legs-length}
 use Rattle.ats_group.specs.Judge.{ats_judge}
 use Rattle.ats_group.specs.declared.verdict.Verdict.{Verdict}
 use Rattle.ats_group.specs.declared.verdict.Verdict.TheVariants.{Eligible, Late, Size}
 use Rattle.ats_group_law.proofs.Soon.{IsEligibleUntil, IsLateUntil, most_given, late_times_within}
-use Rattle.ats_trace.specs.Journey.{Travel, IsJourney, IsReleased, IsSentOrEnds, IsWay}
+use Rattle.ats_trace.specs.Journey.{BeginsAs, IsCopy, IsJourney, IsReleased, IsSentOrEnds, IsWay, Leg, Travel, legs_in}
 use Rattle.ats_trace.specs.Projections.{Handed, transmission_by, transmission_of, handed_at, handed_along}
-use Rattle.ats_trace.specs.Projections.{journey_handed, handed_from, handed_by}
+use Rattle.ats_trace.specs.Projections.{handed_over, journey_handed, handed_from, handed_by}
 use Rattle.ats_trace.specs.Eligibility.{declared_by, offer_of, IsJudged, IsPassed, residence_of_groups}
 use Rattle.ats_trace.specs.Run.{IsLegal}
 use Rattle.ats_trace.specs.declared.journey.Ending.{Ending}
 use Rattle.ats_trace.specs.declared.journey.Ending.TheVariants.{Sink, Discard}
 use Rattle.ats_trace.specs.declared.journey.HopRecord.{HopRecord}
 use Rattle.ats_trace.specs.declared.journey.Release.{Release}
-use Rattle.ats_trace.proofs.OneListener.{sender_alone, way_alone}
+use Rattle.ats_trace.proofs.Legs.{legs_keep}
+use Rattle.ats_trace.proofs.OneVerdict.{copies_many}
 use Rattle.ats_engine_steps.specs.Bounds.{horizon, most_latency}
-use Rattle.ats_engine_proofs.specs.InTime.{IsVerdictBefore, IsSentBefore, IsEndBefore, IsJourneyBefore}
+use Rattle.ats_engine_proofs.specs.InTime.{IsVerdictBefore, IsSentBefore, IsEndBefore, IsJourneyBefore, IsLegBefore}
 use Rattle.ats_engine_proofs.specs.InTime.{IsRunInTime}
-use Rattle.ats_engine_proofs.proofs.OnPaths.{path_handed, handed_on_path}
+use Rattle.ats_engine_proofs.proofs.EachLeg.{IsRecordOf, each-leg, handed-at, leg_told}
 
 -- an eligible frame is so before this time; that of a late one comes later
 abbrev pub IsEligibleBefore : ℕ → Verdict → Type 0
@@ -47,11 +51,15 @@ pub record IsHopDoneBefore (time : ℕ) (hop : HopRecord) : Type 0 where
   pub eligible : IsEligibleBefore time hop.verdict
   pub sent : IfSome hop.sent (IsSentBefore time)
 
--- and each moment of a journey
+-- and each moment along a leg
+pub record IsLegDoneBefore (time : ℕ) (leg : Leg) : Type 0 where
+  pub hops : All (IsHopDoneBefore time) leg.hops
+  pub ending : IsEndBefore time leg.ending
+
+-- and of a journey
 pub record IsJourneyDoneBefore (time : ℕ) (journey : Travel) : Type 0 where
   pub release : journey.release.at.0 < time
-  pub hops : All (IsHopDoneBefore time) journey.hops
-  pub ending : IsEndBefore time journey.ending
+  pub legs : All (IsLegDoneBefore time) (legs_in journey)
 
 -- the last moment of a run and the latency of a port behind it are before this time, and long before the end of time
 abbrev pub after_all : ℕ
@@ -98,19 +106,34 @@ come-along network time frame release s (p ∷ path) (hop ∷ hops) within ruled
     (come-along network time frame release s path hops
     (All-tail (λ (p : ℕ). p < length network.topology.ports) p path within) ruled rest)
 
-come-run : (network : DeclaredNetwork) (time n : ℕ) (run : List Travel) → IsNetwork network → HasOneListener network
+come-over : (network : DeclaredNetwork) (time frame : ℕ) (release : Release) (s : Sender) (paths : List (List ℕ))
+    (legs : List Leg) → All (All (λ (p : ℕ). p < length network.topology.ports)) paths
+    → ((p : ℕ) → 1 ≤ class_at s p → IsRuled (declared_by network release.sender)) → All (IsLegDoneBefore time) legs
+    → All (IsCome network time) (handed_over frame release s paths legs)
+come-over network time frame release s [] legs within ruled done = All-nil (IsCome network time)
+come-over network time frame release s (path ∷ paths) [] within ruled done = All-nil (IsCome network time)
+come-over network time frame release s (path ∷ paths) (leg ∷ legs) within ruled done =
+    let Within : List ℕ → Type 0 = All (λ (p : ℕ). p < length network.topology.ports) in
+    All-append (IsCome network time) (handed_along frame release s path leg.hops)
+    (handed_over frame release s paths legs)
+    (come-along network time frame release s path leg.hops (All-head Within path paths within) ruled
+    (All-head (IsLegDoneBefore time) leg legs done).hops)
+    (come-over network time frame release s paths legs (All-tail Within path paths within) ruled
+    (All-tail (IsLegDoneBefore time) leg legs done))
+
+come-run : (network : DeclaredNetwork) (time n : ℕ) (run : List Travel) → IsNetwork network
     → All (IsJourney network) run → All (IsJourneyDoneBefore time) run
     → All (IsCome network time) (handed_from network n run)
-come-run network time n [] rules alone journeys done = All-nil (IsCome network time)
-come-run network time n (j ∷ run) rules alone journeys done =
+come-run network time n [] rules journeys done = All-nil (IsCome network time)
+come-run network time n (j ∷ run) rules journeys done =
     let is : IsJourney network j = All-head (IsJourney network) j run journeys in
     let s : Sender = sender_at network j.release.sender in
     let keeps : IsSender network.topology s = sender_keeps network j.release.sender rules is.sender in
     All-append (IsCome network time) (journey_handed network n j) (handed_from network (n + 1) run)
-    (subst (All (IsCome network time)) (sym (handed_on_path network alone n j))
-    (come-along network time n j.release s s.ports j.hops keeps.ports keeps.shaped
-    (All-head (IsJourneyDoneBefore time) j run done).hops))
-    (come-run network time (n + 1) run rules alone (All-tail (IsJourney network) j run journeys)
+    (come-over network time n j.release s (legs_of s.ports s.branches) (legs_in j)
+    (legs_keep (λ (p : ℕ). p < length network.topology.ports) 0 s.ports s.branches keeps.ports) keeps.shaped
+    (All-head (IsJourneyDoneBefore time) j run done).legs)
+    (come-run network time (n + 1) run rules (All-tail (IsJourney network) j run journeys)
     (All-tail (IsJourneyDoneBefore time) j run done))
 
 -- a frame that came behind a port of a class that has a group
@@ -260,23 +283,59 @@ released-late : (limit : ℕ) (release : Release) (hops : List HopRecord) → Is
 released-late limit release [] released = tt
 released-late limit release (hop ∷ hops) released = subst (IsLateUntil limit) (sym released.1) tt
 
-late-run : (network : DeclaredNetwork) → HasOneListener network → (limit n : ℕ) (run : List Travel)
-    → All (IsJourney network) run → All (IsLateHanded limit) (handed_from network n run)
-    → All (λ (j : Travel). All (IsLateHop limit) j.hops) run
-late-run network alone limit n [] journeys late = All-nil (λ (j : Travel). All (IsLateHop limit) j.hops)
-late-run network alone limit n (j ∷ run) journeys late =
-    let is : IsJourney network j = All-head (IsJourney network) j run journeys in
+-- nor is a copy where it begins, if the frame was not there
+begun-late : (limit : ℕ) (start : HopRecord) (hops : List HopRecord) → IsLateHop limit start → BeginsAs start hops
+    → IsLateFirst limit hops
+begun-late limit start [] late begun = tt
+begun-late limit start (hop ∷ hops) late begun = subst (IsLateUntil limit) (sym begun.1) late
+
+-- no record of a leg is late
+abbrev IsLateLeg : ℕ → Leg → Type 0
+IsLateLeg limit leg = All (IsLateHop limit) leg.hops
+
+copy-late : (limit frame : ℕ) (release : Release) (s : Sender) (path : List ℕ) (leg : Leg) (start : Option HopRecord)
+    → IfSome start (IsRecordOf (IsLateLeg limit)) → IsCopy start path leg
+    → All (IsLateHanded limit) (handed_along frame release s path leg.hops) → IsLateLeg limit leg
+copy-late limit frame release s path leg None known copy late =
+    subst (All (IsLateHop limit)) (sym copy.0) (All-nil (IsLateHop limit))
+copy-late limit frame release s path leg (Some start) known copy late =
+    let within : known.place < length known.leg.hops =
+    slice_get_within known.leg.hops known.place start known.there in
+    let first : IsLateHop limit start =
+    subst (IsLateHop limit) (get_or_from_slice_get known.leg.hops known.place start start known.there)
+    (known.keeps known.place start within) in
+    late-along limit frame release s path leg.hops leg.ending (λ next rest e. copy.1)
+    (begun-late limit start leg.hops first copy.0) late
+
+late-journey : (network : DeclaredNetwork) (limit n : ℕ) (j : Travel) → IsNetwork network → IsJourney network j
+    → All (IsLateHanded limit) (journey_handed network n j) → All (IsLateLeg limit) (legs_in j)
+late-journey network limit n j rules is late =
     let s : Sender = sender_at network j.release.sender in
+    let paths : List (List ℕ) = legs_of s.ports s.branches in
+    let keeps : IsSender network.topology s = sender_keeps network j.release.sender rules is.sender in
+    let many : length paths ≡ suc (length s.branches) = legs-length 0 s.ports s.branches in
+    let copies : length j.copies ≡ length s.branches = copies_many s j is.copies in
+    let at : (k : ℕ) → k ≤ length s.branches
+    → All (IsLateHanded limit) (handed_along n j.release s (leg_at paths k) (leg_told j k).hops) =
+    λ k within. handed-at (IsLateHanded limit) n j.release s paths (legs_in j) k (omega (arith, many))
+    (omega (arith, copies)) late in
+    each-leg s j (IsLateLeg limit) keeps.branches is.copies
+    (late-along limit n j.release s (leg_at paths 0) j.hops j.ending (λ next rest e. is.way)
+    (released-late limit j.release j.hops is.released) (at 0 (omega arith)))
+    (λ copy start within known begins. copy-late limit n j.release s (leg_at paths (suc copy)) (leg_told j (suc copy))
+    start known begins (at (suc copy) (omega arith)))
+
+late-run : (network : DeclaredNetwork) → IsNetwork network → (limit n : ℕ) (run : List Travel)
+    → All (IsJourney network) run → All (IsLateHanded limit) (handed_from network n run)
+    → All (λ (j : Travel). All (IsLateLeg limit) (legs_in j)) run
+late-run network rules limit n [] journeys late = All-nil (λ (j : Travel). All (IsLateLeg limit) (legs_in j))
+late-run network rules limit n (j ∷ run) journeys late =
     let own : List Handed = journey_handed network n j in
     let others : List Handed = handed_from network (n + 1) run in
-    let along : All (IsLateHanded limit) (path_handed network n j) =
-    subst (All (IsLateHanded limit)) (handed_on_path network alone n j)
-    (all_left (IsLateHanded limit) own others late) in
-    All-cons (λ (j : Travel). All (IsLateHop limit) j.hops) j run
-    (late-along limit n j.release s s.ports j.hops j.ending
-    (λ next rest e. way_alone network j (sender_alone network alone j.release.sender) is)
-    (released-late limit j.release j.hops is.released) along)
-    (late-run network alone limit (n + 1) run (All-tail (IsJourney network) j run journeys)
+    All-cons (λ (j : Travel). All (IsLateLeg limit) (legs_in j)) j run
+    (late-journey network limit n j rules (All-head (IsJourney network) j run journeys)
+    (all_left (IsLateHanded limit) own others late))
+    (late-run network rules limit (n + 1) run (All-tail (IsJourney network) j run journeys)
     (all_right (IsLateHanded limit) own others late))
 
 -- both together
@@ -297,28 +356,41 @@ end-before : (ending : Ending) → IsEndBefore after_all ending → IsEndBefore 
 end-before (Sink at) before = omega arith
 end-before Discard before = tt
 
-journey-in-time : (j : Travel) → IsJourneyDoneBefore after_all j
-    → All (IsLateHop (horizon + most_latency + most_given)) j.hops → IsJourneyBefore END j
-journey-in-time j done late = record {
-  release = (let r = done.release in omega arith);
+leg-in-time : (leg : Leg) → IsLegDoneBefore after_all leg → IsLateLeg (horizon + most_latency + most_given) leg
+    → IsLegBefore END leg
+leg-in-time leg done late = record {
   hops = λ k d h. (
       let one = done.hops k d h in
       let a = one.arrival in
       record {
         arrival = omega arith;
-        verdict = verdict-before (get_or j.hops k d).verdict one.eligible (late k d h);
-        sent = sent-before (get_or j.hops k d).sent one.sent;
+        verdict = verdict-before (get_or leg.hops k d).verdict one.eligible (late k d h);
+        sent = sent-before (get_or leg.hops k d).sent one.sent;
       }
       );
-  ending = end-before j.ending done.ending;
+  ending = end-before leg.ending done.ending;
 }
+
+journey-in-time : (j : Travel) → IsJourneyDoneBefore after_all j
+    → All (IsLateLeg (horizon + most_latency + most_given)) (legs_in j) → IsJourneyBefore END j
+journey-in-time j done late =
+    let legs : All (IsLegBefore END) (legs_in j) =
+    λ k d h. leg-in-time (get_or (legs_in j) k d) (done.legs k d h) (late k d h) in
+    let trunk : Leg = record { hops = j.hops; ending = j.ending } in
+    let own : IsLegBefore END trunk = All-head (IsLegBefore END) trunk j.copies legs in
+    record {
+      release = (let r = done.release in omega arith);
+      hops = own.hops;
+      ending = own.ending;
+      copies = All-tail (IsLegBefore END) trunk j.copies legs;
+    }
 
 -- a legal run whose moments are all before that time tells no time that is not before the end of time
 pub in-time-with-late : (network : DeclaredNetwork) (run : List Travel) → IsNetwork network
-    → HasOneListener network → IsLegal network run → All (IsJourneyDoneBefore after_all) run → IsRunInTime run
-in-time-with-late network run rules alone legal done k d h =
+    → IsLegal network run → All (IsJourneyDoneBefore after_all) run → IsRunInTime run
+in-time-with-late network run rules legal done k d h =
     let limit : ℕ = horizon + most_latency in
-    let come = come-run network after_all 0 run rules alone legal.journeys done in
+    let come = come-run network after_all 0 run rules legal.journeys done in
     let late =
-    late-run network alone (limit + most_given) 0 run legal.journeys (all-late network limit run legal come) in
+    late-run network rules (limit + most_given) 0 run legal.journeys (all-late network limit run legal come) in
     journey-in-time (get_or run k d) (done k d h) (late k d h)

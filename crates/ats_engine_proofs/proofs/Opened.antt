@@ -1,20 +1,21 @@
 -- What holds where a run begins.
-use Rattle.std.proofs.Common.{◌≡◌, ℕ, ◌*◌, ◌<◌, ◌≤◌, List, [], ◌∷◌, length, map, get_or, All, Option, None}
-use Rattle.std.proofs.Common.{Some, refl, sym, ap, ◌∙◌, subst, inl, inr, arith, replicate, IsPermutation}
-use Rattle.std.specs.Prelude.{Contains, IfSome, ℤ, pos}
-use Rattle.std.specs.List.{zip, sum_by}
+use Rattle.std.proofs.Common.{◌≡◌, ℕ, zero, suc, ◌+◌, ◌-◌, ◌*◌, ◌<◌, ◌≤◌, List, [], ◌∷◌, ◌++◌, length, map, get_or, All}
+use Rattle.std.proofs.Common.{Option, None, Some, refl, sym, ap, ◌∙◌, subst, inl, inr, arith, replicate, IsPermutation}
+use Rattle.std.specs.Prelude.{Contains, IfSome, ℤ, pos, slice_get, ◌==◌, ◌&&◌}
+use Rattle.std.specs.List.{filter, flat_map, zip, sum_by}
 use Rattle.std.proofs.lemmas.Bool.{cases_lt, true≢false}
-use Rattle.std.proofs.lemmas.List.{get_or-map, get_or-replicate, get_or_past, length-map, length-replicate}
-use Rattle.std.proofs.lemmas.List.Elements.{All-nil}
+use Rattle.std.proofs.lemmas.List.{get_or-map, get_or-replicate, get_or_append_left, get_or-append_right, get_or_past}
+use Rattle.std.proofs.lemmas.List.{length-append, length-map, length-replicate}
+use Rattle.std.proofs.lemmas.List.Elements.{All-nil, All-cons, All-head, All-tail, All-append, All-map}
 use Rattle.std.proofs.lemmas.List.FromFn.{length-map-range_with_len}
 use Rattle.std.proofs.lemmas.List.Sorted.{IsPermutation-refl}
 use Rattle.ats_num.specs.declared.time.Ps.{Ps}
 use Rattle.ats_num.specs.declared.time.TheConstants.{END}
 use Rattle.ats_topology.specs.Port.{port_at}
 use Rattle.ats_topology.specs.declared.port.Port.{Port}
-use Rattle.ats_network.specs.Network.{DeclaredNetwork, HasOneListener, IsNetwork}
-use Rattle.ats_network.specs.Senders.{sender_at}
-use Rattle.ats_network.proofs.SenderLemmas.{sender_path}
+use Rattle.ats_streams.specs.Branches.{leg_at, no_branch}
+use Rattle.ats_network.specs.Network.{DeclaredNetwork, IsNetwork}
+use Rattle.ats_network.specs.Sender.{Sender}
 use Rattle.ats_bucket.specs.Scheduler.{first_empty}
 use Rattle.ats_group.specs.Group.{State, first}
 use Rattle.ats_group.specs.GroupsState as groups
@@ -31,17 +32,22 @@ use Rattle.ats_transmit.specs.declared.offer.Offer.{Offer}
 use Rattle.ats_transmit.proofs.Lawful.{lawful-open}
 use Rattle.ats_events.specs.declared.moment.Moment.{Moment}
 use Rattle.ats_trace.specs.Eligibility.{IsPassed, declared_by}
-use Rattle.ats_trace.specs.Journey.{Travel}
+use Rattle.ats_trace.specs.Journey.{legs_at}
 use Rattle.ats_trace.specs.Links.{KeepsLinkRule, KeepsPace, in_order_from}
-use Rattle.ats_trace.specs.Projections.{Crossing, Handed, sent_by, crossings_by, handed_by}
-use Rattle.ats_trace.specs.Releases.{AreReleases, IsRelease}
+use Rattle.ats_trace.specs.Projections.{Hop, Crossing, Handed, hops_along, crossings_along, handed_along}
+use Rattle.ats_trace.specs.Releases.{AreReleases, HaveFewPorts, IsRelease}
+use Rattle.ats_trace.specs.Stored.{row_of}
+use Rattle.ats_trace.specs.declared.journey.Ending.{Ending}
+use Rattle.ats_trace.specs.declared.journey.HopRecord.{HopRecord}
 use Rattle.ats_trace.specs.declared.journey.Release.{Release}
-use Rattle.ats_run_records.specs.Progress.{Progress, progress_at, no_progress}
-use Rattle.ats_engine_steps.specs.Bounds.{all_left, most_left, EndsInTime}
-use Rattle.ats_engine_steps.specs.Course.{Course, stage_at, turn_at, travels, travels_of, arrives_from_at}
+use Rattle.ats_run_records.specs.Progress.{Progress, progress_at, no_progress, copies_opened, leg_opened, trunks_opened}
+use Rattle.ats_run_records.proofs.AllCounts.{length-trunks, no_release}
+use Rattle.ats_engine_steps.specs.Bounds.{EndsInTime}
+use Rattle.ats_engine_steps.specs.Course.{Course, path_of, sender_of, stage_at, turn_at, arrives_from_at, leg_hops}
+use Rattle.ats_engine_steps.specs.Course.{leg_crossings, leg_handed, sent_so_far, crossings_so_far, handed_so_far}
 use Rattle.ats_engine_steps.specs.Entries.{AreAwaited, IsReached, moment_of, arrival_by, eligibility_by, end_by}
 use Rattle.ats_engine_steps.specs.Entries.{selection_by}
-use Rattle.ats_engine_steps.specs.Frames.{IsFrame, Goes}
+use Rattle.ats_engine_steps.specs.Frames.{IsFrame, Goes, start_by}
 use Rattle.ats_engine_steps.specs.Invariant.{Holds, IsShaped}
 use Rattle.ats_engine_steps.specs.Judging.{AreGroupsOf, IsGroupOf, IsStateOf}
 use Rattle.ats_engine_steps.specs.Paces.{IsPaced}
@@ -49,46 +55,112 @@ use Rattle.ats_engine_steps.specs.Ports.{IsPortOf, IsHeld, IsTurn, port_state_at
 use Rattle.ats_engine_steps.specs.declared.event.Event.{Event}
 use Rattle.ats_engine_steps.specs.declared.event.Event.TheVariants.{End, Arrival, Eligibility, Selection}
 use Rattle.ats_engine_steps.specs.declared.stage.Stage.{Stage}
-use Rattle.ats_engine_steps.specs.declared.stage.Stage.TheVariants.{Coming, Waiting, Sending, Over}
+use Rattle.ats_engine_steps.specs.declared.stage.Stage.TheVariants.{Apart, Coming, Waiting, Sending, Over}
 use Rattle.ats_engine_steps.specs.declared.turn.Turn.{Turn}
 use Rattle.ats_engine_steps.specs.declared.turn.Turn.TheVariants.{Resting}
 use Rattle.ats_engine_proofs.specs.Opened.{IsOpened, IsFresh, released_from}
-use Rattle.ats_engine_proofs.proofs.Beginning.{coming, start, still, no_release, entry_of, records-opened}
-use Rattle.ats_engine_proofs.proofs.Beginning.{releases-kept}
-use Rattle.ats_engine_proofs.proofs.Beginning.{travels-opened, none-sent, none-crossed, none-handed, length-released}
-use Rattle.ats_engine_proofs.proofs.Beginning.{entry-at, most-opened}
+use Rattle.ats_engine_proofs.proofs.LegPorts.{leg-some}
+use Rattle.ats_engine_proofs.proofs.OpenedRows.{trunk-at}
+use Rattle.ats_engine_proofs.proofs.Beginning.{entry_of, IsFreshLeg, IsFreshCopy, IsEarly, trunks-fresh}
+use Rattle.ats_engine_proofs.proofs.Beginning.{copies-fresh, opened-again, nothing-from}
+use Rattle.ats_engine_proofs.proofs.Beginning.{length-released, entry-at, rooms-opened, most-early}
 
--- the records of a run that is to begin
-records-are : {T : Type 0} (network : DeclaredNetwork) (releases : List Release) (course : Course T)
-    → IsOpened network releases course → course.records ≡ map (start network) releases
-records-are network releases course opened = opened.records ∙ records-opened network releases
+-- the rows of the copies
+abbrev copies_in : DeclaredNetwork → List Release → List Progress
+copies_in network releases = copies_opened network 0 releases
 
--- there are as many as releases
+-- there are a row for each trunk and one for each copy
 length-records : {T : Type 0} (network : DeclaredNetwork) (releases : List Release) (course : Course T)
-    → IsOpened network releases course → length course.records ≡ length releases
+    → IsOpened network releases course
+    → length course.records ≡ length releases + length (copies_in network releases)
 length-records network releases course opened =
-    ap length (records-are network releases course opened) ∙ length-map releases (start network)
+    ap (λ (ps : List Progress). length ps) opened.records
+    ∙ length-append (trunks_opened network 0 releases) (copies_in network releases)
+    ∙ ap (λ (n : ℕ). n + length (copies_in network releases)) (length-trunks network 0 releases)
 
 -- and as many stages
 length-stages : {T : Type 0} (network : DeclaredNetwork) (releases : List Release) (course : Course T)
-    → IsOpened network releases course → length course.stages ≡ length releases
-length-stages network releases course opened = ap length opened.stages ∙ length-map releases coming
+    → IsOpened network releases course
+    → length course.stages ≡ length releases + length (copies_in network releases)
+length-stages network releases course opened =
+    let n : ℕ = length (copies_in network releases) in
+    let comes : List Stage = map (λ (r : Release). Coming r.at) releases in
+    let trunks = length-map releases (λ (r : Release). Coming r.at) in
+    let copies : length (replicate n Apart) ≡ n = length-replicate n Apart in
+    ap (λ (ss : List Stage). length ss) opened.stages
+    ∙ omega (arith, length-append comes (replicate n Apart), trunks, copies)
 
--- the stage of each frame
-stage-is : {T : Type 0} (network : DeclaredNetwork) (releases : List Release) (course : Course T) (frame : ℕ)
-    → IsOpened network releases course → frame < length releases
-    → stage_at course frame ≡ Coming (get_or releases frame no_release).at
-stage-is network releases course frame opened within =
-    ap (λ (ss : List Stage). get_or ss frame Over) opened.stages
-    ∙ get_or-map coming releases frame no_release Over within
+-- each trunk is to come at the release
+stage-is : {T : Type 0} (network : DeclaredNetwork) (releases : List Release) (course : Course T) (row : ℕ)
+    → IsOpened network releases course → row < length releases
+    → stage_at course row ≡ Coming (get_or releases row no_release).at
+stage-is network releases course row opened within =
+    let coming : Release → Stage = λ (r : Release). Coming r.at in
+    ap (λ (ss : List Stage). get_or ss row Over) opened.stages
+    ∙ get_or_append_left (map coming releases) (replicate (length (copies_in network releases)) Apart) Over row
+    (omega (arith, length-map releases coming))
+    ∙ get_or-map coming releases row no_release Over within
 
--- the record of each frame
-progress-is : {T : Type 0} (network : DeclaredNetwork) (releases : List Release) (course : Course T) (frame : ℕ)
-    → IsOpened network releases course → frame < length releases
-    → progress_at course.records frame ≡ start network (get_or releases frame no_release)
-progress-is network releases course frame opened within =
-    ap (λ (ps : List Progress). get_or ps frame no_progress) (records-are network releases course opened)
-    ∙ get_or-map (start network) releases frame no_release no_progress within
+-- the copies are apart
+stage-apart : {T : Type 0} (network : DeclaredNetwork) (releases : List Release) (course : Course T) (row : ℕ)
+    → IsOpened network releases course → length releases ≤ row → row < length course.records
+    → stage_at course row ≡ Apart
+stage-apart network releases course row opened behind within =
+    let coming : Release → Stage = λ (r : Release). Coming r.at in
+    let n : ℕ = length (copies_in network releases) in
+    let records = length-records network releases course opened in
+    ap (λ (ss : List Stage). get_or ss row Over) opened.stages
+    ∙ get_or-append_right (map coming releases) (replicate n Apart) (length releases) row Over
+    (length-map releases coming) behind
+    ∙ get_or-replicate n (row - length releases) Apart Over (omega arith)
+
+-- so a row comes or is apart, and none is behind them
+either-stage : {T : Type 0} (network : DeclaredNetwork) (releases : List Release) (course : Course T) (row : ℕ)
+    (P : Stage → Type 0) → IsOpened network releases course
+    → (row < length releases → P (Coming (get_or releases row no_release).at)) → P Apart → P Over
+    → P (stage_at course row)
+either-stage network releases course row P opened comes apart over =
+    let stages = length-stages network releases course opened in
+    let records = length-records network releases course opened in
+    elim (cases_lt row (length releases)) as (λ _. P (stage_at course row)) [
+      | inl within ↦ subst P (sym (stage-is network releases course row opened within)) (comes within)
+      | inr behind ↦ elim (cases_lt row (length course.records)) as (λ _. P (stage_at course row)) [
+        | inl within ↦ subst P (sym (stage-apart network releases course row opened behind within)) apart
+        | inr past ↦ subst P (sym (get_or_past course.stages row Over (omega arith))) over
+      ]
+    ]
+
+-- the record of each trunk
+trunk-is : {T : Type 0} (network : DeclaredNetwork) (releases : List Release) (course : Course T) (row : ℕ)
+    → IsOpened network releases course → row < length releases
+    → progress_at course.records row ≡ leg_opened network row (get_or releases row no_release) 0
+trunk-is network releases course row opened within =
+    ap (λ (ps : List Progress). get_or ps row no_progress) opened.records
+    ∙ get_or_append_left (trunks_opened network 0 releases) (copies_in network releases) no_progress row
+    (omega (arith, length-trunks network 0 releases))
+    ∙ trunk-at network 0 row releases no_progress no_release within
+    ∙ ap (λ (n : ℕ). leg_opened network n (get_or releases row no_release) 0) (omega arith)
+
+-- that of each copy
+copy-is : {T : Type 0} (network : DeclaredNetwork) (releases : List Release) (course : Course T) (row : ℕ)
+    → AreReleases network releases → IsOpened network releases course → length releases ≤ row
+    → row < length course.records → IsFreshCopy network (progress_at course.records row)
+copy-is network releases course row are opened behind within =
+    let records = length-records network releases course opened in
+    subst (IsFreshCopy network)
+    (sym (ap (λ (ps : List Progress). get_or ps row no_progress) opened.records
+    ∙ get_or-append_right (trunks_opened network 0 releases) (copies_in network releases) (length releases) row
+    no_progress (length-trunks network 0 releases) behind))
+    (copies-fresh network 0 releases are.each (row - length releases) no_progress (omega arith))
+
+-- nothing has happened along any leg
+all-fresh : {T : Type 0} (network : DeclaredNetwork) (releases : List Release) (course : Course T)
+    → AreReleases network releases → IsOpened network releases course → All (IsFreshLeg network) course.records
+all-fresh network releases course are opened =
+    subst (All (IsFreshLeg network)) (sym opened.records)
+    (All-append (IsFreshLeg network) (trunks_opened network 0 releases) (copies_in network releases)
+    (trunks-fresh network 0 releases are.each)
+    (λ i d h. (copies-fresh network 0 releases are.each i d h).fresh))
 
 -- no port is to select
 turn-is : {T : Type 0} (network : DeclaredNetwork) (releases : List Release) (course : Course T) (port : ℕ)
@@ -104,52 +176,82 @@ turn-is network releases course port opened =
           read ∙ get_or_past (replicate n Resting) port Resting (omega arith)
     ]
 
--- the run so far has no hop
-travels-are : {T : Type 0} (network : DeclaredNetwork) (releases : List Release) (course : Course T)
-    → IsOpened network releases course → travels course ≡ map still releases
-travels-are network releases course opened =
-    ap (λ (ss : List Stage). travels_of ss course.records) opened.stages
-    ∙ ap (travels_of (map coming releases)) (records-are network releases course opened)
-    ∙ travels-opened network releases
+-- a leg without hop records was not sent
+none-along : (frame : ℕ) (r : Release) (s : Sender) (path : List ℕ) (hops : List HopRecord) → hops ≡ []
+    → hops_along frame r s path hops ≡ []
+none-along frame r s [] hops none = refl
+none-along frame r s (p ∷ path) hops none = ap (hops_along frame r s (p ∷ path)) none
+
+-- it has not crossed a port
+none-crossed_along : (frame : ℕ) (r : Release) (s : Sender) (path : List ℕ) (hops : List HopRecord) (ending : Ending)
+    → hops ≡ [] → crossings_along frame r s path hops ending ≡ []
+none-crossed_along frame r s [] hops ending none = refl
+none-crossed_along frame r s (p ∷ path) hops ending none =
+    ap (λ (hs : List HopRecord). crossings_along frame r s (p ∷ path) hs ending) none
+
+-- and was not handed on
+none-handed_along : (frame : ℕ) (r : Release) (s : Sender) (path : List ℕ) (hops : List HopRecord) → hops ≡ []
+    → handed_along frame r s path hops ≡ []
+none-handed_along frame r s [] hops none = refl
+none-handed_along frame r s (p ∷ path) hops none = ap (handed_along frame r s (p ∷ path)) none
 
 -- so no port has sent
 sent-nothing : {T : Type 0} (network : DeclaredNetwork) (releases : List Release) (course : Course T) (port : ℕ)
-    → HasOneListener network → IsOpened network releases course → sent_by network (travels course) port ≡ []
-sent-nothing network releases course port alone opened =
-    ap (λ (run : List Travel). sent_by network run port) (travels-are network releases course opened)
-    ∙ none-sent network alone releases port
+    → AreReleases network releases → IsOpened network releases course → sent_so_far network course port ≡ []
+sent-nothing network releases course port are opened =
+    let fresh = all-fresh network releases course are opened in
+    ap (λ (hs : List Hop). map (λ (h : Hop). h.sent) (filter (λ (h : Hop). h.port == port) hs))
+    (nothing-from (leg_hops network) course.records
+    (λ i d h. none-along (get_or course.records i d).frame (get_or course.records i d).release
+    (sender_of network (get_or course.records i d)) (path_of network (get_or course.records i d))
+    (get_or course.records i d).hops (fresh i d h).none))
 
 -- no frame has crossed a port
+none-crossed : (network : DeclaredNetwork) (stages : List Stage) (records : List Progress)
+    → All (IsFreshLeg network) records → flat_map (leg_crossings network) (zip stages records) ≡ []
+none-crossed network [] records fresh = refl
+none-crossed network (s ∷ stages) [] fresh = refl
+none-crossed network (s ∷ stages) (p ∷ records) fresh =
+    ap (λ (xs : List Crossing). xs ++ flat_map (leg_crossings network) (zip stages records))
+    (none-crossed_along p.frame p.release (sender_of network p) (path_of network p) p.hops _
+    (All-head (IsFreshLeg network) p records fresh).none)
+    ∙ none-crossed network stages records (All-tail (IsFreshLeg network) p records fresh)
+
 crossed-nothing : {T : Type 0} (network : DeclaredNetwork) (releases : List Release) (course : Course T) (port : ℕ)
-    → HasOneListener network → IsOpened network releases course → crossings_by network (travels course) port ≡ []
-crossed-nothing network releases course port alone opened =
-    ap (λ (run : List Travel). crossings_by network run port) (travels-are network releases course opened)
-    ∙ none-crossed network alone releases port
+    → AreReleases network releases → IsOpened network releases course → crossings_so_far network course port ≡ []
+crossed-nothing network releases course port are opened =
+    ap (filter (λ (x : Crossing). x.port == port))
+    (none-crossed network course.stages course.records (all-fresh network releases course are opened))
 
 -- and none was handed on
 handed-nothing : {T : Type 0} (network : DeclaredNetwork) (releases : List Release) (course : Course T)
-    (port class : ℕ) → HasOneListener network → IsOpened network releases course
-    → handed_by network (travels course) port class ≡ []
-handed-nothing network releases course port class alone opened =
-    ap (λ (run : List Travel). handed_by network run port class) (travels-are network releases course opened)
-    ∙ none-handed network alone releases port class
+    (port class : ℕ) → AreReleases network releases → IsOpened network releases course
+    → handed_so_far network course port class ≡ []
+handed-nothing network releases course port class are opened =
+    let fresh = all-fresh network releases course are opened in
+    ap (filter (λ (h : Handed). h.crossing.port == port && h.crossing.sent.class == class))
+    (nothing-from (leg_handed network) course.records
+    (λ i d h. none-handed_along (get_or course.records i d).frame (get_or course.records i d).release
+    (sender_of network (get_or course.records i d)) (path_of network (get_or course.records i d))
+    (get_or course.records i d).hops (fresh i d h).none))
 
 -- the lists fit the network and the releases
 opened-shape : {T : Type 0} (network : DeclaredNetwork) (releases : List Release) (course : Course T)
-    → AreReleases network releases → IsOpened network releases course → IsShaped network releases course
-opened-shape network releases course are opened =
+    → AreReleases network releases → HaveFewPorts network releases → IsOpened network releases course
+    → IsShaped network releases course
+opened-shape network releases course are few opened =
     let n : ℕ = length network.topology.ports in
     let nowhere : Ps = record { 0 = 0 } in
-    let records = length-records network releases course opened in
     record {
-      released = ap (map (λ (p : Progress). p.release)) (records-are network releases course opened)
-          ∙ releases-kept network releases;
+      legs = opened-again network course.records (all-fresh network releases course are opened) ∙ opened.records;
+      firsts = opened.firsts;
       in_order = are.in_order;
       few = omega (arith, are.few);
-      stages = length-stages network releases course opened ∙ sym records;
+      few_ports = few;
+      stages = length-stages network releases course opened ∙ sym (length-records network releases course opened);
       ports = opened.count;
-      turns = ap length opened.turns ∙ length-replicate n Resting;
-      arrives_from = ap length opened.arrives_from ∙ length-replicate n nowhere;
+      turns = ap (λ (ts : List Turn). length ts) opened.turns ∙ length-replicate n Resting;
+      arrives_from = ap (λ (ts : List Ps). length ts) opened.arrives_from ∙ length-replicate n nowhere;
     }
 
 -- a path with a port goes on from nothing
@@ -157,29 +259,80 @@ goes-at-first : (path : List ℕ) → 1 ≤ length path → Goes path []
 goes-at-first [] least = absurd (omega arith)
 goes-at-first (p ∷ path) least = tt
 
--- each frame is as far as its stage says
-opened-frames : {T : Type 0} (network : DeclaredNetwork) (releases : List Release) (course : Course T)
-    → IsNetwork network → HasOneListener network → AreReleases network releases → IsOpened network releases course
-    → (frame : ℕ) → frame < length course.records
-    → IsFrame network (progress_at course.records frame) (stage_at course frame)
-opened-frames network releases course rules alone are opened frame within =
-    let records = length-records network releases course opened in
-    let inside : frame < length releases = omega arith in
-    let r : Release = get_or releases frame no_release in
-    let is : IsRelease network r = are.each frame no_release inside in
-    let path = (sender_path network r.sender rules alone is.sender).path in
-    let here : IsFrame network (start network r) (Coming r.at) = record {
+-- no record leads to a leg where there is none
+none-got : (hops : List HopRecord) (hop : ℕ) → hops ≡ [] → slice_get hops hop ≡ None
+none-got [] hop none = refl
+none-got (h ∷ hops) hop none = cc (none)
+
+no-hops : (network : DeclaredNetwork) (records : List Progress) (row : ℕ) → All (IsFreshLeg network) records
+    → (progress_at records row).hops ≡ []
+no-hops network records row fresh = elim (cases_lt row (length records)) [
+  | inl within ↦ (fresh row no_progress within).none
+  | inr past ↦ ap (λ (p : Progress). p.hops) (get_or_past records row no_progress past)
+]
+
+no-start : (network : DeclaredNetwork) (firsts : List ℕ) (records : List Progress) (leg : ℕ) (p : Progress)
+    → All (IsFreshLeg network) records → start_by network firsts records leg p ≡ None
+no-start network firsts records zero p fresh = refl
+no-start network firsts records (suc copy) p fresh =
+    let row : ℕ = row_of firsts p.frame (get_or (sender_of network p).branches copy no_branch).leg in
+    none-got (progress_at records row).hops (get_or (sender_of network p).branches copy no_branch).hop
+    (no-hops network records row fresh)
+
+-- each trunk is as far as its stage says
+trunk-frame : {T : Type 0} (network : DeclaredNetwork) (releases : List Release) (course : Course T) (row : ℕ)
+    → IsNetwork network → AreReleases network releases → IsOpened network releases course → row < length releases
+    → IsFrame network course (progress_at course.records row) (stage_at course row)
+trunk-frame network releases course row rules are opened within =
+    let r : Release = get_or releases row no_release in
+    let is : IsRelease network r = are.each row no_release within in
+    let here : IsFrame network course (leg_opened network row r 0) (Coming r.at) = record {
       sender = is.sender;
       octets = is.octets;
+      leg = omega arith;
       room = refl;
       stands = record {
-        here = (goes-at-first (sender_at network r.sender).ports path.least, refl);
+        here = (
+          goes-at-first (leg_at (legs_at network r.sender) 0)
+              (leg-some network r.sender 0 rules is.sender (omega arith)),
+          refl,
+        );
         unended = refl;
       };
     } in
-    subst (λ (p : Progress). IsFrame network p (stage_at course frame))
-    (sym (progress-is network releases course frame opened inside))
-    (subst (IsFrame network (start network r)) (sym (stage-is network releases course frame opened inside)) here)
+    subst (λ (p : Progress). IsFrame network course p (stage_at course row))
+    (sym (trunk-is network releases course row opened within))
+    (subst (IsFrame network course (leg_opened network row r 0))
+    (sym (stage-is network releases course row opened within)) here)
+
+-- and each copy
+copy-frame : {T : Type 0} (network : DeclaredNetwork) (releases : List Release) (course : Course T) (row : ℕ)
+    → AreReleases network releases → IsOpened network releases course → length releases ≤ row
+    → row < length course.records → IsFrame network course (progress_at course.records row) (stage_at course row)
+copy-frame network releases course row are opened behind within =
+    let p : Progress = progress_at course.records row in
+    let is : IsFreshCopy network p = copy-is network releases course row are opened behind within in
+    let none = no-start network course.firsts course.records p.leg p (all-fresh network releases course are opened) in
+    let here : IsFrame network course p Apart = record {
+      sender = is.fresh.sender;
+      octets = is.fresh.octets;
+      leg = is.fresh.leg;
+      room = is.fresh.room;
+      stands = record {
+        here = (is.fresh.none, none, is.copy);
+        unended = sym (ap (λ (q : Progress). q.ending) is.fresh.again);
+      };
+    } in
+    subst (IsFrame network course p) (sym (stage-apart network releases course row opened behind within)) here
+
+opened-frames : {T : Type 0} (network : DeclaredNetwork) (releases : List Release) (course : Course T)
+    → IsNetwork network → AreReleases network releases → IsOpened network releases course → (row : ℕ)
+    → row < length course.records → IsFrame network course (progress_at course.records row) (stage_at course row)
+opened-frames network releases course rules are opened row within =
+    elim (cases_lt row (length releases)) [
+      | inl trunk ↦ trunk-frame network releases course row rules are opened trunk
+      | inr behind ↦ copy-frame network releases course row are opened behind within
+    ]
 
 -- each event that is to happen is the arrival of a frame
 arrival-is : {T : Type 0} (network : DeclaredNetwork) (releases : List Release) (course : Course T) (frame : ℕ)
@@ -192,18 +345,6 @@ arrival-is network releases course frame opened within =
 nowhere-to-be : {X : Type 0} (o : Option X) (P : X → Type 0) → o ≡ None → IfSome o P
 nowhere-to-be {X} o P none = subst (λ (x : Option X). IfSome x P) (sym none) tt
 
--- a frame comes or is over
-either-stage : {T : Type 0} (network : DeclaredNetwork) (releases : List Release) (course : Course T) (frame : ℕ)
-    (P : Stage → Type 0) → IsOpened network releases course
-    → (frame < length releases → P (Coming (get_or releases frame no_release).at)) → P Over
-    → P (stage_at course frame)
-either-stage network releases course frame P opened comes over =
-    let long = length-stages network releases course opened in
-    elim (cases_lt frame (length releases)) as (λ _. P (stage_at course frame)) [
-      | inl within ↦ subst P (sym (stage-is network releases course frame opened within)) (comes within)
-      | inr past ↦ subst P (sym (get_or_past course.stages frame Over (omega arith))) over
-    ]
-
 -- the arrivals of all frames are entries
 opened-there : {T : Type 0} (network : DeclaredNetwork) (releases : List Release) (course : Course T)
     → IsOpened network releases course → (event : Event)
@@ -211,7 +352,7 @@ opened-there : {T : Type 0} (network : DeclaredNetwork) (releases : List Release
 opened-there network releases course opened (End frame) =
     either-stage network releases course frame
     (λ (s : Stage). IfSome (end_by frame s) (λ moment. Contains (released_from 0 releases) (moment, End frame)))
-    opened (λ _. tt) tt
+    opened (λ _. tt) tt tt
 opened-there network releases course opened (Arrival frame) =
     let long = length-released 0 releases in
     either-stage network releases course frame
@@ -219,12 +360,12 @@ opened-there network releases course opened (Arrival frame) =
     IfSome (arrival_by frame s) (λ moment. Contains (released_from 0 releases) (moment, Arrival frame)))
     opened
     (λ within.
-    (frame, omega arith, entry-at releases frame (entry_of frame (get_or releases frame no_release)) within)) tt
+    (frame, omega arith, entry-at releases frame (entry_of frame (get_or releases frame no_release)) within)) tt tt
 opened-there network releases course opened (Eligibility frame) =
     either-stage network releases course frame
     (λ (s : Stage).
     IfSome (eligibility_by frame s) (λ moment. Contains (released_from 0 releases) (moment, Eligibility frame)))
-    opened (λ _. tt) tt
+    opened (λ _. tt) tt tt
 opened-there network releases course opened (Selection port) =
     nowhere-to-be (moment_of course (Selection port))
     (λ moment. Contains (released_from 0 releases) (moment, Selection port))
@@ -256,11 +397,11 @@ opened-awaited network releases course opened =
 
 -- a port that was just opened holds, sends and has sent nothing
 fresh-port : {T : Type 0} (key : T → ℕ → ℕ → ℕ) (network : DeclaredNetwork) (releases : List Release)
-    (course : Course T) (port : ℕ) (rooms : List ℕ) → HasOneListener network → IsOpened network releases course
-    → ((class : ℕ) → class ≤ 7 → get_or rooms class 0 ≡ room_of network course.records port class)
+    (course : Course T) (port : ℕ) (rooms : List ℕ) → AreReleases network releases → IsOpened network releases course
+    → ((class : ℕ) → class ≤ 7 → get_or rooms class 0 ≡ room_of network course port class)
     → IsPortOf key network course port
     (standing.opened (port_at network.topology.ports port).ps_per_bit rooms course.tie)
-fresh-port {T} key network releases course port rooms alone opened each =
+fresh-port {T} key network releases course port rooms are opened each =
     let ps : ℕ = (port_at network.topology.ports port).ps_per_bit in
     let fresh : PortState T = standing.opened ps rooms course.tie in
     let nothing : List Transmission = [] in
@@ -272,17 +413,17 @@ fresh-port {T} key network releases course port rooms alone opened each =
       };
       past = record {
         lawful = lawful-open (key course.tie) ps;
-        sent = subst (IsPermutation nothing) (sym (sent-nothing network releases course port alone opened))
+        sent = subst (IsPermutation nothing) (sym (sent-nothing network releases course port are opened))
             (IsPermutation-refl nothing);
       };
       holding = record {
         held = All-nil (IsHeld network course port);
-        waiting = λ frame within waits place. absurd (never-waits frame within waits);
+        waiting = λ row within waits place. absurd (never-waits row waits);
         apart = λ i j d less h. absurd (omega arith);
       };
       sends = record {
         under_way = λ sends. absurd (true≢false (sym sends));
-        sending = λ frame until within sends place. absurd (never-sends frame until within sends);
+        sending = λ row until within sends place. absurd (never-sends row until sends);
       };
       turn = subst (IsTurn fresh) (sym (turn-is network releases course port opened)) (refl, refl);
       times = record {
@@ -293,35 +434,24 @@ fresh-port {T} key network releases course port rooms alone opened each =
       };
     }
   where
-    comes : (frame : ℕ) → frame < length course.records
-        → stage_at course frame ≡ Coming (get_or releases frame no_release).at
-    comes frame within =
-        let records = length-records network releases course opened in
-        stage-is network releases course frame opened (omega arith)
+    never-waits : (row : ℕ) → stage_at course row ≡ Waiting → ⊥
+    never-waits row waits =
+        either-stage network releases course row (λ (s : Stage). s ≡ Waiting → ⊥) opened (λ _ h. cc (h)) (λ h. cc (h))
+        (λ h. cc (h)) waits
 
-    differ : (at : Ps) → Coming at ≡ Waiting → ⊥
-    differ at same = cc
-
-    differ_too : (at until : Ps) → Coming at ≡ Sending until → ⊥
-    differ_too at until same = cc
-
-    never-waits : (frame : ℕ) → frame < length course.records → stage_at course frame ≡ Waiting → ⊥
-    never-waits frame within waits =
-        differ (get_or releases frame no_release).at (sym (comes frame within) ∙ waits)
-
-    never-sends : (frame : ℕ) (until : Ps) → frame < length course.records → stage_at course frame ≡ Sending until
-        → ⊥
-    never-sends frame until within sends =
-        differ_too (get_or releases frame no_release).at until (sym (comes frame within) ∙ sends)
+    never-sends : (row : ℕ) (until : Ps) → stage_at course row ≡ Sending until → ⊥
+    never-sends row until sends =
+        either-stage network releases course row (λ (s : Stage). s ≡ Sending until → ⊥) opened (λ _ h. cc (h))
+        (λ h. cc (h)) (λ h. cc (h)) sends
 
 -- so each port is as it has to be
 opened-ports : {T : Type 0} (key : T → ℕ → ℕ → ℕ) (network : DeclaredNetwork) (releases : List Release)
-    (course : Course T) → HasOneListener network → IsOpened network releases course → (port : ℕ)
+    (course : Course T) → AreReleases network releases → IsOpened network releases course → (port : ℕ)
     → port < length network.topology.ports → IsPortOf key network course port (port_state_at course port)
-opened-ports key network releases course alone opened port within =
+opened-ports key network releases course are opened port within =
     let is : IsFresh network course port = opened.ports port within in
     subst (IsPortOf key network course port) (sym is.fresh)
-    (fresh-port key network releases course port is.rooms alone opened is.each)
+    (fresh-port key network releases course port is.rooms are opened is.each)
 
 -- behind no port has a frame arrived
 arrives-from-is : {T : Type 0} (network : DeclaredNetwork) (releases : List Release) (course : Course T) (port : ℕ)
@@ -333,12 +463,12 @@ arrives-from-is network releases course port opened within =
 
 -- what is kept of the last arrival behind each port is so
 opened-paces : {T : Type 0} (wait : ℕ → ℕ → ℕ) (network : DeclaredNetwork) (releases : List Release)
-    (course : Course T) → HasOneListener network → IsOpened network releases course → (port : ℕ)
+    (course : Course T) → AreReleases network releases → IsOpened network releases course → (port : ℕ)
     → port < length network.topology.ports → IsPaced wait network course port
-opened-paces wait network releases course alone opened port within =
+opened-paces wait network releases course are opened port within =
     let link : Port = port_at network.topology.ports port in
-    let none : [] ≡ crossings_by network (travels course) port =
-    sym (crossed-nothing network releases course port alone opened) in
+    let none : [] ≡ crossings_so_far network course port =
+    sym (crossed-nothing network releases course port are opened) in
     record {
       rule = subst (KeepsLinkRule link) none (record {
         within = λ k d h. absurd (omega arith);
@@ -372,14 +502,14 @@ groups-opened network rules =
     }
 
 -- each scheduler has the bucket that its stream has at first
-empty-opened : (network : DeclaredNetwork) (stream hop : ℕ) → IsHop network stream hop
-    → empty_at (first_empties (members_of network)) (scheduler_of network stream hop)
+empty-opened : (network : DeclaredNetwork) (stream leg hop : ℕ) → IsHop network stream leg hop
+    → empty_at (first_empties (members_of network)) (scheduler_of network stream leg hop)
     ≡ first_empty (declared_by network stream).burst_bits
-empty-opened network stream hop is =
-    let place : ℕ = scheduler_of network stream hop in
+empty-opened network stream leg hop is =
+    let place : ℕ = scheduler_of network stream leg hop in
     let empty : Member → ℤ = λ (m : Member). first_empty m.declared.burst_bits in
-    get_or-map empty (members_of network) place no_member (pos 0) (scheduler_within network stream hop is)
-    ∙ ap empty (scheduler_there network stream hop is)
+    get_or-map empty (members_of network) place no_member (pos 0) (scheduler_within network stream leg hop is)
+    ∙ ap empty (scheduler_there network stream leg hop is)
 
 -- and keep what their folds begin with
 state-opened : (network : DeclaredNetwork) (port class : ℕ)
@@ -388,19 +518,19 @@ state-opened : (network : DeclaredNetwork) (port class : ℕ)
 state-opened network port class = record {
   time = ap (λ (s : State). s.time)
       (opened_first (residences_of network) (members_of network) (group_behind port class));
-  empties = λ stream hop is behind own. empty-opened network stream hop is;
+  empties = λ stream leg hop is behind own. empty-opened network stream leg hop is;
 }
 
 -- which is what nothing leaves
 opened-groups : {T : Type 0} (network : DeclaredNetwork) (releases : List Release) (course : Course T)
-    → HasOneListener network → IsOpened network releases course → (port class : ℕ)
+    → AreReleases network releases → IsOpened network releases course → (port class : ℕ)
     → IsGroupOf network course port class
-opened-groups network releases course alone opened port class =
+opened-groups network releases course are opened port class =
     let nothing : List Handed = [] in
     record {
       arrivals = [];
       same = subst (λ (hs : List Handed). IsPermutation hs nothing)
-          (sym (handed-nothing network releases course port class alone opened)) (IsPermutation-refl nothing);
+          (sym (handed-nothing network releases course port class are opened)) (IsPermutation-refl nothing);
       in_order = λ i j d less h. absurd (omega arith);
       verdicts = refl;
       state = subst (λ (g : GroupsState). IsStateOf network g port class (first (declared_by network)))
@@ -410,42 +540,49 @@ opened-groups network releases course alone opened port class =
 
 -- all is over in time
 opened-bounds : {T : Type 0} (network : DeclaredNetwork) (releases : List Release) (course : Course T)
-    → IsNetwork network → HasOneListener network → AreReleases network releases → IsOpened network releases course
-    → EndsInTime course (released_from 0 releases)
-opened-bounds network releases course rules alone are opened =
-    let left : all_left course ≡ sum_by most_left (zip (map coming releases) (map (start network) releases)) =
-    ap (λ (ss : List Stage). sum_by most_left (zip ss course.records)) opened.stages
-    ∙ ap (λ (ps : List Progress). sum_by most_left (zip (map coming releases) ps))
-    (records-are network releases course opened) in
-    let most = most-opened network releases rules alone are.each in
+    → IsNetwork network → AreReleases network releases → HaveFewPorts network releases
+    → IsOpened network releases course → EndsInTime course (released_from 0 releases)
+opened-bounds network releases course rules are few opened =
+    let n : ℕ = length (copies_in network releases) in
+    let comes : List Stage = map (λ (r : Release). Coming r.at) releases in
+    let early : All IsEarly course.stages = subst (All IsEarly) (sym opened.stages)
+    (All-append IsEarly comes (replicate n Apart)
+    (All-map IsEarly (λ (r : Release). Coming r.at) releases (λ i d h p. omega arith))
+    (apart-early n)) in
+    let most = most-early course.stages course.records early in
+    let rooms = ap (sum_by (λ (p : Progress). p.room)) opened.records ∙ rooms-opened network 0 0 releases rules are.each
+    in
     let long = length-released 0 releases in
     let first : course.last.at.0 ≡ 0 = ap (λ (m : Moment). m.at.0) opened.last in
     record {
-      last = omega (arith, are.few);
+      last = omega (arith, few, most, rooms);
       each = λ i d h.
           (let within : i < length releases = omega arith in
           let at = ap (λ (entry : Moment × Event). entry.0.at.0) (entry-at releases i d within) in
           let time = (are.each i no_release within).time in
-          omega (arith, are.few));
+          omega (arith, few, most, rooms));
     }
+  where
+    apart-early : (n : ℕ) → All IsEarly (replicate n Apart)
+    apart-early zero = All-nil IsEarly
+    apart-early (suc n) = All-cons IsEarly Apart (replicate n Apart) (λ p. omega arith) (apart-early n)
 
--- a run that is to begin: each frame comes at its release, nothing has happened yet
+-- a run that is to begin: each frame comes to the first port of its trunk at its release, nothing has happened yet
 pub opened-holds : {T : Type 0} (key : T → ℕ → ℕ → ℕ) (wait : ℕ → ℕ → ℕ) (network : DeclaredNetwork)
     (releases : List Release) (course : Course T) (entries : List (Moment × Event)) → IsNetwork network
-    → HasOneListener network → AreReleases network releases → IsOpened network releases course
+    → AreReleases network releases → HaveFewPorts network releases → IsOpened network releases course
     → entries ≡ released_from 0 releases → Holds key wait network releases course entries
-opened-holds key wait network releases course entries rules alone are opened entered =
+opened-holds key wait network releases course entries rules are few opened entered =
     subst (Holds key wait network releases course) (sym entered) (record {
       rules = rules;
-      one_listener = alone;
-      shape = opened-shape network releases course are opened;
-      frames = opened-frames network releases course rules alone are opened;
+      shape = opened-shape network releases course are few opened;
+      frames = opened-frames network releases course rules are opened;
       awaited = opened-awaited network releases course opened;
-      ports = opened-ports key network releases course alone opened;
-      paces = opened-paces wait network releases course alone opened;
+      ports = opened-ports key network releases course are opened;
+      paces = opened-paces wait network releases course are opened;
       members = subst (AreGroupsOf network) (sym opened.groups) (groups-opened network rules);
-      groups = λ port class within least most. opened-groups network releases course alone opened port class;
+      groups = λ port class within least most. opened-groups network releases course are opened port class;
       flows = λ port within. subst (All (IsPassed network))
-          (sym (handed-nothing network releases course port 0 alone opened)) (All-nil (IsPassed network));
-      bounds = opened-bounds network releases course rules alone are opened;
+          (sym (handed-nothing network releases course port 0 are opened)) (All-nil (IsPassed network));
+      bounds = opened-bounds network releases course rules are few opened;
     })

@@ -1,7 +1,8 @@
 -- What one frame gives to the projections of a run, before and after each step.
-use Rattle.std.proofs.Common.{◌≡◌, ◌≢◌, ℕ, ◌+◌, Bool, true, false, cond, List, [], ◌∷◌, ◌++◌, map, filter, length}
-use Rattle.std.proofs.Common.{All, IsPermutation, Some, None, refl, sym, ap, ◌∙◌, subst, arith}
+use Rattle.std.proofs.Common.{◌≡◌, ◌≢◌, ℕ, Bool, true, false, cond, List, [], ◌∷◌, ◌++◌, map, filter, length, All}
+use Rattle.std.proofs.Common.{IsPermutation, Some, None, refl, sym, ap, ◌∙◌, subst, arith}
 use Rattle.std.specs.Prelude.{◌==◌, ◌&&◌, Option, AllPairs}
+use Rattle.std.specs.List.{flat_map, zip}
 use Rattle.std.proofs.lemmas.Bool.{cond-true, cond-false, eq-eqb, ne_eqb, eqb-true, and_from, and_parts}
 use Rattle.std.proofs.lemmas.Bool.{false_from_ne_true}
 use Rattle.std.proofs.lemmas.List.{append-nil, map-append}
@@ -12,24 +13,24 @@ use Rattle.ats_num.specs.declared.time.Ps.{Ps}
 use Rattle.ats_network.specs.Class.{class_at}
 use Rattle.ats_network.specs.Sender.{Sender}
 use Rattle.ats_network.specs.Network.{DeclaredNetwork}
-use Rattle.ats_network.specs.Senders.{sender_at}
 use Rattle.ats_group.specs.declared.verdict.Verdict.{Verdict}
 use Rattle.ats_group.specs.declared.verdict.Verdict.TheVariants.{Eligible, Late, Size}
 use Rattle.ats_port_rule.specs.Transmission.{Transmission}
-use Rattle.ats_trace.specs.Journey.{Travel}
 use Rattle.ats_trace.specs.Projections.{Hop, Crossing, Handed, transmission_by, transmission_of, hop_at, crossing_at}
 use Rattle.ats_trace.specs.Projections.{crossing_of, hops_along, crossings_along, handed_along}
 use Rattle.ats_trace.specs.declared.journey.Release.{Release}
 use Rattle.ats_trace.specs.declared.journey.HopRecord.{HopRecord}
 use Rattle.ats_trace.specs.declared.journey.Ending.{Ending}
 use Rattle.ats_trace.specs.declared.journey.Ending.TheVariants.{Sink, Discard}
+use Rattle.ats_run_records.specs.Progress.{Progress, with_hop}
+use Rattle.ats_engine_steps.specs.Course.{ending_by, path_of, sender_of}
 use Rattle.ats_engine_steps.specs.Frames.{Goes, IsSent, IsSentUntil, IsUnsent}
-use Rattle.ats_engine_proofs.proofs.Gathered.{gather, hops_at, crossings_at, handed_in, sent_part, crossings_part}
+use Rattle.ats_engine_steps.specs.declared.stage.Stage.{Stage}
+use Rattle.ats_engine_proofs.proofs.Gathered.{hops_at, crossings_at, handed_in, sent_part, crossings_part, handed_part}
 use Rattle.ats_engine_proofs.proofs.Parts.{IsLast, transmitted, once-sent, no-hops, no-crossings, no-handed}
-use Rattle.ats_engine_proofs.proofs.Parts.{unsent-hops}
-use Rattle.ats_engine_proofs.proofs.Parts.{unsent-crossings, last-handed, handed-timeless, push-last, hops-waiting}
-use Rattle.ats_engine_proofs.proofs.Parts.{hops-sent, crossings-waiting, crossings-sent, crossings-left, crossings-came}
-use Rattle.ats_engine_proofs.proofs.Parts.{handed-here, handed-came}
+use Rattle.ats_engine_proofs.proofs.Parts.{unsent-hops, unsent-crossings, last-handed, handed-timeless, push-last}
+use Rattle.ats_engine_proofs.proofs.Parts.{hops-waiting, hops-sent, crossings-waiting, crossings-sent, crossings-left}
+use Rattle.ats_engine_proofs.proofs.Parts.{crossings-came, handed-here, handed-came}
 use Rattle.ats_engine_proofs.proofs.Standing.{goes-split}
 
 -- one element more at the end of a list of which some are kept is kept too, where it passes the test
@@ -347,16 +348,57 @@ crossings-are-of-hops P port frame release sender (p ∷ path) (hop ∷ hops) en
     (crossing-is-sent P port release.octets hop.arrival.0 p t hops ending (all_left P sent later both))
     (crossings-are-of-hops P port frame release sender path hops ending (all_right P sent later both)))
 
--- so of all frames
-pub crossings-of-sent : (P : Transmission → Type 0) (network : DeclaredNetwork) (port n : ℕ) (run : List Travel)
-    → All P (gather (sent_part network port) n run)
-    → All (λ (x : Crossing). P x.sent) (gather (crossings_part network port) n run)
-crossings-of-sent P network port n [] all = All-nil (λ (x : Crossing). P x.sent)
-crossings-of-sent P network port n (j ∷ run) all =
-    let sent : List Transmission = sent_part network port n j in
-    let later : List Transmission = gather (sent_part network port) (n + 1) run in
-    All-append (λ (x : Crossing). P x.sent) (crossings_part network port n j)
-    (gather (crossings_part network port) (n + 1) run)
-    (crossings-are-of-hops P port n j.release (sender_at network j.release.sender)
-    (sender_at network j.release.sender).ports j.hops j.ending (all_left P sent later all))
-    (crossings-of-sent P network port (n + 1) run (all_right P sent later all))
+-- so of all legs
+pub crossings-of-sent : (P : Transmission → Type 0) (network : DeclaredNetwork) (port : ℕ) (stages : List Stage)
+    (records : List Progress) → All P (flat_map (sent_part network port) records)
+    → All (λ (x : Crossing). P x.sent) (flat_map (crossings_part network port) (zip stages records))
+crossings-of-sent P network port [] records all = All-nil (λ (x : Crossing). P x.sent)
+crossings-of-sent P network port (s ∷ stages) [] all = All-nil (λ (x : Crossing). P x.sent)
+crossings-of-sent P network port (s ∷ stages) (p ∷ records) all =
+    let sent : List Transmission = sent_part network port p in
+    let later : List Transmission = flat_map (sent_part network port) records in
+    All-append (λ (x : Crossing). P x.sent) (crossings_part network port (s, p))
+    (flat_map (crossings_part network port) (zip stages records))
+    (crossings-are-of-hops P port p.frame p.release (sender_of network p) (path_of network p) p.hops
+    (ending_by s p.ending) (all_left P sent later all))
+    (crossings-of-sent P network port stages records (all_right P sent later all))
+
+-- where nothing has happened along a leg, it gives no transmission, also not with a record of a frame that was not sent
+pub unmoved-sent : (network : DeclaredNetwork) (port : ℕ) (p : Progress) (hop : HopRecord) → hop.sent ≡ None
+    → p.hops ≡ [] → (sent_part network port (with_hop p hop) ≡ []) × (sent_part network port p ≡ [])
+unmoved-sent network port p hop none empty =
+    let given : List HopRecord → List Hop = hops_along p.frame p.release (sender_of network p) (path_of network p) in (
+      ap (λ (hs : List HopRecord). hops_at port (given (hs ++ hop ∷ []))) empty
+          ∙ ap (hops_at port) (unsent-hops p.frame p.release (sender_of network p) (path_of network p) hop none),
+      ap (λ (hs : List HopRecord). hops_at port (given hs)) empty
+          ∙ ap (hops_at port) (no-hops p.frame p.release (sender_of network p) (path_of network p)),
+    )
+
+-- no crossing
+pub unmoved-crossings : (network : DeclaredNetwork) (port : ℕ) (stage next : Stage) (p : Progress) (hop : HopRecord)
+    → hop.sent ≡ None → p.hops ≡ []
+    → (crossings_part network port (next, with_hop p hop) ≡ []) × (crossings_part network port (stage, p) ≡ [])
+unmoved-crossings network port stage next p hop none empty =
+    let given : List HopRecord → Ending → List Crossing =
+    crossings_along p.frame p.release (sender_of network p) (path_of network p) in (
+      ap (λ (hs : List HopRecord). crossings_at port (given (hs ++ hop ∷ []) (ending_by next p.ending))) empty
+          ∙ ap (crossings_at port)
+          (unsent-crossings p.frame p.release (sender_of network p) (path_of network p) hop (ending_by next p.ending)
+          none),
+      ap (λ (hs : List HopRecord). crossings_at port (given hs (ending_by stage p.ending))) empty
+          ∙ ap (crossings_at port)
+          (no-crossings p.frame p.release (sender_of network p) (path_of network p) (ending_by stage p.ending)),
+    )
+
+-- and hands nothing on
+pub unmoved-handed : (network : DeclaredNetwork) (port class : ℕ) (p : Progress) (hop : HopRecord) → p.hops ≡ []
+    → (handed_part network port class (with_hop p hop) ≡ []) × (handed_part network port class p ≡ [])
+unmoved-handed network port class p hop empty =
+    let given : List HopRecord → List Handed =
+    handed_along p.frame p.release (sender_of network p) (path_of network p) in (
+      ap (λ (hs : List HopRecord). handed_in port class (given (hs ++ hop ∷ []))) empty
+          ∙ ap (handed_in port class)
+          (last-handed p.frame p.release (sender_of network p) (path_of network p) hop),
+      ap (λ (hs : List HopRecord). handed_in port class (given hs)) empty
+          ∙ ap (handed_in port class) (no-handed p.frame p.release (sender_of network p) (path_of network p)),
+    )

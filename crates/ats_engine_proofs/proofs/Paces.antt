@@ -1,5 +1,6 @@
-use Rattle.std.proofs.Common.{◌≡◌, ◌≢◌, ℕ, ◌+◌, ◌-◌, ◌*◌, ◌<◌, ◌≤◌, List, ◌∷◌, length, get_or, set, All}
-use Rattle.std.proofs.Common.{sym, ap, ◌∙◌, subst, refl, inl, inr, arith, mul-pos}
+use Rattle.std.proofs.Common.{◌≡◌, ◌≢◌, ℕ, ◌+◌, ◌-◌, ◌*◌, ◌<◌, ◌≤◌, List, ◌∷◌, length, get_or, set, All, sym, ap, ◌∙◌}
+use Rattle.std.proofs.Common.{subst, refl, inl, inr, arith, mul-pos}
+use Rattle.std.specs.Prelude.{Option}
 use Rattle.std.proofs.lemmas.Bool.{cases_eq}
 use Rattle.std.proofs.lemmas.List.{length-map, get_or-map, get_or-set_same, get_or-set_other}
 use Rattle.std.proofs.lemmas.List.Elements.{All-cons, All-contains}
@@ -18,9 +19,10 @@ use Rattle.ats_transmit.specs.declared.sent.Sent.{Sent}
 use Rattle.ats_transmit.specs.State.{PortState}
 use Rattle.ats_events.specs.declared.moment.Moment.{Moment}
 use Rattle.ats_trace.specs.Links.{KeepsLinkRule, KeepsPace, in_order_from}
-use Rattle.ats_trace.specs.Projections.{Crossing, crossings_by, sent_by}
+use Rattle.ats_trace.specs.Projections.{Crossing}
 use Rattle.ats_trace.specs.declared.journey.Release.{Release}
-use Rattle.ats_engine_steps.specs.Course.{Course, travels, place_at, arrives_from_at}
+use Rattle.ats_run_records.specs.Progress.{progress_at}
+use Rattle.ats_engine_steps.specs.Course.{Course, crossings_so_far, sent_so_far, place_at, arrives_from_at}
 use Rattle.ats_engine_steps.specs.Paces.{IsPaced, arrival_behind}
 use Rattle.ats_engine_steps.specs.Ports.{IsPortOf, Sends, port_state_at}
 use Rattle.ats_engine_steps.specs.Steps.{Comes, BecomesEligible, Selects, Ends}
@@ -29,14 +31,15 @@ use Rattle.ats_engine_steps.specs.declared.event.Event.TheVariants.{End, Arrival
 use Rattle.ats_engine_proofs.specs.Next.{IsNext}
 use Rattle.ats_engine_proofs.proofs.Allowed.{may-end}
 use Rattle.ats_engine_proofs.proofs.Arriving.{IsNewest, rule-more, pace-more, from-more}
+use Rattle.ats_engine_proofs.proofs.Rows.{row-is}
 use Rattle.ats_engine_proofs.proofs.Now.{next-reached, next-in_time, next-port}
 use Rattle.ats_engine_proofs.proofs.Stages.{next-sending}
-use Rattle.ats_engine_proofs.proofs.Travels.{comes-crossings, offered-travels, selects-crossings, ends-here}
+use Rattle.ats_engine_proofs.proofs.Travels.{comes-crossings, offered-crossings, selects-crossings, ends-here}
 use Rattle.ats_engine_proofs.proofs.Travels.{ends-elsewhere, ends-others, crossings-are-sent}
 
 -- a port behind which nothing happened
 same_paces : {T : Type 0} (wait : ℕ → ℕ → ℕ) (network : DeclaredNetwork) (old new : Course T) (now : Moment)
-    (other : ℕ) → crossings_by network (travels new) other ≡ crossings_by network (travels old) other
+    (other : ℕ) → crossings_so_far network new other ≡ crossings_so_far network old other
     → arrives_from_at new other ≡ arrives_from_at old other → new.last ≡ now → old.last.at.0 ≤ now.at.0
     → IsPaced wait network old other → IsPaced wait network new other
 same_paces wait network old new now other same from last later paced =
@@ -55,30 +58,31 @@ same_paces wait network old new now other same from last later paced =
 
 -- after an arrival all frames have crossed each port by its pace, and it is known when the next one may arrive
 pub comes-paces : {T : Type 0} {key : T → ℕ → ℕ → ℕ} {wait : ℕ → ℕ → ℕ} {network : DeclaredNetwork}
-    {releases : List Release} {old new : Course T} {now : Moment} {frame : ℕ} {entries more : List (Moment × Event)}
-    → IsNext key wait network releases old now (Arrival frame) entries → Comes network old new now frame more
+    {releases : List Release} {old new : Course T} {now : Moment} {row : ℕ} {entries : List (Moment × Event)}
+    {due : Option Ps} → IsNext key wait network releases old now (Arrival row) entries
+    → Comes network old new now row due
     → (other : ℕ) → other < length network.topology.ports → IsPaced wait network new other
-comes-paces {T} {key} {wait} {network} {releases} {old} {new} {now} {frame} {entries} {more} next step other below =
+comes-paces {T} {key} {wait} {network} {releases} {old} {new} {now} {row} {entries} {due} next step other below =
     same_paces wait network old new now other (comes-crossings next step other)
     (ap (λ (c : Course T). arrives_from_at c other) step.becomes) (ap (λ (c : Course T). c.last) step.becomes)
     (next-reached next).time (next.holds.paces other below)
 
 -- and so after a frame became eligible
 pub offered-paces : {T : Type 0} {key : T → ℕ → ℕ → ℕ} {wait : ℕ → ℕ → ℕ} {network : DeclaredNetwork}
-    {releases : List Release} {old new : Course T} {now : Moment} {frame : ℕ} {entries more : List (Moment × Event)}
-    → IsNext key wait network releases old now (Eligibility frame) entries
-    → BecomesEligible key network old new now frame more → (other : ℕ) → other < length network.topology.ports
+    {releases : List Release} {old new : Course T} {now : Moment} {row : ℕ} {entries more : List (Moment × Event)}
+    → IsNext key wait network releases old now (Eligibility row) entries
+    → BecomesEligible key network old new now row more → (other : ℕ) → other < length network.topology.ports
     → IsPaced wait network new other
-offered-paces {T} {key} {wait} {network} {releases} {old} {new} {now} {frame} {entries} {more} next step other below =
+offered-paces {T} {key} {wait} {network} {releases} {old} {new} {now} {row} {entries} {more} next step other below =
     same_paces wait network old new now other
-    (ap (λ run. crossings_by network run other) (offered-travels next step))
+    (offered-crossings next step other)
     (ap (λ (c : Course T). arrives_from_at c other) step.becomes) (ap (λ (c : Course T). c.last) step.becomes)
     (next-reached next).time (next.holds.paces other below)
 
 -- and after a selection
 pub selects-paces : {T : Type 0} {key : T → ℕ → ℕ → ℕ} {wait : ℕ → ℕ → ℕ} {network : DeclaredNetwork}
     {releases : List Release} {old new : Course T} {now : Moment} {port : ℕ} {entries more : List (Moment × Event)}
-    → IsNext key wait network releases old now (Selection port) entries → Selects key old new now port more
+    → IsNext key wait network releases old now (Selection port) entries → Selects key network old new now port more
     → (other : ℕ) → other < length network.topology.ports → IsPaced wait network new other
 selects-paces {T} {key} {wait} {network} {releases} {old} {new} {now} {port} {entries} {more} next step other below =
     same_paces wait network old new now other (selects-crossings next step other)
@@ -109,17 +113,18 @@ ended_before key ps held sent lawful rate i d h other =
 
 -- whatever has crossed the port of a transmission that ends now was sent to its end before now
 pub crossed_before : {T : Type 0} {key : T → ℕ → ℕ → ℕ} {wait : ℕ → ℕ → ℕ} {network : DeclaredNetwork}
-    {releases : List Release} {old new : Course T} {now : Moment} {frame : ℕ} {entries more : List (Moment × Event)}
-    → IsNext key wait network releases old now (End frame) entries → Ends key wait network old new now frame more
-    → place_at network old frame < length network.topology.ports
+    {releases : List Release} {old new : Course T} {now : Moment} {row : ℕ} {entries more : List (Moment × Event)}
+    → IsNext key wait network releases old now (End row) entries → Ends key wait network old new now row more
+    → place_at network old row < length network.topology.ports
     → All (λ (y : Crossing). y.sent.end < now.at.0)
-    (crossings_by network (travels old) (place_at network old frame))
-crossed_before {T} {key} {wait} {network} {releases} {old} {new} {now} {frame} {entries} {more} next step below k d h =
-    let place : ℕ = place_at network old frame in
+    (crossings_so_far network old (place_at network old row))
+crossed_before {T} {key} {wait} {network} {releases} {old} {new} {now} {row} {entries} {more} next step below k d h =
+    let place : ℕ = place_at network old row in
     let standing : PortState T = port_state_at old place in
     let is : IsPortOf key network old place standing = next.holds.ports place below in
+    let frame : ℕ = (progress_at old.records row).frame in
     let sends : Sends standing frame now.at.0 =
-    is.sends.sending frame now.at (may-end next).placed.within (next-sending next) refl in
+    is.sends.sending row now.at (may-end next).placed.within (next-sending next) refl in
     let Sooner : Transmission → Type 0 = λ (t : Transmission). t.frame ≢ frame → t.end < now.at.0 in
     let rate = (next-port next place below).rate.least in
     let before : All Sooner (transmissions standing.sent) = λ i e within other.
@@ -129,29 +134,30 @@ crossed_before {T} {key} {wait} {network} {releases} {old} {new} {now} {frame} {
       ended_before (key standing.tie) standing.ps_per_bit standing.held standing.sent is.past.lawful
           (omega (arith, is.of_network.ps_per_bit, rate)) i e within (λ same. other (same ∙ sends.named)),
     ) in
-    let all = All-permutation Sooner (transmissions standing.sent) (sent_by network (travels old) place)
+    let all = All-permutation Sooner (transmissions standing.sent) (sent_so_far network old place)
     is.past.sent before
     in
-    All-contains Sooner (sent_by network (travels old) place)
-    (get_or (crossings_by network (travels old) place) k d).sent all
-    (crossings-are-sent network next.holds.one_listener (travels old) place k d h) (ends-others next step k d h)
+    All-contains Sooner (sent_so_far network old place)
+    (get_or (crossings_so_far network old place) k d).sent all
+    (crossings-are-sent network old place k d h) (ends-others next step k d h)
 
 -- the frame is the newest behind its port
 newest_here : {T : Type 0} {key : T → ℕ → ℕ → ℕ} {wait : ℕ → ℕ → ℕ} {network : DeclaredNetwork}
-    {releases : List Release} {old new : Course T} {now : Moment} {frame : ℕ} {entries more : List (Moment × Event)}
-    → WaitsWithin wait → (next : IsNext key wait network releases old now (End frame) entries)
-    → (step : Ends key wait network old new now frame more)
-    → place_at network old frame < length network.topology.ports
-    → IsNewest wait (port_at network.topology.ports (place_at network old frame))
-    (arrives_from_at old (place_at network old frame)) (ends-here next step).0
-    (crossings_by network (travels old) (place_at network old frame))
-newest_here {T} {key} {wait} {network} {releases} {old} {new} {now} {frame} {entries} {more} within next step below =
-    let place : ℕ = place_at network old frame in
+    {releases : List Release} {old new : Course T} {now : Moment} {row : ℕ} {entries more : List (Moment × Event)}
+    → WaitsWithin wait → (next : IsNext key wait network releases old now (End row) entries)
+    → (step : Ends key wait network old new now row more)
+    → place_at network old row < length network.topology.ports
+    → IsNewest wait (port_at network.topology.ports (place_at network old row))
+    (arrives_from_at old (place_at network old row)) (ends-here next step).0
+    (crossings_so_far network old (place_at network old row))
+newest_here {T} {key} {wait} {network} {releases} {old} {new} {now} {row} {entries} {more} within next step below =
+    let place : ℕ = place_at network old row in
     let port : Port = port_at network.topology.ports place in
     let x : Crossing = (ends-here next step).0 in
     let is = (ends-here next step).1 in
     let rules = next-port next place below in
-    let known = (may-end next).placed.within in
+    let frame : ℕ = (progress_at old.records row).frame in
+    let known = (row-is next.holds.shape row (may-end next).placed.within).frame in
     let time = next-in_time next in
     record {
       later = λ k d h. omega (arith, is.ends, crossed_before next step below k d h);
@@ -168,16 +174,16 @@ newest_here {T} {key} {wait} {network} {releases} {old} {new} {now} {frame} {ent
 
 -- behind the port of the transmission
 paces_here : {T : Type 0} {key : T → ℕ → ℕ → ℕ} {wait : ℕ → ℕ → ℕ} {network : DeclaredNetwork}
-    {releases : List Release} {old new : Course T} {now : Moment} {frame : ℕ} {entries more : List (Moment × Event)}
-    → WaitsWithin wait → IsNext key wait network releases old now (End frame) entries
-    → Ends key wait network old new now frame more → place_at network old frame < length network.topology.ports
-    → IsPaced wait network new (place_at network old frame)
-paces_here {T} {key} {wait} {network} {releases} {old} {new} {now} {frame} {entries} {more} within next step below =
-    let place : ℕ = place_at network old frame in
+    {releases : List Release} {old new : Course T} {now : Moment} {row : ℕ} {entries more : List (Moment × Event)}
+    → WaitsWithin wait → IsNext key wait network releases old now (End row) entries
+    → Ends key wait network old new now row more → place_at network old row < length network.topology.ports
+    → IsPaced wait network new (place_at network old row)
+paces_here {T} {key} {wait} {network} {releases} {old} {new} {now} {row} {entries} {more} within next step below =
+    let place : ℕ = place_at network old row in
     let port : Port = port_at network.topology.ports place in
     let from : ℕ = arrives_from_at old place in
-    let xs : List Crossing = crossings_by network (travels old) place in
-    let ys : List Crossing = crossings_by network (travels new) place in
+    let xs : List Crossing = crossings_so_far network old place in
+    let ys : List Crossing = crossings_so_far network new place in
     let x : Crossing = (ends-here next step).0 in
     let is = (ends-here next step).1 in
     let moved = (ends-here next step).2 in
@@ -204,13 +210,13 @@ paces_here {T} {key} {wait} {network} {releases} {old} {new} {now} {frame} {entr
 
 -- and after the end of a transmission, whose frame arrives by the pace
 pub ends-paces : {T : Type 0} {key : T → ℕ → ℕ → ℕ} {wait : ℕ → ℕ → ℕ} {network : DeclaredNetwork}
-    {releases : List Release} {old new : Course T} {now : Moment} {frame : ℕ} {entries more : List (Moment × Event)}
-    → WaitsWithin wait → IsNext key wait network releases old now (End frame) entries
-    → Ends key wait network old new now frame more → (other : ℕ) → other < length network.topology.ports
+    {releases : List Release} {old new : Course T} {now : Moment} {row : ℕ} {entries more : List (Moment × Event)}
+    → WaitsWithin wait → IsNext key wait network releases old now (End row) entries
+    → Ends key wait network old new now row more → (other : ℕ) → other < length network.topology.ports
     → IsPaced wait network new other
-ends-paces {T} {key} {wait} {network} {releases} {old} {new} {now} {frame} {entries} {more} within next step other
+ends-paces {T} {key} {wait} {network} {releases} {old} {new} {now} {row} {entries} {more} within next step other
     below =
-    let place : ℕ = place_at network old frame in
+    let place : ℕ = place_at network old row in
     let none : Ps = record { 0 = 0 } in
     let later : Ps = record { 0 = step.arrival.0 + 1 } in
     elim (cases_eq other place) as (λ _. IsPaced wait network new other) [

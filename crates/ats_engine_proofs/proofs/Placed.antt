@@ -1,4 +1,4 @@
-use Rattle.std.proofs.Common.{◌≡◌, ℕ, zero, suc, ◌+◌, ◌-◌, ◌<◌, ◌≤◌, true, List, [], ◌∷◌, length, get_or}
+use Rattle.std.proofs.Common.{◌≡◌, ℕ, zero, suc, ◌+◌, ◌-◌, ◌<◌, ◌≤◌, Bool, true, List, [], ◌∷◌, length, get_or}
 use Rattle.std.proofs.Common.{map, filter, max, sym, ap, ◌∙◌, arith, All}
 use Rattle.std.specs.Prelude.{◌==◌, fold, nat_lt}
 use Rattle.std.specs.List.{list_any}
@@ -6,8 +6,8 @@ use Rattle.std.proofs.lemmas.Bool.{eq-eqb, and_from}
 use Rattle.std.proofs.lemmas.List.Elements.{All-head, All-tail, All-filter, All-map}
 use Rattle.std.proofs.lemmas.List.Folds.{list_any_at}
 use Rattle.ats_network.specs.Class.{class_at}
-use Rattle.ats_network.specs.Network.{DeclaredNetwork, HasOneListener, IsNetwork, senders_of}
-use Rattle.ats_network.proofs.SenderLemmas.{sender_keeps, sender_path}
+use Rattle.ats_network.specs.Network.{DeclaredNetwork, IsNetwork, senders_of}
+use Rattle.ats_network.proofs.SenderLemmas.{sender_keeps}
 use Rattle.ats_trace.specs.Links.{in_order_from}
 use Rattle.ats_trace.specs.Projections.{Crossing}
 use Rattle.ats_trace.specs.declared.journey.HopRecord.{HopRecord}
@@ -16,9 +16,10 @@ use Rattle.ats_engine_steps.specs.Conditions.{IsPlaced}
 use Rattle.ats_engine_steps.specs.Course.{path_of, place_of, sender_of}
 use Rattle.ats_engine_steps.specs.Frames.{Goes, Stands}
 use Rattle.ats_engine_steps.specs.Ports.{passes}
+use Rattle.ats_engine_proofs.proofs.LegPorts.{leg-all, leg-few}
 use Rattle.ats_engine_proofs.proofs.Ways.{stands-some}
 
--- of the ports of its path a frame has come to no more than there are
+-- of the ports of a leg a frame has come to no more than there are
 pub stands-at_most : (Last : HopRecord → Type 0) (path : List ℕ) (hops : List HopRecord) → Stands Last path hops
     → length hops ≤ length path
 stands-at_most Last [] hops stands = absurd stands
@@ -48,8 +49,8 @@ stands-last Last (p ∷ path) (hop ∷ next ∷ hops) (suc last) d many stands =
 -- a frame of a network that stands at a record
 pub record IsStanding (network : DeclaredNetwork) (Last : HopRecord → Type 0) (progress : Progress) : Type 0 where
   pub rules : IsNetwork network
-  pub one_listener : HasOneListener network
   pub sender : progress.release.sender < length (senders_of network)
+  pub leg : progress.leg ≤ length (sender_of network progress).branches
   pub stands : Stands Last (path_of network progress) progress.hops
 
 -- its last record is as it has to be
@@ -59,7 +60,7 @@ standing-last {network} {Last} {progress} at =
     let some : 0 < length progress.hops = stands-some Last (path_of network progress) progress.hops at.stands in
     stands-last Last (path_of network progress) progress.hops (length progress.hops - 1) no_hop (omega arith) at.stands
 
--- at a port of its path
+-- at a port of the leg
 pub standing-on_path : {network : DeclaredNetwork} {Last : HopRecord → Type 0} {progress : Progress}
     → IsStanding network Last progress → length progress.hops - 1 < length (path_of network progress)
 standing-on_path {network} {Last} {progress} at =
@@ -67,12 +68,20 @@ standing-on_path {network} {Last} {progress} at =
     let most = stands-at_most Last (path_of network progress) progress.hops at.stands in
     omega arith
 
--- which is one of the network
+-- which is one of its sender's
+pub standing-at : {network : DeclaredNetwork} {Last : HopRecord → Type 0} {progress : Progress}
+    → IsStanding network Last progress → (P : ℕ → Type 0) → All P (sender_of network progress).ports
+    → P (place_of network progress)
+standing-at {network} {Last} {progress} at P all =
+    leg-all network progress.release.sender progress.leg at.rules at.sender at.leg P all
+    (length progress.hops - 1) 0 (standing-on_path at)
+
+-- and of the network
 pub standing-place : {network : DeclaredNetwork} {Last : HopRecord → Type 0} {progress : Progress}
     → IsStanding network Last progress → place_of network progress < length network.topology.ports
 standing-place {network} {Last} {progress} at =
-    (sender_keeps network progress.release.sender at.rules at.sender).ports (length progress.hops - 1) 0
-    (standing-on_path at)
+    standing-at at (λ (p : ℕ). p < length network.topology.ports)
+    (sender_keeps network progress.release.sender at.rules at.sender).ports
 
 -- the frame passes that port, in its class there
 pub standing-passes : {network : DeclaredNetwork} {Last : HopRecord → Type 0} {progress : Progress}
@@ -80,26 +89,29 @@ pub standing-passes : {network : DeclaredNetwork} {Last : HopRecord → Type 0} 
     → class_at (sender_of network progress) (place_of network progress) ≡ class
     → passes network port class progress ≡ true
 standing-passes {network} {Last} {progress} at port class here is =
-    and_from (list_any (λ p. p == port) (path_of network progress))
-    (class_at (sender_of network progress) port == class)
-    (list_any_at (λ p. p == port) (path_of network progress) (length progress.hops - 1) 0 (standing-on_path at)
-    (eq-eqb (place_of network progress) port here))
+    let ports : List ℕ = (sender_of network progress).ports in
+    let test : ℕ → Bool = λ p. p == port in
+    let has : list_any test ports ≡ true =
+    standing-at at (λ (p : ℕ). p ≡ port → list_any test ports ≡ true)
+    (λ k d within same. list_any_at test ports k d within (eq-eqb (get_or ports k d) port same)) here in
+    and_from (list_any test ports) (class_at (sender_of network progress) port == class) has
     (eq-eqb (class_at (sender_of network progress) port) class
     (ap (class_at (sender_of network progress)) (sym here) ∙ is))
 
 -- and it came to a port
-pub standing-placed : {network : DeclaredNetwork} {Last : HopRecord → Type 0} (records : List Progress) (frame : ℕ)
-    → frame < length records → IsStanding network Last (progress_at records frame) → IsPlaced network records frame
-standing-placed {network} {Last} records frame within at =
-    let progress : Progress = progress_at records frame in
+pub standing-placed : {network : DeclaredNetwork} {Last : HopRecord → Type 0} (records : List Progress) (row : ℕ)
+    → row < length records → IsStanding network Last (progress_at records row) → IsPlaced network records row
+standing-placed {network} {Last} records row within at =
+    let progress : Progress = progress_at records row in
     let on_path = stands-at_most Last (path_of network progress) progress.hops at.stands in
-    let path = (sender_path network progress.release.sender at.rules at.one_listener at.sender).path in
+    let few = leg-few network progress.release.sender progress.leg at.rules at.sender at.leg in
     record {
       within = within;
       sender = at.sender;
+      leg = at.leg;
       came = stands-some Last (path_of network progress) progress.hops at.stands;
       on_path = on_path;
-      most = omega (arith, on_path, path.most);
+      most = omega (arith, on_path, few);
     }
 
 -- the greatest of numbers that are at most a bound is at most that

@@ -1,5 +1,7 @@
-use Rattle.std.proofs.Common.{◌≡◌, ℕ, ◌<◌, ◌≤◌, List, length, All, ap, ◌∙◌, sym, subst, arith}
+-- What a port keeps after a step.
+use Rattle.std.proofs.Common.{◌≡◌, ℕ, ◌<◌, ◌≤◌, List, length, All, ◌⊎◌, ap, ◌∙◌, sym, subst, inl, inr, arith}
 use Rattle.std.specs.Prelude.{◌≢◌, Contains, IsPermutation}
+use Rattle.std.proofs.lemmas.Bool.{cases_eq}
 use Rattle.std.proofs.lemmas.List.Elements.{All-weaker}
 use Rattle.ats_num.specs.declared.time.Ps.{Ps}
 use Rattle.ats_port_rule.specs.Transmission.{Transmission}
@@ -9,53 +11,61 @@ use Rattle.ats_transmit.specs.State.{PortState}
 use Rattle.ats_transmit.specs.declared.offer.Offer.{Offer}
 use Rattle.ats_transmit.specs.declared.sent.Sent.{Sent}
 use Rattle.ats_events.specs.declared.phase.TheConstants.{SELECTION}
-use Rattle.ats_trace.specs.Projections.{sent_by}
-use Rattle.ats_engine_steps.specs.Course.{Course, travels, stage_at, turn_at, place_of, place_at, offer_of, offer_at}
+use Rattle.ats_run_records.specs.Progress.{Progress, progress_at}
+use Rattle.ats_engine_steps.specs.Course.{Course, offer_at, offer_of, place_at, place_of, sent_so_far, stage_at}
+use Rattle.ats_engine_steps.specs.Course.{turn_at}
 use Rattle.ats_engine_steps.specs.Ports.{IsTurn, IsHeld, IsUnderWay, Sends, IsPortOf}
 use Rattle.ats_engine_steps.specs.declared.stage.Stage.TheVariants.{Waiting, Sending}
 use Rattle.ats_engine_proofs.proofs.Moving.{Changes}
 
--- another frame that waits at a port still does
-pub held-else : {T : Type 0} {network : DeclaredNetwork} {old new : Course T} {frame : ℕ} (port : ℕ) (o : Offer)
-    → Changes network old new frame → o.frame ≢ frame → IsHeld network old port o → IsHeld network new port o
-held-else {T} {network} port o c apart h = record {
-  within = subst (λ (n : ℕ). o.frame < n) (sym c.count) h.within;
-  stage = c.stages o.frame apart ∙ h.stage;
-  place = ap (place_of network) (c.records o.frame apart) ∙ h.place;
-  same = ap (offer_of network o.frame) (c.records o.frame apart) ∙ h.same;
+-- a frame that waits at a port along a row's leg still does where the row stays
+pub held-else : {T : Type 0} {network : DeclaredNetwork} {old new : Course T} {Stays : ℕ → Type 0} (port : ℕ)
+    (o : Offer) → Changes network old new Stays → (h : IsHeld network old port o) → Stays h.row
+    → IsHeld network new port o
+held-else {T} {network} port o c h stays = record {
+  row = h.row;
+  within = subst (λ (n : ℕ). h.row < n) (sym c.count) h.within;
+  stage = c.stages h.row stays ∙ h.stage;
+  place = ap (place_of network) (c.records h.row stays) ∙ h.place;
+  same = ap (offer_of network) (c.records h.row stays) ∙ h.same;
 }
 
--- another frame that a port sends is still on its way there
-pub under-way-else : {T : Type 0} {network : DeclaredNetwork} {old new : Course T} {frame : ℕ} (port : ℕ) (x : Sent)
-    → Changes network old new frame → x.frame ≢ frame → IsUnderWay network old port x → IsUnderWay network new port x
-under-way-else {T} {network} port x c apart h = record {
-  within = subst (λ (n : ℕ). x.frame < n) (sym c.count) h.within;
-  stage = c.stages x.frame apart ∙ h.stage;
-  place = ap (place_of network) (c.records x.frame apart) ∙ h.place;
+-- one that a port sends is still on its way there
+pub under-way-else : {T : Type 0} {network : DeclaredNetwork} {old new : Course T} {Stays : ℕ → Type 0} (port : ℕ)
+    (x : Sent) → Changes network old new Stays → (h : IsUnderWay network old port x) → Stays h.row
+    → IsUnderWay network new port x
+under-way-else {T} {network} port x c h stays = record {
+  row = h.row;
+  within = subst (λ (n : ℕ). h.row < n) (sym c.count) h.within;
+  named = ap (λ (p : Progress). p.frame) (c.records h.row stays) ∙ h.named;
+  stage = c.stages h.row stays ∙ h.stage;
+  place = ap (place_of network) (c.records h.row stays) ∙ h.place;
 }
 
--- a port holds another frame that waits there, as it did
-pub waiting-else : {T : Type 0} {network : DeclaredNetwork} {old new : Course T} {frame : ℕ}
-    (key : T → ℕ → ℕ → ℕ) (port other : ℕ) (s : PortState T) → Changes network old new frame → other ≢ frame
+-- a port holds one that waits there, as it did
+pub waiting-else : {T : Type 0} {network : DeclaredNetwork} {old new : Course T} {Stays : ℕ → Type 0}
+    (key : T → ℕ → ℕ → ℕ) (port other : ℕ) (s : PortState T) → Changes network old new Stays → Stays other
     → IsPortOf key network old port s → other < length new.records → stage_at new other ≡ Waiting
     → place_at network new other ≡ port → Contains s.held (offer_at network new other)
-waiting-else {T} {network} key port other s c apart is within stage place =
-    subst (Contains s.held) (ap (offer_of network other) (sym (c.records other apart)))
-    (is.holding.waiting other (subst (λ (n : ℕ). other < n) c.count within) (sym (c.stages other apart) ∙ stage)
-    (ap (place_of network) (sym (c.records other apart)) ∙ place))
+waiting-else {T} {network} key port other s c stays is within stage place =
+    subst (Contains s.held) (ap (offer_of network) (sym (c.records other stays)))
+    (is.holding.waiting other (subst (λ (n : ℕ). other < n) c.count within) (sym (c.stages other stays) ∙ stage)
+    (ap (place_of network) (sym (c.records other stays)) ∙ place))
 
--- and sends another one that is on its way there
-pub sending-else : {T : Type 0} {network : DeclaredNetwork} {old new : Course T} {frame : ℕ}
-    (key : T → ℕ → ℕ → ℕ) (port other : ℕ) (until : Ps) (s : PortState T) → Changes network old new frame
-    → other ≢ frame → IsPortOf key network old port s → other < length new.records
-    → stage_at new other ≡ Sending until → place_at network new other ≡ port → Sends s other until.0
-sending-else {T} {network} key port other until s c apart is within stage place =
-    is.sends.sending other until (subst (λ (n : ℕ). other < n) c.count within) (sym (c.stages other apart) ∙ stage)
-    (ap (place_of network) (sym (c.records other apart)) ∙ place)
+-- and sends one that is on its way there
+pub sending-else : {T : Type 0} {network : DeclaredNetwork} {old new : Course T} {Stays : ℕ → Type 0}
+    (key : T → ℕ → ℕ → ℕ) (port other : ℕ) (until : Ps) (s : PortState T) → Changes network old new Stays
+    → Stays other → IsPortOf key network old port s → other < length new.records
+    → stage_at new other ≡ Sending until → place_at network new other ≡ port
+    → Sends s (progress_at new.records other).frame until.0
+sending-else {T} {network} key port other until s c stays is within stage place =
+    subst (λ (p : Progress). Sends s p.frame until.0) (sym (c.records other stays))
+    (is.sends.sending other until (subst (λ (n : ℕ). other < n) c.count within) (sym (c.stages other stays) ∙ stage)
+    (ap (place_of network) (sym (c.records other stays)) ∙ place))
 
 -- a last start that was no later than the last event is still no later, and one at its time is of a selection's phase
-pub selected-later : {T : Type 0} {network : DeclaredNetwork} {old new : Course T} {frame : ℕ} (key : T → ℕ → ℕ → ℕ)
-    (port : ℕ) (s : PortState T) → Changes network old new frame → IsPortOf key network old port s
+pub selected-later : {T : Type 0} {network : DeclaredNetwork} {old new : Course T} {Stays : ℕ → Type 0}
+    (key : T → ℕ → ℕ → ℕ) (port : ℕ) (s : PortState T) → Changes network old new Stays → IsPortOf key network old port s
     → 0 < length s.sent → last_start s.sent ≡ new.last.at.0 → SELECTION ≤ new.last.phase
 selected-later {T} {network} {old} {new} key port s c is some now =
     let past : old.last.at.0 ≤ new.last.at.0 = c.reached.time in
@@ -66,8 +76,8 @@ selected-later {T} {network} {old} {new} key port s c is some now =
     omega arith
 
 -- it is no later than the last event
-pub started-later : {T : Type 0} {network : DeclaredNetwork} {old new : Course T} {frame : ℕ} (key : T → ℕ → ℕ → ℕ)
-    (port : ℕ) (s : PortState T) → Changes network old new frame → IsPortOf key network old port s
+pub started-later : {T : Type 0} {network : DeclaredNetwork} {old new : Course T} {Stays : ℕ → Type 0}
+    (key : T → ℕ → ℕ → ℕ) (port : ℕ) (s : PortState T) → Changes network old new Stays → IsPortOf key network old port s
     → 0 < length s.sent → last_start s.sent ≤ new.last.at.0
 started-later {T} {network} {old} {new} key port s c is some =
     let past : old.last.at.0 ≤ new.last.at.0 = c.reached.time in
@@ -75,38 +85,50 @@ started-later {T} {network} {old} {new} key port s c is some =
     omega arith
 
 -- the frames that a port holds were eligible by now
-pub eligible-later : {T : Type 0} {network : DeclaredNetwork} {old new : Course T} {frame : ℕ} (key : T → ℕ → ℕ → ℕ)
-    (port : ℕ) (s : PortState T) → Changes network old new frame → IsPortOf key network old port s
+pub eligible-later : {T : Type 0} {network : DeclaredNetwork} {old new : Course T} {Stays : ℕ → Type 0}
+    (key : T → ℕ → ℕ → ℕ) (port : ℕ) (s : PortState T) → Changes network old new Stays → IsPortOf key network old port s
     → All (λ (o : Offer). o.eligible.0 ≤ new.last.at.0) s.held
 eligible-later {T} {network} {old} {new} key port s c is =
     let past : old.last.at.0 ≤ new.last.at.0 = c.reached.time in
     All-weaker (λ (o : Offer). o.eligible.0 ≤ old.last.at.0) (λ (o : Offer). o.eligible.0 ≤ new.last.at.0)
     (λ o before. omega arith) s.held is.times.eligible
 
--- a frame neither waits at a port nor is sent there
-pub record IsAway {T : Type 0} (network : DeclaredNetwork) (course : Course T) (port frame : ℕ) : Type 0 where
-  pub waiting : stage_at course frame ≡ Waiting → place_at network course frame ≢ port
-  pub sending : (until : Ps) → stage_at course frame ≡ Sending until → place_at network course frame ≢ port
+-- a frame neither waits at a port nor is sent there along a row's leg
+pub record IsAway {T : Type 0} (network : DeclaredNetwork) (course : Course T) (port row : ℕ) : Type 0 where
+  pub waiting : stage_at course row ≡ Waiting → place_at network course row ≢ port
+  pub sending : (until : Ps) → stage_at course row ≡ Sending until → place_at network course row ≢ port
 
--- a frame that a port holds is not one that is away
-held-apart : {T : Type 0} {network : DeclaredNetwork} {course : Course T} {port frame : ℕ} (o : Offer)
-    → IsAway network course port frame → IsHeld network course port o → o.frame ≢ frame
-held-apart {T} {network} {course} {port} {frame} o away h e =
-    away.waiting (ap (stage_at course) (sym e) ∙ h.stage) (ap (place_at network course) (sym e) ∙ h.place)
+-- so it is before and after a step
+pub record PassesBy {T : Type 0} (network : DeclaredNetwork) (old new : Course T) (port row : ℕ) : Type 0 where
+  pub before : IsAway network old port row
+  pub after : IsAway network new port row
 
--- nor is one that it sends
-under-way-apart : {T : Type 0} {network : DeclaredNetwork} {course : Course T} {port frame : ℕ} (x : Sent)
-    → IsAway network course port frame → IsUnderWay network course port x → x.frame ≢ frame
-under-way-apart {T} {network} {course} {port} {frame} x away h e =
-    away.sending x.end (ap (stage_at course) (sym e) ∙ h.stage) (ap (place_at network course) (sym e) ∙ h.place)
+-- a port holds frames along rows that stay, where those that move are away from it
+held-stays : {T : Type 0} {network : DeclaredNetwork} {old new : Course T} {Stays : ℕ → Type 0} (port : ℕ) (o : Offer)
+    → Changes network old new Stays → ((row : ℕ) → Stays row ⊎ PassesBy network old new port row)
+    → IsHeld network old port o → IsHeld network new port o
+held-stays {T} {network} {old} {new} port o c moves h = elim (moves h.row) as (λ _. IsHeld network new port o) [
+  | inl stays ↦ held-else port o c h stays
+  | inr by ↦ absurd (by.before.waiting h.stage h.place)
+]
 
--- a port stays what it was where the frame that moves was away from it and is so still
-pub port-stays : {T : Type 0} {network : DeclaredNetwork} {old new : Course T} {frame : ℕ} (key : T → ℕ → ℕ → ℕ)
-    (port : ℕ) (s : PortState T) → Changes network old new frame → IsPortOf key network old port s
-    → IsAway network old port frame → IsAway network new port frame
-    → sent_by network (travels new) port ≡ sent_by network (travels old) port
+-- and sends one so
+under-way-stays : {T : Type 0} {network : DeclaredNetwork} {old new : Course T} {Stays : ℕ → Type 0} (port : ℕ)
+    (x : Sent) → Changes network old new Stays → ((row : ℕ) → Stays row ⊎ PassesBy network old new port row)
+    → IsUnderWay network old port x → IsUnderWay network new port x
+under-way-stays {T} {network} {old} {new} port x c moves h =
+    elim (moves h.row) as (λ _. IsUnderWay network new port x) [
+      | inl stays ↦ under-way-else port x c h stays
+      | inr by ↦ absurd (by.before.sending x.end h.stage h.place)
+    ]
+
+-- a port stays what it was where the rows that move were away from it and are so still
+pub port-stays : {T : Type 0} {network : DeclaredNetwork} {old new : Course T} {Stays : ℕ → Type 0}
+    (key : T → ℕ → ℕ → ℕ) (port : ℕ) (s : PortState T) → Changes network old new Stays
+    → IsPortOf key network old port s → ((row : ℕ) → Stays row ⊎ PassesBy network old new port row)
+    → sent_so_far network new port ≡ sent_so_far network old port
     → turn_at new port ≡ turn_at old port → IsPortOf key network new port s
-port-stays {T} {network} {old} {new} {frame} key port s c is before after sent turn = record {
+port-stays {T} {network} {old} {new} key port s c is moves sent turn = record {
   of_network = record {
     ps_per_bit = is.of_network.ps_per_bit;
     tie = is.of_network.tie ∙ sym c.tie;
@@ -117,19 +139,22 @@ port-stays {T} {network} {old} {new} {frame} key port s c is before after sent t
     sent = subst (λ (ts : List Transmission). IsPermutation (transmissions s.sent) ts) (sym sent) is.past.sent;
   };
   holding = record {
-    held = All-weaker (IsHeld network old port) (IsHeld network new port)
-        (λ o h. held-else port o c (held-apart o before h) h) s.held is.holding.held;
-    waiting = λ other within stage place. waiting-else key port other s c
-        (λ e. after.waiting (ap (stage_at new) (sym e) ∙ stage) (ap (place_at network new) (sym e) ∙ place)) is within
-        stage place;
+    held = All-weaker (IsHeld network old port) (IsHeld network new port) (λ o h. held-stays port o c moves h) s.held
+        is.holding.held;
+    waiting = λ other within stage place. elim (moves other)
+        as (λ _. Contains s.held (offer_at network new other)) [
+          | inl stays ↦ waiting-else key port other s c stays is within stage place
+          | inr by ↦ absurd (by.after.waiting stage place)
+        ];
     apart = is.holding.apart;
   };
   sends = record {
-    under_way = λ sending. (let h = is.sends.under_way sending in
-        under-way-else port (last_of s.sent) c (under-way-apart (last_of s.sent) before h) h);
-    sending = λ other until within stage place. sending-else key port other until s c
-        (λ e. after.sending until (ap (stage_at new) (sym e) ∙ stage) (ap (place_at network new) (sym e) ∙ place)) is
-        within stage place;
+    under_way = λ sending. under-way-stays port (last_of s.sent) c moves (is.sends.under_way sending);
+    sending = λ other until within stage place. elim (moves other)
+        as (λ _. Sends s (progress_at new.records other).frame until.0) [
+          | inl stays ↦ sending-else key port other until s c stays is within stage place
+          | inr by ↦ absurd (by.after.sending until stage place)
+        ];
   };
   turn = subst (IsTurn s) (sym turn) is.turn;
   times = record {
@@ -140,3 +165,12 @@ port-stays {T} {network} {old} {new} {frame} key port s c is before after sent t
     eligible = eligible-later key port s c is;
   };
 }
+
+-- of one row that moves: another one stays
+pub passes-one : {T : Type 0} {network : DeclaredNetwork} {old new : Course T} (port row : ℕ)
+    → PassesBy network old new port row → (other : ℕ) → (other ≢ row) ⊎ PassesBy network old new port other
+passes-one {T} {network} {old} {new} port row by other =
+    elim (cases_eq other row) as (λ _. (other ≢ row) ⊎ PassesBy network old new port other) [
+      | inl e ↦ inr (subst (PassesBy network old new port) (sym e) by)
+      | inr apart ↦ inl apart
+    ]

@@ -13,9 +13,9 @@ use Rattle.ats_transmit.specs.Sending.{last_of, last_end, transmissions}
 use Rattle.ats_transmit.specs.State.{PortState, IsLawfulPort}
 use Rattle.ats_transmit.specs.declared.offer.Offer.{Offer}
 use Rattle.ats_transmit.specs.declared.sent.Sent.{Sent}
-use Rattle.ats_trace.specs.Projections.{sent_by}
 use Rattle.ats_run_records.specs.Progress.{progress_at}
-use Rattle.ats_engine_steps.specs.Course.{Course, travels, stage_at, turn_at, place_of, place_at, offer_of, offer_at}
+use Rattle.ats_engine_steps.specs.Course.{Course, offer_at, offer_of, place_at, place_of, sent_so_far, stage_at}
+use Rattle.ats_engine_steps.specs.Course.{turn_at}
 use Rattle.ats_engine_steps.specs.Ports.{IsTurn, IsHeld, IsPortOf, frames_at}
 use Rattle.ats_engine_steps.specs.Steps.{turn_once_offered}
 use Rattle.ats_engine_steps.specs.declared.stage.Stage.TheVariants.{Due, Waiting, Sending}
@@ -26,16 +26,16 @@ use Rattle.ats_engine_proofs.proofs.PortKept.{held-else, under-way-else, waiting
 use Rattle.ats_engine_proofs.proofs.PortKept.{started-later, selected-later, eligible-later}
 use Rattle.ats_engine_proofs.proofs.PortLists.{flip, contains-more, contains-new, any-more, any-split, frames-offered}
 
--- a frame that was due is offered to a port now
-pub record IsOffering {T : Type 0} (network : DeclaredNetwork) (old new : Course T) (now : Ps) (frame port : ℕ)
+-- a frame that was due along a leg is offered to a port now
+pub record IsOffering {T : Type 0} (network : DeclaredNetwork) (old new : Course T) (now : Ps) (row port : ℕ)
     : Type 0 where
-  pub changes : Changes network old new frame
-  pub within : frame < length old.records
-  pub due : stage_at old frame ≡ Due now
-  pub waits : stage_at new frame ≡ Waiting
-  pub same : progress_at new.records frame ≡ progress_at old.records frame
-  pub place : place_at network old frame ≡ port
-  pub eligible : (offer_at network old frame).eligible ≡ now
+  pub changes : Changes network old new (λ (other : ℕ). other ≢ row)
+  pub within : row < length old.records
+  pub due : stage_at old row ≡ Due now
+  pub waits : stage_at new row ≡ Waiting
+  pub same : progress_at new.records row ≡ progress_at old.records row
+  pub place : place_at network old row ≡ port
+  pub eligible : (offer_at network old row).eligible ≡ now
   pub last : new.last.at ≡ now
 
 -- a frame that is due does not wait
@@ -51,78 +51,81 @@ waiting-sending : (until : Ps) → Waiting ≡ Sending until → ⊥
 waiting-sending until e = cc
 
 -- it waits at the port, to which it was offered as it is
-held-offered : {T : Type 0} {network : DeclaredNetwork} {old new : Course T} {now : Ps} {frame port : ℕ}
-    → IsOffering network old new now frame port → IsHeld network new port (offer_at network old frame)
-held-offered {T} {network} {old} {new} {now} {frame} o = record {
-  within = subst (λ (n : ℕ). frame < n) (sym o.changes.count) o.within;
+held-offered : {T : Type 0} {network : DeclaredNetwork} {old new : Course T} {now : Ps} {row port : ℕ}
+    → IsOffering network old new now row port → IsHeld network new port (offer_at network old row)
+held-offered {T} {network} {old} {new} {now} {row} o = record {
+  row = row;
+  within = subst (λ (n : ℕ). row < n) (sym o.changes.count) o.within;
   stage = o.waits;
   place = ap (place_of network) o.same ∙ o.place;
-  same = ap (offer_of network frame) o.same;
+  same = ap (offer_of network) o.same;
 }
 
--- a frame that waits at a port is not the one that is due
-held-apart : {T : Type 0} {network : DeclaredNetwork} {old new : Course T} {now : Ps} {frame port : ℕ} (x : Offer)
-    → IsOffering network old new now frame port → IsHeld network old port x → x.frame ≢ frame
+-- a frame that waits at a port does not so along the leg along which one is due
+held-apart : {T : Type 0} {network : DeclaredNetwork} {old new : Course T} {now : Ps} {row port : ℕ} (x : Offer)
+    → IsOffering network old new now row port → (h : IsHeld network old port x) → h.row ≢ row
 held-apart {T} {network} {old} {new} {now} x o h e =
     due-waiting now (sym o.due ∙ ap (stage_at old) (sym e) ∙ h.stage)
 
 -- all frames that it held, and the new one, wait there
-all-held : {T : Type 0} {network : DeclaredNetwork} {old new : Course T} {now : Ps} {frame port : ℕ}
-    (held after : List Offer) → IsOffering network old new now frame port
-    → IsPermutation (offer_at network old frame ∷ held) after
+all-held : {T : Type 0} {network : DeclaredNetwork} {old new : Course T} {now : Ps} {row port : ℕ}
+    (held after : List Offer) → IsOffering network old new now row port
+    → IsPermutation (offer_at network old row ∷ held) after
     → All (IsHeld network old port) held → All (IsHeld network new port) after
-all-held {T} {network} {old} {new} {now} {frame} {port} held after o p all =
-    let offer : Offer = offer_at network old frame in
+all-held {T} {network} {old} {new} {now} {row} {port} held after o p all =
+    let offer : Offer = offer_at network old row in
     All-permutation (IsHeld network new port) (offer ∷ held) after p
     (All-cons (IsHeld network new port) offer held (held-offered o)
     (All-weaker (IsHeld network old port) (IsHeld network new port)
-    (λ x h. held-else port x o.changes (held-apart x o h) h) held all))
+    (λ x h. held-else port x o.changes h (held-apart x o h)) held all))
 
 -- all frames that wait there are held
-all-there : {T : Type 0} {network : DeclaredNetwork} {old new : Course T} {now : Ps} {frame port : ℕ}
-    (key : T → ℕ → ℕ → ℕ) (s : PortState T) (held : List Offer) → IsOffering network old new now frame port
-    → IsPortOf key network old port s → IsPermutation (offer_at network old frame ∷ s.held) held
+all-there : {T : Type 0} {network : DeclaredNetwork} {old new : Course T} {now : Ps} {row port : ℕ}
+    (key : T → ℕ → ℕ → ℕ) (s : PortState T) (held : List Offer) → IsOffering network old new now row port
+    → IsPortOf key network old port s → IsPermutation (offer_at network old row ∷ s.held) held
     → (other : ℕ) → other < length new.records → stage_at new other ≡ Waiting → place_at network new other ≡ port
     → Contains held (offer_at network new other)
-all-there {T} {network} {old} {new} {now} {frame} {port} key s held o is p other within stage place =
-    let offer : Offer = offer_at network old frame in
+all-there {T} {network} {old} {new} {now} {row} {port} key s held o is p other within stage place =
+    let offer : Offer = offer_at network old row in
     let Goal : Type 0 = Contains held (offer_at network new other) in
-    elim (cases_eq other frame) as (λ _. Goal) [
+    elim (cases_eq other row) as (λ _. Goal) [
       | inl e ↦ (
           let same : offer ≡ offer_at network new other =
-          sym (ap (offer_at network new) e ∙ ap (offer_of network frame) o.same) in
+          sym (ap (offer_at network new) e ∙ ap (offer_of network) o.same) in
           subst (Contains held) same (contains-new offer s.held held p))
       | inr apart ↦ contains-more offer (offer_at network new other) s.held held p
           (waiting-else key port other s o.changes apart is within stage place)
     ]
 
 -- no frame is there twice
-all-apart : {T : Type 0} {network : DeclaredNetwork} {old new : Course T} {now : Ps} {frame port : ℕ}
-    (key : T → ℕ → ℕ → ℕ) (s : PortState T) (held : List Offer) → IsOffering network old new now frame port
-    → IsPortOf key network old port s → IsPermutation (offer_at network old frame ∷ s.held) held
-    → All (λ (x : Sent). x.frame ≢ frame) s.sent
+all-apart : {T : Type 0} {network : DeclaredNetwork} {old : Course T} {port : ℕ} (row : ℕ) (key : T → ℕ → ℕ → ℕ)
+    (s : PortState T) (held : List Offer) → IsPortOf key network old port s
+    → IsPermutation (offer_at network old row ∷ s.held) held
+    → All (λ (x : Offer). x.frame ≢ (progress_at old.records row).frame) s.held
+    → All (λ (x : Sent). x.frame ≢ (progress_at old.records row).frame) s.sent
     → AllPairs (λ (x y : ℕ). x ≢ y) (map (λ (o : Offer). o.frame) held ++ map (λ (x : Sent). x.frame) s.sent)
-all-apart {T} {network} {old} {new} {now} {frame} {port} key s held o is p not_sent =
+all-apart {T} {network} {old} row key s held is p not_held not_sent =
+    let frame : ℕ = (progress_at old.records row).frame in
     let Other : ℕ → Type 0 = λ (n : ℕ). frame ≢ n in
     let of_offer : Offer → ℕ = λ (x : Offer). x.frame in
     let of_sent : Sent → ℕ = λ (x : Sent). x.frame in
     let first : All Other (map of_offer s.held) =
-    All-map Other of_offer s.held (All-weaker (IsHeld network old port) (λ (x : Offer). frame ≢ x.frame)
-    (λ x h. flip x.frame frame (held-apart x o h)) s.held is.holding.held) in
+    All-map Other of_offer s.held (All-weaker (λ (x : Offer). x.frame ≢ frame) (λ (x : Offer). frame ≢ x.frame)
+    (λ x h. flip x.frame frame h) s.held not_held) in
     let second : All Other (map of_sent s.sent) =
     All-map Other of_sent s.sent (All-weaker (λ (x : Sent). x.frame ≢ frame) (λ (x : Sent). frame ≢ x.frame)
     (λ x h. flip x.frame frame h) s.sent not_sent) in
     pairs_more (λ (x y : ℕ). x ≢ y) flip frame (frames_at s) (map of_offer held ++ map of_sent s.sent)
-    (frames-offered (offer_at network old frame) s.held held s.sent p)
+    (frames-offered (offer_at network old row) s.held held s.sent p)
     (All-append Other (map of_offer s.held) (map of_sent s.sent) first second) is.holding.apart
 
 -- a port that has nothing to do selects now
-turn-rested : {T : Type 0} {network : DeclaredNetwork} {old new : Course T} {now : Ps} {frame port : ℕ}
-    (key : T → ℕ → ℕ → ℕ) (s : PortState T) (held : List Offer) → IsOffering network old new now frame port
-    → IsPortOf key network old port s → IsPermutation (offer_at network old frame ∷ s.held) held
+turn-rested : {T : Type 0} {network : DeclaredNetwork} {old new : Course T} {now : Ps} {row port : ℕ}
+    (key : T → ℕ → ℕ → ℕ) (s : PortState T) (held : List Offer) → IsOffering network old new now row port
+    → IsPortOf key network old port s → IsPermutation (offer_at network old row ∷ s.held) held
     → s.is_sending ≡ false → s.held ≡ [] → IsFirstStart held s.sent now.0
-turn-rested {T} {network} {old} {new} {now} {frame} key s held o is p free empty =
-    let offer : Offer = offer_at network old frame in
+turn-rested {T} {network} {old} {new} {now} {row} key s held o is p free empty =
+    let offer : Offer = offer_at network old row in
     let past : old.last.at.0 ≤ new.last.at.0 = o.changes.reached.time in
     let is_now : new.last.at.0 ≡ now.0 = ap (λ (at : Ps). at.0) o.last in
     let eligible : offer.eligible.0 ≡ now.0 = ap (λ (at : Ps). at.0) o.eligible in
@@ -142,13 +145,13 @@ turn-rested {T} {network} {old} {new} {now} {frame} key s held o is p free empty
     }
 
 -- one that is to select at some time does so still
-turn-selecting : {T : Type 0} {network : DeclaredNetwork} {old new : Course T} {now : Ps} {frame port : ℕ}
+turn-selecting : {T : Type 0} {network : DeclaredNetwork} {old new : Course T} {now : Ps} {row port : ℕ}
     (key : T → ℕ → ℕ → ℕ) (s : PortState T) (held : List Offer) (at : ℕ)
-    → IsOffering network old new now frame port
-    → IsPortOf key network old port s → IsPermutation (offer_at network old frame ∷ s.held) held
+    → IsOffering network old new now row port
+    → IsPortOf key network old port s → IsPermutation (offer_at network old row ∷ s.held) held
     → IsFirstStart s.held s.sent at → IsFirstStart held s.sent at
-turn-selecting {T} {network} {old} {new} {now} {frame} key s held at o is p was =
-    let offer : Offer = offer_at network old frame in
+turn-selecting {T} {network} {old} {new} {now} {row} key s held at o is p was =
+    let offer : Offer = offer_at network old row in
     let past : old.last.at.0 ≤ new.last.at.0 = o.changes.reached.time in
     let is_now : new.last.at.0 ≡ now.0 = ap (λ (at : Ps). at.0) o.last in
     let eligible : offer.eligible.0 ≡ now.0 = ap (λ (at : Ps). at.0) o.eligible in
@@ -173,26 +176,28 @@ turn-selecting {T} {network} {old} {new} {now} {frame} key s held at o is p was 
     }
 
 -- the port does next what its turn says then
-turn-offered : {T : Type 0} {network : DeclaredNetwork} {old new : Course T} {now : Ps} {frame port : ℕ}
-    (key : T → ℕ → ℕ → ℕ) (s : PortState T) (held : List Offer) → IsOffering network old new now frame port
-    → IsPortOf key network old port s → IsPermutation (offer_at network old frame ∷ s.held) held
+turn-offered : {T : Type 0} {network : DeclaredNetwork} {old new : Course T} {now : Ps} {row port : ℕ}
+    (key : T → ℕ → ℕ → ℕ) (s : PortState T) (held : List Offer) → IsOffering network old new now row port
+    → IsPortOf key network old port s → IsPermutation (offer_at network old row ∷ s.held) held
     → (turn : Turn) → IsTurn s turn → IsTurn (record s { held = held }) (turn_once_offered turn now)
 turn-offered key s held o is p Resting t = (t.0, turn-rested key s held o is p t.0 t.1)
 turn-offered key s held o is p (Selecting at) t = (t.0, turn-selecting key s held at.0 o is p t.1)
 turn-offered key s held o is p Occupied t = t
 
 -- the port holds the frame too
-pub port-offered : {T : Type 0} {network : DeclaredNetwork} {old new : Course T} {now : Ps} {frame port : ℕ}
-    (key : T → ℕ → ℕ → ℕ) (s : PortState T) (held : List Offer) → IsOffering network old new now frame port
-    → IsPortOf key network old port s → IsPermutation (offer_at network old frame ∷ s.held) held
-    → IsLawfulPort key (record s { held = held }) → All (λ (x : Sent). x.frame ≢ frame) s.sent
-    → sent_by network (travels new) port ≡ sent_by network (travels old) port
+pub port-offered : {T : Type 0} {network : DeclaredNetwork} {old new : Course T} {now : Ps} {row port : ℕ}
+    (key : T → ℕ → ℕ → ℕ) (s : PortState T) (held : List Offer) → IsOffering network old new now row port
+    → IsPortOf key network old port s → IsPermutation (offer_at network old row ∷ s.held) held
+    → IsLawfulPort key (record s { held = held })
+    → All (λ (x : Offer). x.frame ≢ (progress_at old.records row).frame) s.held
+    → All (λ (x : Sent). x.frame ≢ (progress_at old.records row).frame) s.sent
+    → sent_so_far network new port ≡ sent_so_far network old port
     → turn_at new port ≡ turn_once_offered (turn_at old port) now
     → IsPortOf key network new port (record s { held = held })
-port-offered {T} {network} {old} {new} {now} {frame} {port} key s held o is p lawful not_sent sent turn =
+port-offered {T} {network} {old} {new} {now} {row} {port} key s held o is p lawful not_held not_sent sent turn =
     let c = o.changes in
     let t : PortState T = record s { held = held } in
-    let offer : Offer = offer_at network old frame in
+    let offer : Offer = offer_at network old row in
     let past : old.last.at.0 ≤ new.last.at.0 = c.reached.time in
     let eligible : offer.eligible.0 ≡ new.last.at.0 = ap (λ (at : Ps). at.0) (o.eligible ∙ sym o.last) in
     let Eligible : Offer → Type 0 = λ (x : Offer). x.eligible.0 ≤ new.last.at.0 in
@@ -209,14 +214,14 @@ port-offered {T} {network} {old} {new} {now} {frame} {port} key s held o is p la
       holding = record {
         held = all-held s.held held o p is.holding.held;
         waiting = all-there key s held o is p;
-        apart = all-apart key s held o is p not_sent;
+        apart = all-apart row key s held is p not_held not_sent;
       };
       sends = record {
         under_way = λ sending. (let h = is.sends.under_way sending in
-            under-way-else port (last_of s.sent) c
-            (λ e. due-sending now (last_of s.sent).end (sym o.due ∙ ap (stage_at old) (sym e) ∙ h.stage)) h);
+            under-way-else port (last_of s.sent) c h
+            (λ e. due-sending now (last_of s.sent).end (sym o.due ∙ ap (stage_at old) (sym e) ∙ h.stage)));
         sending = λ other until within stage place. (
-            let apart : other ≢ frame =
+            let apart : other ≢ row =
             λ e. waiting-sending until (sym o.waits ∙ ap (stage_at new) (sym e) ∙ stage) in
             let h = sending-else key port other until s c apart is within stage place in
             record { sending = h.sending; named = h.named; end = h.end });

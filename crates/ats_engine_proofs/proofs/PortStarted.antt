@@ -19,8 +19,8 @@ use Rattle.ats_transmit.specs.State.{PortState, IsLawfulPort}
 use Rattle.ats_transmit.specs.declared.offer.Offer.{Offer}
 use Rattle.ats_transmit.specs.declared.sent.Sent.{Sent}
 use Rattle.ats_events.specs.declared.phase.TheConstants.{SELECTION}
-use Rattle.ats_trace.specs.Projections.{sent_by}
-use Rattle.ats_engine_steps.specs.Course.{Course, travels, stage_at, turn_at, place_at, offer_at}
+use Rattle.ats_run_records.specs.Progress.{Progress, progress_at}
+use Rattle.ats_engine_steps.specs.Course.{Course, offer_at, place_at, place_of, sent_so_far, stage_at, turn_at}
 use Rattle.ats_engine_steps.specs.Ports.{IsTurn, IsHeld, IsUnderWay, Sends, IsPortOf, frames_at}
 use Rattle.ats_engine_steps.specs.declared.stage.Stage.TheVariants.{Waiting, Sending}
 use Rattle.ats_engine_steps.specs.declared.turn.Turn.TheVariants.{Occupied}
@@ -28,16 +28,19 @@ use Rattle.ats_engine_proofs.proofs.Moving.{Changes}
 use Rattle.ats_engine_proofs.proofs.PortKept.{held-else, waiting-else, sending-else, eligible-later}
 use Rattle.ats_engine_proofs.proofs.PortLists.{flip, contains-rest, last-push, frames-taken, frames-started}
 
--- a port starts a frame that it held now, and holds these then
-pub record IsStarting {T : Type 0} (network : DeclaredNetwork) (old new : Course T) (now end : Ps) (frame port : ℕ)
+-- a port starts a frame that it held now, along the one leg that has it, and holds these then
+pub record IsStarting {T : Type 0} (network : DeclaredNetwork) (old new : Course T) (now end : Ps) (row port : ℕ)
     (s : PortState T) (held : List Offer) (started : Offer) : Type 0 where
-  pub changes : Changes network old new frame
-  pub within : frame < length old.records
-  pub named : started.frame ≡ frame
+  pub changes : Changes network old new (λ (other : ℕ). other ≢ row)
+  pub within : row < length old.records
+  pub offered : offer_at network old row ≡ started
+  pub one : (other : ℕ) → other < length old.records → stage_at old other ≡ Waiting
+      → place_at network old other ≡ port → (progress_at old.records other).frame ≡ started.frame → other ≡ row
   pub ends : end.0 ≡ now.0 + s.ps_per_bit * bits_of started.octets
   pub takes : IsPermutation s.held (started ∷ held)
-  pub goes : stage_at new frame ≡ Sending end
-  pub place : place_at network new frame ≡ port
+  pub goes : stage_at new row ≡ Sending end
+  pub named : (progress_at new.records row).frame ≡ started.frame
+  pub place : place_at network new row ≡ port
   pub last : new.last.at ≡ now
   pub phase : SELECTION ≤ new.last.phase
   pub free : s.is_sending ≡ false
@@ -64,32 +67,33 @@ once_started s held started now = record s {
 }
 
 -- no frame that the port still holds is the one that starts
-still-apart : {T : Type 0} {network : DeclaredNetwork} {old new : Course T} {now end : Ps} {frame port : ℕ}
+still-apart : {T : Type 0} {network : DeclaredNetwork} {old new : Course T} {now end : Ps} {row port : ℕ}
     {s : PortState T} {held : List Offer} {started : Offer} (key : T → ℕ → ℕ → ℕ)
-    → IsStarting network old new now end frame port s held started → IsPortOf key network old port s
-    → All (λ (o : Offer). frame ≢ o.frame) held
-still-apart {T} {network} {old} {new} {now} {end} {frame} {port} {s} {held} {started} key o is =
+    → IsStarting network old new now end row port s held started → IsPortOf key network old port s
+    → All (λ (o : Offer). started.frame ≢ o.frame) held
+still-apart {T} {network} {old} {new} {now} {end} {row} {port} {s} {held} {started} key o is =
     let of_offer : Offer → ℕ = λ (x : Offer). x.frame in
     let of_sent : Sent → ℕ = λ (x : Sent). x.frame in
     let Other : ℕ → Type 0 = λ (n : ℕ). started.frame ≢ n in
     let rest : All Other (map of_offer held ++ map of_sent s.sent) =
     (pairs_less (λ (x y : ℕ). x ≢ y) flip started.frame (frames_at s) (map of_offer held ++ map of_sent s.sent)
     (frames-taken started s.held held s.sent o.takes) is.holding.apart).0 in
-    let each : All (λ (x : Offer). started.frame ≢ x.frame) held =
-    all_unmapped Other of_offer held (all_left Other (map of_offer held) (map of_sent s.sent) rest) in
-    subst (λ (n : ℕ). All (λ (x : Offer). n ≢ x.frame) held) o.named each
+    all_unmapped Other of_offer held (all_left Other (map of_offer held) (map of_sent s.sent) rest)
 
 -- those that it still holds wait there as before
-still-held : {T : Type 0} {network : DeclaredNetwork} {old new : Course T} {now end : Ps} {frame port : ℕ}
+still-held : {T : Type 0} {network : DeclaredNetwork} {old new : Course T} {now end : Ps} {row port : ℕ}
     {s : PortState T} {held : List Offer} {started : Offer} (key : T → ℕ → ℕ → ℕ)
-    → IsStarting network old new now end frame port s held started → IsPortOf key network old port s
+    → IsStarting network old new now end row port s held started → IsPortOf key network old port s
     → All (IsHeld network new port) held
-still-held {T} {network} {old} {new} {now} {end} {frame} {port} {s} {held} {started} key o is =
+still-held {T} {network} {old} {new} {now} {end} {row} {port} {s} {held} {started} key o is =
     let before : All (IsHeld network old port) held =
     All-tail (IsHeld network old port) started held
     (All-permutation (IsHeld network old port) s.held (started ∷ held) o.takes is.holding.held) in
     let apart = still-apart key o is in
-    λ k d h. held-else port _ o.changes (flip _ _ (apart k d h)) (before k d h)
+    λ k d h. (
+    let b = before k d h in
+    held-else port _ o.changes b (λ e. apart k d h
+    (ap (λ (x : Offer). x.frame) (sym o.offered ∙ ap (offer_at network old) (sym e) ∙ b.same))))
 
 -- the transmissions are those of the run with the new one
 more-sent : {T : Type 0} (s : PortState T) (started : Offer) (now : Ps) (before after : List Transmission)
@@ -104,50 +108,57 @@ more-sent s started now before after was more =
     (IsPermutation-trans _ _ _ (IsPermutation-cons x (transmissions s.sent) before was) more))
 
 -- whatever waits there is still held
-still-there : {T : Type 0} {network : DeclaredNetwork} {old new : Course T} {now end : Ps} {frame port : ℕ}
+still-there : {T : Type 0} {network : DeclaredNetwork} {old new : Course T} {now end : Ps} {row port : ℕ}
     {s : PortState T} {held : List Offer} {started : Offer} (key : T → ℕ → ℕ → ℕ)
-    → IsStarting network old new now end frame port s held started → IsPortOf key network old port s
+    → IsStarting network old new now end row port s held started → IsPortOf key network old port s
     → (other : ℕ) → other < length new.records → stage_at new other ≡ Waiting → place_at network new other ≡ port
     → Contains held (offer_at network new other)
-still-there {T} {network} {old} {new} {now} {end} {frame} {port} {s} {held} {started} key o is other within stage
+still-there {T} {network} {old} {new} {now} {end} {row} {port} {s} {held} {started} key o is other within stage
     place =
     let offer : Offer = offer_at network new other in
-    let apart : other ≢ frame = λ e. waiting-sending end (sym o.goes ∙ ap (stage_at new) (sym e) ∙ stage) in
+    let apart : other ≢ row = λ e. waiting-sending end (sym o.goes ∙ ap (stage_at new) (sym e) ∙ stage) in
     contains-rest started offer held (Contains-permutation s.held (started ∷ held) offer o.takes
     (waiting-else key port other s o.changes apart is within stage place))
-    (λ e. apart (sym (ap (λ (x : Offer). x.frame) e) ∙ o.named))
+    (λ e. (
+    let kept : progress_at new.records other ≡ progress_at old.records other = o.changes.records other apart in
+    apart (o.one other (subst (λ (n : ℕ). other < n) o.changes.count within)
+    (sym (o.changes.stages other apart) ∙ stage) (ap (place_of network) (sym kept) ∙ place)
+    (ap (λ (p : Progress). p.frame) (sym kept) ∙ sym (ap (λ (x : Offer). x.frame) e)))))
 
 -- the frame is on its way
-under-way-starts : {T : Type 0} {network : DeclaredNetwork} {old new : Course T} {now end : Ps} {frame port : ℕ}
+under-way-starts : {T : Type 0} {network : DeclaredNetwork} {old new : Course T} {now end : Ps} {row port : ℕ}
     {s : PortState T} {held : List Offer} {started : Offer}
-    → IsStarting network old new now end frame port s held started
+    → IsStarting network old new now end row port s held started
     → IsUnderWay network new port (starting s started now)
-under-way-starts {T} {network} {old} {new} {now} {end} {frame} {port} {s} {held} {started} o =
-    let same : frame ≡ started.frame = sym o.named in
+under-way-starts {T} {network} {old} {new} {now} {end} {row} {port} {s} {held} {started} o =
     let until : end ≡ (starting s started now).end = ap (λ (n : ℕ). let at : Ps = record { 0 = n } in at) o.ends in
     record {
-      within = subst (λ (n : ℕ). n < length new.records) same
-          (subst (λ (n : ℕ). frame < n) (sym o.changes.count) o.within);
-      stage = ap (stage_at new) o.named ∙ o.goes ∙ ap Sending until;
-      place = ap (place_at network new) o.named ∙ o.place;
+      row = row;
+      within = subst (λ (n : ℕ). row < n) (sym o.changes.count) o.within;
+      named = o.named;
+      stage = o.goes ∙ ap Sending until;
+      place = o.place;
     }
 
 -- and only it
-sends-started : {T : Type 0} {network : DeclaredNetwork} {old new : Course T} {now end : Ps} {frame port : ℕ}
+sends-started : {T : Type 0} {network : DeclaredNetwork} {old new : Course T} {now end : Ps} {row port : ℕ}
     {s : PortState T} {held : List Offer} {started : Offer} (key : T → ℕ → ℕ → ℕ)
-    → IsStarting network old new now end frame port s held started → IsPortOf key network old port s
+    → IsStarting network old new now end row port s held started → IsPortOf key network old port s
     → (other : ℕ) (until : Ps) → other < length new.records → stage_at new other ≡ Sending until
-    → place_at network new other ≡ port → Sends (once_started s held started now) other until.0
-sends-started {T} {network} {old} {new} {now} {end} {frame} {port} {s} {held} {started} key o is other until within
+    → place_at network new other ≡ port
+    → Sends (once_started s held started now) (progress_at new.records other).frame until.0
+sends-started {T} {network} {old} {new} {now} {end} {row} {port} {s} {held} {started} key o is other until within
     stage place =
     let x : Sent = starting s started now in
     let last : last_of (s.sent ++ x ∷ []) ≡ x = last-push s.sent x in
-    elim (cases_eq other frame) as (λ _. Sends (once_started s held started now) other until.0) [
+    elim (cases_eq other row)
+    as (λ _. Sends (once_started s held started now) (progress_at new.records other).frame until.0) [
       | inl e ↦ (
           let same : end ≡ until = same-end end until (sym o.goes ∙ ap (stage_at new) (sym e) ∙ stage) in
           record {
             sending = refl;
-            named = ap (λ (y : Sent). y.frame) last ∙ o.named ∙ sym e;
+            named = ap (λ (y : Sent). y.frame) last ∙ sym o.named
+                ∙ ap (λ (n : ℕ). (progress_at new.records n).frame) (sym e);
             end = ap (λ (y : Sent). y.end.0) last ∙ sym o.ends ∙ ap (λ (at : Ps). at.0) same;
           })
       | inr apart ↦ (
@@ -157,14 +168,14 @@ sends-started {T} {network} {old} {new} {now} {end} {frame} {port} {s} {held} {s
     ]
 
 -- the port sends the frame from now on
-pub port-started : {T : Type 0} {network : DeclaredNetwork} {old new : Course T} {now end : Ps} {frame port : ℕ}
+pub port-started : {T : Type 0} {network : DeclaredNetwork} {old new : Course T} {now end : Ps} {row port : ℕ}
     {s : PortState T} {held : List Offer} {started : Offer} (key : T → ℕ → ℕ → ℕ)
-    → IsStarting network old new now end frame port s held started → IsPortOf key network old port s
+    → IsStarting network old new now end row port s held started → IsPortOf key network old port s
     → IsLawfulPort key (once_started s held started now)
-    → IsPermutation (begun s.ps_per_bit started now.0 ∷ sent_by network (travels old) port)
-    (sent_by network (travels new) port)
+    → IsPermutation (begun s.ps_per_bit started now.0 ∷ sent_so_far network old port)
+    (sent_so_far network new port)
     → IsPortOf key network new port (once_started s held started now)
-port-started {T} {network} {old} {new} {now} {end} {frame} {port} {s} {held} {started} key o is lawful more =
+port-started {T} {network} {old} {new} {now} {end} {row} {port} {s} {held} {started} key o is lawful more =
     let c = o.changes in
     let t : PortState T = once_started s held started now in
     let x : Sent = starting s started now in
@@ -180,7 +191,7 @@ port-started {T} {network} {old} {new} {now} {end} {frame} {port} {s} {held} {st
       };
       past = record {
         lawful = lawful;
-        sent = more-sent s started now (sent_by network (travels old) port) (sent_by network (travels new) port)
+        sent = more-sent s started now (sent_so_far network old port) (sent_so_far network new port)
             is.past.sent more;
       };
       holding = record {

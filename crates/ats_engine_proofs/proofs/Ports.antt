@@ -1,76 +1,102 @@
-use Rattle.std.proofs.Common.{◌≡◌, ℕ, ◌<◌, List, [], length, ap, ◌∙◌}
-use Rattle.std.proofs.Common.{sym, subst, inl, inr}
+-- What is kept of each port after each step.
+use Rattle.std.proofs.Common.{◌≡◌, ℕ, ◌<◌, List, [], length, get_or, All, Option, ◌⊎◌, ap, ◌∙◌}
+use Rattle.std.proofs.Common.{refl, sym, subst, inl, inr, arith}
 use Rattle.std.specs.Prelude.{◌≢◌}
 use Rattle.std.proofs.lemmas.Bool.{cases_eq}
-use Rattle.std.proofs.lemmas.List.{get_or-set_same, get_or-set_other}
-use Rattle.ats_group.specs.declared.verdict.Verdict.{Verdict}
+use Rattle.std.proofs.lemmas.List.{get_or-set_other}
+use Rattle.ats_num.specs.declared.time.Ps.{Ps}
 use Rattle.ats_network.specs.Network.{DeclaredNetwork}
 use Rattle.ats_events.specs.declared.moment.Moment.{Moment}
 use Rattle.ats_transmit.specs.State.{opened}
-use Rattle.ats_trace.specs.Journey.{Travel}
-use Rattle.ats_trace.specs.Projections.{sent_by}
 use Rattle.ats_trace.specs.declared.journey.Release.{Release}
-use Rattle.ats_run_records.specs.Progress.{Progress, progress_at}
-use Rattle.ats_engine_steps.specs.Course.{Course, stage_at, turn_at, place_of, place_at}
-use Rattle.ats_engine_steps.specs.Ports.{IsHeld, IsPortOf, port_state_at}
-use Rattle.ats_engine_steps.specs.Steps.{Move, comes_by, verdict_now, turn_once_offered}
+use Rattle.ats_run_records.specs.Progress.{Progress, progress_at, with_hop}
+use Rattle.ats_engine_steps.specs.Course.{Course, stage_at, turn_at, place_of}
+use Rattle.ats_engine_steps.specs.Ports.{IsPortOf, port_state_at}
+use Rattle.ats_engine_steps.specs.Steps.{came, rows_next, set_each, stage_by, turn_once_offered}
 use Rattle.ats_engine_steps.specs.Steps.{Comes, BecomesEligible, Selects, Ends}
 use Rattle.ats_engine_steps.specs.declared.event.Event.{Event}
 use Rattle.ats_engine_steps.specs.declared.event.Event.TheVariants.{End, Arrival, Eligibility, Selection}
-use Rattle.ats_engine_steps.specs.declared.stage.Stage.TheVariants.{Coming, Due, Over}
+use Rattle.ats_engine_steps.specs.declared.stage.Stage.{Stage}
+use Rattle.ats_engine_steps.specs.declared.stage.Stage.TheVariants.{Apart, Coming, Due, Over}
 use Rattle.ats_engine_steps.specs.declared.turn.Turn.{Turn}
 use Rattle.ats_engine_steps.specs.declared.turn.Turn.TheVariants.{Resting, Occupied}
 use Rattle.ats_engine_proofs.specs.Next.{IsNext}
-use Rattle.ats_engine_proofs.proofs.Moving.{Changes, changes-one}
-use Rattle.ats_engine_proofs.proofs.PortKept.{port-stays}
+use Rattle.ats_engine_proofs.proofs.Allowed.{may-come}
+use Rattle.ats_engine_proofs.proofs.Away.{between-away, placed-away, stage-between}
+use Rattle.ats_engine_proofs.proofs.Begun.{IsApart, next-or-apart}
+use Rattle.ats_engine_proofs.proofs.Fates.{of-element}
+use Rattle.ats_engine_proofs.proofs.Moving.{Changes, changes-each}
+use Rattle.ats_engine_proofs.proofs.Now.{next-reached}
+use Rattle.ats_engine_proofs.proofs.PortKept.{IsAway, PassesBy, passes-one, port-stays}
 use Rattle.ats_engine_proofs.proofs.PortOffered.{IsOffering}
+use Rattle.ats_engine_proofs.proofs.PortSteps.{ends-away, ends-changes, ends-this, offered-here, offering, selects-this}
+use Rattle.ats_engine_proofs.proofs.PortSteps.{starting}
+use Rattle.ats_engine_proofs.proofs.Rows.{in-or-off, set_each-at}
 use Rattle.ats_engine_proofs.proofs.Stages.{next-coming}
-use Rattle.ats_engine_proofs.proofs.Travels.{comes-sent, offered-travels, selects-elsewhere, ends-sent}
-use Rattle.ats_engine_proofs.proofs.Away.{between-away, placed-away, next-reached, frame-within, comes-release}
-use Rattle.ats_engine_proofs.proofs.Away.{comes-between, coming-over}
-use Rattle.ats_engine_proofs.proofs.PortSteps.{offering, offered-here, starts-held, starting, selects-this}
-use Rattle.ats_engine_proofs.proofs.PortSteps.{ends-changes}
-use Rattle.ats_engine_proofs.proofs.PortSteps.{ends-away, ends-this}
+use Rattle.ats_engine_proofs.proofs.Travels.{comes-sent, ends-sent, offered-sent, selects-elsewhere, selects-place}
+
+-- along the rows to which a frame comes it was held by no port
+before-between : {T : Type 0} {network : DeclaredNetwork} {old : Course T} (row n : ℕ) (at : Ps) (port : ℕ)
+    → stage_at old row ≡ Coming at → (n ≡ row) ⊎ IsApart network old n → IsAway network old port n
+before-between {T} {network} {old} row n at port was (inl same) =
+    subst (IsAway network old port) (sym same) (between-away network old port row (Coming at) was tt)
+before-between {T} {network} {old} row n at port was (inr apart) =
+    between-away network old port n Apart apart.stage tt
 
 -- what is kept of each port is so after a frame came
 pub comes-ports : {T : Type 0} {key : T → ℕ → ℕ → ℕ} {wait : ℕ → ℕ → ℕ} {network : DeclaredNetwork}
-    {releases : List Release} {old new : Course T} {now : Moment} {frame : ℕ} {entries more : List (Moment × Event)}
-    → IsNext key wait network releases old now (Arrival frame) entries → Comes network old new now frame more
-    → (other : ℕ) → other < length network.topology.ports
+    {releases : List Release} {old new : Course T} {now : Moment} {row : ℕ} {entries : List (Moment × Event)}
+    {due : Option Ps} → IsNext key wait network releases old now (Arrival row) entries
+    → Comes network old new now row due → (other : ℕ) → other < length network.topology.ports
     → IsPortOf key network new other (port_state_at new other)
-comes-ports {T} {key} {wait} {network} {releases} {old} {new} {now} {frame} next step other within =
-    let p : Progress = progress_at old.records frame in
-    let m : Move = step.move in
-    let v : Verdict = verdict_now network old.groups p now.at.0 in
-    let was : stage_at old frame ≡ Coming now.at = next-coming next in
-    let here : frame < length old.records =
-    frame-within next frame (Coming now.at) was (coming-over now.at) in
-    let here_too : frame < length old.stages = subst (λ (n : ℕ). frame < n) (sym next.holds.shape.stages) here in
-    let same : m.progress.release ≡ p.release =
-    ap (λ (x : Move). x.progress.release) step.is ∙ comes-release frame p now.at v in
-    let c : Changes network old new frame =
-    changes-one network old new now frame m.stage m.progress here same (next-reached next)
-    (ap (λ (x : Course T). x.stages) step.becomes) (ap (λ (x : Course T). x.records) step.becomes)
-    (ap (λ (x : Course T). x.last) step.becomes) (ap (λ (x : Course T). x.tie) step.becomes) in
-    let goes : stage_at new frame ≡ (comes_by frame p now.at v).stage =
-    ap (λ (x : Course T). stage_at x frame) step.becomes
-    ∙ get_or-set_same old.stages frame m.stage Over here_too ∙ ap (λ (x : Move). x.stage) step.is in
+comes-ports {T} {key} {wait} {network} {releases} {old} {new} {now} {row} next step other within =
+    let rows : List ℕ = rows_next network old row in
+    let may = may-come next in
+    let was : stage_at old row ≡ Coming now.at = next-coming next in
+    let here : row < length old.records = may.may_come.room.within in
+    let stage : ℕ → Stage = λ (n : ℕ). stage_by step.verdict in
+    let after : ℕ → Progress = λ (n : ℕ). with_hop (progress_at old.records n) (came now.at step.verdict) in
+    let staged : new.stages ≡ set_each rows stage old.stages = ap (λ (x : Course T). x.stages) step.becomes
+    ∙ ap (λ (ns : List ℕ). set_each ns stage old.stages) step.next in
+    let recorded : new.records ≡ set_each rows after old.records = ap (λ (x : Course T). x.records) step.becomes
+    ∙ ap (λ (ns : List ℕ). set_each ns after old.records) step.next in
+    let there : All (λ (n : ℕ). n < length old.records) rows = λ k d h. (may.next k d h).within in
+    let c : Changes network old new (λ (n : ℕ). All (λ (m : ℕ). n ≢ m) rows) =
+    changes-each network old new now rows stage after there (λ n. refl) (next-reached next) staged recorded
+    (ap (λ (x : Course T). x.last) step.becomes) (ap (λ (x : Course T). x.tie) step.becomes)
+    (ap (λ (x : Course T). x.firsts) step.becomes) in
+    let Known : ℕ → Type 0 = λ (n : ℕ). (n ≡ row) ⊎ IsApart network old n in
+    let known : All Known rows = next-or-apart next.holds row here in
+    let moves : (n : ℕ) → All (λ (m : ℕ). n ≢ m) rows ⊎ PassesBy network old new other n = λ n.
+    elim (in-or-off rows n) as (λ _. All (λ (m : ℕ). n ≢ m) rows ⊎ PassesBy network old new other n) [
+      | inr off ↦ inl off
+      | inl has ↦ (
+          let in_old : n < length old.stages = omega (
+            arith,
+            next.holds.shape.stages,
+            of-element (λ (m : ℕ). m < length old.records) rows n there has,
+          ) in
+          let goes : stage_at new n ≡ stage_by step.verdict = ap (λ (ss : List Stage). get_or ss n Over) staged
+          ∙ set_each-at rows stage old.stages n Over has in_old in
+          inr (record {
+            before = before-between row n now.at other was (of-element Known rows n known has);
+            after = between-away network new other n (stage_by step.verdict) goes (stage-between step.verdict);
+          }))
+    ] in
     subst (IsPortOf key network new other) (sym (ap (λ (x : Course T). port_state_at x other) step.becomes))
-    (port-stays key other (port_state_at old other) c (next.holds.ports other within)
-    (between-away network old other frame (Coming now.at) was tt)
-    (between-away network new other frame (comes_by frame p now.at v).stage goes (comes-between frame p now.at v))
+    (port-stays key other (port_state_at old other) c (next.holds.ports other within) moves
     (comes-sent next step other) (ap (λ (x : Course T). turn_at x other) step.becomes))
 
 -- after one became eligible
 pub offered-ports : {T : Type 0} {key : T → ℕ → ℕ → ℕ} {wait : ℕ → ℕ → ℕ} {network : DeclaredNetwork}
-    {releases : List Release} {old new : Course T} {now : Moment} {frame : ℕ} {entries more : List (Moment × Event)}
-    → IsNext key wait network releases old now (Eligibility frame) entries
-    → BecomesEligible key network old new now frame more
+    {releases : List Release} {old new : Course T} {now : Moment} {row : ℕ} {entries more : List (Moment × Event)}
+    → IsNext key wait network releases old now (Eligibility row) entries
+    → BecomesEligible key network old new now row more
     → (other : ℕ) → other < length network.topology.ports
     → IsPortOf key network new other (port_state_at new other)
-offered-ports {T} {key} {wait} {network} {releases} {old} {new} {now} {frame} next step other within =
+offered-ports {T} {key} {wait} {network} {releases} {old} {new} {now} {row} next step other within =
     let port : ℕ = step.port in
-    let o : IsOffering network old new now.at frame port = offering next step in
+    let o : IsOffering network old new now.at row port = offering next step in
     let turn : Turn = turn_once_offered (turn_at old port) now.at in
     let Goal : ℕ → Type 0 = λ (n : ℕ). IsPortOf key network new n (port_state_at new n) in
     elim (cases_eq port other) as (λ _. Goal other) [
@@ -82,9 +108,11 @@ offered-ports {T} {key} {wait} {network} {releases} {old} {new} {now} {frame} ne
           (sym (ap (λ (x : Course T). port_state_at x other) step.becomes
           ∙ get_or-set_other old.ports port other step.standing (opened 0 [] old.tie) differs))
           (port-stays key other (port_state_at old other) o.changes (next.holds.ports other within)
-          (between-away network old other frame (Due now.at) o.due tt)
-          (placed-away network new port other frame (ap (place_of network) o.same ∙ o.place) differs)
-          (ap (λ (run : List Travel). sent_by network run other) (offered-travels next step))
+          (passes-one other row (record {
+            before = between-away network old other row (Due now.at) o.due tt;
+            after = placed-away network new port other row (ap (place_of network) o.same ∙ o.place) differs;
+          }))
+          (offered-sent next step other)
           (ap (λ (x : Course T). turn_at x other) step.becomes
           ∙ get_or-set_other old.turns port other turn Resting differs)))
     ]
@@ -92,14 +120,12 @@ offered-ports {T} {key} {wait} {network} {releases} {old} {new} {now} {frame} ne
 -- after a port selected
 pub selects-ports : {T : Type 0} {key : T → ℕ → ℕ → ℕ} {wait : ℕ → ℕ → ℕ} {network : DeclaredNetwork}
     {releases : List Release} {old new : Course T} {now : Moment} {port : ℕ} {entries more : List (Moment × Event)}
-    → IsNext key wait network releases old now (Selection port) entries → Selects key old new now port more
+    → IsNext key wait network releases old now (Selection port) entries → Selects key network old new now port more
     → (other : ℕ) → other < length network.topology.ports
     → IsPortOf key network new other (port_state_at new other)
 selects-ports {T} {key} {wait} {network} {releases} {old} {new} {now} {port} next step other within =
-    let frame : ℕ = step.frame in
+    let row : ℕ = step.row in
     let o = starting next step in
-    let h : IsHeld network old port step.starts.started = starts-held next step in
-    let place : place_at network old frame ≡ port = ap (place_at network old) (sym step.starts.named) ∙ h.place in
     let Goal : ℕ → Type 0 = λ (n : ℕ). IsPortOf key network new n (port_state_at new n) in
     elim (cases_eq port other) as (λ _. Goal other) [
       | inl e ↦ subst Goal e (selects-this next step)
@@ -109,8 +135,10 @@ selects-ports {T} {key} {wait} {network} {releases} {old} {new} {now} {port} nex
           (sym (ap (λ (x : Course T). port_state_at x other) step.becomes
           ∙ get_or-set_other old.ports port other step.standing (opened 0 [] old.tie) differs))
           (port-stays key other (port_state_at old other) o.changes (next.holds.ports other within)
-          (placed-away network old port other frame place differs)
-          (placed-away network new port other frame o.place differs)
+          (passes-one other row (record {
+            before = placed-away network old port other row (selects-place next step) differs;
+            after = placed-away network new port other row o.place differs;
+          }))
           (selects-elsewhere next step other differs)
           (ap (λ (x : Course T). turn_at x other) step.becomes
           ∙ get_or-set_other old.turns port other Occupied Resting differs)))
@@ -118,11 +146,11 @@ selects-ports {T} {key} {wait} {network} {releases} {old} {new} {now} {port} nex
 
 -- and after a transmission ended
 pub ends-ports : {T : Type 0} {key : T → ℕ → ℕ → ℕ} {wait : ℕ → ℕ → ℕ} {network : DeclaredNetwork}
-    {releases : List Release} {old new : Course T} {now : Moment} {frame : ℕ} {entries more : List (Moment × Event)}
-    → IsNext key wait network releases old now (End frame) entries → Ends key wait network old new now frame more
+    {releases : List Release} {old new : Course T} {now : Moment} {row : ℕ} {entries more : List (Moment × Event)}
+    → IsNext key wait network releases old now (End row) entries → Ends key wait network old new now row more
     → (other : ℕ) → other < length network.topology.ports
     → IsPortOf key network new other (port_state_at new other)
-ends-ports {T} {key} {wait} {network} {releases} {old} {new} {now} {frame} next step other within =
+ends-ports {T} {key} {wait} {network} {releases} {old} {new} {now} {row} next step other within =
     let port : ℕ = step.port in
     let Goal : ℕ → Type 0 = λ (n : ℕ). IsPortOf key network new n (port_state_at new n) in
     elim (cases_eq port other) as (λ _. Goal other) [
@@ -134,7 +162,10 @@ ends-ports {T} {key} {wait} {network} {releases} {old} {new} {now} {frame} next 
           (sym (ap (λ (x : Course T). port_state_at x other) step.becomes
           ∙ get_or-set_other old.ports port other step.standing (opened 0 [] old.tie) differs))
           (port-stays key other (port_state_at old other) (ends-changes next step) (next.holds.ports other within)
-          (placed-away network old port other frame step.place differs) (ends-away next step other)
+          (passes-one other row (record {
+            before = placed-away network old port other row step.place differs;
+            after = ends-away next step other;
+          }))
           (ends-sent next step other)
           (ap (λ (x : Course T). turn_at x other) step.becomes
           ∙ get_or-set_other old.turns port other step.turn Resting differs)))

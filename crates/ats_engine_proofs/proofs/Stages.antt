@@ -1,4 +1,4 @@
--- What the next event says of its frame's stage, or of its port's turn.
+-- What the next event says of its leg's stage, or of its port's turn.
 use Rattle.std.proofs.Common.{◌≡◌, ◌≢◌, ℕ, ◌<◌, List, length, get_or, Option, Some, None, sym, ap, ◌∙◌, inl, inr, arith}
 use Rattle.std.proofs.lemmas.Bool.{cases_lt}
 use Rattle.std.proofs.lemmas.List.{get_or_past}
@@ -13,7 +13,7 @@ use Rattle.ats_engine_steps.specs.Entries.{arrival_by, eligibility_by, end_by, s
 use Rattle.ats_engine_steps.specs.declared.event.Event.{Event}
 use Rattle.ats_engine_steps.specs.declared.event.Event.TheVariants.{End, Arrival, Eligibility, Selection}
 use Rattle.ats_engine_steps.specs.declared.stage.Stage.{Stage}
-use Rattle.ats_engine_steps.specs.declared.stage.Stage.TheVariants.{Coming, Due, Waiting, Sending, Over}
+use Rattle.ats_engine_steps.specs.declared.stage.Stage.TheVariants.{Apart, Coming, Due, Waiting, Sending, Over}
 use Rattle.ats_engine_steps.specs.declared.turn.Turn.{Turn}
 use Rattle.ats_engine_steps.specs.declared.turn.Turn.TheVariants.{Resting, Selecting, Occupied}
 use Rattle.ats_engine_proofs.specs.Next.{IsNext}
@@ -24,28 +24,31 @@ time_of (Some moment) other = moment.at
 time_of None other = other
 
 -- a frame that arrives then comes then
-coming-by : (frame : ℕ) (stage : Stage) (now : Moment) → arrival_by frame stage ≡ Some now → stage ≡ Coming now.at
-coming-by frame (Coming at) now is = ap (λ (m : Option Moment). Coming (time_of m at)) is
-coming-by frame (Due at) now is = absurd (none-some now is)
-coming-by frame Waiting now is = absurd (none-some now is)
-coming-by frame (Sending until) now is = absurd (none-some now is)
-coming-by frame Over now is = absurd (none-some now is)
+coming-by : (row : ℕ) (stage : Stage) (now : Moment) → arrival_by row stage ≡ Some now → stage ≡ Coming now.at
+coming-by row (Coming at) now is = ap (λ (m : Option Moment). Coming (time_of m at)) is
+coming-by row (Due at) now is = absurd (none-some now is)
+coming-by row Apart now is = absurd (none-some now is)
+coming-by row Waiting now is = absurd (none-some now is)
+coming-by row (Sending until) now is = absurd (none-some now is)
+coming-by row Over now is = absurd (none-some now is)
 
 -- one that becomes eligible then is due then
-due-by : (frame : ℕ) (stage : Stage) (now : Moment) → eligibility_by frame stage ≡ Some now → stage ≡ Due now.at
-due-by frame (Due at) now is = ap (λ (m : Option Moment). Due (time_of m at)) is
-due-by frame (Coming at) now is = absurd (none-some now is)
-due-by frame Waiting now is = absurd (none-some now is)
-due-by frame (Sending until) now is = absurd (none-some now is)
-due-by frame Over now is = absurd (none-some now is)
+due-by : (row : ℕ) (stage : Stage) (now : Moment) → eligibility_by row stage ≡ Some now → stage ≡ Due now.at
+due-by row (Due at) now is = ap (λ (m : Option Moment). Due (time_of m at)) is
+due-by row (Coming at) now is = absurd (none-some now is)
+due-by row Apart now is = absurd (none-some now is)
+due-by row Waiting now is = absurd (none-some now is)
+due-by row (Sending until) now is = absurd (none-some now is)
+due-by row Over now is = absurd (none-some now is)
 
 -- one whose transmission ends then is sent until then
-sending-by : (frame : ℕ) (stage : Stage) (now : Moment) → end_by frame stage ≡ Some now → stage ≡ Sending now.at
-sending-by frame (Sending until) now is = ap (λ (m : Option Moment). Sending (time_of m until)) is
-sending-by frame (Coming at) now is = absurd (none-some now is)
-sending-by frame (Due at) now is = absurd (none-some now is)
-sending-by frame Waiting now is = absurd (none-some now is)
-sending-by frame Over now is = absurd (none-some now is)
+sending-by : (row : ℕ) (stage : Stage) (now : Moment) → end_by row stage ≡ Some now → stage ≡ Sending now.at
+sending-by row (Sending until) now is = ap (λ (m : Option Moment). Sending (time_of m until)) is
+sending-by row (Coming at) now is = absurd (none-some now is)
+sending-by row (Due at) now is = absurd (none-some now is)
+sending-by row Apart now is = absurd (none-some now is)
+sending-by row Waiting now is = absurd (none-some now is)
+sending-by row Over now is = absurd (none-some now is)
 
 -- a port that selects then is to select then
 selecting-by : (port : ℕ) (turn : Turn) (now : Moment) → selection_by port turn ≡ Some now → turn ≡ Selecting now.at
@@ -63,24 +66,24 @@ next-moment {T} {key} {wait} {network} {releases} {course} {now} {event} {entrie
 
 -- a frame that arrives next is coming
 pub next-coming : {T : Type 0} {key : T → ℕ → ℕ → ℕ} {wait : ℕ → ℕ → ℕ} {network : DeclaredNetwork}
-    {releases : List Release} {course : Course T} {now : Moment} {frame : ℕ} {entries : List (Moment × Event)}
-    → IsNext key wait network releases course now (Arrival frame) entries → stage_at course frame ≡ Coming now.at
-next-coming {T} {key} {wait} {network} {releases} {course} {now} {frame} next =
-    coming-by frame (stage_at course frame) now (next-moment next)
+    {releases : List Release} {course : Course T} {now : Moment} {row : ℕ} {entries : List (Moment × Event)}
+    → IsNext key wait network releases course now (Arrival row) entries → stage_at course row ≡ Coming now.at
+next-coming {T} {key} {wait} {network} {releases} {course} {now} {row} next =
+    coming-by row (stage_at course row) now (next-moment next)
 
 -- one that becomes eligible next is due
 pub next-due : {T : Type 0} {key : T → ℕ → ℕ → ℕ} {wait : ℕ → ℕ → ℕ} {network : DeclaredNetwork}
-    {releases : List Release} {course : Course T} {now : Moment} {frame : ℕ} {entries : List (Moment × Event)}
-    → IsNext key wait network releases course now (Eligibility frame) entries → stage_at course frame ≡ Due now.at
-next-due {T} {key} {wait} {network} {releases} {course} {now} {frame} next =
-    due-by frame (stage_at course frame) now (next-moment next)
+    {releases : List Release} {course : Course T} {now : Moment} {row : ℕ} {entries : List (Moment × Event)}
+    → IsNext key wait network releases course now (Eligibility row) entries → stage_at course row ≡ Due now.at
+next-due {T} {key} {wait} {network} {releases} {course} {now} {row} next =
+    due-by row (stage_at course row) now (next-moment next)
 
 -- one whose transmission ends next is being sent
 pub next-sending : {T : Type 0} {key : T → ℕ → ℕ → ℕ} {wait : ℕ → ℕ → ℕ} {network : DeclaredNetwork}
-    {releases : List Release} {course : Course T} {now : Moment} {frame : ℕ} {entries : List (Moment × Event)}
-    → IsNext key wait network releases course now (End frame) entries → stage_at course frame ≡ Sending now.at
-next-sending {T} {key} {wait} {network} {releases} {course} {now} {frame} next =
-    sending-by frame (stage_at course frame) now (next-moment next)
+    {releases : List Release} {course : Course T} {now : Moment} {row : ℕ} {entries : List (Moment × Event)}
+    → IsNext key wait network releases course now (End row) entries → stage_at course row ≡ Sending now.at
+next-sending {T} {key} {wait} {network} {releases} {course} {now} {row} next =
+    sending-by row (stage_at course row) now (next-moment next)
 
 -- a port that selects next is to select
 pub next-selecting : {T : Type 0} {key : T → ℕ → ℕ → ℕ} {wait : ℕ → ℕ → ℕ} {network : DeclaredNetwork}
@@ -96,12 +99,12 @@ inside xs k d x is other = elim (cases_lt k (length xs)) as (λ _. k < length xs
   | inr past ↦ absurd (other (sym is ∙ get_or_past xs k d past))
 ]
 
--- a frame that is not over is one of the run
-pub stage-within : {T : Type 0} (course : Course T) (frame : ℕ) (stage : Stage)
-    → length course.stages ≡ length course.records → stage_at course frame ≡ stage → stage ≢ Over
-    → frame < length course.records
-stage-within course frame stage even is other =
-    let within : frame < length course.stages = inside course.stages frame Over stage is other in
+-- a leg that is not over is one of the run
+pub stage-within : {T : Type 0} (course : Course T) (row : ℕ) (stage : Stage)
+    → length course.stages ≡ length course.records → stage_at course row ≡ stage → stage ≢ Over
+    → row < length course.records
+stage-within course row stage even is other =
+    let within : row < length course.stages = inside course.stages row Over stage is other in
     omega arith
 
 -- a port that does not rest is one of the network

@@ -1,70 +1,69 @@
--- Where the frame of the next event stands, and the run so far as that frame goes on.
-use Rattle.std.proofs.Common.{◌≡◌, ℕ, ◌+◌, ◌<◌, List, [], ◌∷◌, map, length, get_or, set}
-use Rattle.std.proofs.Common.{IsPermutation, None, refl, sym, ap, ◌∙◌, subst, suc, zero, arith}
-use Rattle.std.specs.Prelude.{Option}
-use Rattle.std.specs.List.{zip}
-use Rattle.std.proofs.lemmas.List.{map-set}
+-- Where the frame of the next event stands, and the run so far as it goes on along one leg, or along several.
+use Rattle.std.proofs.Common.{◌≡◌, ◌≢◌, ℕ, ◌<◌, List, [], ◌∷◌, length, get_or, set, All, IsPermutation, refl, sym, ap}
+use Rattle.std.proofs.Common.{◌∙◌, subst, suc, zero, arith}
+use Rattle.std.specs.List.{flat_map, zip}
+use Rattle.std.proofs.lemmas.List.{get_or-set_other}
+use Rattle.std.proofs.lemmas.List.Elements.{All-head, All-tail}
+use Rattle.std.proofs.lemmas.Slice.Zip.{get_or-zip, length-zip}
 use Rattle.ats_network.specs.Network.{DeclaredNetwork}
 use Rattle.ats_events.specs.declared.moment.Moment.{Moment}
-use Rattle.ats_trace.specs.Journey.{Travel}
 use Rattle.ats_trace.specs.declared.journey.Release.{Release}
 use Rattle.ats_trace.specs.declared.journey.HopRecord.{HopRecord}
-use Rattle.ats_trace.specs.declared.journey.Ending.{Ending}
-use Rattle.ats_run_records.specs.Progress.{Progress, progress_at}
-use Rattle.ats_engine_steps.specs.Course.{Course, stage_at, travel_of, travels, travels_of, ending_by}
+use Rattle.ats_run_records.specs.Progress.{Progress, no_progress, progress_at}
+use Rattle.ats_engine_steps.specs.Course.{Course, stage_at}
 use Rattle.ats_engine_steps.specs.Frames.{IsFrame, Goes, Stands, IsSent}
+use Rattle.ats_engine_steps.specs.Steps.{set_each}
 use Rattle.ats_engine_steps.specs.declared.event.Event.{Event}
 use Rattle.ats_engine_steps.specs.declared.event.Event.TheVariants.{End, Arrival, Eligibility, Selection}
 use Rattle.ats_engine_steps.specs.declared.stage.Stage.{Stage}
-use Rattle.ats_engine_steps.specs.declared.stage.Stage.TheVariants.{Coming, Due, Sending}
+use Rattle.ats_engine_steps.specs.declared.stage.Stage.TheVariants.{Coming, Due, Over, Sending}
 use Rattle.ats_engine_steps.specs.declared.turn.Turn.TheVariants.{Selecting}
 use Rattle.ats_engine_proofs.specs.Next.{IsNext}
-use Rattle.ats_engine_proofs.proofs.Gathered.{gather, gather-same, gather-more}
-use Rattle.ats_engine_proofs.proofs.Hops.{travel_at, travels_long}
+use Rattle.ats_engine_proofs.proofs.Gathered.{gather-same, gather-more}
 use Rattle.ats_engine_proofs.proofs.Parts.{IsLast}
 use Rattle.ats_engine_proofs.proofs.Stages.{next-coming, next-due, next-sending, next-selecting, stage-within}
 use Rattle.ats_engine_proofs.proofs.Stages.{turn-within}
 
 module _ {T : Type 0} {key : T → ℕ → ℕ → ℕ} {wait : ℕ → ℕ → ℕ} {network : DeclaredNetwork} {releases : List Release}
     {course : Course T} {now : Moment} {entries : List (Moment × Event)} where
-  -- the frame that arrives next is one of the course
-  pub arriving-within : {frame : ℕ} → IsNext key wait network releases course now (Arrival frame) entries
-      → frame < length course.records
-  arriving-within {frame} next =
-      stage-within course frame (Coming now.at) next.holds.shape.stages (next-coming next) (λ e. cc)
+  -- the leg along which a frame arrives next is one of the course
+  pub arriving-within : {row : ℕ} → IsNext key wait network releases course now (Arrival row) entries
+      → row < length course.records
+  arriving-within {row} next =
+      stage-within course row (Coming now.at) next.holds.shape.stages (next-coming next) (λ e. cc)
 
-  -- and stands so
-  pub arriving-frame : {frame : ℕ} → IsNext key wait network releases course now (Arrival frame) entries
-      → IsFrame network (progress_at course.records frame) (Coming now.at)
-  arriving-frame {frame} next =
-      subst (IsFrame network (progress_at course.records frame)) (next-coming next)
-      (next.holds.frames frame (arriving-within next))
+  -- and the frame stands so there
+  pub arriving-frame : {row : ℕ} → IsNext key wait network releases course now (Arrival row) entries
+      → IsFrame network course (progress_at course.records row) (Coming now.at)
+  arriving-frame {row} next =
+      subst (IsFrame network course (progress_at course.records row)) (next-coming next)
+      (next.holds.frames row (arriving-within next))
 
-  -- the one that becomes eligible next too
-  pub due-within : {frame : ℕ} → IsNext key wait network releases course now (Eligibility frame) entries
-      → frame < length course.records
-  due-within {frame} next =
-      stage-within course frame (Due now.at) next.holds.shape.stages (next-due next) (λ e. cc)
+  -- the one along which a frame becomes eligible next too
+  pub due-within : {row : ℕ} → IsNext key wait network releases course now (Eligibility row) entries
+      → row < length course.records
+  due-within {row} next =
+      stage-within course row (Due now.at) next.holds.shape.stages (next-due next) (λ e. cc)
 
-  -- which stands so
-  pub due-frame : {frame : ℕ} → IsNext key wait network releases course now (Eligibility frame) entries
-      → IsFrame network (progress_at course.records frame) (Due now.at)
-  due-frame {frame} next =
-      subst (IsFrame network (progress_at course.records frame)) (next-due next)
-      (next.holds.frames frame (due-within next))
+  -- where it stands so
+  pub due-frame : {row : ℕ} → IsNext key wait network releases course now (Eligibility row) entries
+      → IsFrame network course (progress_at course.records row) (Due now.at)
+  due-frame {row} next =
+      subst (IsFrame network course (progress_at course.records row)) (next-due next)
+      (next.holds.frames row (due-within next))
 
-  -- and the one whose transmission ends next
-  pub ending-within : {frame : ℕ} → IsNext key wait network releases course now (End frame) entries
-      → frame < length course.records
-  ending-within {frame} next =
-      stage-within course frame (Sending now.at) next.holds.shape.stages (next-sending next) (λ e. cc)
+  -- and the one along which a transmission ends next
+  pub ending-within : {row : ℕ} → IsNext key wait network releases course now (End row) entries
+      → row < length course.records
+  ending-within {row} next =
+      stage-within course row (Sending now.at) next.holds.shape.stages (next-sending next) (λ e. cc)
 
-  -- which stands so
-  pub ending-frame : {frame : ℕ} → IsNext key wait network releases course now (End frame) entries
-      → IsFrame network (progress_at course.records frame) (Sending now.at)
-  ending-frame {frame} next =
-      subst (IsFrame network (progress_at course.records frame)) (next-sending next)
-      (next.holds.frames frame (ending-within next))
+  -- where the frame stands so
+  pub ending-frame : {row : ℕ} → IsNext key wait network releases course now (End row) entries
+      → IsFrame network course (progress_at course.records row) (Sending now.at)
+  ending-frame {row} next =
+      subst (IsFrame network course (progress_at course.records row)) (next-sending next)
+      (next.holds.frames row (ending-within next))
 
   -- and the port that selects next is one of the network
   pub selecting-within : {port : ℕ} → IsNext key wait network releases course now (Selection port) entries
@@ -135,11 +134,12 @@ goes-split (p ∷ path) (hop ∷ next ∷ hops) goes some =
       here = rest.here;
     }
 
--- one frame of a course goes on: it is at this stage then, and this has happened to it
-pub record Advances {T : Type 0} (old new : Course T) (frame : ℕ) (stage : Stage) (progress : Progress) : Type 0 where
-  pub within : frame < length old.records
-  pub stages : length old.stages ≡ length old.records
-  pub becomes : travels new ≡ travels_of (set old.stages frame stage) (set old.records frame progress)
+-- a leg of a course goes on: the frame is at this stage of it then, and this has happened there
+pub record Advances {T : Type 0} (old new : Course T) (row : ℕ) (stage : Stage) (progress : Progress) : Type 0 where
+  pub within : row < length old.records
+  pub many : length old.stages ≡ length old.records
+  pub stages : new.stages ≡ set old.stages row stage
+  pub records : new.records ≡ set old.records row progress
 
 -- two lists that are set at one place, pair by pair
 zip-set : {X Y : Type 0} (xs : List X) (ys : List Y) (n : ℕ) (x : X) (y : Y)
@@ -153,64 +153,148 @@ zip-set (a ∷ xs) [] n x y = by n
 zip-set (a ∷ xs) (b ∷ ys) zero x y = refl
 zip-set {X} {Y} (a ∷ xs) (b ∷ ys) (suc n) x y = ap (λ (zs : List (X × Y)). (a, b) ∷ zs) (zip-set xs ys n x y)
 
-module _ {T : Type 0} {old new : Course T} {frame : ℕ} {stage : Stage} {progress : Progress} where
-  -- the run so far has that travel then, and no other is changed
-  pub travels-set : Advances old new frame stage progress
-      → travels new ≡ set (travels old) frame (travel_of (stage, progress))
-  travels-set step =
-      step.becomes
-      ∙ ap (map travel_of) (zip-set old.stages old.records frame stage progress)
-      ∙ map-set travel_of (zip old.stages old.records) frame (stage, progress)
+-- and at several
+zip-set_each : {X Y : Type 0} (places : List ℕ) (f : ℕ → X) (g : ℕ → Y) (xs : List X) (ys : List Y)
+    → zip (set_each places f xs) (set_each places g ys) ≡ set_each places (λ (n : ℕ). (f n, g n)) (zip xs ys)
+zip-set_each [] f g xs ys = refl
+zip-set_each {X} {Y} (n ∷ places) f g xs ys =
+    zip-set_each places f g (set xs n (f n)) (set ys n (g n))
+    ∙ ap (set_each places (λ (m : ℕ). (f m, g m))) (zip-set xs ys n (f n) (g n))
 
-  -- which is one of the run
-  in-travels : Advances old new frame stage progress → frame < length (travels old)
-  in-travels step = omega (arith, travels_long old step.stages, step.within)
+-- the row of a leg, of stages and records
+pub row-of-both : {T : Type 0} (course : Course T) (row : ℕ) → length course.stages ≡ length course.records
+    → row < length course.records
+    → get_or (zip course.stages course.records) row (Over, no_progress)
+    ≡ (stage_at course row, progress_at course.records row)
+row-of-both course row many within =
+    get_or-zip course.stages course.records row (Over, no_progress) (omega (arith, many, within)) within
 
-  -- before it had this one
-  pub travels-at : Advances old new frame stage progress → (d : Travel)
-      → get_or (travels old) frame d ≡ travel_of (stage_at old frame, progress_at old.records frame)
-  travels-at step d = travel_at old frame d step.stages step.within
-
-  -- so what is gathered of the run stays where the frame's own part does
-  pub advances-same : {X : Type 0} (part : ℕ → Travel → List X) (before after : Travel)
-      → Advances old new frame stage progress
-      → travel_of (stage_at old frame, progress_at old.records frame) ≡ before → travel_of (stage, progress) ≡ after
-      → part frame after ≡ part frame before → gather part 0 (travels new) ≡ gather part 0 (travels old)
-  advances-same {X} part before after step was is same =
-      let own : part (0 + frame) (travel_of (stage, progress)) ≡ part (0 + frame) (get_or (travels old) frame before) =
-      subst (λ (n : ℕ). part n (travel_of (stage, progress)) ≡ part n (get_or (travels old) frame before)) (omega arith)
-      (ap (part frame) is ∙ same ∙ sym (ap (part frame) (travels-at step before ∙ was))) in
-      ap (gather part 0) (travels-set step)
-      ∙ gather-same part 0 frame (travels old) (travel_of (stage, progress)) before own (in-travels step)
+module _ {T : Type 0} {old new : Course T} {row : ℕ} {stage : Stage} {progress : Progress} where
+  -- what is gathered of the records stays where the leg's own part does
+  pub records-same : {X : Type 0} (part : Progress → List X) → Advances old new row stage progress
+      → part progress ≡ part (progress_at old.records row) → flat_map part new.records ≡ flat_map part old.records
+  records-same {X} part step same =
+      ap (flat_map part) step.records ∙ gather-same part row old.records progress no_progress same
 
   -- and has one element more where that has one more
-  pub advances-more : {X : Type 0} (part : ℕ → Travel → List X) (before after : Travel) (x : X)
-      → Advances old new frame stage progress
-      → travel_of (stage_at old frame, progress_at old.records frame) ≡ before → travel_of (stage, progress) ≡ after
-      → IsPermutation (x ∷ part frame before) (part frame after)
-      → IsPermutation (x ∷ gather part 0 (travels old)) (gather part 0 (travels new))
-  advances-more {X} part before after x step was is more =
-      let own : IsPermutation (x ∷ part frame (get_or (travels old) frame before))
-      (part frame (travel_of (stage, progress))) =
-      subst (λ (j : Travel). IsPermutation (x ∷ part frame j) (part frame (travel_of (stage, progress))))
-      (sym (travels-at step before ∙ was))
-      (subst (λ (j : Travel). IsPermutation (x ∷ part frame before) (part frame j)) (sym is) more) in
-      let numbered : IsPermutation (x ∷ part (0 + frame) (get_or (travels old) frame before))
-      (part (0 + frame) (travel_of (stage, progress))) =
-      subst (λ (n : ℕ). IsPermutation (x ∷ part n (get_or (travels old) frame before))
-      (part n (travel_of (stage, progress)))) (omega arith) own in
-      subst (λ (run : List Travel). IsPermutation (x ∷ gather part 0 (travels old)) (gather part 0 run))
-      (sym (travels-set step))
-      (gather-more part 0 frame (travels old) (travel_of (stage, progress)) before x numbered (in-travels step))
+  pub records-more : {X : Type 0} (part : Progress → List X) (x : X) → Advances old new row stage progress
+      → IsPermutation (x ∷ part (progress_at old.records row)) (part progress)
+      → IsPermutation (x ∷ flat_map part old.records) (flat_map part new.records)
+  records-more {X} part x step more =
+      subst (λ (ps : List Progress). IsPermutation (x ∷ flat_map part old.records) (flat_map part ps))
+      (sym step.records) (gather-more part row old.records progress no_progress x more step.within)
 
--- the travel of a frame at a stage, whose journey is not over
-pub travel-by : (stage at : Stage) (p : Progress) → stage ≡ at → p.ending ≡ None
-    → travel_of (stage, p) ≡ record { release = p.release; hops = p.hops; ending = ending_by at None; copies = [] }
-travel-by stage at p is unended =
-    ap (λ (s : Stage). travel_of (s, p)) is
-    ∙ ap (λ (o : Option Ending). record {
-      release = p.release;
-      hops = p.hops;
-      ending = ending_by at o;
-      copies = [];
-    }) unended
+  -- so of stages and records
+  both-set : Advances old new row stage progress
+      → zip new.stages new.records ≡ set (zip old.stages old.records) row (stage, progress)
+  both-set step =
+      ap (λ (ss : List Stage). zip ss new.records) step.stages
+      ∙ ap (zip (set old.stages row stage)) step.records
+      ∙ zip-set old.stages old.records row stage progress
+
+  -- what is gathered of both stays where the leg's own part does
+  pub both-same : {X : Type 0} (part : Stage × Progress → List X) → Advances old new row stage progress
+      → part (stage, progress) ≡ part (stage_at old row, progress_at old.records row)
+      → flat_map part (zip new.stages new.records) ≡ flat_map part (zip old.stages old.records)
+  both-same {X} part step same =
+      ap (flat_map part) (both-set step)
+      ∙ gather-same part row (zip old.stages old.records) (stage, progress) (Over, no_progress)
+      (same ∙ sym (ap part (row-of-both old row step.many step.within)))
+
+  -- and has one element more where that has one more
+  pub both-more : {X : Type 0} (part : Stage × Progress → List X) (x : X) → Advances old new row stage progress
+      → IsPermutation (x ∷ part (stage_at old row, progress_at old.records row)) (part (stage, progress))
+      → IsPermutation (x ∷ flat_map part (zip old.stages old.records)) (flat_map part (zip new.stages new.records))
+  both-more {X} part x step more =
+      let rows : List (Stage × Progress) = zip old.stages old.records in
+      subst (λ (rs : List (Stage × Progress)). IsPermutation (x ∷ flat_map part rows) (flat_map part rs))
+      (sym (both-set step))
+      (gather-more part row rows (stage, progress) (Over, no_progress) x
+      (subst (λ (r : Stage × Progress). IsPermutation (x ∷ part r) (part (stage, progress)))
+      (sym (row-of-both old row step.many step.within)) more)
+      (omega (arith, length-zip old.stages old.records, step.many, step.within)))
+
+-- what holds of a new element and of each that was there holds of each that is
+at-set : {X : Type 0} (P : X → Type 0) (xs : List X) (n : ℕ) (x : X) (m : ℕ) (d : X) → P x → P (get_or xs m d)
+    → P (get_or (set xs n x) m d)
+at-set P [] n x m d here there = there
+at-set P (y ∷ xs) zero x zero d here there = here
+at-set P (y ∷ xs) zero x (suc m) d here there = there
+at-set P (y ∷ xs) (suc n) x zero d here there = there
+at-set P (y ∷ xs) (suc n) x (suc m) d here there = at-set P xs n x m d here there
+
+-- setting rows that gave nothing to others that give nothing leaves all as it was
+gather-none : {X Y : Type 0} (part : X → List Y) (places : List ℕ) (new : ℕ → X) (rows : List X) (d : X)
+    → All (λ (n : ℕ). (part (new n) ≡ []) × (part (get_or rows n d) ≡ [])) places
+    → flat_map part (set_each places new rows) ≡ flat_map part rows
+gather-none part [] new rows d none = refl
+gather-none {X} {Y} part (n ∷ places) new rows d none =
+    let Nothing : X → Type 0 = λ (x : X). part x ≡ [] in
+    let Empty : List X → ℕ → Type 0 = λ (xs : List X) (m : ℕ). Nothing (new m) × Nothing (get_or xs m d) in
+    let here : Empty rows n = All-head (Empty rows) n places none in
+    gather-none part places new (set rows n (new n)) d
+    (λ k e h. let each = All-tail (Empty rows) n places none k e h in
+    (each.0, at-set Nothing rows n (new n) (get_or places k e) d here.0 each.1))
+    ∙ gather-same part n rows (new n) d (here.0 ∙ sym here.1)
+
+-- several legs of a course go on: along all but the first nothing has happened before
+pub record Enters {T : Type 0} (old new : Course T) (row : ℕ) (rest : List ℕ) (stage : Stage) (next : ℕ → Progress)
+    : Type 0 where
+  pub within : row < length old.records
+  pub many : length old.stages ≡ length old.records
+  pub apart : All (λ (n : ℕ). row ≢ n) rest
+  pub there : All (λ (n : ℕ). n < length old.records) rest
+  pub stages : new.stages ≡ set_each (row ∷ rest) (λ (n : ℕ). stage) old.stages
+  pub records : new.records ≡ set_each (row ∷ rest) next old.records
+
+-- so the other rows still give nothing when the first has gone on
+still-none : {X Y : Type 0} (part : X → List Y) (row : ℕ) (rest : List ℕ) (new : ℕ → X) (rows : List X) (d : X)
+    → All (λ (n : ℕ). row ≢ n) rest → All (λ (n : ℕ). (part (new n) ≡ []) × (part (get_or rows n d) ≡ [])) rest
+    → flat_map part (set_each rest new (set rows row (new row))) ≡ flat_map part (set rows row (new row))
+still-none part row rest new rows d apart none =
+    gather-none part rest new (set rows row (new row)) d (λ k e h.
+    let n : ℕ = get_or rest k e in (
+      (none k e h).0,
+      ap part (get_or-set_other rows row n (new row) d (λ same. apart k e h (sym same))) ∙ (none k e h).1,
+    ))
+
+module _ {T : Type 0} {old new : Course T} {row : ℕ} {rest : List ℕ} {stage : Stage} {next : ℕ → Progress} where
+  -- what is gathered of the records stays where the first leg's own part does, and the others give nothing
+  pub entered-same : {X : Type 0} (part : Progress → List X) → Enters old new row rest stage next
+      → All (λ (n : ℕ). (part (next n) ≡ []) × (part (progress_at old.records n) ≡ [])) rest
+      → part (next row) ≡ part (progress_at old.records row)
+      → flat_map part new.records ≡ flat_map part old.records
+  entered-same {X} part step none same =
+      ap (flat_map part) step.records
+      ∙ still-none part row rest next old.records no_progress step.apart none
+      ∙ gather-same part row old.records (next row) no_progress same
+
+  -- and has one element more where that has one more
+  pub entered-more : {X : Type 0} (part : Progress → List X) (x : X) → Enters old new row rest stage next
+      → All (λ (n : ℕ). (part (next n) ≡ []) × (part (progress_at old.records n) ≡ [])) rest
+      → IsPermutation (x ∷ part (progress_at old.records row)) (part (next row))
+      → IsPermutation (x ∷ flat_map part old.records) (flat_map part new.records)
+  entered-more {X} part x step none more =
+      subst (IsPermutation (x ∷ flat_map part old.records))
+      (sym (ap (flat_map part) step.records
+      ∙ still-none part row rest next old.records no_progress step.apart none))
+      (gather-more part row old.records (next row) no_progress x more step.within)
+
+  -- so of stages and records
+  pub entered-both : {X : Type 0} (part : Stage × Progress → List X) → Enters old new row rest stage next
+      → All (λ (n : ℕ). (part (stage, next n) ≡ []) × (part (stage_at old n, progress_at old.records n) ≡ [])) rest
+      → part (stage, next row) ≡ part (stage_at old row, progress_at old.records row)
+      → flat_map part (zip new.stages new.records) ≡ flat_map part (zip old.stages old.records)
+  entered-both {X} part step none same =
+      let rows : List (Stage × Progress) = zip old.stages old.records in
+      let both : ℕ → Stage × Progress = λ (n : ℕ). (stage, next n) in
+      ap (λ (ss : List Stage). flat_map part (zip ss new.records)) step.stages
+      ∙ ap (λ (ps : List Progress). flat_map part (zip (set_each (row ∷ rest) (λ (n : ℕ). stage) old.stages) ps))
+      step.records
+      ∙ ap (flat_map part) (zip-set_each (row ∷ rest) (λ (n : ℕ). stage) next old.stages old.records)
+      ∙ still-none part row rest both rows (Over, no_progress) step.apart (λ k e h. (
+        (none k e h).0,
+        ap part (row-of-both old (get_or rest k e) step.many (step.there k e h)) ∙ (none k e h).1,
+      ))
+      ∙ gather-same part row rows (both row) (Over, no_progress)
+      (same ∙ sym (ap part (row-of-both old row step.many step.within)))

@@ -1,61 +1,66 @@
--- What each step does to the projections of the run so far.
-use Rattle.std.proofs.Common.{◌≡◌, ◌≢◌, ℕ, ◌+◌, ◌*◌, ◌<◌, Bool, true, false, List, [], ◌∷◌, ◌++◌, length, set}
-use Rattle.std.proofs.Common.{get_or, All, IsPermutation, Some, None, refl, sym, ap, ◌∙◌, subst, inl, inr, arith}
-use Rattle.std.specs.Prelude.{◌==◌, if◌then◌else◌, AllPairs}
-use Rattle.std.specs.List.{Contains}
+-- What each step does to what is projected from the legs of the run so far.
+use Rattle.std.proofs.Common.{◌≡◌, ◌≢◌, ℕ, ◌+◌, ◌*◌, ◌<◌, ◌≤◌, Bool, true, false, List, [], ◌∷◌, ◌++◌, length, get_or}
+use Rattle.std.proofs.Common.{All, IsPermutation, Some, refl, sym, ap, ◌∙◌, subst, inl, inr, arith}
+use Rattle.std.specs.Prelude.{◌==◌, if◌then◌else◌, AllPairs, Option, ◌⊎◌}
+use Rattle.std.specs.List.{Contains, flat_map, zip}
 use Rattle.std.proofs.lemmas.Bool.{cases_eq, cases_lt, eqb-true}
-use Rattle.std.proofs.lemmas.List.{set-get_or}
-use Rattle.std.proofs.lemmas.List.Elements.{All-head, All-weaker, All-filter, filter_passes, All-contains_itself}
+use Rattle.std.proofs.lemmas.List.{get_or_default}
+use Rattle.std.proofs.lemmas.List.Elements.{All-head, All-tail, All-weaker, All-filter, filter_passes}
+use Rattle.std.proofs.lemmas.List.Elements.{All-contains_itself}
 use Rattle.std.proofs.lemmas.List.Sorted.{All-permutation}
+use Rattle.std.proofs.lemmas.Slice.Zip.{length-zip}
+use Rattle.ats_facts.proofs.Lists.{pairs_head}
 use Rattle.ats_num.specs.declared.time.Ps.{Ps}
 use Rattle.ats_num.specs.Wire.{bits_of}
-use Rattle.ats_network.specs.Network.{DeclaredNetwork, HasOneListener, IsNetwork, senders_of}
+use Rattle.ats_network.specs.Network.{DeclaredNetwork, IsNetwork, senders_of}
 use Rattle.ats_network.specs.Sender.{Sender}
-use Rattle.ats_network.specs.Senders.{no_sender, sender_at}
 use Rattle.ats_network.specs.Class.{class_at}
-use Rattle.ats_network.proofs.SenderLemmas.{each_is_sender}
 use Rattle.ats_group.specs.declared.verdict.Verdict.{Verdict}
 use Rattle.ats_group.specs.declared.verdict.Verdict.TheVariants.{Eligible, Late, Size}
 use Rattle.ats_events.specs.declared.moment.Moment.{Moment}
 use Rattle.ats_port_rule.specs.Transmission.{Transmission}
 use Rattle.ats_transmit.specs.Sending.{begun}
 use Rattle.ats_transmit.specs.declared.offer.Offer.{Offer}
-use Rattle.ats_trace.specs.Journey.{Travel}
-use Rattle.ats_trace.specs.Projections.{Crossing, Handed, sent_by, crossings_by, handed_by, crossing_of}
-use Rattle.ats_trace.specs.Projections.{crossings_along}
-use Rattle.ats_engine_steps.specs.Entries.{arrival_moment}
+use Rattle.ats_trace.specs.Projections.{Crossing, Handed, crossing_of, crossings_along, hops_along, handed_along}
 use Rattle.ats_trace.specs.declared.journey.Ending.{Ending}
 use Rattle.ats_trace.specs.declared.journey.Ending.TheVariants.{Sink, Discard}
 use Rattle.ats_trace.specs.declared.journey.HopRecord.{HopRecord}
 use Rattle.ats_trace.specs.declared.journey.Release.{Release}
-use Rattle.ats_run_records.specs.Progress.{Progress, progress_at, last_hop, no_hop, with_sent, with_ending}
-use Rattle.ats_engine_steps.specs.Course.{Course, place_at, place_of, travels, stage_at, travel_of, sender_of, path_of}
-use Rattle.ats_engine_steps.specs.Course.{offer_at, offer_of, eligibility_of}
+use Rattle.ats_run_records.specs.Progress.{Progress, no_progress, progress_at, last_hop, no_hop, with_hop, with_sent}
+use Rattle.ats_run_records.specs.Progress.{with_ending}
+use Rattle.ats_engine_steps.specs.Course.{Course, place_at, place_of, stage_at, sender_of, path_of, offer_at, offer_of}
+use Rattle.ats_engine_steps.specs.Course.{eligibility_of, ending_by, leg_hops, leg_crossings, leg_handed, sent_so_far}
+use Rattle.ats_engine_steps.specs.Course.{crossings_so_far, handed_so_far}
+use Rattle.ats_engine_steps.specs.Entries.{arrival_moment}
 use Rattle.ats_engine_steps.specs.Frames.{IsFrame, Goes, IsSent, IsUnsent, IsSentUntil}
 use Rattle.ats_engine_steps.specs.Ports.{port_state_at, IsHeld}
 use Rattle.ats_engine_steps.specs.Steps.{Comes, BecomesEligible, Selects, Ends, verdict_now, class_behind, came}
-use Rattle.ats_engine_steps.specs.Steps.{comes_by}
-use Rattle.ats_engine_steps.specs.Steps.{Move}
+use Rattle.ats_engine_steps.specs.Steps.{IsLegAt, Move, set_each, stage_by}
 use Rattle.ats_engine_steps.specs.declared.event.Event.{Event}
 use Rattle.ats_engine_steps.specs.declared.event.Event.TheVariants.{End, Arrival, Eligibility, Selection}
+use Rattle.ats_engine_steps.specs.declared.stage.Stage.{Stage}
 use Rattle.ats_engine_steps.specs.declared.stage.Stage.TheVariants.{Coming, Due, Waiting, Sending, Over}
 use Rattle.ats_engine_proofs.specs.Next.{IsNext, IsArrival, IsCrossing}
-use Rattle.ats_engine_proofs.proofs.Gathered.{gather, gather-all, hops_at, crossings_at, handed_in, sent_part}
-use Rattle.ats_engine_proofs.proofs.Gathered.{crossings_part, handed_part, sent-gathered, crossed-gathered}
-use Rattle.ats_engine_proofs.proofs.Gathered.{handed_on-gathered}
+use Rattle.ats_engine_proofs.proofs.Begun.{IsApart, next-or-apart, rows_begun}
+use Rattle.ats_engine_proofs.proofs.Gathered.{gather-all, hops_at, crossings_at, handed_in, sent_part, crossings_part}
+use Rattle.ats_engine_proofs.proofs.Gathered.{handed_part, sent-gathered, crossed-gathered, handed_on-gathered}
+use Rattle.ats_engine_proofs.proofs.LegPorts.{leg-apart}
 use Rattle.ats_engine_proofs.proofs.Parts.{IsLast, transmitted, port-of-last, record-of-last, set-last}
-use Rattle.ats_engine_proofs.proofs.Standing.{Advances, advances-same, advances-more, travels-at, travels-set}
-use Rattle.ats_engine_proofs.proofs.Standing.{travel-by}
-use Rattle.ats_engine_proofs.proofs.Standing.{arriving-within, arriving-frame, due-within, due-frame}
-use Rattle.ats_engine_proofs.proofs.Standing.{ending-within, ending-frame, selecting-within, stands-split}
-use Rattle.ats_engine_proofs.proofs.Standing.{goes-split}
-use Rattle.ats_engine_proofs.proofs.OnPaths.{path_hops, path_crossings, path_handed}
+use Rattle.ats_engine_proofs.proofs.Placed.{stands-at_most}
+use Rattle.ats_engine_proofs.proofs.Rows.{frames-all, named-one, next-apart, place-has, place-names, port-one}
+use Rattle.ats_engine_proofs.proofs.Rows.{release-one, row-is}
+use Rattle.ats_engine_proofs.proofs.Standing.{Advances, Enters, records-same, records-more, both-same, both-more}
+use Rattle.ats_engine_proofs.proofs.Standing.{entered-same, entered-more, entered-both, row-of-both, arriving-within}
+use Rattle.ats_engine_proofs.proofs.Standing.{arriving-frame, due-within, due-frame, ending-within, ending-frame}
+use Rattle.ats_engine_proofs.proofs.Standing.{selecting-within, stands-split, goes-split}
 use Rattle.ats_engine_proofs.proofs.OwnParts.{pushed, hops_at-more, hops_at-same, crossings_at-more, crossings_at-same}
 use Rattle.ats_engine_proofs.proofs.OwnParts.{handed_in-more, handed_in-same, sent-there, coming-hops, coming-crossings}
 use Rattle.ats_engine_proofs.proofs.OwnParts.{coming-first, coming-handed, selected-hops, selected-crossings}
 use Rattle.ats_engine_proofs.proofs.OwnParts.{selected-handed, ended-crossings, ended-before, crossings-numbered}
-use Rattle.ats_engine_proofs.proofs.OwnParts.{crossings-elsewhere, passed-apart, crossings-of-sent}
+use Rattle.ats_engine_proofs.proofs.OwnParts.{crossings-elsewhere, passed-apart, crossings-of-sent, unmoved-sent}
+use Rattle.ats_engine_proofs.proofs.OwnParts.{unmoved-crossings, unmoved-handed}
 use Rattle.ats_engine_proofs.proofs.Stages.{next-coming, next-due, next-sending}
+use Rattle.ats_engine_proofs.proofs.Ways.{stands-some}
 
 -- one element more, in lists that are these
 permuted-by : {X : Type 0} (x : X) (xs ys us vs : List X) → xs ≡ us → ys ≡ vs → IsPermutation (x ∷ us) vs
@@ -64,301 +69,372 @@ permuted-by {X} x xs ys us vs same other more =
     subst (λ (zs : List X). IsPermutation (x ∷ zs) ys) (sym same)
     (subst (λ (zs : List X). IsPermutation (x ∷ us) zs) (sym other) more)
 
--- what happened to a frame so far
-abbrev way : Progress → List HopRecord → Ending → Travel
-way p hops ending = record { release = p.release; hops = hops; ending = ending; copies = [] }
+-- the record of a frame that comes now, by this verdict
+abbrev with_came : {T : Type 0} → Course T → Moment → Verdict → ℕ → Progress
+with_came course now v n = with_hop (progress_at course.records n) (came now.at v)
 
--- a frame that comes has one record more, and counts no longer as sunk
-comes-way : (frame : ℕ) (p : Progress) (at : Ps) (v : Verdict) → p.ending ≡ None
-    → travel_of ((comes_by frame p at v).stage, (comes_by frame p at v).progress)
-    ≡ way p (p.hops ++ came at v ∷ []) Discard
-comes-way frame p at (Eligible e) unended =
-    travel-by (Due e) (Due e) (comes_by frame p at (Eligible e)).progress refl unended
-comes-way frame p at (Late e) unended = refl
-comes-way frame p at Size unended = refl
-
--- before, it was on its way, or waited for its release
-comes-before : {T : Type 0} {key : T → ℕ → ℕ → ℕ} {wait : ℕ → ℕ → ℕ} {network : DeclaredNetwork}
-    {releases : List Release} {old : Course T} {now : Moment} {frame : ℕ} {entries : List (Moment × Event)}
-    → IsNext key wait network releases old now (Arrival frame) entries
-    → travel_of (stage_at old frame, progress_at old.records frame)
-    ≡ way (progress_at old.records frame) (progress_at old.records frame).hops (Sink now.at)
-comes-before {old = old} {now = now} {frame = frame} next =
-    travel-by (stage_at old frame) (Coming now.at) (progress_at old.records frame) (next-coming next)
-    (arriving-frame next).stands.unended
+-- what is known of how a way ends is not changed by a verdict
+ending-came : (v : Verdict) (ending : Ending) → ending_by (stage_by v) ending ≡ ending
+ending-came (Eligible e) ending = refl
+ending-came (Late e) ending = refl
+ending-came Size ending = refl
 
 module _ {T : Type 0} {key : T → ℕ → ℕ → ℕ} {wait : ℕ → ℕ → ℕ} {network : DeclaredNetwork} {releases : List Release}
-    {old new : Course T} {now : Moment} {frame : ℕ} {entries more : List (Moment × Event)} where
-  -- it is the one frame that goes on
-  comes-advances : IsNext key wait network releases old now (Arrival frame) entries
-      → (step : Comes network old new now frame more) → Advances old new frame step.move.stage step.move.progress
-  comes-advances next step = record {
-    within = arriving-within next;
-    stages = next.holds.shape.stages;
-    becomes = ap (λ (c : Course T). travels c) step.becomes;
-  }
+    {old : Course T} {now : Moment} {row : ℕ} {entries : List (Moment × Event)} where
+  -- the rows of the legs that begin where a frame comes next are others than the one along which it came
+  begun-others : IsNext key wait network releases old now (Arrival row) entries
+      → All (λ (n : ℕ). row ≢ n) (rows_begun network old row)
+  begun-others next =
+      pairs_head (λ (n m : ℕ). n ≢ m) row (rows_begun network old row)
+      (next-apart next.holds.rules next.holds.shape row (arriving-within next) (arriving-frame next).sender)
 
-  -- and this has happened to it then
-  comes-after : IsNext key wait network releases old now (Arrival frame) entries
-      → (step : Comes network old new now frame more)
-      → travel_of (step.move.stage, step.move.progress)
-      ≡ way (progress_at old.records frame) ((progress_at old.records frame).hops
-      ++ came now.at (verdict_now network old.groups (progress_at old.records frame) now.at.0) ∷ []) Discard
-  comes-after next step =
-      ap (λ (m : Move). travel_of (m.stage, m.progress)) step.is
-      ∙ comes-way frame (progress_at old.records frame) now.at
-      (verdict_now network old.groups (progress_at old.records frame) now.at.0) (arriving-frame next).stands.unended
+  -- and nothing has happened along them
+  begun-empty : IsNext key wait network releases old now (Arrival row) entries
+      → All (IsApart network old) (rows_begun network old row)
+  begun-empty next k d h =
+      let rest : List ℕ = rows_begun network old row in
+      let n : ℕ = get_or rest k d in
+      elim (All-tail (λ (m : ℕ). (m ≡ row) ⊎ IsApart network old m) row rest
+      (next-or-apart next.holds row (arriving-within next)) k d h) as (λ _. IsApart network old n) [
+        | inl own ↦ absurd (begun-others next k d h (sym own))
+        | inr apart ↦ apart
+      ]
+
+module _ {T : Type 0} {key : T → ℕ → ℕ → ℕ} {wait : ℕ → ℕ → ℕ} {network : DeclaredNetwork} {releases : List Release}
+    {old new : Course T} {now : Moment} {row : ℕ} {entries : List (Moment × Event)} {due : Option Ps} where
+  -- a frame goes on along the leg, and along those that begin there
+  comes-enters : IsNext key wait network releases old now (Arrival row) entries
+      → (step : Comes network old new now row due)
+      → Enters old new row (rows_begun network old row) (stage_by step.verdict) (with_came old now step.verdict)
+  comes-enters next step =
+      record {
+        within = arriving-within next;
+        many = next.holds.shape.stages;
+        apart = begun-others next;
+        there = λ k d h. (begun-empty next k d h).within;
+        stages = ap (λ (c : Course T). c.stages) step.becomes
+            ∙ ap (λ (ns : List ℕ). set_each ns (λ (n : ℕ). stage_by step.verdict) old.stages) step.next;
+        records = ap (λ (c : Course T). c.records) step.becomes
+            ∙ ap (λ (ns : List ℕ). set_each ns (with_came old now step.verdict) old.records) step.next;
+      }
 
 -- no port has sent more than before when a frame comes
 pub comes-sent : {T : Type 0} {key : T → ℕ → ℕ → ℕ} {wait : ℕ → ℕ → ℕ} {network : DeclaredNetwork}
-    {releases : List Release} {old new : Course T} {now : Moment} {frame : ℕ} {entries more : List (Moment × Event)}
-    → IsNext key wait network releases old now (Arrival frame) entries → Comes network old new now frame more
-    → (other : ℕ) → sent_by network (travels new) other ≡ sent_by network (travels old) other
-comes-sent {network = network} {old = old} {new = new} {now = now} {frame = frame} next step other =
-    let p : Progress = progress_at old.records frame in
-    let hop : HopRecord = came now.at (verdict_now network old.groups p now.at.0) in
-    let own = coming-hops frame p.release (sender_of network p) (path_of network p) p.hops hop
+    {releases : List Release}
+    {old new : Course T} {now : Moment} {row : ℕ} {entries : List (Moment × Event)} {due : Option Ps}
+    → IsNext key wait network releases old now (Arrival row) entries → Comes network old new now row due
+    → (other : ℕ) → sent_so_far network new other ≡ sent_so_far network old other
+comes-sent {network = network} {old = old} {new = new} {now = now} {row = row} next step other =
+    let p : Progress = progress_at old.records row in
+    let hop : HopRecord = came now.at step.verdict in
+    let own = coming-hops p.frame p.release (sender_of network p) (path_of network p) p.hops hop
     (arriving-frame next).stands.here.0 refl in
-    sent-gathered network next.holds.one_listener (travels new) other
-    ∙ advances-same (sent_part network other) (way p p.hops (Sink now.at)) (way p (p.hops ++ hop ∷ []) Discard)
-    (comes-advances next step) (comes-before next) (comes-after next step) (ap (hops_at other) own)
-    ∙ sym (sent-gathered network next.holds.one_listener (travels old) other)
+    sent-gathered network new other
+    ∙ entered-same (sent_part network other) (comes-enters next step)
+    (λ k d h. unmoved-sent network other (progress_at old.records (get_or (rows_begun network old row) k d)) hop refl
+    (begun-empty next k d h).is.stands.here.0) (ap (hops_at other) own)
+    ∙ sym (sent-gathered network old other)
+
+-- the crossings along a leg at a stage whose way is not over
+crossings-open : (network : DeclaredNetwork) (stage at : Stage) (p : Progress) → stage ≡ at → p.ending ≡ Discard
+    → leg_crossings network (stage, p)
+    ≡ crossings_along p.frame p.release (sender_of network p) (path_of network p) p.hops (ending_by at Discard)
+crossings-open network stage at p is unended =
+    ap (λ (s : Stage). leg_crossings network (s, p)) is
+    ∙ ap (λ (ending : Ending). crossings_along p.frame p.release (sender_of network p) (path_of network p) p.hops
+    (ending_by at ending)) unended
 
 -- nor has it crossed another one: what it crossed last, it crossed with this arrival
 pub comes-crossings : {T : Type 0} {key : T → ℕ → ℕ → ℕ} {wait : ℕ → ℕ → ℕ} {network : DeclaredNetwork}
-    {releases : List Release} {old new : Course T} {now : Moment} {frame : ℕ} {entries more : List (Moment × Event)}
-    → IsNext key wait network releases old now (Arrival frame) entries → Comes network old new now frame more
-    → (other : ℕ) → crossings_by network (travels new) other ≡ crossings_by network (travels old) other
-comes-crossings {network = network} {old = old} {new = new} {now = now} {frame = frame} next step other =
-    let p : Progress = progress_at old.records frame in
-    let hop : HopRecord = came now.at (verdict_now network old.groups p now.at.0) in
-    let own = coming-crossings frame p.release (sender_of network p) (path_of network p) p.hops hop
+    {releases : List Release}
+    {old new : Course T} {now : Moment} {row : ℕ} {entries : List (Moment × Event)} {due : Option Ps}
+    → IsNext key wait network releases old now (Arrival row) entries → Comes network old new now row due
+    → (other : ℕ) → crossings_so_far network new other ≡ crossings_so_far network old other
+comes-crossings {network = network} {old = old} {new = new} {now = now} {row = row} next step other =
+    let p : Progress = progress_at old.records row in
+    let v : Verdict = step.verdict in
+    let hop : HopRecord = came now.at v in
+    let given : List HopRecord → Ending → List Crossing =
+    crossings_along p.frame p.release (sender_of network p) (path_of network p) in
+    let own = coming-crossings p.frame p.release (sender_of network p) (path_of network p) p.hops hop
     (arriving-frame next).stands.here.0 refl in
-    crossed-gathered network next.holds.one_listener (travels new) other
-    ∙ advances-same (crossings_part network other) (way p p.hops (Sink now.at)) (way p (p.hops ++ hop ∷ []) Discard)
-    (comes-advances next step) (comes-before next) (comes-after next step) (ap (crossings_at other) own)
-    ∙ sym (crossed-gathered network next.holds.one_listener (travels old) other)
+    let before = crossings-open network (stage_at old row) (Coming now.at) p (next-coming next)
+    (arriving-frame next).stands.unended in
+    let after : leg_crossings network (stage_by v, with_hop p hop) ≡ given (p.hops ++ hop ∷ []) Discard =
+    ap (given (p.hops ++ hop ∷ [])) (ending-came v p.ending ∙ (arriving-frame next).stands.unended) in
+    crossed-gathered network new other
+    ∙ entered-both (crossings_part network other) (comes-enters next step)
+    (λ k d h. let n : ℕ = get_or (rows_begun network old row) k d in
+    unmoved-crossings network other (stage_at old n) (stage_by v) (progress_at old.records n) hop refl
+    (begun-empty next k d h).is.stands.here.0) (ap (crossings_at other) (after ∙ own ∙ sym before))
+    ∙ sym (crossed-gathered network old other)
+
+-- what is handed on stays, where the frame's own leg hands on what it did
+comes-kept : {T : Type 0} {key : T → ℕ → ℕ → ℕ} {wait : ℕ → ℕ → ℕ} {network : DeclaredNetwork}
+    {releases : List Release}
+    {old new : Course T} {now : Moment} {row : ℕ} {entries : List (Moment × Event)} {due : Option Ps}
+    → IsNext key wait network releases old now (Arrival row) entries → (step : Comes network old new now row due)
+    → (other class : ℕ)
+    → handed_part network other class (with_came old now step.verdict row)
+    ≡ handed_part network other class (progress_at old.records row)
+    → handed_so_far network new other class ≡ handed_so_far network old other class
+comes-kept {network = network} {old = old} {new = new} {now = now} {row = row} next step other class own =
+    handed_on-gathered network new other class
+    ∙ entered-same (handed_part network other class) (comes-enters next step)
+    (λ k d h. unmoved-handed network other class (progress_at old.records (get_or (rows_begun network old row) k d))
+    (came now.at step.verdict) (begun-empty next k d h).is.stands.here.0) own
+    ∙ sym (handed_on-gathered network old other class)
 
 -- at its own station it arrives behind no port
 pub comes-first : {T : Type 0} {key : T → ℕ → ℕ → ℕ} {wait : ℕ → ℕ → ℕ} {network : DeclaredNetwork}
-    {releases : List Release} {old new : Course T} {now : Moment} {frame : ℕ} {entries more : List (Moment × Event)}
-    → IsNext key wait network releases old now (Arrival frame) entries → Comes network old new now frame more
-    → length (progress_at old.records frame).hops ≡ 0
-    → (other class : ℕ) → handed_by network (travels new) other class ≡ handed_by network (travels old) other class
-comes-first {network = network} {old = old} {new = new} {now = now} {frame = frame} next step none other class =
-    let p : Progress = progress_at old.records frame in
-    let hop : HopRecord = came now.at (verdict_now network old.groups p now.at.0) in
-    let own = coming-first frame p.release (sender_of network p) (path_of network p) p.hops hop none in
-    handed_on-gathered network next.holds.one_listener (travels new) other class
-    ∙ advances-same (handed_part network other class) (way p p.hops (Sink now.at))
-    (way p (p.hops ++ hop ∷ []) Discard)
-    (comes-advances next step) (comes-before next) (comes-after next step) (ap (handed_in other class) own)
-    ∙ sym (handed_on-gathered network next.holds.one_listener (travels old) other class)
+    {releases : List Release}
+    {old new : Course T} {now : Moment} {row : ℕ} {entries : List (Moment × Event)} {due : Option Ps}
+    → IsNext key wait network releases old now (Arrival row) entries → Comes network old new now row due
+    → length (progress_at old.records row).hops ≡ 0
+    → (other class : ℕ) → handed_so_far network new other class ≡ handed_so_far network old other class
+comes-first {network = network} {old = old} {now = now} {row = row} next step none other class =
+    let p : Progress = progress_at old.records row in
+    comes-kept next step other class
+    (ap (handed_in other class) (coming-first p.frame p.release (sender_of network p) (path_of network p) p.hops
+    (came now.at step.verdict) none))
 
--- a frame as it was handed on by the port where it stands, with the record of its arrival behind it
-abbrev came-behind : (network : DeclaredNetwork) (frame : ℕ) (p : Progress) → HopRecord
+-- a frame as it was handed on by the port of a leg where it stands, with the record of its arrival behind it
+abbrev came-behind : (network : DeclaredNetwork) (p : Progress) → HopRecord
     → IsLast IsSent (path_of network p) p.hops → Handed
-came-behind network frame p hop at = record {
+came-behind network p hop at = record {
   crossing = crossing_of p.release.octets at.last.arrival.0 at.port
-      (sent-there frame p.release (sender_of network p) at.port at.last at.here) hop.arrival.0;
+      (sent-there p.frame p.release (sender_of network p) at.port at.last at.here) hop.arrival.0;
   verdict = hop.verdict;
 }
 
 -- else behind the port of its last record, in its class there
 pub comes-here : {T : Type 0} {key : T → ℕ → ℕ → ℕ} {wait : ℕ → ℕ → ℕ} {network : DeclaredNetwork}
-    {releases : List Release} {old new : Course T} {now : Moment} {frame : ℕ} {entries more : List (Moment × Event)}
-    → IsNext key wait network releases old now (Arrival frame) entries → Comes network old new now frame more
-    → 0 < length (progress_at old.records frame).hops
-    → (h : Handed) × IsArrival network frame (progress_at old.records frame) now.at.0
-    (verdict_now network old.groups (progress_at old.records frame) now.at.0) h
-    × IsPermutation (h ∷ handed_by network (travels old) (place_at network old frame)
-    (class_behind network (progress_at old.records frame)))
-    (handed_by network (travels new) (place_at network old frame)
-    (class_behind network (progress_at old.records frame)))
-comes-here {network = network} {old = old} {new = new} {now = now} {frame = frame} next step some =
-    let p : Progress = progress_at old.records frame in
+    {releases : List Release}
+    {old new : Course T} {now : Moment} {row : ℕ} {entries : List (Moment × Event)} {due : Option Ps}
+    → IsNext key wait network releases old now (Arrival row) entries → Comes network old new now row due
+    → 0 < length (progress_at old.records row).hops
+    → (h : Handed) × IsArrival network (progress_at old.records row) now.at.0
+    (verdict_now network old.groups (progress_at old.records row) now.at.0) h
+    × IsPermutation (h ∷ handed_so_far network old (place_at network old row)
+    (class_behind network (progress_at old.records row)))
+    (handed_so_far network new (place_at network old row) (class_behind network (progress_at old.records row)))
+comes-here {network = network} {old = old} {new = new} {now = now} {row = row} next step some =
+    let p : Progress = progress_at old.records row in
     let sender : Sender = sender_of network p in
     let path : List ℕ = path_of network p in
-    let hop : HopRecord = came now.at (verdict_now network old.groups p now.at.0) in
+    let hop : HopRecord = came now.at step.verdict in
     let at : IsLast IsSent path p.hops = goes-split path p.hops (arriving-frame next).stands.here.0 some in
     let place : at.port ≡ place_of network p = sym (port-of-last IsSent path p.hops at 0) in
-    let h : Handed = came-behind network frame p hop at in
-    let ranked : class_at sender at.port ≡ class_behind network p = ap (class_at sender) place in
-    let kept = handed_in-more (place_of network p) (class_behind network p) (path_handed network frame
-    (way p p.hops (Sink now.at))) h place ranked in
-    let own = coming-handed frame p.release sender path p.hops hop at in
-    let part = handed_part network (place_of network p) (class_behind network p) in (
+    let h : Handed = came-behind network p hop at in
+    let port : ℕ = place_of network p in
+    let class : ℕ = class_behind network p in
+    let ranked : class_at sender at.port ≡ class = ap (class_at sender) place in
+    let part : Progress → List Handed = handed_part network port class in
+    let kept = handed_in-more port class (leg_handed network p) h place ranked in
+    let own = coming-handed p.frame p.release sender path p.hops hop at in (
       h,
       record {
         named = refl;
         of_sender = refl;
         octets = refl;
         behind = place;
-        in_class = ap (class_at sender) place;
+        in_class = ranked;
         arrives = refl;
-        judged = refl;
+        judged = step.judged;
       },
-      permuted-by h (handed_by network (travels old) (place_of network p) (class_behind network p))
-          (handed_by network (travels new) (place_of network p) (class_behind network p))
-          (gather part 0 (travels old)) (gather part 0 (travels new))
-          (handed_on-gathered network next.holds.one_listener (travels old) (place_of network p)
-          (class_behind network p))
-          (handed_on-gathered network next.holds.one_listener (travels new) (place_of network p)
-          (class_behind network p))
-          (advances-more part (way p p.hops (Sink now.at)) (way p (p.hops ++ hop ∷ []) Discard) h
-          (comes-advances next step) (comes-before next) (comes-after next step)
-          (pushed (part frame (way p p.hops (Sink now.at))) (part frame (way p (p.hops ++ hop ∷ []) Discard)) h
-          (ap (handed_in (place_of network p) (class_behind network p)) own ∙ kept))),
+      permuted-by h (handed_so_far network old port class) (handed_so_far network new port class)
+          (flat_map part old.records) (flat_map part new.records) (handed_on-gathered network old port class)
+          (handed_on-gathered network new port class)
+          (entered-more part h (comes-enters next step)
+          (λ k d i. unmoved-handed network port class
+          (progress_at old.records (get_or (rows_begun network old row) k d)) hop
+          (begun-empty next k d i).is.stands.here.0)
+          (pushed (part p) (part (with_hop p hop)) h (ap (handed_in port class) own ∙ kept))),
     )
 
 -- and nowhere else
 pub comes-elsewhere : {T : Type 0} {key : T → ℕ → ℕ → ℕ} {wait : ℕ → ℕ → ℕ} {network : DeclaredNetwork}
-    {releases : List Release} {old new : Course T} {now : Moment} {frame : ℕ} {entries more : List (Moment × Event)}
-    → IsNext key wait network releases old now (Arrival frame) entries → Comes network old new now frame more
+    {releases : List Release}
+    {old new : Course T} {now : Moment} {row : ℕ} {entries : List (Moment × Event)} {due : Option Ps}
+    → IsNext key wait network releases old now (Arrival row) entries → Comes network old new now row due
     → (other class : ℕ)
-    → ¬ ((other ≡ place_at network old frame) × (class ≡ class_behind network (progress_at old.records frame)))
-    → handed_by network (travels new) other class ≡ handed_by network (travels old) other class
-comes-elsewhere {network = network} {old = old} {new = new} {now = now} {frame = frame} next step other class apart =
-    let p : Progress = progress_at old.records frame in
+    → ¬ ((other ≡ place_at network old row) × (class ≡ class_behind network (progress_at old.records row)))
+    → handed_so_far network new other class ≡ handed_so_far network old other class
+comes-elsewhere {network = network} {old = old} {new = new} {now = now} {row = row} next step other class apart =
+    let p : Progress = progress_at old.records row in
     let sender : Sender = sender_of network p in
     let path : List ℕ = path_of network p in
-    let hop : HopRecord = came now.at (verdict_now network old.groups p now.at.0) in
+    let hop : HopRecord = came now.at step.verdict in
     let goes : Goes path p.hops = (arriving-frame next).stands.here.0 in
-    elim (cases_lt 0 (length p.hops)) as (λ _. handed_by network (travels new) other class
-    ≡ handed_by network (travels old) other class) [
+    elim (cases_lt 0 (length p.hops)) as (λ _. handed_so_far network new other class
+    ≡ handed_so_far network old other class) [
       | inr none ↦ comes-first next step (omega arith) other class
       | inl some ↦ (
           let at : IsLast IsSent path p.hops = goes-split path p.hops goes some in
           let place : at.port ≡ place_of network p = sym (port-of-last IsSent path p.hops at 0) in
-          let h : Handed = came-behind network frame p hop at in
-          let kept = handed_in-same other class (path_handed network frame (way p p.hops (Sink now.at))) h
+          let kept = handed_in-same other class (leg_handed network p) (came-behind network p hop at)
           (λ both. apart (sym both.0 ∙ place, sym both.1 ∙ ap (class_at sender) place)) in
-          let own = coming-handed frame p.release sender path p.hops hop at in
-          handed_on-gathered network next.holds.one_listener (travels new) other class
-          ∙ advances-same (handed_part network other class) (way p p.hops (Sink now.at))
-          (way p (p.hops ++ hop ∷ []) Discard) (comes-advances next step) (comes-before next) (comes-after next step)
-          (ap (handed_in other class) own ∙ kept)
-          ∙ sym (handed_on-gathered network next.holds.one_listener (travels old) other class))
+          comes-kept next step other class
+          (ap (handed_in other class) (coming-handed p.frame p.release sender path p.hops hop at) ∙ kept))
     ]
 
--- a frame that becomes eligible changes nothing of the run so far
-pub offered-travels : {T : Type 0} {key : T → ℕ → ℕ → ℕ} {wait : ℕ → ℕ → ℕ} {network : DeclaredNetwork}
-    {releases : List Release} {old new : Course T} {now : Moment} {frame : ℕ} {entries more : List (Moment × Event)}
-    → IsNext key wait network releases old now (Eligibility frame) entries
-    → BecomesEligible key network old new now frame more
-    → travels new ≡ travels old
-offered-travels {old = old} {new = new} {now = now} {frame = frame} next step =
-    let p : Progress = progress_at old.records frame in
-    let d : Travel = way p p.hops Discard in
-    let advances : Advances old new frame Waiting p = record {
-      within = due-within next;
-      stages = next.holds.shape.stages;
-      becomes = ap (λ (c : Course _). travels c) step.becomes;
-    } in
-    let unended : p.ending ≡ None = (due-frame next).stands.unended in
-    let before : travel_of (stage_at old frame, p) ≡ d =
-    travel-by (stage_at old frame) (Due now.at) p (next-due next) unended in
-    let after : travel_of (Waiting, p) ≡ d = travel-by Waiting Waiting p refl unended in
-    travels-set advances
-    ∙ ap (set (travels old) frame) (after ∙ sym before ∙ sym (travels-at advances d))
-    ∙ set-get_or (travels old) frame d
+module _ {T : Type 0} {key : T → ℕ → ℕ → ℕ} {wait : ℕ → ℕ → ℕ} {network : DeclaredNetwork} {releases : List Release}
+    {old new : Course T} {now : Moment} {row : ℕ} {entries more : List (Moment × Event)} where
+  -- a frame that becomes eligible goes on along the leg
+  offered-advances : IsNext key wait network releases old now (Eligibility row) entries
+      → BecomesEligible key network old new now row more → Advances old new row Waiting (progress_at old.records row)
+  offered-advances next step =
+      record {
+        within = due-within next;
+        many = next.holds.shape.stages;
+        stages = ap (λ (c : Course T). c.stages) step.becomes;
+        records = ap (λ (c : Course T). c.records) step.becomes;
+      }
+
+  -- which changes no transmission of the run so far
+  pub offered-sent : IsNext key wait network releases old now (Eligibility row) entries
+      → BecomesEligible key network old new now row more → (other : ℕ)
+      → sent_so_far network new other ≡ sent_so_far network old other
+  offered-sent next step other =
+      sent-gathered network new other
+      ∙ records-same (sent_part network other) (offered-advances next step) refl
+      ∙ sym (sent-gathered network old other)
+
+  -- no crossing
+  pub offered-crossings : IsNext key wait network releases old now (Eligibility row) entries
+      → BecomesEligible key network old new now row more → (other : ℕ)
+      → crossings_so_far network new other ≡ crossings_so_far network old other
+  offered-crossings next step other =
+      let p : Progress = progress_at old.records row in
+      let was = crossings-open network (stage_at old row) (Due now.at) p (next-due next)
+      (due-frame next).stands.unended in
+      let is = crossings-open network Waiting Waiting p refl (due-frame next).stands.unended in
+      crossed-gathered network new other
+      ∙ both-same (crossings_part network other) (offered-advances next step)
+      (ap (crossings_at other) (is ∙ sym was))
+      ∙ sym (crossed-gathered network old other)
+
+  -- and nothing that was handed on
+  pub offered-handed : IsNext key wait network releases old now (Eligibility row) entries
+      → BecomesEligible key network old new now row more → (other class : ℕ)
+      → handed_so_far network new other class ≡ handed_so_far network old other class
+  offered-handed next step other class =
+      handed_on-gathered network new other class
+      ∙ records-same (handed_part network other class) (offered-advances next step) refl
+      ∙ sym (handed_on-gathered network old other class)
 
 module _ {T : Type 0} {key : T → ℕ → ℕ → ℕ} {wait : ℕ → ℕ → ℕ} {network : DeclaredNetwork} {releases : List Release}
     {old new : Course T} {now : Moment} {port : ℕ} {entries more : List (Moment × Event)} where
   -- the frame that a port selects waited there
   pub selects-held : IsNext key wait network releases old now (Selection port) entries
-      → (step : Selects key old new now port more) → IsHeld network old port step.starts.started
+      → (step : Selects key network old new now port more) → IsHeld network old port step.starts.started
   selects-held next step =
       All-head (IsHeld network old port) step.starts.started step.standing.held
       (All-permutation (IsHeld network old port) (port_state_at old port).held
       (step.starts.started ∷ step.standing.held) step.starts.held
       (next.holds.ports port (selecting-within next)).holding.held)
 
-  -- it is one of the course
+  -- along the leg that it and the port name
+  pub selects-is : (next : IsNext key wait network releases old now (Selection port) entries)
+      → (step : Selects key network old new now port more) → (selects-held next step).row ≡ step.row
+  selects-is next step =
+      let held : IsHeld network old port step.starts.started = selects-held next step in
+      let p : Progress = progress_at old.records held.row in
+      let is = row-is next.holds.shape held.row held.within in
+      let frame : IsFrame network old p Waiting =
+      subst (IsFrame network old p) held.stage (next.holds.frames held.row held.within) in
+      let stands = frame.stands.here.0 in
+      let some = stands-some IsUnsent (path_of network p) p.hops stands in
+      let most = stands-at_most IsUnsent (path_of network p) p.hops stands in
+      let named : p.frame ≡ step.frame = ap (λ (o : Offer). o.frame) held.same ∙ step.starts.named in
+      let own : IsLegAt network old step.frame port held.row =
+      subst (λ (f : ℕ). IsLegAt network old f port held.row) named
+      (subst (λ (q : ℕ). IsLegAt network old p.frame q held.row) held.place
+      (place-names next.holds.shape held.row held.within some most)) in
+      let known : (progress_at old.records step.frame).release.sender < length (senders_of network) =
+      subst (λ (f : ℕ). (progress_at old.records f).release.sender < length (senders_of network)) named
+      (subst (λ (r : Release). r.sender < length (senders_of network))
+      (sym (release-one next.holds.shape held.row held.within)) frame.sender) in
+      named-one next.holds.rules next.holds.shape step.frame port held.row step.row
+      (omega (arith, named, is.frame, frames-all next.holds.shape)) known own step.named
+
+  -- which is one of the course
   pub selects-within : IsNext key wait network releases old now (Selection port) entries
-      → (step : Selects key old new now port more) → step.frame < length old.records
+      → (step : Selects key network old new now port more) → step.row < length old.records
   selects-within next step =
-      subst (λ (f : ℕ). f < length old.records) step.starts.named (selects-held next step).within
+      subst (λ (n : ℕ). n < length old.records) (selects-is next step) (selects-held next step).within
 
   -- at this stage
   pub selects-stage : IsNext key wait network releases old now (Selection port) entries
-      → (step : Selects key old new now port more) → stage_at old step.frame ≡ Waiting
+      → (step : Selects key network old new now port more) → stage_at old step.row ≡ Waiting
   selects-stage next step =
-      subst (λ (f : ℕ). stage_at old f ≡ Waiting) step.starts.named (selects-held next step).stage
+      subst (λ (n : ℕ). stage_at old n ≡ Waiting) (selects-is next step) (selects-held next step).stage
 
   -- at this port
   pub selects-place : IsNext key wait network releases old now (Selection port) entries
-      → (step : Selects key old new now port more) → place_at network old step.frame ≡ port
+      → (step : Selects key network old new now port more) → place_at network old step.row ≡ port
   selects-place next step =
-      subst (λ (f : ℕ). place_at network old f ≡ port) step.starts.named (selects-held next step).place
+      subst (λ (n : ℕ). place_at network old n ≡ port) (selects-is next step) (selects-held next step).place
 
   -- which holds it as it was offered
   pub selects-offer : IsNext key wait network releases old now (Selection port) entries
-      → (step : Selects key old new now port more) → offer_at network old step.frame ≡ step.starts.started
+      → (step : Selects key network old new now port more) → offer_at network old step.row ≡ step.starts.started
   selects-offer next step =
-      subst (λ (f : ℕ). offer_at network old f ≡ step.starts.started) step.starts.named (selects-held next step).same
+      subst (λ (n : ℕ). offer_at network old n ≡ step.starts.started) (selects-is next step)
+      (selects-held next step).same
 
   -- and stands so
   pub selects-frame : IsNext key wait network releases old now (Selection port) entries
-      → (step : Selects key old new now port more)
-      → IsFrame network (progress_at old.records step.frame) Waiting
+      → (step : Selects key network old new now port more)
+      → IsFrame network old (progress_at old.records step.row) Waiting
   selects-frame next step =
-      subst (IsFrame network (progress_at old.records step.frame)) (selects-stage next step)
-      (next.holds.frames step.frame (selects-within next step))
+      subst (IsFrame network old (progress_at old.records step.row)) (selects-stage next step)
+      (next.holds.frames step.row (selects-within next step))
 
-  -- it is the one frame that goes on
+  -- it goes on along this leg
   selects-advances : IsNext key wait network releases old now (Selection port) entries
-      → (step : Selects key old new now port more)
-      → Advances old new step.frame (Sending step.end) (with_sent (progress_at old.records step.frame) now.at step.end)
-  selects-advances next step = record {
-    within = selects-within next step;
-    stages = next.holds.shape.stages;
-    becomes = ap (λ (c : Course T). travels c) step.becomes;
-  }
+      → (step : Selects key network old new now port more)
+      → Advances old new step.row (Sending step.end) (with_sent (progress_at old.records step.row) now.at step.end)
+  selects-advances next step =
+      record {
+        within = selects-within next step;
+        many = next.holds.shape.stages;
+        stages = ap (λ (c : Course T). c.stages) step.becomes;
+        records = ap (λ (c : Course T). c.records) step.becomes;
+      }
 
   -- with a last record that tells of no transmission yet
   selects-at : IsNext key wait network releases old now (Selection port) entries
-      → (step : Selects key old new now port more)
-      → IsLast IsUnsent (path_of network (progress_at old.records step.frame)) (progress_at old.records step.frame).hops
+      → (step : Selects key network old new now port more)
+      → IsLast IsUnsent (path_of network (progress_at old.records step.row)) (progress_at old.records step.row).hops
   selects-at next step =
-      stands-split IsUnsent (path_of network (progress_at old.records step.frame))
-      (progress_at old.records step.frame).hops (selects-frame next step).stands.here.0
-
-  -- before, this had happened to it
-  selects-before : IsNext key wait network releases old now (Selection port) entries
-      → (step : Selects key old new now port more)
-      → travel_of (stage_at old step.frame, progress_at old.records step.frame)
-      ≡ way (progress_at old.records step.frame) (progress_at old.records step.frame).hops Discard
-  selects-before next step =
-      travel-by (stage_at old step.frame) Waiting (progress_at old.records step.frame) (selects-stage next step)
-      (selects-frame next step).stands.unended
+      stands-split IsUnsent (path_of network (progress_at old.records step.row))
+      (progress_at old.records step.row).hops (selects-frame next step).stands.here.0
 
 -- the records of a frame that the port of the last one begins to send
 abbrev sent-hops : (path : List ℕ) (p : Progress) → IsLast IsUnsent path p.hops → Ps → Ps → List HopRecord
 sent-hops path p at start end = at.before ++ record at.last { sent = Some (start, end) } ∷ []
 
--- what has happened to it then
-selects-way : (path : List ℕ) (p : Progress) (at : IsLast IsUnsent path p.hops) (start end : Ps) → p.ending ≡ None
-    → travel_of (Sending end, with_sent p start end) ≡ way p (sent-hops path p at start end) Discard
-selects-way path p at start end unended =
-    travel-by (Sending end) (Sending end) (with_sent p start end) refl unended
-    ∙ ap (λ (hops : List HopRecord). way p hops Discard)
-    (set-last IsUnsent path p.hops at (record (last_hop p) { sent = Some (start, end) })
+-- are those that it has then
+selects-way : (path : List ℕ) (p : Progress) (at : IsLast IsUnsent path p.hops) (start end : Ps)
+    → (with_sent p start end).hops ≡ sent-hops path p at start end
+selects-way path p at start end =
+    set-last IsUnsent path p.hops at (record (last_hop p) { sent = Some (start, end) })
     ∙ ap (λ (last : HopRecord). at.before ++ record last { sent = Some (start, end) } ∷ [])
-    (record-of-last IsUnsent path p.hops at no_hop))
+    (record-of-last IsUnsent path p.hops at no_hop)
 
 -- the transmission of a frame that was offered so begins as its port tells
-transmission-begun : (network : DeclaredNetwork) (frame : ℕ) (p : Progress)
+transmission-begun : (network : DeclaredNetwork) (p : Progress)
     (at : IsLast IsUnsent (path_of network p) p.hops) (started : Offer) (ps : ℕ) (start end : Ps)
-    → offer_of network frame p ≡ started → end.0 ≡ start.0 + ps * bits_of started.octets
-    → transmitted frame p.release (class_at (sender_of network p) at.port) at.here.eligible (start, end)
+    → offer_of network p ≡ started → end.0 ≡ start.0 + ps * bits_of started.octets
+    → transmitted p.frame p.release (class_at (sender_of network p) at.port) at.here.eligible (start, end)
     ≡ begun ps started start.0
-transmission-begun network frame p at started ps start end same ends =
+transmission-begun network p at started ps start end same ends =
     let sender : Sender = sender_of network p in
     let path : List ℕ = path_of network p in
-    let offer : Offer = offer_of network frame p in
+    let offer : Offer = offer_of network p in
     let Sent : ℕ → ℕ → ℕ → Transmission = λ class eligible until. record {
-      frame = frame;
+      frame = p.frame;
       sender = p.release.sender;
       class = class;
       bits = bits_of p.release.octets;
@@ -379,257 +455,272 @@ transmission-begun network frame p at started ps start end same ends =
 
 -- a selection adds a transmission of its port
 pub selects-here : {T : Type 0} {key : T → ℕ → ℕ → ℕ} {wait : ℕ → ℕ → ℕ} {network : DeclaredNetwork}
-    {releases : List Release} {old new : Course T} {now : Moment} {port : ℕ} {entries more : List (Moment × Event)}
-    → IsNext key wait network releases old now (Selection port) entries → (step : Selects key old new now port more)
+    {releases : List Release}
+    {old new : Course T} {now : Moment} {port : ℕ} {entries more : List (Moment × Event)}
+    → IsNext key wait network releases old now (Selection port) entries
+    → (step : Selects key network old new now port more)
     → IsPermutation (begun (port_state_at old port).ps_per_bit step.starts.started now.at.0
-    ∷ sent_by network (travels old) port) (sent_by network (travels new) port)
+    ∷ sent_so_far network old port) (sent_so_far network new port)
 selects-here {network = network} {old = old} {new = new} {now = now} {port = port} next step =
-    let p : Progress = progress_at old.records step.frame in
+    let p : Progress = progress_at old.records step.row in
+    let q : Progress = with_sent p now.at step.end in
     let sender : Sender = sender_of network p in
     let path : List ℕ = path_of network p in
     let at : IsLast IsUnsent path p.hops = selects-at next step in
-    let before : Travel = way p p.hops Discard in
-    let after : Travel = way p (sent-hops path p at now.at step.end) Discard in
-    let becomes : travel_of (Sending step.end, with_sent p now.at step.end) ≡ after =
-    selects-way path p at now.at step.end (selects-frame next step).stands.unended in
     let t : Transmission =
-    transmitted step.frame p.release (class_at sender at.port) at.here.eligible (now.at, step.end) in
+    transmitted p.frame p.release (class_at sender at.port) at.here.eligible (now.at, step.end) in
     let begins : Transmission = begun (port_state_at old port).ps_per_bit step.starts.started now.at.0 in
     let is : t ≡ begins =
-    transmission-begun network step.frame p at step.starts.started (port_state_at old port).ps_per_bit now.at step.end
+    transmission-begun network p at step.starts.started (port_state_at old port).ps_per_bit now.at step.end
     (selects-offer next step) step.starts.ends in
     let place : at.port ≡ port = sym (port-of-last IsUnsent path p.hops at 0) ∙ selects-place next step in
-    let part = sent_part network port in
-    let own : part step.frame after ≡ part step.frame before ++ begins ∷ [] =
-    ap (hops_at port) (selected-hops step.frame p.release sender path p.hops at (now.at, step.end))
-    ∙ hops_at-more port (path_hops network step.frame before) (record { port = at.port; sent = t }) place
-    ∙ ap (λ (x : Transmission). part step.frame before ++ x ∷ []) is in
-    permuted-by begins (sent_by network (travels old) port) (sent_by network (travels new) port)
-    (gather part 0 (travels old)) (gather part 0 (travels new))
-    (sent-gathered network next.holds.one_listener (travels old) port)
-    (sent-gathered network next.holds.one_listener (travels new) port)
-    (advances-more part before after begins (selects-advances next step) (selects-before next step) becomes
-    (pushed (part step.frame before) (part step.frame after) begins own))
+    let part : Progress → List Transmission = sent_part network port in
+    let own : part q ≡ part p ++ begins ∷ [] =
+    ap (λ (hs : List HopRecord). hops_at port (hops_along p.frame p.release sender path hs))
+    (selects-way path p at now.at step.end)
+    ∙ ap (hops_at port) (selected-hops p.frame p.release sender path p.hops at (now.at, step.end))
+    ∙ hops_at-more port (leg_hops network p) (record { port = at.port; sent = t }) place
+    ∙ ap (λ (x : Transmission). part p ++ x ∷ []) is in
+    permuted-by begins (sent_so_far network old port) (sent_so_far network new port)
+    (flat_map part old.records) (flat_map part new.records) (sent-gathered network old port)
+    (sent-gathered network new port)
+    (records-more part begins (selects-advances next step) (pushed (part p) (part q) begins own))
 
 -- and no other
 pub selects-elsewhere : {T : Type 0} {key : T → ℕ → ℕ → ℕ} {wait : ℕ → ℕ → ℕ} {network : DeclaredNetwork}
-    {releases : List Release} {old new : Course T} {now : Moment} {port : ℕ} {entries more : List (Moment × Event)}
-    → IsNext key wait network releases old now (Selection port) entries → Selects key old new now port more
-    → (other : ℕ) → other ≢ port
-    → sent_by network (travels new) other ≡ sent_by network (travels old) other
+    {releases : List Release}
+    {old new : Course T} {now : Moment} {port : ℕ} {entries more : List (Moment × Event)}
+    → IsNext key wait network releases old now (Selection port) entries → Selects key network old new now port more
+    → (other : ℕ) → other ≢ port → sent_so_far network new other ≡ sent_so_far network old other
 selects-elsewhere {network = network} {old = old} {new = new} {now = now} {port = port} next step other apart =
-    let p : Progress = progress_at old.records step.frame in
+    let p : Progress = progress_at old.records step.row in
     let sender : Sender = sender_of network p in
     let path : List ℕ = path_of network p in
     let at : IsLast IsUnsent path p.hops = selects-at next step in
-    let before : Travel = way p p.hops Discard in
-    let after : Travel = way p (sent-hops path p at now.at step.end) Discard in
-    let becomes : travel_of (Sending step.end, with_sent p now.at step.end) ≡ after =
-    selects-way path p at now.at step.end (selects-frame next step).stands.unended in
     let t : Transmission =
-    transmitted step.frame p.release (class_at sender at.port) at.here.eligible (now.at, step.end) in
+    transmitted p.frame p.release (class_at sender at.port) at.here.eligible (now.at, step.end) in
     let place : at.port ≡ port = sym (port-of-last IsUnsent path p.hops at 0) ∙ selects-place next step in
-    let own : sent_part network other step.frame after ≡ sent_part network other step.frame before =
-    ap (hops_at other) (selected-hops step.frame p.release sender path p.hops at (now.at, step.end))
-    ∙ hops_at-same other (path_hops network step.frame before) (record { port = at.port; sent = t })
-    (λ e. apart (sym e ∙ place)) in
-    sent-gathered network next.holds.one_listener (travels new) other
-    ∙ advances-same (sent_part network other) before after (selects-advances next step) (selects-before next step)
-    becomes own
-    ∙ sym (sent-gathered network next.holds.one_listener (travels old) other)
+    let own : sent_part network other (with_sent p now.at step.end) ≡ sent_part network other p =
+    ap (λ (hs : List HopRecord). hops_at other (hops_along p.frame p.release sender path hs))
+    (selects-way path p at now.at step.end)
+    ∙ ap (hops_at other) (selected-hops p.frame p.release sender path p.hops at (now.at, step.end))
+    ∙ hops_at-same other (leg_hops network p) (record { port = at.port; sent = t }) (λ e. apart (sym e ∙ place)) in
+    sent-gathered network new other
+    ∙ records-same (sent_part network other) (selects-advances next step) own
+    ∙ sym (sent-gathered network old other)
 
 -- nothing has crossed a port by it
 pub selects-crossings : {T : Type 0} {key : T → ℕ → ℕ → ℕ} {wait : ℕ → ℕ → ℕ} {network : DeclaredNetwork}
-    {releases : List Release} {old new : Course T} {now : Moment} {port : ℕ} {entries more : List (Moment × Event)}
-    → IsNext key wait network releases old now (Selection port) entries → Selects key old new now port more
-    → (other : ℕ) → crossings_by network (travels new) other ≡ crossings_by network (travels old) other
+    {releases : List Release}
+    {old new : Course T} {now : Moment} {port : ℕ} {entries more : List (Moment × Event)}
+    → IsNext key wait network releases old now (Selection port) entries → Selects key network old new now port more
+    → (other : ℕ) → crossings_so_far network new other ≡ crossings_so_far network old other
 selects-crossings {network = network} {old = old} {new = new} {now = now} next step other =
-    let p : Progress = progress_at old.records step.frame in
+    let p : Progress = progress_at old.records step.row in
+    let q : Progress = with_sent p now.at step.end in
     let sender : Sender = sender_of network p in
     let path : List ℕ = path_of network p in
     let at : IsLast IsUnsent path p.hops = selects-at next step in
-    let before : Travel = way p p.hops Discard in
-    let after : Travel = way p (sent-hops path p at now.at step.end) Discard in
-    let becomes : travel_of (Sending step.end, with_sent p now.at step.end) ≡ after =
-    selects-way path p at now.at step.end (selects-frame next step).stands.unended in
-    let own : crossings_part network other step.frame after ≡ crossings_part network other step.frame before =
-    ap (crossings_at other) (selected-crossings step.frame p.release sender path p.hops at (now.at, step.end)) in
-    crossed-gathered network next.holds.one_listener (travels new) other
-    ∙ advances-same (crossings_part network other) before after (selects-advances next step) (selects-before next step)
-    becomes own
-    ∙ sym (crossed-gathered network next.holds.one_listener (travels old) other)
+    let unended = (selects-frame next step).stands.unended in
+    let was = crossings-open network (stage_at old step.row) Waiting p (selects-stage next step) unended in
+    let is = crossings-open network (Sending step.end) (Sending step.end) q refl unended in
+    let own =
+    ap (λ (hs : List HopRecord). crossings_along p.frame p.release sender path hs Discard)
+    (selects-way path p at now.at step.end)
+    ∙ selected-crossings p.frame p.release sender path p.hops at (now.at, step.end) in
+    crossed-gathered network new other
+    ∙ both-same (crossings_part network other) (selects-advances next step)
+    (ap (crossings_at other) (is ∙ own ∙ sym was))
+    ∙ sym (crossed-gathered network old other)
 
 -- or was handed on
 pub selects-handed : {T : Type 0} {key : T → ℕ → ℕ → ℕ} {wait : ℕ → ℕ → ℕ} {network : DeclaredNetwork}
-    {releases : List Release} {old new : Course T} {now : Moment} {port : ℕ} {entries more : List (Moment × Event)}
-    → IsNext key wait network releases old now (Selection port) entries → Selects key old new now port more
-    → (other class : ℕ)
-    → handed_by network (travels new) other class ≡ handed_by network (travels old) other class
+    {releases : List Release}
+    {old new : Course T} {now : Moment} {port : ℕ} {entries more : List (Moment × Event)}
+    → IsNext key wait network releases old now (Selection port) entries → Selects key network old new now port more
+    → (other class : ℕ) → handed_so_far network new other class ≡ handed_so_far network old other class
 selects-handed {network = network} {old = old} {new = new} {now = now} next step other class =
-    let p : Progress = progress_at old.records step.frame in
+    let p : Progress = progress_at old.records step.row in
     let sender : Sender = sender_of network p in
     let path : List ℕ = path_of network p in
     let at : IsLast IsUnsent path p.hops = selects-at next step in
-    let before : Travel = way p p.hops Discard in
-    let after : Travel = way p (sent-hops path p at now.at step.end) Discard in
-    let becomes : travel_of (Sending step.end, with_sent p now.at step.end) ≡ after =
-    selects-way path p at now.at step.end (selects-frame next step).stands.unended in
-    let own : handed_part network other class step.frame after ≡ handed_part network other class step.frame before =
-    ap (handed_in other class) (selected-handed step.frame p.release sender path p.hops at (now.at, step.end)) in
-    handed_on-gathered network next.holds.one_listener (travels new) other class
-    ∙ advances-same (handed_part network other class) before after (selects-advances next step)
-    (selects-before next step) becomes own
-    ∙ sym (handed_on-gathered network next.holds.one_listener (travels old) other class)
+    let own : handed_part network other class (with_sent p now.at step.end) ≡ handed_part network other class p =
+    ap (λ (hs : List HopRecord). handed_in other class (handed_along p.frame p.release sender path hs))
+    (selects-way path p at now.at step.end)
+    ∙ ap (handed_in other class) (selected-handed p.frame p.release sender path p.hops at (now.at, step.end)) in
+    handed_on-gathered network new other class
+    ∙ records-same (handed_part network other class) (selects-advances next step) own
+    ∙ sym (handed_on-gathered network old other class)
 
--- a frame that leaves a port for its listener, or else for the next port
+-- a frame that leaves a port for the leg's listener, or else for the next port
 abbrev leaves-if : Bool → ℕ → Progress → Ps → Move
-leaves-if last frame p arrival =
+leaves-if last row p arrival =
     if last then record { stage = Over; progress = with_ending p (Sink arrival); entries = [] }
     else record {
       stage = Coming arrival;
       progress = p;
-      entries = (arrival_moment frame arrival, Arrival frame) ∷ [];
+      entries = (arrival_moment row arrival, Arrival row) ∷ [];
     }
 
 -- counts as sunk when it arrives there, either way
-leaves-way : (last : Bool) (frame : ℕ) (p : Progress) (arrival : Ps) → p.ending ≡ None
-    → travel_of ((leaves-if last frame p arrival).stage, (leaves-if last frame p arrival).progress)
-    ≡ way p p.hops (Sink arrival)
-leaves-way true frame p arrival unended = refl
-leaves-way false frame p arrival unended = travel-by (Coming arrival) (Coming arrival) p refl unended
+leaves-crossings : (network : DeclaredNetwork) (last : Bool) (row : ℕ) (p : Progress) (arrival : Ps)
+    → p.ending ≡ Discard
+    → leg_crossings network ((leaves-if last row p arrival).stage, (leaves-if last row p arrival).progress)
+    ≡ crossings_along p.frame p.release (sender_of network p) (path_of network p) p.hops (Sink arrival)
+leaves-crossings network true row p arrival unended = refl
+leaves-crossings network false row p arrival unended = refl
+
+-- and has been sent and handed on as before
+leaves-same : {X : Type 0} (f : Progress → X)
+    → ((p : Progress) (ending : Ending) → f (with_ending p ending) ≡ f p) → (last : Bool) (row : ℕ) (p : Progress)
+    (arrival : Ps) → f (leaves-if last row p arrival).progress ≡ f p
+leaves-same f same true row p arrival = same p (Sink arrival)
+leaves-same f same false row p arrival = refl
+
+-- when its transmission ends too
+ends-same : {T X : Type 0} {key : T → ℕ → ℕ → ℕ} {wait : ℕ → ℕ → ℕ} {network : DeclaredNetwork}
+    {old new : Course T} {now : Moment} {row : ℕ} {more : List (Moment × Event)} (f : Progress → X)
+    → ((p : Progress) (ending : Ending) → f (with_ending p ending) ≡ f p)
+    → (step : Ends key wait network old new now row more) → f step.move.progress ≡ f (progress_at old.records row)
+ends-same {network = network} {old = old} {row = row} f same step =
+    let p : Progress = progress_at old.records row in
+    ap (λ (m : Move). f m.progress) step.is
+    ∙ leaves-same f same (length p.hops == length (path_of network p)) row p step.arrival
 
 module _ {T : Type 0} {key : T → ℕ → ℕ → ℕ} {wait : ℕ → ℕ → ℕ} {network : DeclaredNetwork} {releases : List Release}
-    {old new : Course T} {now : Moment} {frame : ℕ} {entries more : List (Moment × Event)} where
-  -- the frame is the one that goes on
-  ends-advances : IsNext key wait network releases old now (End frame) entries
-      → (step : Ends key wait network old new now frame more)
-      → Advances old new frame step.move.stage step.move.progress
-  ends-advances next step = record {
-    within = ending-within next;
-    stages = next.holds.shape.stages;
-    becomes = ap (λ (c : Course T). travels c) step.becomes;
-  }
+    {old new : Course T} {now : Moment} {row : ℕ} {entries more : List (Moment × Event)} where
+  -- the frame goes on along the leg
+  ends-advances : IsNext key wait network releases old now (End row) entries
+      → (step : Ends key wait network old new now row more)
+      → Advances old new row step.move.stage step.move.progress
+  ends-advances next step =
+      record {
+        within = ending-within next;
+        many = next.holds.shape.stages;
+        stages = ap (λ (c : Course T). c.stages) step.becomes;
+        records = ap (λ (c : Course T). c.records) step.becomes;
+      }
 
-  -- and this has happened to it then
-  ends-after : IsNext key wait network releases old now (End frame) entries
-      → (step : Ends key wait network old new now frame more)
-      → travel_of (step.move.stage, step.move.progress)
-      ≡ way (progress_at old.records frame) (progress_at old.records frame).hops (Sink step.arrival)
+  -- where it crosses its ports so
+  ends-after : IsNext key wait network releases old now (End row) entries
+      → (step : Ends key wait network old new now row more)
+      → leg_crossings network (step.move.stage, step.move.progress)
+      ≡ crossings_along (progress_at old.records row).frame (progress_at old.records row).release
+      (sender_of network (progress_at old.records row)) (path_of network (progress_at old.records row))
+      (progress_at old.records row).hops (Sink step.arrival)
   ends-after next step =
-      ap (λ (m : Move). travel_of (m.stage, m.progress)) step.is
-      ∙ leaves-way (length (progress_at old.records frame).hops
-      == length (path_of network (progress_at old.records frame))) frame (progress_at old.records frame) step.arrival
+      ap (λ (m : Move). leg_crossings network (m.stage, m.progress)) step.is
+      ∙ leaves-crossings network (length (progress_at old.records row).hops
+      == length (path_of network (progress_at old.records row))) row (progress_at old.records row) step.arrival
       (ending-frame next).stands.unended
 
 module _ {T : Type 0} {key : T → ℕ → ℕ → ℕ} {wait : ℕ → ℕ → ℕ} {network : DeclaredNetwork} {releases : List Release}
-    {old : Course T} {now : Moment} {frame : ℕ} {entries : List (Moment × Event)} where
-  -- before, this had happened to a frame whose transmission ends
-  ends-before : IsNext key wait network releases old now (End frame) entries
-      → travel_of (stage_at old frame, progress_at old.records frame)
-      ≡ way (progress_at old.records frame) (progress_at old.records frame).hops Discard
+    {old : Course T} {now : Moment} {row : ℕ} {entries : List (Moment × Event)} where
+  -- before, it had crossed these
+  ends-before : IsNext key wait network releases old now (End row) entries
+      → leg_crossings network (stage_at old row, progress_at old.records row)
+      ≡ crossings_along (progress_at old.records row).frame (progress_at old.records row).release
+      (sender_of network (progress_at old.records row)) (path_of network (progress_at old.records row))
+      (progress_at old.records row).hops Discard
   ends-before next =
-      travel-by (stage_at old frame) (Sending now.at) (progress_at old.records frame) (next-sending next)
+      crossings-open network (stage_at old row) (Sending now.at) (progress_at old.records row) (next-sending next)
       (ending-frame next).stands.unended
 
   -- with a last record that tells of that transmission
-  ends-at : IsNext key wait network releases old now (End frame) entries
-      → IsLast (IsSentUntil now.at) (path_of network (progress_at old.records frame))
-      (progress_at old.records frame).hops
+  ends-at : IsNext key wait network releases old now (End row) entries
+      → IsLast (IsSentUntil now.at) (path_of network (progress_at old.records row))
+      (progress_at old.records row).hops
   ends-at next =
-      stands-split (IsSentUntil now.at) (path_of network (progress_at old.records frame))
-      (progress_at old.records frame).hops (ending-frame next).stands.here.0
+      stands-split (IsSentUntil now.at) (path_of network (progress_at old.records row))
+      (progress_at old.records row).hops (ending-frame next).stands.here.0
 
 -- the end of a transmission was told when it began
 pub ends-sent : {T : Type 0} {key : T → ℕ → ℕ → ℕ} {wait : ℕ → ℕ → ℕ} {network : DeclaredNetwork}
-    {releases : List Release} {old new : Course T} {now : Moment} {frame : ℕ} {entries more : List (Moment × Event)}
-    → IsNext key wait network releases old now (End frame) entries → Ends key wait network old new now frame more
-    → (other : ℕ) → sent_by network (travels new) other ≡ sent_by network (travels old) other
-ends-sent {network = network} {old = old} {new = new} {frame = frame} next step other =
-    let p : Progress = progress_at old.records frame in
-    let before : Travel = way p p.hops Discard in
-    let after : Travel = way p p.hops (Sink step.arrival) in
-    sent-gathered network next.holds.one_listener (travels new) other
-    ∙ advances-same (sent_part network other) before after (ends-advances next step) (ends-before next)
-    (ends-after next step) refl
-    ∙ sym (sent-gathered network next.holds.one_listener (travels old) other)
+    {releases : List Release}
+    {old new : Course T} {now : Moment} {row : ℕ} {entries more : List (Moment × Event)}
+    → IsNext key wait network releases old now (End row) entries → Ends key wait network old new now row more
+    → (other : ℕ) → sent_so_far network new other ≡ sent_so_far network old other
+ends-sent {network = network} {old = old} {new = new} next step other =
+    sent-gathered network new other
+    ∙ records-same (sent_part network other) (ends-advances next step)
+    (ends-same (sent_part network other) (λ p ending. refl) step)
+    ∙ sym (sent-gathered network old other)
 
 -- and hands nothing on
 pub ends-handed : {T : Type 0} {key : T → ℕ → ℕ → ℕ} {wait : ℕ → ℕ → ℕ} {network : DeclaredNetwork}
-    {releases : List Release} {old new : Course T} {now : Moment} {frame : ℕ} {entries more : List (Moment × Event)}
-    → IsNext key wait network releases old now (End frame) entries → Ends key wait network old new now frame more
-    → (other class : ℕ)
-    → handed_by network (travels new) other class ≡ handed_by network (travels old) other class
-ends-handed {network = network} {old = old} {new = new} {frame = frame} next step other class =
-    let p : Progress = progress_at old.records frame in
-    let before : Travel = way p p.hops Discard in
-    let after : Travel = way p p.hops (Sink step.arrival) in
-    handed_on-gathered network next.holds.one_listener (travels new) other class
-    ∙ advances-same (handed_part network other class) before after (ends-advances next step) (ends-before next)
-    (ends-after next step) refl
-    ∙ sym (handed_on-gathered network next.holds.one_listener (travels old) other class)
+    {releases : List Release}
+    {old new : Course T} {now : Moment} {row : ℕ} {entries more : List (Moment × Event)}
+    → IsNext key wait network releases old now (End row) entries → Ends key wait network old new now row more
+    → (other class : ℕ) → handed_so_far network new other class ≡ handed_so_far network old other class
+ends-handed {network = network} {old = old} {new = new} next step other class =
+    handed_on-gathered network new other class
+    ∙ records-same (handed_part network other class) (ends-advances next step)
+    (ends-same (handed_part network other class) (λ p ending. refl) step)
+    ∙ sym (handed_on-gathered network old other class)
 
 -- the crossing of a frame whose transmission has ended at its last port
-abbrev crossed-last : (network : DeclaredNetwork) (frame : ℕ) (p : Progress) (until : Ps)
+abbrev crossed-last : (network : DeclaredNetwork) (p : Progress) (until : Ps)
     → IsLast (IsSentUntil until) (path_of network p) p.hops → Ps → Crossing
-crossed-last network frame p until at arrival =
+crossed-last network p until at arrival =
     crossing_of p.release.octets at.last.arrival.0 at.port
-    (transmitted frame p.release (class_at (sender_of network p) at.port) at.here.eligible (at.here.start, until))
+    (transmitted p.frame p.release (class_at (sender_of network p) at.port) at.here.eligible (at.here.start, until))
     arrival.0
 
 -- it adds this crossing of its port
 pub ends-here : {T : Type 0} {key : T → ℕ → ℕ → ℕ} {wait : ℕ → ℕ → ℕ} {network : DeclaredNetwork}
-    {releases : List Release} {old new : Course T} {now : Moment} {frame : ℕ} {entries more : List (Moment × Event)}
-    → IsNext key wait network releases old now (End frame) entries
-    → (step : Ends key wait network old new now frame more)
-    → (x : Crossing) × IsCrossing network frame (progress_at old.records frame) now.at.0 step.arrival.0 x
-    × IsPermutation (x ∷ crossings_by network (travels old) (place_at network old frame))
-    (crossings_by network (travels new) (place_at network old frame))
-ends-here {network = network} {old = old} {new = new} {now = now} {frame = frame} next step =
-    let p : Progress = progress_at old.records frame in
-    let before : Travel = way p p.hops Discard in
-    let after : Travel = way p p.hops (Sink step.arrival) in
+    {releases : List Release}
+    {old new : Course T} {now : Moment} {row : ℕ} {entries more : List (Moment × Event)}
+    → IsNext key wait network releases old now (End row) entries
+    → (step : Ends key wait network old new now row more)
+    → (x : Crossing) × IsCrossing network (progress_at old.records row) now.at.0 step.arrival.0 x
+    × IsPermutation (x ∷ crossings_so_far network old (place_at network old row))
+    (crossings_so_far network new (place_at network old row))
+ends-here {network = network} {old = old} {new = new} {now = now} {row = row} next step =
+    let p : Progress = progress_at old.records row in
     let path : List ℕ = path_of network p in
     let at : IsLast (IsSentUntil now.at) path p.hops = ends-at next in
     let place : at.port ≡ place_of network p = sym (port-of-last (IsSentUntil now.at) path p.hops at 0) in
-    let x : Crossing = crossed-last network frame p now.at at step.arrival in
-    let one = ended-crossings frame p.release (sender_of network p) path p.hops now.at step.arrival at in
-    let part = crossings_part network (place_of network p) in
-    let own : part frame after ≡ part frame before ++ x ∷ [] =
-    ap (crossings_at (place_of network p)) one
-    ∙ crossings_at-more (place_of network p) (path_crossings network frame before) x place in (
+    let x : Crossing = crossed-last network p now.at at step.arrival in
+    let one = ended-crossings p.frame p.release (sender_of network p) path p.hops now.at step.arrival at in
+    let port : ℕ = place_of network p in
+    let part : Stage × Progress → List Crossing = crossings_part network port in
+    let before : Stage × Progress = (stage_at old row, p) in
+    let after : Stage × Progress = (step.move.stage, step.move.progress) in
+    let own : part after ≡ part before ++ x ∷ [] =
+    ap (crossings_at port) (ends-after next step ∙ one
+    ∙ ap (λ (xs : List Crossing). xs ++ x ∷ []) (sym (ends-before next)))
+    ∙ crossings_at-more port (leg_crossings network before) x place in (
       x,
       record { named = refl; behind = place; ends = refl; arrives = refl },
-      permuted-by x (crossings_by network (travels old) (place_of network p))
-          (crossings_by network (travels new) (place_of network p))
-          (gather part 0 (travels old)) (gather part 0 (travels new))
-          (crossed-gathered network next.holds.one_listener (travels old) (place_of network p))
-          (crossed-gathered network next.holds.one_listener (travels new) (place_of network p))
-          (advances-more part before after x (ends-advances next step) (ends-before next) (ends-after next step)
-          (pushed (part frame before) (part frame after) x own)),
+      permuted-by x (crossings_so_far network old port) (crossings_so_far network new port)
+          (flat_map part (zip old.stages old.records)) (flat_map part (zip new.stages new.records))
+          (crossed-gathered network old port) (crossed-gathered network new port)
+          (both-more part x (ends-advances next step) (pushed (part before) (part after) x own)),
     )
 
 -- and of no other
 pub ends-elsewhere : {T : Type 0} {key : T → ℕ → ℕ → ℕ} {wait : ℕ → ℕ → ℕ} {network : DeclaredNetwork}
-    {releases : List Release} {old new : Course T} {now : Moment} {frame : ℕ} {entries more : List (Moment × Event)}
-    → IsNext key wait network releases old now (End frame) entries → Ends key wait network old new now frame more
-    → (other : ℕ) → other ≢ place_at network old frame
-    → crossings_by network (travels new) other ≡ crossings_by network (travels old) other
-ends-elsewhere {network = network} {old = old} {new = new} {now = now} {frame = frame} next step other apart =
-    let p : Progress = progress_at old.records frame in
-    let before : Travel = way p p.hops Discard in
-    let after : Travel = way p p.hops (Sink step.arrival) in
+    {releases : List Release}
+    {old new : Course T} {now : Moment} {row : ℕ} {entries more : List (Moment × Event)}
+    → IsNext key wait network releases old now (End row) entries → Ends key wait network old new now row more
+    → (other : ℕ) → other ≢ place_at network old row
+    → crossings_so_far network new other ≡ crossings_so_far network old other
+ends-elsewhere {network = network} {old = old} {new = new} {now = now} {row = row} next step other apart =
+    let p : Progress = progress_at old.records row in
     let path : List ℕ = path_of network p in
     let at : IsLast (IsSentUntil now.at) path p.hops = ends-at next in
     let place : at.port ≡ place_of network p = sym (port-of-last (IsSentUntil now.at) path p.hops at 0) in
-    let x : Crossing = crossed-last network frame p now.at at step.arrival in
-    let one = ended-crossings frame p.release (sender_of network p) path p.hops now.at step.arrival at in
-    let own : crossings_part network other frame after ≡ crossings_part network other frame before =
-    ap (crossings_at other) one
-    ∙ crossings_at-same other (path_crossings network frame before) x (λ e. apart (sym e ∙ place)) in
-    crossed-gathered network next.holds.one_listener (travels new) other
-    ∙ advances-same (crossings_part network other) before after (ends-advances next step) (ends-before next)
-    (ends-after next step) own
-    ∙ sym (crossed-gathered network next.holds.one_listener (travels old) other)
+    let x : Crossing = crossed-last network p now.at at step.arrival in
+    let one = ended-crossings p.frame p.release (sender_of network p) path p.hops now.at step.arrival at in
+    let before : Stage × Progress = (stage_at old row, p) in
+    let own : crossings_part network other (step.move.stage, step.move.progress)
+    ≡ crossings_part network other before =
+    ap (crossings_at other) (ends-after next step ∙ one
+    ∙ ap (λ (xs : List Crossing). xs ++ x ∷ []) (sym (ends-before next)))
+    ∙ crossings_at-same other (leg_crossings network before) x (λ e. apart (sym e ∙ place)) in
+    crossed-gathered network new other
+    ∙ both-same (crossings_part network other) (ends-advances next step) own
+    ∙ sym (crossed-gathered network old other)
 
 -- where no crossing is of a port, anything holds of those that are
 none-there : (P : Crossing → Type 0) (port : ℕ) (crossings : List Crossing)
@@ -640,69 +731,100 @@ none-there P port crossings apart k d h =
     absurd (All-filter test (λ (c : Crossing). c.port ≢ port) crossings apart k d h
     (eqb-true x.port port (filter_passes test crossings k d h)))
 
--- a frame that is sent by its last port has not crossed it
-own-others : (network : DeclaredNetwork) → IsNetwork network → (frame : ℕ) (p : Progress) (until : Ps)
-    → p.release.sender < length (senders_of network) → IsLast (IsSentUntil until) (path_of network p) p.hops
-    → All (λ (x : Crossing). x.sent.frame ≢ frame)
-    (crossings_part network (place_of network p) frame (way p p.hops Discard))
-own-others network rules frame p until exists at =
+-- a frame that is sent by its last port has not crossed it along this leg
+own-others : (network : DeclaredNetwork) → IsNetwork network → (p : Progress) (until : Ps)
+    → p.release.sender < length (senders_of network) → p.leg ≤ length (sender_of network p).branches
+    → IsLast (IsSentUntil until) (path_of network p) p.hops
+    → All (λ (x : Crossing). x.sent.frame ≢ p.frame)
+    (crossings_at (place_of network p)
+    (crossings_along p.frame p.release (sender_of network p) (path_of network p) p.hops Discard))
+own-others network rules p until known there at =
     let sender : Sender = sender_of network p in
     let path : List ℕ = path_of network p in
-    let Other : Crossing → Type 0 = λ (x : Crossing). x.sent.frame ≢ frame in
+    let Other : Crossing → Type 0 = λ (x : Crossing). x.sent.frame ≢ p.frame in
     let place : at.port ≡ place_of network p = sym (port-of-last (IsSentUntil until) path p.hops at 0) in
     let apart : All (λ (q : ℕ). q ≢ at.port) at.passed =
     passed-apart at.passed at.port at.ahead (subst (AllPairs (λ (a b : ℕ). a ≢ b)) at.along
-    (each_is_sender network rules p.release.sender no_sender exists).apart) in
+    (leg-apart network p.release.sender p.leg rules known there)) in
     let earlier : List Crossing =
-    crossings_along frame p.release sender at.passed at.before (Sink at.last.arrival) in
+    crossings_along p.frame p.release sender at.passed at.before (Sink at.last.arrival) in
     subst (λ (xs : List Crossing). All Other (crossings_at (place_of network p) xs))
-    (sym (ended-before frame p.release sender path p.hops until at))
+    (sym (ended-before p.frame p.release sender path p.hops until at))
     (subst (λ (port : ℕ). All Other (crossings_at port earlier)) place
     (none-there Other at.port earlier
-    (crossings-elsewhere frame p.release sender at.port at.passed at.before (Sink at.last.arrival) apart)))
+    (crossings-elsewhere p.frame p.release sender at.port at.passed at.before (Sink at.last.arrival) apart)))
 
 -- those of a frame with another number are others
-numbered-others : (network : DeclaredNetwork) (port frame other : ℕ) (j : Travel) → other ≢ frame
-    → All (λ (x : Crossing). x.sent.frame ≢ frame) (crossings_part network port other j)
-numbered-others network port frame other j apart =
+numbered-others : (network : DeclaredNetwork) (port frame : ℕ) (stage : Stage) (p : Progress) → p.frame ≢ frame
+    → All (λ (x : Crossing). x.sent.frame ≢ frame) (crossings_part network port (stage, p))
+numbered-others network port frame stage p apart =
     All-filter (λ (x : Crossing). x.port == port) (λ (x : Crossing). x.sent.frame ≢ frame)
-    (path_crossings network other j)
-    (All-weaker (λ (x : Crossing). x.sent.frame ≡ other) (λ (x : Crossing). x.sent.frame ≢ frame)
-    (λ x is e. apart (sym is ∙ e)) (path_crossings network other j)
-    (crossings-numbered other j.release (sender_at network j.release.sender)
-    (sender_at network j.release.sender).ports j.hops j.ending))
+    (leg_crossings network (stage, p))
+    (All-weaker (λ (x : Crossing). x.sent.frame ≡ p.frame) (λ (x : Crossing). x.sent.frame ≢ frame)
+    (λ x is e. apart (sym is ∙ e)) (leg_crossings network (stage, p))
+    (crossings-numbered p.frame p.release (sender_of network p) (path_of network p) p.hops
+    (ending_by stage p.ending)))
 
--- before, the frame had not crossed it
+-- and a leg that has not the port gives none
+off-others : (network : DeclaredNetwork) (port frame : ℕ) (stage : Stage) (p : Progress)
+    → All (λ (q : ℕ). q ≢ port) (path_of network p)
+    → All (λ (x : Crossing). x.sent.frame ≢ frame) (crossings_part network port (stage, p))
+off-others network port frame stage p off =
+    none-there (λ (x : Crossing). x.sent.frame ≢ frame) port (leg_crossings network (stage, p))
+    (crossings-elsewhere p.frame p.release (sender_of network p) port (path_of network p) p.hops
+    (ending_by stage p.ending) off)
+
+-- before, the frame had not crossed it, along any leg
 pub ends-others : {T : Type 0} {key : T → ℕ → ℕ → ℕ} {wait : ℕ → ℕ → ℕ} {network : DeclaredNetwork}
-    {releases : List Release} {old new : Course T} {now : Moment} {frame : ℕ} {entries more : List (Moment × Event)}
-    → IsNext key wait network releases old now (End frame) entries → Ends key wait network old new now frame more
-    → All (λ (x : Crossing). x.sent.frame ≢ frame)
-    (crossings_by network (travels old) (place_at network old frame))
-ends-others {network = network} {old = old} {now = now} {frame = frame} next step =
-    let p : Progress = progress_at old.records frame in
+    {releases : List Release}
+    {old new : Course T} {now : Moment} {row : ℕ} {entries more : List (Moment × Event)}
+    → IsNext key wait network releases old now (End row) entries → Ends key wait network old new now row more
+    → All (λ (x : Crossing). x.sent.frame ≢ (progress_at old.records row).frame)
+    (crossings_so_far network old (place_at network old row))
+ends-others {network = network} {old = old} {now = now} {row = row} next step =
+    let shape = next.holds.shape in
+    let p : Progress = progress_at old.records row in
     let port : ℕ = place_of network p in
-    let before : Travel = way p p.hops Discard in
-    let run : List Travel = travels old in
-    let Other : Crossing → Type 0 = λ (x : Crossing). x.sent.frame ≢ frame in
-    let part = crossings_part network port in
-    let own : All Other (part frame (get_or run frame before)) =
-    subst (λ (j : Travel). All Other (part frame j))
-    (sym (travels-at (ends-advances next step) before ∙ ends-before next))
-    (own-others network next.holds.rules frame p now.at (ending-frame next).sender (ends-at next)) in
-    let each : (k : ℕ) → k < length run → All Other (part (0 + k) (get_or run k before)) =
-    λ k h. subst (λ (n : ℕ). All Other (part n (get_or run k before))) (omega arith)
-    (elim (cases_eq k frame) as (λ _. All Other (part k (get_or run k before))) [
-      | inl e ↦ subst (λ (n : ℕ). All Other (part n (get_or run n before))) (sym e) own
-      | inr apart ↦ numbered-others network port frame k (get_or run k before) apart
-    ]) in
-    subst (All Other) (sym (crossed-gathered network next.holds.one_listener run port))
-    (gather-all Other part 0 run before each)
+    let rows : List (Stage × Progress) = zip old.stages old.records in
+    let none : Stage × Progress = (Over, no_progress) in
+    let Other : Crossing → Type 0 = λ (x : Crossing). x.sent.frame ≢ p.frame in
+    let Others : ℕ → Type 0 = λ (n : ℕ).
+    All Other (crossings_part network port (stage_at old n, progress_at old.records n)) in
+    let at = ends-at next in
+    let own : Others row =
+    subst (λ (xs : List Crossing). All Other (crossings_at port xs)) (sym (ends-before next))
+    (own-others network next.holds.rules p now.at (ending-frame next).sender (ending-frame next).leg at) in
+    let stands = (ending-frame next).stands.here.0 in
+    let has = place-has network p (stands-some (IsSentUntil now.at) (path_of network p) p.hops stands)
+    (stands-at_most (IsSentUntil now.at) (path_of network p) p.hops stands) in
+    let off : (n : ℕ) → n < length old.records → n ≢ row → p.frame ≡ (progress_at old.records n).frame
+    → All (λ (q : ℕ). q ≢ port) (path_of network (progress_at old.records n)) =
+    λ n within apart same k d h is.
+    let path : List ℕ = path_of network (progress_at old.records n) in
+    let one = port-one next.holds.rules shape row n port (ending-within next) within (ending-frame next).sender same has
+    (k, h, get_or_default path k port d h ∙ is) in
+    apart (sym one) in
+    let each : (n : ℕ) → n < length old.records → Others n =
+    λ n within. elim (cases_eq n row) as (λ _. Others n) [
+      | inl e ↦ subst Others (sym e) own
+      | inr apart ↦ elim (cases_eq p.frame (progress_at old.records n).frame) as (λ _. Others n) [
+        | inl same ↦ off-others network port p.frame (stage_at old n) (progress_at old.records n)
+            (off n within apart same)
+        | inr others ↦ numbered-others network port p.frame (stage_at old n) (progress_at old.records n)
+            (λ e. others (sym e))
+      ]
+    ] in
+    subst (All Other) (sym (crossed-gathered network old port))
+    (gather-all Other (crossings_part network port) rows none (λ k h.
+    let within : k < length old.records = omega (arith, length-zip old.stages old.records, shape.stages, h) in
+    subst (λ (r : Stage × Progress). All Other (crossings_part network port r))
+    (sym (row-of-both old k shape.stages within)) (each k within)))
 
 -- whatever crossed a port was sent by it
-pub crossings-are-sent : (network : DeclaredNetwork) → HasOneListener network → (run : List Travel) (port : ℕ)
-    → All (λ (x : Crossing). Contains (sent_by network run port) x.sent) (crossings_by network run port)
-crossings-are-sent network alone run port =
-    let sent : List Transmission = sent_by network run port in
-    subst (All (λ (x : Crossing). Contains sent x.sent)) (sym (crossed-gathered network alone run port))
-    (crossings-of-sent (Contains sent) network port 0 run
-    (subst (All (Contains sent)) (sent-gathered network alone run port) (All-contains_itself sent)))
+pub crossings-are-sent : {T : Type 0} (network : DeclaredNetwork) (course : Course T) (port : ℕ)
+    → All (λ (x : Crossing). Contains (sent_so_far network course port) x.sent) (crossings_so_far network course port)
+crossings-are-sent network course port =
+    let sent : List Transmission = sent_so_far network course port in
+    subst (All (λ (x : Crossing). Contains sent x.sent)) (sym (crossed-gathered network course port))
+    (crossings-of-sent (Contains sent) network port course.stages course.records
+    (subst (All (Contains sent)) (sent-gathered network course port) (All-contains_itself sent)))

@@ -103,7 +103,7 @@ soon_now network state progress now rules members =
     let same : IsSoon now now = (omega arith, omega arith) in
     let own : Verdict = Eligible (record { 0 = now }) in
     let octets : ℕ = progress.release.octets in
-    let member : ℕ = scheduler_of network progress.release.sender (length progress.hops) in
+    let member : ℕ = scheduler_of network progress.release.sender progress.leg (length progress.hops) in
     let declared : Declared = declared_by network progress.release.sender in
     let flow : Verdict = if is_declared_size declared octets then own else Size in
     let stream : Verdict = verdict_of state member now octets in

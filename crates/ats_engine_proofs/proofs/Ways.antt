@@ -1,16 +1,17 @@
--- What a step does to the hop records of a frame along its path.
-use Rattle.std.proofs.Common.{◌≡◌, ◌≢◌, ℕ, zero, suc, ◌-◌, ◌<◌, ◌≤◌, List, [], ◌∷◌, ◌++◌, length, get_or, set, Some}
-use Rattle.std.proofs.Common.{refl, ap, ◌∙◌, arith}
+-- What a step does to the hop records of a frame along a leg.
+use Rattle.std.proofs.Common.{◌≡◌, ◌≢◌, ℕ, zero, suc, ◌-◌, ◌<◌, ◌≤◌, List, [], ◌∷◌, ◌++◌, length, get_or, set}
+use Rattle.std.proofs.Common.{Option, Some, None, refl, sym, ap, ◌∙◌, arith}
+use Rattle.std.proofs.lemmas.Option.{none-some}
 use Rattle.ats_num.specs.declared.time.Ps.{Ps}
 use Rattle.ats_group.specs.declared.verdict.Verdict.{Verdict}
 use Rattle.ats_group.specs.declared.verdict.Verdict.TheVariants.{Eligible}
-use Rattle.ats_trace.specs.Journey.{IsSentOrEnds, IsWay, IsReleased}
+use Rattle.ats_trace.specs.Journey.{IsSentOrEnds, IsWay}
 use Rattle.ats_trace.specs.declared.journey.Ending.{Ending}
 use Rattle.ats_trace.specs.declared.journey.Ending.TheVariants.{Sink, Discard}
 use Rattle.ats_trace.specs.declared.journey.HopRecord.{HopRecord}
 use Rattle.ats_trace.specs.declared.journey.Release.{Release}
 use Rattle.ats_run_records.specs.Progress.{no_hop}
-use Rattle.ats_engine_steps.specs.Frames.{IsUnsent, IsSentUntil, IsSent, Goes, Stands, ComesAtRelease}
+use Rattle.ats_engine_steps.specs.Frames.{IsUnsent, IsSentUntil, IsSent, Goes, Stands, HasBegun, BeginsBy}
 use Rattle.ats_engine_steps.specs.Steps.{came}
 
 -- a frame that was sent goes on
@@ -77,12 +78,17 @@ goes-discarded (p ∷ path) (h ∷ hops) hop ends goes =
     sent-onward (IsWay path (hops ++ hop ∷ []) Discard) h (hops ++ hop ∷ []) Discard goes.0
     (goes-discarded path hops hop ends goes.1)
 
--- a record more keeps the first one, or is the first, of a frame that is eligible at its release
-pub released-more : (release : Release) (hops : List HopRecord) (at : Ps) (verdict : Verdict)
-    → ComesAtRelease release hops at → (length hops ≡ 0 → verdict ≡ Eligible at)
-    → IsReleased release (hops ++ came at verdict ∷ [])
-released-more release [] at verdict comes first = (comes, first refl ∙ ap (λ (e : Ps). Eligible e) comes)
-released-more release (hop ∷ hops) at verdict comes first = comes
+-- a record more keeps the first one, or is the first of a trunk, whose frame is eligible at its release
+pub begun-more : (leg : ℕ) (release : Release) (start : Option HopRecord) (hops : List HopRecord) (at : Ps)
+    (verdict : Verdict) → BeginsBy leg release start hops at → (length hops ≡ 0 → verdict ≡ Eligible at)
+    → HasBegun leg release start (hops ++ came at verdict ∷ [])
+begun-more zero release start [] at verdict begins first =
+    (begins, first refl ∙ ap (λ (e : Ps). Eligible e) begins)
+begun-more zero release start (hop ∷ hops) at verdict begins first = begins
+begun-more (suc copy) release (Some start) [] at verdict begins first = absurd begins
+begun-more (suc copy) release (Some start) (hop ∷ hops) at verdict begins first = begins
+begun-more (suc copy) release None [] at verdict begins first = absurd begins
+begun-more (suc copy) release None (hop ∷ hops) at verdict begins first = absurd begins
 
 -- the frame is sent
 abbrev pub sent_hops : List HopRecord → ℕ → Ps → Ps → List HopRecord
@@ -113,11 +119,15 @@ stands-sent path hops start end stands =
     stands-sent-at path hops (length hops - 1) start end (omega arith) stands
 
 -- which leaves its arrivals and verdicts
-pub released-sent : (release : Release) (hops : List HopRecord) (k : ℕ) (start end : Ps) → IsReleased release hops
-    → IsReleased release (sent_hops hops k start end)
-released-sent release [] k start end released = absurd released
-released-sent release (hop ∷ hops) zero start end released = released
-released-sent release (hop ∷ hops) (suc k) start end released = released
+pub begun-sent : (leg : ℕ) (release : Release) (start : Option HopRecord) (hops : List HopRecord) (k : ℕ)
+    (begin end : Ps) → HasBegun leg release start hops → HasBegun leg release start (sent_hops hops k begin end)
+begun-sent zero release start [] k begin end begun = absurd begun
+begun-sent zero release start (hop ∷ hops) zero begin end begun = begun
+begun-sent zero release start (hop ∷ hops) (suc k) begin end begun = begun
+begun-sent (suc copy) release None hops k begin end begun = absurd begun
+begun-sent (suc copy) release (Some start) [] k begin end begun = absurd begun
+begun-sent (suc copy) release (Some start) (hop ∷ hops) zero begin end begun = begun
+begun-sent (suc copy) release (Some start) (hop ∷ hops) (suc k) begin end begun = begun
 
 -- once it was sent by a port that is not its path's last, more ports follow
 pub sent-goes : (path : List ℕ) (hops : List HopRecord) (until : Ps) → Stands (IsSentUntil until) path hops
@@ -142,7 +152,40 @@ sent-way (p ∷ path) (hop ∷ next ∷ hops) until at stands all =
     (sent-way path (next ∷ hops) until at stands.1 (omega arith))
 
 -- a frame that came to a port comes to the next one whenever it arrives there
-pub released-comes : (release : Release) (hops : List HopRecord) (at : Ps) → IsReleased release hops
-    → ComesAtRelease release hops at
-released-comes release [] at released = absurd released
-released-comes release (hop ∷ hops) at released = released
+pub begun-comes : (leg : ℕ) (release : Release) (start : Option HopRecord) (hops : List HopRecord) (at : Ps)
+    → HasBegun leg release start hops → BeginsBy leg release start hops at
+begun-comes zero release start [] at begun = absurd begun
+begun-comes zero release start (hop ∷ hops) at begun = begun
+begun-comes (suc copy) release start hops at begun = begun
+
+-- two records of a frame at a hop have one arrival and one verdict, if there are any
+abbrev pub AreLike : Option HopRecord → Option HopRecord → Type 0
+AreLike None None = Unit {0}
+AreLike (Some a) (Some b) = (a.arrival ≡ b.arrival) × (a.verdict ≡ b.verdict)
+AreLike a b = ⊥
+
+pub like-same : (start : Option HopRecord) → AreLike start start
+like-same None = tt
+like-same (Some a) = (refl, refl)
+
+pub like-none : (start other : Option HopRecord) → AreLike start other → start ≡ None → other ≡ None
+like-none None None like none = refl
+like-none None (Some b) like none = absurd like
+like-none (Some a) None like none = absurd like
+like-none (Some a) (Some b) like none = absurd (none-some a (sym none))
+
+-- a leg has begun by the one where it has by the other
+pub begun-like : (leg : ℕ) (release : Release) (start other : Option HopRecord) (hops : List HopRecord)
+    → AreLike start other → HasBegun leg release start hops → HasBegun leg release other hops
+begun-like zero release start other hops like begun = begun
+begun-like (suc copy) release None other hops like begun = absurd begun
+begun-like (suc copy) release (Some a) None hops like begun = absurd like
+begun-like (suc copy) release (Some a) (Some b) [] like begun = absurd begun
+begun-like (suc copy) release (Some a) (Some b) (hop ∷ hops) like begun = (begun.0 ∙ like.0, begun.1 ∙ like.1)
+
+pub begins-like : (leg : ℕ) (release : Release) (start other : Option HopRecord) (hops : List HopRecord) (at : Ps)
+    → AreLike start other → BeginsBy leg release start hops at → BeginsBy leg release other hops at
+begins-like zero release start other [] at like begins = begins
+begins-like zero release start other (hop ∷ hops) at like begins = begins
+begins-like (suc copy) release start other hops at like begins =
+    begun-like (suc copy) release start other hops like begins

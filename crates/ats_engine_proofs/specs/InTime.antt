@@ -3,7 +3,7 @@ use Rattle.ats_num.specs.declared.time.Ps.{Ps}
 use Rattle.ats_num.specs.declared.time.TheConstants.{END}
 use Rattle.ats_group.specs.declared.verdict.Verdict.{Verdict}
 use Rattle.ats_group.specs.declared.verdict.Verdict.TheVariants.{Eligible, Late, Size}
-use Rattle.ats_trace.specs.Journey.{Travel}
+use Rattle.ats_trace.specs.Journey.{Leg, Travel}
 use Rattle.ats_trace.specs.declared.journey.Ending.{Ending}
 use Rattle.ats_trace.specs.declared.journey.Ending.TheVariants.{Sink, Discard}
 use Rattle.ats_trace.specs.declared.journey.HopRecord.{HopRecord}
@@ -30,11 +30,17 @@ abbrev pub IsEndBefore : ℕ → Ending → Type 0
 IsEndBefore time (Sink at) = at.0 < time
 IsEndBefore time Discard = Unit {0}
 
+-- what happened along a leg was before it
+pub record IsLegBefore (time : ℕ) (leg : Leg) : Type 0 where
+  pub hops : All (IsHopBefore time) leg.hops
+  pub ending : IsEndBefore time leg.ending
+
 -- all that a journey tells was before it
 pub record IsJourneyBefore (time : ℕ) (journey : Travel) : Type 0 where
   pub release : journey.release.at.0 < time
   pub hops : All (IsHopBefore time) journey.hops
   pub ending : IsEndBefore time journey.ending
+  pub copies : All (IsLegBefore time) journey.copies
 
 -- each time that a run tells is before the one that no run reaches
 abbrev pub IsRunInTime : List Travel → Type 0

@@ -24,10 +24,10 @@ pub record IsAfter (now next : Moment) : Type 0 where
   pub time : now.at.0 ≤ next.at.0
   pub phase : now.at.0 ≡ next.at.0 → now.phase < next.phase
 
--- a frame that was sent by the port of its last record arrives behind it at this time, with this verdict
-pub record IsArrival (network : DeclaredNetwork) (frame : ℕ) (progress : Progress) (at : ℕ) (verdict : Verdict)
+-- a frame that was sent by the port of a leg's last record arrives behind it at this time, with this verdict
+pub record IsArrival (network : DeclaredNetwork) (progress : Progress) (at : ℕ) (verdict : Verdict)
     (h : Handed) : Type 0 where
-  pub named : h.crossing.sent.frame ≡ frame
+  pub named : h.crossing.sent.frame ≡ progress.frame
   pub of_sender : h.crossing.sent.sender ≡ progress.release.sender
   pub octets : h.crossing.octets ≡ progress.release.octets
   pub behind : h.crossing.port ≡ place_of network progress
@@ -35,10 +35,11 @@ pub record IsArrival (network : DeclaredNetwork) (frame : ℕ) (progress : Progr
   pub arrives : h.crossing.arrival ≡ at
   pub judged : h.verdict ≡ verdict
 
--- a frame whose transmission by the port of its last record ends at this time crosses it, and arrives behind it at that
-pub record IsCrossing (network : DeclaredNetwork) (frame : ℕ) (progress : Progress) (end at : ℕ) (x : Crossing)
+-- a frame whose transmission by the port of a leg's last record ends at this time crosses it, and arrives behind it at
+-- that
+pub record IsCrossing (network : DeclaredNetwork) (progress : Progress) (end at : ℕ) (x : Crossing)
     : Type 0 where
-  pub named : x.sent.frame ≡ frame
+  pub named : x.sent.frame ≡ progress.frame
   pub behind : x.port ≡ place_of network progress
   pub ends : x.sent.end ≡ end
   pub arrives : x.arrival ≡ at

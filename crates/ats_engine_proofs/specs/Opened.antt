@@ -1,7 +1,6 @@
-use Rattle.std.specs.Prelude.{◌≡◌, ℕ, ◌+◌, ◌<◌, ◌≤◌, List, [], ◌∷◌, length, map, replicate, slice_index}
+use Rattle.std.specs.Prelude.{◌≡◌, ℕ, ◌+◌, ◌<◌, ◌≤◌, List, [], ◌∷◌, ◌++◌, length, map, replicate, slice_index}
 use Rattle.ats_topology.specs.Port.{port_at}
 use Rattle.ats_network.specs.Network.{DeclaredNetwork}
-use Rattle.ats_network.specs.Senders.{sender_at}
 use Rattle.ats_group.specs.GroupsState as groups_states
 use Rattle.ats_schedulers.specs.Schedulers.{residences_of, members_of}
 use Rattle.ats_transmit.specs.State as states
@@ -13,7 +12,8 @@ use Rattle.ats_engine_steps.specs.Entries.{arrival_moment}
 use Rattle.ats_engine_steps.specs.Ports.{port_state_at, room_of}
 use Rattle.ats_engine_steps.specs.declared.event.Event.{Event}
 use Rattle.ats_engine_steps.specs.declared.event.Event.TheVariants.{Arrival}
-use Rattle.ats_engine_steps.specs.declared.stage.Stage.TheVariants.{Coming}
+use Rattle.ats_engine_steps.specs.declared.stage.Stage.{Stage}
+use Rattle.ats_engine_steps.specs.declared.stage.Stage.TheVariants.{Apart, Coming}
 use Rattle.ats_engine_steps.specs.declared.turn.Turn.TheVariants.{Resting}
 
 -- the arrivals of frames at their own stations, numbered from this number on: each at its release
@@ -21,22 +21,26 @@ abbrev pub released_from : ℕ → List Release → List (Moment × Event)
 released_from frame [] = []
 released_from frame (r ∷ releases) = (arrival_moment frame r.at, Arrival frame) ∷ released_from (frame + 1) releases
 
--- how many hop records each frame may get: one for each of its sender's ports
-abbrev pub rooms_of : DeclaredNetwork → List Release → List ℕ
-rooms_of network releases = map (λ (r : Release). length (sender_at network r.sender).ports) releases
+-- how far frames with these releases are then: each comes to the first port of its trunk when it is released, and has
+-- not come to where its branches begin
+abbrev pub stages_of : DeclaredNetwork → List Release → List Stage
+stages_of network releases =
+    map (λ (r : Release). Coming r.at) releases
+    ++ replicate (length (progress.copies_opened network 0 releases)) Apart
 
 -- a port that was just opened, with room for all frames that pass it
 pub record IsFresh {T : Type 0} (network : DeclaredNetwork) (course : Course T) (port : ℕ) : Type 0 where
   pub rooms : List ℕ
   pub fresh : port_state_at course port
       ≡ states.opened (port_at network.topology.ports port).ps_per_bit rooms course.tie
-  pub each : (class : ℕ) → class ≤ 7 → slice_index rooms class ≡ room_of network course.records port class
+  pub each : (class : ℕ) → class ≤ 7 → slice_index rooms class ≡ room_of network course port class
 
 -- a run in which nothing has happened yet
 pub record IsOpened {T : Type 0} (network : DeclaredNetwork) (releases : List Release) (course : Course T)
     : Type 0 where
-  pub stages : course.stages ≡ map (λ (r : Release). Coming r.at) releases
-  pub records : course.records ≡ progress.opened releases (rooms_of network releases)
+  pub stages : course.stages ≡ stages_of network releases
+  pub records : course.records ≡ (progress.opened network releases).legs
+  pub firsts : course.firsts ≡ (progress.opened network releases).firsts
   pub count : length course.ports ≡ length network.topology.ports
   pub ports : (port : ℕ) → port < length network.topology.ports → IsFresh network course port
   pub turns : course.turns ≡ replicate (length network.topology.ports) Resting
