@@ -1,17 +1,23 @@
-use Rattle.std.proofs.Common.{◌≡◌, ℕ, ◌+◌, ◌*◌, ◌<◌, ◌≤◌, Bool, true, false, List, length, get_or, set, take, All}
+use Rattle.std.proofs.Common.{◌≡◌, ℕ, zero, suc, ◌+◌, ◌*◌, ◌<◌, ◌≤◌, Bool, true, false, List, length, get_or, set, take}
+use Rattle.std.proofs.Common.{All}
 use Rattle.std.proofs.Common.{refl, sym, ap, ◌∙◌, subst, inl, inr, arith, add-zero}
-use Rattle.std.specs.Prelude.{◌≢◌, ◌==◌, ◌&&◌, ◌||◌, cond, AllPairs}
-use Rattle.std.specs.List.{list_any}
+use Rattle.std.specs.Prelude.{◌≢◌, ◌==◌, ◌&&◌, ◌||◌, ◌^◌, cond, AllPairs, sum_by}
+use Rattle.std.specs.List.{list_any, range_with_len}
 use Rattle.std.proofs.Math.ListN.{length-set}
 use Rattle.std.proofs.lemmas.Bool.{cases_eq, eq-eqb, ne_eqb}
 use Rattle.std.proofs.lemmas.List.{get_or_default, get_or-set_same, get_or-set_other}
 use Rattle.std.proofs.lemmas.List.{get_or-take, length-take-le}
 use Rattle.std.proofs.lemmas.List.Elements.{All-get_or}
 use Rattle.std.proofs.lemmas.List.Folds.{list_any_more, list_any_none}
+use Rattle.std.proofs.lemmas.List.Sums.{sum_by-cons}
 use Rattle.ats_network.proofs.SenderLemmas.{each_is_sender}
 use Rattle.ats_network.specs.Class.{class_at}
 use Rattle.ats_network.specs.Network.{DeclaredNetwork, IsNetwork, senders_of}
 use Rattle.ats_network.specs.Senders.{IsSender, sender_at, no_sender}
+use Rattle.ats_trace.specs.Journey.{legs_at}
+use Rattle.ats_trace.specs.declared.journey.Release.{Release}
+use Rattle.ats_run_records.specs.Progress.{copies_count}
+use Rattle.ats_run_records.proofs.Counts.{IsCounted, frame-counted, ports_along}
 use Rattle.ats_engine.specs.Rooms.{CountsOver, count_in, goes_over}
 
 -- a sender of a network keeps a sender's rules
@@ -20,7 +26,7 @@ pub sender-kept : (network : DeclaredNetwork) (sender : ℕ) → IsNetwork netwo
 sender-kept network sender rules within =
     All-get_or (IsSender network.topology) (senders_of network) sender no_sender within (each_is_sender network rules)
 
--- the port at a place of a path of different ports is none of those before it
+-- the port at a place of different ports is none of those before it
 not-before : (path : List ℕ) (hop : ℕ) → AllPairs (λ p q. p ≢ q) path → hop < length path
     → list_any (λ p. p == get_or path hop 0) (take hop path) ≡ false
 not-before path hop apart within =
@@ -50,14 +56,14 @@ added-no n b fails = ap (λ (x : Bool). n + cond x 1 0) fails ∙ add-zero n
 added-yes : (n : ℕ) (b : Bool) → b ≡ true → n + cond b 1 0 ≡ n + 1
 added-yes n b holds = ap (λ (x : Bool). n + cond x 1 0) holds
 
--- the port at this place of a path of different ports is one of the network, and this is a class
+-- the port at this place of different ports is one of the network, and this is a class
 pub record IsAtHop (network : DeclaredNetwork) (path : List ℕ) (hop class : ℕ) : Type 0 where
   pub within : hop < length path
   pub port : get_or path hop 0 < length network.topology.ports
   pub low : class ≤ 7
   pub apart : AllPairs (λ p q. p ≢ q) path
 
--- so it is on a sender's path, with the sender's class
+-- so it is one of a sender's ports, with the sender's class
 pub at-hop : {network : DeclaredNetwork} {sender hop : ℕ} {path : List ℕ} {class : ℕ} → IsNetwork network
     → sender < length (senders_of network) → path ≡ (sender_at network sender).ports → hop < length path
     → class ≡ get_or (sender_at network sender).classes hop 0 → IsAtHop network path hop class
@@ -138,3 +144,29 @@ counts-more {network} {sender} {hop} {path} {old} {now} {class} at here fits cou
             (more port ∙ or-no (before port) (p == port) (ne_eqb p port (λ e. differ (sym e)))))
       ];
     }
+
+-- a sender has so few ports that each of their places fits 32 bits
+most-ports : (f : ℕ → ℕ) (at n : ℕ) → ((i : ℕ) → i < at + n → f i ≤ 16) → sum_by f (range_with_len at n) ≤ 16 * n
+most-ports f at zero each = omega arith
+most-ports f at (suc n) each =
+    omega (
+      arith,
+      sum_by-cons f at (range_with_len (at + 1) n),
+      each at (omega arith),
+      most-ports f (at + 1) n (λ i h. each i (omega arith)),
+    )
+
+pub ports-few : (network : DeclaredNetwork) (sender : ℕ) (ports : List ℕ) → IsNetwork network
+    → sender < length (senders_of network) → ports ≡ (sender_at network sender).ports → length ports < 2 ^ 32
+ports-few network sender ports rules within is =
+    let r : Release = record { at = record { 0 = 0 }; sender = sender; octets = 0 } in
+    let counted : IsCounted network r = frame-counted network r rules within in
+    omega (
+      arith,
+      ap (λ (l : List ℕ). length l) is,
+      counted.rooms,
+      counted.few,
+      counted.most 0 (omega arith),
+      most-ports (ports_along (legs_at network sender)) 1 (copies_count network r)
+          (λ leg h. counted.most leg (omega arith)),
+    )

@@ -19,6 +19,8 @@ use Rattle.ats_engine.specs.Entering.{MayEnter, Enters}
 use Rattle.ats_engine.specs.Ready.{IsAtEvent, Goes, releases_in}
 use Rattle.ats_engine_proofs.proofs.Entries.{before-is-reached, holds-permuted, moments-apart, moments-in-range}
 use Rattle.ats_engine_proofs.proofs.Entries.{room-for-all}
+use Rattle.ats_engine_proofs.proofs.Rows.{rows-all}
+use Rattle.ats_engine.proofs.Released.{released as releases-are}
 use Rattle.ats_engine.proofs.Telling.{events-told}
 use Rattle.ats_engine.specs.declared.runner.Runner.{Runner}
 
@@ -63,7 +65,7 @@ may-enter {T} {O} {P} {key} {wait} {before} {runner} {agenda} {now} {event} {new
     (moments-in-range at.ready.holds) in
     let there = all_left (λ (x : Moment × Event). IsInRange x.0) more agenda.entries (moments-in-range holds) in
     record {
-      room = omega (arith, room-for-all holds, at.ready.room);
+      room = omega (arith, room-for-all holds, at.ready.room, rows-all holds.shape, rows-all at.ready.holds.shape);
       apart = moments-apart holds;
       after = λ k d within. (let x : Moment × Event = get_or more k d in
           let later = before-if-after (before agenda.order) (timed agenda.order) now x.0 here (there k d within)
@@ -82,7 +84,9 @@ pub goes : {T O P : Type 0} {key : T → ℕ → ℕ → ℕ} {wait : P → ℕ 
     → steps_left (course_of state) < steps_left (course_of runner.state) → state.tie ≡ runner.state.tie
     → Enters agenda after more → Goes key wait runner (record runner { state = state }) agenda after
 goes {T} {O} {P} {key} {wait} {before} {runner} {agenda} {after} state at holds less tie enters =
-    let released = holds.shape.released in
+    let released : releases_in state.records ≡ releases_in runner.state.records = releases-are holds.shape in
+    let rows : length runner.state.records.legs ≡ length state.records.legs =
+    rows-all at.ready.holds.shape ∙ sym (rows-all holds.shape) in
     record {
       left = less;
       ready = record {
@@ -90,7 +94,7 @@ goes {T} {O} {P} {key} {wait} {before} {runner} {agenda} {after} state at holds 
             after.entries) (sym released) (holds-permuted enters.entries holds);
         schedulers = at.ready.schedulers;
         room = enters.capacity ∙ at.ready.room
-            ∙ ap (λ (rs : List Release). length rs + length runner.network.now.topology.ports) (sym released);
+            ∙ ap (λ (n : ℕ). n + length runner.network.now.topology.ports) rows;
       };
       follows = record { network = refl; releases = released; tie = tie; pace = refl };
       capacity = enters.capacity;

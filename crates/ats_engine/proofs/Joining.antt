@@ -4,6 +4,7 @@ use Rattle.std.specs.Prelude.{◌≢◌, AllPairs}
 use Rattle.std.specs.Option.{ForSome, option_to_list}
 use Rattle.std.proofs.lemmas.List.Elements.{All-head, All-weaker}
 use Rattle.std.proofs.lemmas.List.Sorted.{length_permutation, IsPermutation-append_right, IsPermutation-trans}
+use Rattle.std.proofs.lemmas.List.Sorted.{All-permutation, IsPermutation-append_comm, IsPermutation-append_left}
 use Rattle.ats_facts.proofs.Lists.{all_left, all_right, pairs_head, pairs_tail}
 use Rattle.ats_facts.proofs.Pairs.{AllPairs-permutation}
 use Rattle.ats_events.specs.Contents.{Contents}
@@ -92,3 +93,55 @@ pub after-first : {O : Type 0} {before : O → Moment → Moment → Type 0} {ag
     → ForSome agenda.last (λ last. before agenda.order last entry.0)
 after-first {O} {before} {agenda} {entry} may =
     All-head (λ (x : Moment × Event). ForSome agenda.last (λ last. before agenda.order last x.0)) entry [] may.after
+
+-- in whichever order
+may-enter-permuted : {O : Type 0} {before : O → Moment → Moment → Type 0} {agenda : Contents O Event}
+    (one other : List (Moment × Event)) → IsPermutation one other → MayEnter before agenda one
+    → MayEnter before agenda other
+may-enter-permuted {O} {before} {agenda} one other moved may =
+    let all = IsPermutation-append_left agenda.entries one other moved in
+    record {
+      room = omega (
+        arith,
+        may.room,
+        length_permutation (one ++ agenda.entries) (other ++ agenda.entries) all,
+      );
+      apart = AllPairs-permutation (λ (x y : Moment × Event). x.0 ≢ y.0) (λ x y apart back. apart (sym back))
+          (one ++ agenda.entries) (other ++ agenda.entries) all may.apart;
+      after = All-permutation (λ (x : Moment × Event). ForSome agenda.last (λ last. before agenda.order last x.0)) one
+          other moved may.after;
+      told = All-permutation (λ (x : Moment × Event). event_of x.0 ≡ x.1) one other moved may.told;
+    }
+
+-- the first part of entries may be put in
+pub may-enter-first : {O : Type 0} {before : O → Moment → Moment → Type 0} {agenda : Contents O Event}
+    (one other : List (Moment × Event)) → MayEnter before agenda (one ++ other) → MayEnter before agenda one
+may-enter-first one other may =
+    may-enter-later other (may-enter-permuted (one ++ other) (other ++ one) (IsPermutation-append_comm one other) may)
+
+-- and, when the ones before it are in, the next one
+pub may-enter-next : {O : Type 0} {before : O → Moment → Moment → Type 0} {agenda next : Contents O Event}
+    (front : List (Moment × Event)) (entry : Moment × Event) (others : List (Moment × Event))
+    → MayEnter before agenda (front ++ entry ∷ others) → Enters agenda next front
+    → MayEnter before next (entry ∷ [])
+may-enter-next {O} {before} {agenda} {next} front entry others may enters =
+    may-enter-first (entry ∷ []) others
+    (may-enter-earlier {one = entry ∷ others} {other = front}
+    (may-enter-permuted (front ++ entry ∷ others) ((entry ∷ others) ++ front)
+    (IsPermutation-append_comm front (entry ∷ others)) may) enters)
+
+-- which is put in behind them
+pub enters-next : {O : Type 0} {agenda next new : Contents O Event} (front : List (Moment × Event))
+    (entry : Moment × Event) → Enters agenda next front → Enters next new (entry ∷ [])
+    → Enters agenda new (front ++ entry ∷ [])
+enters-next {O} {agenda} {next} {new} front entry first second =
+    let both : Enters agenda new ((entry ∷ []) ++ front) = enters-both first second in
+    record {
+      entries = IsPermutation-trans ((front ++ entry ∷ []) ++ agenda.entries) ((entry ∷ front) ++ agenda.entries)
+          new.entries
+          (IsPermutation-append_left agenda.entries (front ++ entry ∷ []) (entry ∷ front)
+          (IsPermutation-append_comm front (entry ∷ []))) both.entries;
+      last = both.last;
+      capacity = both.capacity;
+      order = both.order;
+    }

@@ -1,7 +1,10 @@
+pub mod Coming
 pub mod Concluding
 pub mod Counting
+pub mod Dues
 pub mod Going
 pub mod Joining
+pub mod Released
 pub mod Releasing
 pub mod Starting
 pub mod Telling

@@ -1,5 +1,5 @@
 use Rattle.std.proofs.Common.{◌≡◌, ℕ, suc, ◌+◌, ◌<◌, List, [], ◌∷◌, ◌++◌, length, get_or, take, All, IsPermutation}
-use Rattle.std.proofs.Common.{refl, sym, ap, ◌∙◌, subst, arith, add-zero}
+use Rattle.std.proofs.Common.{refl, sym, ap, ◌∙◌, subst, arith, add-zero, length-append}
 use Rattle.std.specs.Prelude.{◌≢◌}
 use Rattle.std.specs.Option.{ForSome}
 use Rattle.std.proofs.lemmas.List.{length-take-le, take_more}
@@ -11,6 +11,8 @@ use Rattle.ats_events.specs.Contents.{Contents}
 use Rattle.ats_events.specs.Steps.{Inserts}
 use Rattle.ats_events.specs.declared.moment.Moment.{Moment}
 use Rattle.ats_trace.specs.declared.journey.Release.{Release}
+use Rattle.ats_run_records.specs.Progress.{copies_opened, trunks_opened}
+use Rattle.ats_run_records.proofs.AllCounts.{length-trunks}
 use Rattle.ats_engine_steps.specs.Entries.{arrival_moment}
 use Rattle.ats_engine_steps.specs.declared.event.Event.{Event}
 use Rattle.ats_engine_steps.specs.declared.event.Event.TheVariants.{Arrival}
@@ -64,6 +66,8 @@ released-room network releases order n agenda within are =
       length-released 0 (take n releases),
       length-take-le n releases (omega arith),
       are.capacity,
+      length-append (trunks_opened network 0 releases) (copies_opened network 0 releases),
+      length-trunks network 0 releases,
     )
 
 -- which has another moment

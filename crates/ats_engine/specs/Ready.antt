@@ -1,17 +1,17 @@
-use Rattle.std.specs.Prelude.{◌≡◌, ℕ, ◌+◌, ◌<◌, List, ◌∷◌, length, map, Some, All}
+use Rattle.std.specs.Prelude.{◌≡◌, ℕ, ◌+◌, ◌<◌, List, ◌∷◌, length, map, take, Some, All}
 use Rattle.ats_events.specs.Contents.{Contents}
 use Rattle.ats_events.specs.declared.moment.Moment.{Moment}
 use Rattle.ats_trace.specs.declared.journey.Release.{Release}
-use Rattle.ats_run_records.specs.Progress.{Progress}
+use Rattle.ats_run_records.specs.Progress.{Ledger, Progress}
 use Rattle.ats_engine_steps.specs.Bounds.{steps_left}
 use Rattle.ats_engine_steps.specs.Invariant.{Holds}
 use Rattle.ats_engine_steps.specs.Seen.{course_of}
 use Rattle.ats_engine_steps.specs.declared.event.Event.{Event}
 use Rattle.ats_engine.specs.declared.runner.Runner.{Runner}
 
--- the releases of a run's frames
-abbrev pub releases_in : List Progress → List Release
-releases_in records = map (λ (p : Progress). p.release) records
+-- the releases of a run's frames: those of the rows of their trunks
+abbrev pub releases_in : Ledger → List Release
+releases_in records = map (λ (p : Progress). p.release) (take (length records.firsts) records.legs)
 
 -- what holds between two events, where the agenda has these entries and this capacity
 pub record IsReady {T P : Type 0} (key : T → ℕ → ℕ → ℕ) (wait : P → ℕ → ℕ → ℕ) (runner : Runner T P)
@@ -19,7 +19,7 @@ pub record IsReady {T P : Type 0} (key : T → ℕ → ℕ → ℕ) (wait : P �
   pub holds : Holds key (wait runner.pace) runner.network.now (releases_in runner.state.records)
       (course_of runner.state) entries
   pub schedulers : runner.schedulers ≡ runner.network.now
-  pub room : capacity ≡ length (releases_in runner.state.records) + length runner.network.now.topology.ports
+  pub room : capacity ≡ length runner.state.records.legs + length runner.network.now.topology.ports
 
 -- what holds at an event, whose entry was popped
 pub record IsAtEvent {T O P : Type 0} (key : T → ℕ → ℕ → ℕ) (wait : P → ℕ → ℕ → ℕ)

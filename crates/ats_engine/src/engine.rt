@@ -2,8 +2,7 @@
 
 ghost use Rattle.std.specs.Prelude.{◌≡◌, IfOk};
 ghost use Rattle.ats_engine_proofs.specs.InTime.{IsRunInTime};
-ghost use Rattle.ats_network.specs.Network.{HasOneListener};
-ghost use Rattle.ats_trace.specs.Releases.{AreReleases};
+ghost use Rattle.ats_trace.specs.Releases.{AreReleases, HaveFewPorts};
 ghost use Rattle.ats_trace.specs.Run.{IsRunBy, HasReleases};
 
 use crate::opening::{agenda_of, state_of};
@@ -39,9 +38,10 @@ impl<'a, T: Tie, O: TimeOrder, P: Pace> Model for Engine<'a, T, O, P> {
 }
 
 impl<'a, T: Tie, O: TimeOrder, P: Pace> Engine<'a, T, O, P> {
-    /// A run of the network, in which each stream has one listener, for these releases, by frame number: at most
-    /// 200,000, in the order of their times, which are in picoseconds and at most 100,000 s, each of a sender of the
-    /// network and of 64 to 2000 octets. All memory of the run is taken here. `AllocError` where it runs out.
+    /// A run of the network for these releases, by frame number: at most 200,000, in the order of their times, which
+    /// are in picoseconds and at most 100,000 s, each of a sender of the network and of 64 to 2000 octets; and the
+    /// ports of the frames are together at most 3,200,000. All memory of the run is taken here. `AllocError` where it
+    /// runs out.
     pub fn open(
         alloc: Global,
         net: &'a Network,
@@ -50,8 +50,8 @@ impl<'a, T: Tie, O: TimeOrder, P: Pace> Engine<'a, T, O, P> {
         order: O,
         pace: P,
     ) -> Result<Self, AllocError>
-        requires one_listener { HasOneListener net.now }
         requires releases { AreReleases net.now releases.now }
+        requires few_ports { HaveFewPorts net.now releases.now }
         ensures { IfOk result (λ engine. engine ≡ record {
           network = net.now;
           releases = releases.now;
@@ -62,7 +62,7 @@ impl<'a, T: Tie, O: TimeOrder, P: Pace> Engine<'a, T, O, P> {
     {
         let schedulers = Schedulers::new(alloc, net)?;
         let state = state_of(alloc, net, &schedulers, releases, tie)?;
-        let agenda = agenda_of(alloc, net, releases, order)?;
+        let agenda = agenda_of(alloc, net, releases, state.records.len(), order)?;
         let runner = Runner {
             network: net,
             schedulers,

@@ -1,10 +1,9 @@
-//! How many frames each port may be offered, and how many hop records each frame may get.
+//! How many frames each port may be offered.
 
 ghost use Rattle.std.specs.Prelude.{◌≡◌, ◌+◌, ◌*◌, ◌<◌, ◌≤◌, length, IfOk};
-ghost use Rattle.ats_network.specs.Network.{HasOneListener, senders_of};
+ghost use Rattle.ats_network.specs.Network.{senders_of};
 ghost use Rattle.ats_trace.specs.declared.run.TheConstants.{MAX_FRAMES};
 ghost use Rattle.ats_trace.specs.Releases.{AreReleases};
-ghost use Rattle.ats_engine_proofs.specs.Opened.{rooms_of};
 ghost use Rattle.ats_engine.specs.Rooms.{AreCounts, Counts, AreBelow, rooms_at};
 
 use ats_network::Network;
@@ -14,34 +13,16 @@ use std::alloc::{AllocError, Global};
 /// The number of classes of a port.
 pub(crate) const CLASSES: usize = 8;
 
-/// How many hop records each frame may get: one for each of its sender's ports.
-pub(crate) fn rooms_of(
-    alloc: Global,
-    net: &Network,
-    releases: &[Release],
-) -> Result<Vec<u32>, AllocError>
-    requires one_listener { HasOneListener net.now }
-    requires releases { AreReleases net.now releases.now }
-    ensures { IfOk result (λ rooms. rooms.items ≡ rooms_of net.now releases.now) }
-{
-    let mut rooms = Vec::with_capacity(alloc, releases.len())?;
-    for release in releases {
-        rooms.push(net.sender_ports(release.sender).len() as u32)?;
-    }
-    Ok(rooms)
-}
-
 /// Counts a sender's frame at each of its ports, in its class there. The count of a class at a
 /// port stands at eight times the port's number, and the class.
 fn count(net: &Network, sender: u32, counts: &mut Vec<u32>)
-    requires one_listener { HasOneListener net.now }
     requires sender { sender < length (senders_of net.now) }
     requires below { AreBelow net.now counts.old.items }
     ensures { Counts net.now sender counts.old.items counts.new.items }
 {
-    let path = net.sender_ports(sender);
-    for (hop, port) in path.iter().enumerate() {
-        let class = net.sender_class(sender, hop as u32);
+    let ports = net.sender_ports(sender);
+    for (at, port) in ports.iter().enumerate() {
+        let class = net.sender_class(sender, at as u32);
         let place = CLASSES * *port as usize + class as usize;
         counts[place] += 1;
     }
@@ -53,7 +34,6 @@ pub(crate) fn counts_of(
     net: &Network,
     releases: &[Release],
 ) -> Result<Vec<u32>, AllocError>
-    requires one_listener { HasOneListener net.now }
     requires releases { AreReleases net.now releases.now }
     ensures { IfOk result (λ counts. AreCounts net.now releases.now counts.items) }
 {

@@ -9,7 +9,7 @@ ghost use Rattle.ats_engine.specs.Ready.{IsReady, IsAtEvent, Goes, Follows};
 ghost use Rattle.ats_engine.specs.Told.{told, agenda_told};
 ghost use Rattle.ats_engine.specs.Following.{follows-itself, follows-both, ready-permuted};
 
-use crate::entering::{enter, enter_both};
+use crate::entering::{enter, enter_both, enter_due};
 use ats_engine_steps::{Event, State, become_eligible, come, end, select};
 use ats_events::{Actor, Agenda, Moment, TimeOrder};
 use ats_network::Network;
@@ -26,21 +26,24 @@ pub(crate) struct Runner<'a, T: Tie, P: Pace> {
 }
 
 impl<'a, T: Tie, P: Pace> Runner<'a, T, P> {
-    /// A frame comes to the next port of its path.
-    fn come<O: TimeOrder>(&mut self, now: Moment, frame: u32, agenda: &mut Agenda<O, ()>)
-        requires { IsAtEvent T.key P.wait O.before self.old (agenda_told agenda.old) now (Arrival frame) }
+    /// A frame comes to the next port of a leg.
+    fn come<O: TimeOrder>(&mut self, now: Moment, row: u32, agenda: &mut Agenda<O, ()>)
+        requires { IsAtEvent T.key P.wait O.before self.old (agenda_told agenda.old) now (Arrival row) }
         ensures { Goes T.key P.wait self.old self.new (agenda_told agenda.old) (agenda_told agenda.new) }
     {
-        let entry = come(self.network, &self.schedulers, &mut self.state, now, frame);
-        enter(agenda, entry);
+        let hop = self.state.records.hops_of(row).len() as u32;
+        let due = come(self.network, &self.schedulers, &mut self.state, now, row);
+        if let Some(at) = due {
+            enter_due(agenda, self.network, &self.state.records, row, hop, at);
+        }
     }
 
-    /// A frame becomes eligible.
-    fn become_eligible<O: TimeOrder>(&mut self, now: Moment, frame: u32, agenda: &mut Agenda<O, ()>)
-        requires { IsAtEvent T.key P.wait O.before self.old (agenda_told agenda.old) now (Eligibility frame) }
+    /// A frame becomes eligible along a leg.
+    fn become_eligible<O: TimeOrder>(&mut self, now: Moment, row: u32, agenda: &mut Agenda<O, ()>)
+        requires { IsAtEvent T.key P.wait O.before self.old (agenda_told agenda.old) now (Eligibility row) }
         ensures { Goes T.key P.wait self.old self.new (agenda_told agenda.old) (agenda_told agenda.new) }
     {
-        let entry = become_eligible(self.network, &mut self.state, now, frame);
+        let entry = become_eligible(self.network, &mut self.state, now, row);
         enter(agenda, entry);
     }
 
@@ -49,16 +52,16 @@ impl<'a, T: Tie, P: Pace> Runner<'a, T, P> {
         requires { IsAtEvent T.key P.wait O.before self.old (agenda_told agenda.old) now (Selection port) }
         ensures { Goes T.key P.wait self.old self.new (agenda_told agenda.old) (agenda_told agenda.new) }
     {
-        let entry = select(&mut self.state, now, port);
+        let entry = select(self.network, &mut self.state, now, port);
         enter(agenda, Some(entry));
     }
 
     /// A transmission ends.
-    fn end<O: TimeOrder>(&mut self, now: Moment, frame: u32, agenda: &mut Agenda<O, ()>)
-        requires { IsAtEvent T.key P.wait O.before self.old (agenda_told agenda.old) now (End frame) }
+    fn end<O: TimeOrder>(&mut self, now: Moment, row: u32, agenda: &mut Agenda<O, ()>)
+        requires { IsAtEvent T.key P.wait O.before self.old (agenda_told agenda.old) now (End row) }
         ensures { Goes T.key P.wait self.old self.new (agenda_told agenda.old) (agenda_told agenda.new) }
     {
-        let (arrival, selection) = end(self.network, &mut self.state, &self.pace, now, frame);
+        let (arrival, selection) = end(self.network, &mut self.state, &self.pace, now, row);
         enter_both(agenda, arrival, selection);
     }
 }
@@ -75,9 +78,9 @@ impl<'a, T: Tie, O: TimeOrder, P: Pace> Actor<O> for Runner<'a, T, P> {
 
     fn handle(&mut self, moment: Moment, _event: (), agenda: &mut Agenda<O, ()>) {
         match Event::of(moment) {
-            Event::End(frame) => self.end(moment, frame, agenda),
-            Event::Arrival(frame) => self.come(moment, frame, agenda),
-            Event::Eligibility(frame) => self.become_eligible(moment, frame, agenda),
+            Event::End(row) => self.end(moment, row, agenda),
+            Event::Arrival(row) => self.come(moment, row, agenda),
+            Event::Eligibility(row) => self.become_eligible(moment, row, agenda),
             Event::Selection(port) => self.select(moment, port, agenda),
         }
     }

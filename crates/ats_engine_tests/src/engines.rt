@@ -1,11 +1,12 @@
-//! Runs of the engine: of two frames in three orders, and of a thousand over eight bridges.
+//! Runs of the engine: of two frames in three orders, and of a thousand over eight bridges and over a fork.
 
-ghost use Rattle.ats_network.specs.Network.{HasOneListener};
-ghost use Rattle.ats_trace.specs.Releases.{AreReleases};
+ghost use Rattle.std.specs.Prelude.{◌<◌, length};
+ghost use Rattle.ats_trace.specs.Releases.{AreReleases, HaveFewPorts};
 
 use ats_engine::Engine;
 use ats_events::{Down, Scrambled, TimeOrder, Up};
 use ats_fixtures::lines::{long_line, pair};
+use ats_fixtures::trees::fork;
 use ats_gen::schedule;
 use ats_network::Network;
 use ats_num::{Drawn, Early, Greatest, Late, Least, Mixed, Pace, Ps, Tie};
@@ -19,7 +20,8 @@ const BOTH: &[u8] = b"at_ps,sender,octets\n0,a,64\n0,b,64\n";
 
 // The releases of a schedule.
 fn released(rt: &(impl Abort + AllocGlobal), network: &Network) -> Vec<Release>
-    ensures { AreReleases network.now result.items }
+    ensures releases { AreReleases network.now result.items }
+    ensures few_ports { HaveFewPorts network.now result.items }
 {
     match read_schedule(rt.alloc(), BOTH, network) {
         Ok(releases) => releases,
@@ -29,7 +31,8 @@ fn released(rt: &(impl Abort + AllocGlobal), network: &Network) -> Vec<Release>
 
 // The first thousand releases from a seed.
 fn made(rt: &(impl Abort + AllocGlobal), network: &Network) -> Vec<Release>
-    ensures { AreReleases network.now result.items }
+    ensures releases { AreReleases network.now result.items }
+    ensures few_ports { HaveFewPorts network.now result.items }
 {
     match schedule(rt.alloc(), network, 1, 1000) {
         Ok(releases) => releases,
@@ -46,8 +49,8 @@ fn run_by<T: Tie, O: TimeOrder, P: Pace>(
     order: O,
     pace: P,
 ) -> Run
-    requires one_listener { HasOneListener network.now }
     requires releases { AreReleases network.now releases.now }
+    requires few_ports { HaveFewPorts network.now releases.now }
 {
     Engine::open(rt.alloc(), network, releases, tie, order, pace)
         .expect(rt, "room")
@@ -77,18 +80,32 @@ fn runs_two_frames_in_three_orders(rt: HostRuntime) {
     assert!(rt; arrive_at(&run, 3_216_001, 2_544_000));
 }
 
-// Whether so many frames went through nine ports each and reached their listener.
-fn are_all_there(run: &Run, frames: usize) -> bool {
-    for frame in 0..run.len() as u32 {
-        if run.hops_of(frame).len() != 9 {
+// Whether a frame has a leg for each of these numbers, went through so many ports along it, and arrived.
+fn is_there(run: &Run, frame: u32, ports: &[usize]) -> bool
+    requires { frame < length run.now }
+{
+    if run.legs(frame) as usize != ports.len() {
+        return false;
+    }
+    for (leg, count) in ports.iter().enumerate() {
+        if run.hops_of(frame, leg as u32).len() != *count {
+            return false;
+        }
+        if run.ending_of(frame, leg as u32) == Ending::Discard {
             return false;
         }
     }
-    let is_sunk = |ending: Ending| match ending {
-        Ending::Sink(_) => true,
-        Ending::Discard => false,
-    };
-    run.len() == frames && run.journeys().iter().all(|journey| is_sunk(journey.ending))
+    true
+}
+
+// Whether there are so many frames, and each went through so many ports along each of its legs, and arrived.
+fn are_all_there(run: &Run, frames: usize, ports: &[usize]) -> bool {
+    for frame in 0..run.len() as u32 {
+        if !is_there(run, frame, ports) {
+            return false;
+        }
+    }
+    run.len() == frames
 }
 
 #[test]
@@ -98,5 +115,15 @@ fn runs_a_thousand_frames_over_eight_bridges(rt: HostRuntime) {
     };
     let releases = made(&rt, &network);
     let run = run_by(&rt, &network, &releases, Mixed(7), Scrambled(7), Drawn(7));
-    assert!(rt; are_all_there(&run, 1000));
+    assert!(rt; are_all_there(&run, 1000, &[9]));
+}
+
+#[test]
+fn runs_a_thousand_frames_over_a_fork(rt: HostRuntime) {
+    let Some(network) = fork(rt.alloc()) else {
+        panic!(rt; "no network");
+    };
+    let releases = made(&rt, &network);
+    let run = run_by(&rt, &network, &releases, Mixed(7), Scrambled(7), Drawn(7));
+    assert!(rt; are_all_there(&run, 1000, &[2, 1]));
 }

@@ -4,3 +4,5 @@
 
 #[cfg(test)]
 mod engines;
+#[cfg(test)]
+mod trees;

@@ -1,8 +1,5 @@
 //! Networks of one line, read from their files.
 
-ghost use Rattle.std.specs.Prelude.{IfSome};
-ghost use Rattle.ats_network.specs.Network.{HasOneListener};
-
 use ats_network::Network;
 use ats_network_file::read_network;
 use std::alloc::Global;
@@ -49,23 +46,17 @@ const LONG_LINE: &[u8] = b"format = 1\n[[station]]\nname = \"s1\"\n[[station]]\n
     burst_bits = 12336\nmin_octets = 64\nmax_octets = 1522\n";
 
 /// s1 - b1 - s2 with a stream `a` of class 6 and a flow `f` from s1 to s2. `None` where memory runs out.
-pub fn line(alloc: Global) -> Option<Network>
-    ensures { IfSome result HasOneListener }
-{
+pub fn line(alloc: Global) -> Option<Network> {
     read_network(alloc, LINE).ok()
 }
 
 /// s1 - b1 - s2 with streams `a` and `b` of class 6 from s1 to s2, and a bridge that takes 200 to 1000 ns for a frame.
 /// `None` where memory runs out.
-pub fn pair(alloc: Global) -> Option<Network>
-    ensures { IfSome result HasOneListener }
-{
+pub fn pair(alloc: Global) -> Option<Network> {
     read_network(alloc, PAIR).ok()
 }
 
 /// s1 - b1 - b2 - .. - b8 - s2 with streams `a` and `b` from s1 to s2. `None` where memory runs out.
-pub fn long_line(alloc: Global) -> Option<Network>
-    ensures { IfSome result HasOneListener }
-{
+pub fn long_line(alloc: Global) -> Option<Network> {
     read_network(alloc, LONG_LINE).ok()
 }

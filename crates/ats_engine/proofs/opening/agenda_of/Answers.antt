@@ -1,8 +1,10 @@
-use Rattle.std.proofs.Common.{refl, ap, arith}
+use Rattle.std.proofs.Common.{List, length, refl, ap, arith}
 use Rattle.std.proofs.lemmas.List.{length-map}
 use Rattle.ats_events.specs.declared.moment.Moment.{Moment}
 use Rattle.ats_engine_steps.specs.declared.event.Event.{Event}
+use Rattle.ats_topology.specs.declared.port.Port.{Port}
 use Rattle.ats_trace.specs.declared.journey.Release.{Release}
+use Rattle.ats_run_records.proofs.AllCounts.{have-senders, is-opening}
 use Rattle.ats_engine.specs.Told.{with_event, agenda_told}
 use Rattle.ats_engine.proofs.Releasing.{released-room, released-apart, released-after, released-inserted}
 use Rattle.ats_engine.proofs.Telling.{told-apart, inserted-told}
@@ -39,3 +41,30 @@ loop-frame-preserved g c =
     c.loop-frame.frame (agenda_told c.loop-frame.agenda) (agenda_told c.insert.new.self) _ _ c.loop-frame-test.true refl
     c.loop-frame.invariant
     (inserted-told refl (rw c.at-event.ensures at c.insert.ensures.inserted))
+
+-- there are no more legs than ports of frames
+pub overflow_add-capacity : goal.overflow_add-capacity
+overflow_add-capacity g c =
+    let opening = is-opening c.args.net.now c.args.releases.now c.topology.ensures.rules
+    (have-senders c.args.net.now c.args.releases.now c.requires.releases.each) c.requires.few_ports in
+    omega (
+      arith,
+      opening.few,
+      c.requires.legs,
+      c.ports.ensures.rules.few_links,
+      c.ports.ensures.kept.two_each,
+      ap (λ (ports : List Port). length ports) c.ports.ensures.value,
+    )
+
+pub overflow_cast-capacity : goal.overflow_cast-capacity
+overflow_cast-capacity g c =
+    let opening = is-opening c.args.net.now c.args.releases.now c.topology.ensures.rules
+    (have-senders c.args.net.now c.args.releases.now c.requires.releases.each) c.requires.few_ports in
+    omega (
+      arith,
+      opening.few,
+      c.requires.legs,
+      c.ports.ensures.rules.few_links,
+      c.ports.ensures.kept.two_each,
+      ap (λ (ports : List Port). length ports) c.ports.ensures.value,
+    )

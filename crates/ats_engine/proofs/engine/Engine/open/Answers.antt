@@ -7,7 +7,7 @@ pub invariant_of-result : goal.invariant_of-result
 invariant_of-result g c =
     ready-first g.T.Tie.key g.P.Pace.wait c.args.releases.now c.args.order c.args.tie _
     (agenda_told c.in_ok-agenda.agenda) c.requires.releases
-    c.in_ok-schedulers.ensures c.in_ok-state.ensures c.in_ok-agenda.ensures
+    c.requires.few_ports c.in_ok-schedulers.ensures c.in_ok-state.ensures c.in_ok-agenda.ensures
 
 pub returns : goal.returns
 returns g c =
@@ -18,4 +18,4 @@ returns g c =
       state = c.in_ok-state.state;
     } in
     setting-first c.args.releases.now c.args.order c.args.tie runner (agenda_told c.in_ok-agenda.agenda)
-    c.requires.releases c.in_ok-state.ensures c.in_ok-agenda.ensures
+    c.requires.releases c.requires.few_ports c.in_ok-state.ensures c.in_ok-agenda.ensures

@@ -1,10 +1,7 @@
 use Rattle.std.proofs.Common.{ap}
 use Rattle.ats_engine.specs.Told.{told, agenda_told}
-use Rattle.ats_engine.proofs.Concluding.{all-ended, run-by, run-in-time}
+use Rattle.ats_engine.proofs.Concluding.{run-by, run-in-time}
 use Rattle.ats_engine.proofs.engine.Engine.run.Goals as goal
-
-pub finish-requires : goal.finish-requires
-finish-requires g c = all-ended c.drive.ensures.holds (ap told c.drive.ensures.empty)
 
 pub returns-clause-by : goal.returns-clause-by
 returns-clause-by g c =
