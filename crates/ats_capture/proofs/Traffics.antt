@@ -1,7 +1,7 @@
 -- Streams of a station, and the releases that records come to.
 use Rattle.std.proofs.Common.{◌≡◌, ℕ, ◌+◌, ◌-◌, ◌*◌, ◌<◌, ◌≤◌, max, Bool, true, false, cond, ◌&&◌, ◌==◌, nat_le}
 use Rattle.std.proofs.Common.{nat_lt, List, []}
-use Rattle.std.proofs.Common.{◌∷◌, length, get_or, map, Option, Some, None, Result, Ok, Err, refl, sym}
+use Rattle.std.proofs.Common.{◌∷◌, ◌++◌, length, get_or, map, Option, Some, None, Result, Ok, Err, refl, sym}
 use Rattle.std.proofs.Common.{ap, ◌∙◌, subst, arith, length-append}
 use Rattle.std.specs.Prelude.{All, IfOk}
 use Rattle.std.specs.Option.{option_and_then}
@@ -11,6 +11,7 @@ use Rattle.std.proofs.lemmas.List.{map-append, get_or-map, length-map}
 use Rattle.std.proofs.lemmas.List.Elements.{All-nil, All-push, All-tail}
 use Rattle.std.proofs.lemmas.Option.{none-some, same_Some}
 use Rattle.std.proofs.lemmas.List.Sorted.{IsNonDecreasingBy-push, IsNonDecreasingBy-short}
+use Rattle.std.proofs.lemmas.List.Sums.{sum_by-append}
 use Rattle.ats_facts.proofs.Lists.{position_from-lt}
 use Rattle.ats_num.specs.Failure.{◌>>=◌, ok_where}
 use Rattle.ats_num.specs.declared.time.TheConstants.{PS_PER_NS}
@@ -19,13 +20,14 @@ use Rattle.ats_pcap.specs.declared.record.Record.{Record}
 use Rattle.ats_network.specs.Network.{DeclaredNetwork, senders_of}
 use Rattle.ats_network.specs.Pushes.{has_identity, place_identified}
 use Rattle.ats_network.specs.Sender.{stream_sender, flow_sender}
-use Rattle.ats_trace.specs.Releases.{AreReleases, IsRelease}
+use Rattle.ats_network.specs.Senders.{sender_at}
+use Rattle.ats_trace.specs.Releases.{AreReleases, HaveFewPorts, IsRelease, ports_of_frames}
 use Rattle.ats_trace.specs.Talker.{talker_of}
 use Rattle.ats_trace.specs.declared.journey.Release.{Release}
-use Rattle.ats_trace.specs.declared.run.TheConstants.{MAX_FRAMES, MAX_RELEASE_PS}
+use Rattle.ats_trace.specs.declared.run.TheConstants.{MAX_FRAMES, MAX_HOPS, MAX_RELEASE_PS}
 use Rattle.ats_capture.specs.Reading.{IsLongEnough}
-use Rattle.ats_capture.specs.Traffic.{Traffic, begun_at, first_time, no_traffic, release_at, stream_of, traffic_from}
-use Rattle.ats_capture.specs.Traffic.{traffic_of, with_record, with_release, with_stream}
+use Rattle.ats_capture.specs.Traffic.{Traffic, begun_at, first_time, no_traffic, ports_with, release_at, stream_of}
+use Rattle.ats_capture.specs.Traffic.{traffic_from, traffic_of, with_record, with_release, with_stream}
 use Rattle.ats_capture.specs.declared.fault.JoinFault.{JoinFault}
 use Rattle.ats_capture.specs.declared.fault.JoinFault.TheVariants.{Limit}
 
@@ -118,30 +120,36 @@ with_one network nanos traffic r u room is at = record {
 -- a record more, of a stream or of none
 with_stream_until : (network : DeclaredNetwork) (nanos : ℕ) (traffic : Traffic) (octets : ℕ) (stream : Option ℕ)
     → ((i : ℕ) → stream ≡ Some i → i < length (senders_of network)) → 64 ≤ octets → AreUntil network nanos traffic
-    → IfOk (with_stream nanos traffic octets stream) (AreUntil network nanos)
+    → IfOk (with_stream network nanos traffic octets stream) (AreUntil network nanos)
 with_stream_until network nanos traffic octets None known long u = record { are = u.are; before = u.before }
 with_stream_until network nanos traffic octets (Some i) known long u = by (nat_lt MAX_OCTETS octets) refl
   where
     at : Release
     at = record { at = record { 0 = nanos * PS_PER_NS }; sender = i; octets = octets }
 
+    ports : ℕ
+    ports = ports_with network traffic.releases i
+
     more : octets ≤ MAX_OCTETS → (b : Bool)
-        → (nat_le (nanos * PS_PER_NS) MAX_RELEASE_PS && nat_lt (length traffic.releases) MAX_FRAMES) ≡ b
+        → (nat_le (nanos * PS_PER_NS) MAX_RELEASE_PS && nat_lt (length traffic.releases) MAX_FRAMES
+        && nat_le ports MAX_HOPS) ≡ b
         → IfOk (ok_where b (Limit (traffic.records + 1)) at >>= λ release. Ok (with_release traffic release))
         (AreUntil network nanos)
     more short false e = tt
     more short true e =
-        let parts = and_parts (nat_le (nanos * PS_PER_NS) MAX_RELEASE_PS)
-        (nat_lt (length traffic.releases) MAX_FRAMES) e in
-        with_one network nanos traffic at u (ltb-true (length traffic.releases) MAX_FRAMES parts.1) (record {
-          time = leb-true (nanos * PS_PER_NS) MAX_RELEASE_PS parts.0;
+        let parts = and_parts (nat_le (nanos * PS_PER_NS) MAX_RELEASE_PS && nat_lt (length traffic.releases) MAX_FRAMES)
+        (nat_le ports MAX_HOPS) e in
+        let first = and_parts (nat_le (nanos * PS_PER_NS) MAX_RELEASE_PS)
+        (nat_lt (length traffic.releases) MAX_FRAMES) parts.0 in
+        with_one network nanos traffic at u (ltb-true (length traffic.releases) MAX_FRAMES first.1) (record {
+          time = leb-true (nanos * PS_PER_NS) MAX_RELEASE_PS first.0;
           sender = known i refl;
           octets = record { least = long; most = short };
         }) refl
 
     by : (b : Bool) → nat_lt MAX_OCTETS octets ≡ b
         → IfOk (cond b (Ok (record traffic { records = traffic.records + 1; oversize = traffic.oversize + 1 }))
-        (release_at (traffic.records + 1) (length traffic.releases) nanos i octets
+        (release_at (traffic.records + 1) (length traffic.releases) ports nanos i octets
         >>= λ release. Ok (with_release traffic release))) (AreUntil network nanos)
     by true e = record { are = u.are; before = u.before }
     by false e = more (ltb-false MAX_OCTETS octets e) _ refl
@@ -173,3 +181,63 @@ traffic_releases network station records traffic h long =
       };
       before = All-nil (λ (x : Release). x.at.0 ≤ (first_time records - first_time records) * PS_PER_NS);
     }))
+
+-- with one frame more there are those of its sender too
+pub ports_more : (network : DeclaredNetwork) (releases new : List Release) (r : Release) → new ≡ releases ++ r ∷ []
+    → ports_of_frames network new ≡ ports_with network releases r.sender
+ports_more network releases new r e = ap (ports_of_frames network) e
+    ∙ sum_by-append (λ (x : Release). length (sender_at network x.sender).ports) releases (r ∷ [])
+    ∙ ap (λ (n : ℕ). ports_of_frames network releases + n) (omega arith)
+
+-- with a record more, of a stream or of none, the ports of the frames stay few
+with_stream_few : (network : DeclaredNetwork) (nanos : ℕ) (traffic : Traffic) (octets : ℕ) (stream : Option ℕ)
+    → HaveFewPorts network traffic.releases
+    → IfOk (with_stream network nanos traffic octets stream) (λ (t : Traffic). HaveFewPorts network t.releases)
+with_stream_few network nanos traffic octets None few = few
+with_stream_few network nanos traffic octets (Some i) few = by (nat_lt MAX_OCTETS octets)
+  where
+    Few : Traffic → Type 0
+    Few t = HaveFewPorts network t.releases
+
+    at : Release
+    at = record { at = record { 0 = nanos * PS_PER_NS }; sender = i; octets = octets }
+
+    ports : ℕ
+    ports = ports_with network traffic.releases i
+
+    more : (b : Bool) → (nat_le (nanos * PS_PER_NS) MAX_RELEASE_PS && nat_lt (length traffic.releases) MAX_FRAMES
+        && nat_le ports MAX_HOPS) ≡ b
+        → IfOk (ok_where b (Limit (traffic.records + 1)) at >>= λ release. Ok (with_release traffic release)) Few
+    more false e = tt
+    more true e =
+        let parts = and_parts (nat_le (nanos * PS_PER_NS) MAX_RELEASE_PS && nat_lt (length traffic.releases) MAX_FRAMES)
+        (nat_le ports MAX_HOPS) e in
+        let all = ports_more network traffic.releases (traffic.releases ++ at ∷ []) at refl in
+        omega (arith, all, leb-true ports MAX_HOPS parts.1)
+
+    by : (b : Bool)
+        → IfOk (cond b (Ok (record traffic { records = traffic.records + 1; oversize = traffic.oversize + 1 }))
+        (release_at (traffic.records + 1) (length traffic.releases) ports nanos i octets
+        >>= λ release. Ok (with_release traffic release))) Few
+    by true = few
+    by false = more _ refl
+
+from_few : (network : DeclaredNetwork) (station first latest : ℕ) (traffic : Traffic) (records : List Record)
+    → HaveFewPorts network traffic.releases
+    → IfOk (traffic_from network station first latest traffic records)
+    (λ (t : Traffic). HaveFewPorts network t.releases)
+from_few network station first latest traffic [] few = few
+from_few network station first latest traffic (r ∷ records) few =
+    let now : ℕ = max latest r.nanos in
+    let Few : Traffic → Type 0 = λ t. HaveFewPorts network t.releases in
+    after Few Few (with_record network station (now - first) traffic r)
+    (λ more. traffic_from network station first now more records)
+    (with_stream_few network (now - first) traffic r.octets (stream_of network station r.identity) few)
+    (λ more few. from_few network station first now more records few)
+
+-- the frames that records come to have few ports
+pub traffic_few_ports : (network : DeclaredNetwork) (station : ℕ) (records : List Record) (traffic : Traffic)
+    → traffic_of network station records ≡ Ok traffic → HaveFewPorts network traffic.releases
+traffic_few_ports network station records traffic h =
+    subst (λ (x : Result Traffic JoinFault). IfOk x (λ (t : Traffic). HaveFewPorts network t.releases)) h
+    (from_few network station (first_time records) (first_time records) no_traffic records (omega arith))

@@ -7,9 +7,11 @@ use Rattle.ats_num.specs.declared.wire.TheConstants.{MAX_OCTETS}
 use Rattle.ats_pcap.specs.declared.record.Record.{Record}
 use Rattle.ats_network.specs.Network.{DeclaredNetwork}
 use Rattle.ats_network.specs.Pushes.{place_identified}
+use Rattle.ats_network.specs.Senders.{sender_at}
+use Rattle.ats_trace.specs.Releases.{ports_of_frames}
 use Rattle.ats_trace.specs.Talker.{talker_of}
 use Rattle.ats_trace.specs.declared.journey.Release.{Release}
-use Rattle.ats_trace.specs.declared.run.TheConstants.{MAX_FRAMES, MAX_RELEASE_PS}
+use Rattle.ats_trace.specs.declared.run.TheConstants.{MAX_FRAMES, MAX_HOPS, MAX_RELEASE_PS}
 use Rattle.ats_capture.specs.declared.fault.JoinFault.{JoinFault}
 use Rattle.ats_capture.specs.declared.fault.JoinFault.TheVariants.{Limit}
 
@@ -35,12 +37,16 @@ stream_of network station None = None
 stream_of network station (Some identity) =
     option_and_then (begun_at network station) (place_identified identity network.streams)
 
+-- the ports of the frames with these releases and of one frame more of this sender, counted together
+abbrev pub ports_with : DeclaredNetwork → List Release → ℕ → ℕ
+ports_with network releases sender = ports_of_frames network releases + length (sender_at network sender).ports
+
 -- the release so many nanoseconds after the first record, behind so many others, which the record with this number
--- makes, where a run may have it
-abbrev pub release_at : ℕ → ℕ → ℕ → ℕ → ℕ → Result Release JoinFault
-release_at number before nanos sender octets =
-    ok_where (nat_le (nanos * PS_PER_NS) MAX_RELEASE_PS && nat_lt before MAX_FRAMES) (Limit number)
-    (record { at = record { 0 = nanos * PS_PER_NS }; sender = sender; octets = octets })
+-- makes, where a run may have it, and frames that together have so many ports
+abbrev pub release_at : ℕ → ℕ → ℕ → ℕ → ℕ → ℕ → Result Release JoinFault
+release_at number before ports nanos sender octets =
+    ok_where (nat_le (nanos * PS_PER_NS) MAX_RELEASE_PS && nat_lt before MAX_FRAMES && nat_le ports MAX_HOPS)
+    (Limit number) (record { at = record { 0 = nanos * PS_PER_NS }; sender = sender; octets = octets })
 
 -- with one release more
 abbrev pub with_release : Traffic → Release → Traffic
@@ -48,19 +54,20 @@ with_release traffic release =
     record traffic { releases = traffic.releases ++ release ∷ []; records = traffic.records + 1 }
 
 -- with a record more that belongs to this stream, so many nanoseconds after the first record
-abbrev pub with_stream : ℕ → Traffic → ℕ → Option ℕ → Result Traffic JoinFault
-with_stream nanos traffic octets None =
+abbrev pub with_stream : DeclaredNetwork → ℕ → Traffic → ℕ → Option ℕ → Result Traffic JoinFault
+with_stream network nanos traffic octets None =
     Ok (record traffic { records = traffic.records + 1; unidentified = traffic.unidentified + 1 })
-with_stream nanos traffic octets (Some sender) =
+with_stream network nanos traffic octets (Some sender) =
     if nat_lt MAX_OCTETS octets
     then Ok (record traffic { records = traffic.records + 1; oversize = traffic.oversize + 1 })
-    else release_at (traffic.records + 1) (length traffic.releases) nanos sender octets
+    else release_at (traffic.records + 1) (length traffic.releases) (ports_with network traffic.releases sender) nanos
+    sender octets
     >>= λ release. Ok (with_release traffic release)
 
 -- with a record more, of whatever stream
 abbrev pub with_record : DeclaredNetwork → ℕ → ℕ → Traffic → Record → Result Traffic JoinFault
 with_record network station nanos traffic r =
-    with_stream nanos traffic r.octets (stream_of network station r.identity)
+    with_stream network nanos traffic r.octets (stream_of network station r.identity)
 
 -- with further records, where the first of all has this time and the greatest so far is that: a record that goes back
 -- in time is released with the one before

@@ -61,7 +61,8 @@ impl fmt::Display for RecordsFault {
 #[derive(Clone, Copy, Debug, PartialEq, Eq)]
 pub enum JoinFault {
     /// The record with this number, counted from 1 among all records, is a release of the station,
-    /// and is the one after the 200,000th or later than 100,000,000,000,000,000 ps.
+    /// and is the one after the 200,000th, or later than 100,000,000,000,000,000 ps, or the ports of
+    /// the frames so far, each with those of its sender, are together more than 3,200,000.
     Limit(u32),
 }
 

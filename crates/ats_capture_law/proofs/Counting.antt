@@ -12,11 +12,13 @@ use Rattle.ats_num.specs.declared.time.TheConstants.{PS_PER_NS}
 use Rattle.ats_num.specs.declared.wire.TheConstants.{MAX_OCTETS}
 use Rattle.ats_pcap.specs.declared.record.Record.{Record}
 use Rattle.ats_network.specs.Network.{DeclaredNetwork}
+use Rattle.ats_trace.specs.Releases.{ports_of_frames}
 use Rattle.ats_trace.specs.declared.journey.Release.{Release}
-use Rattle.ats_capture.specs.Traffic.{Traffic, first_time, stream_of, traffic_from, with_record}
+use Rattle.ats_capture.specs.Traffic.{Traffic, first_time, ports_with, stream_of, traffic_from, with_record}
 use Rattle.ats_capture.specs.Traffic.{with_stream}
 use Rattle.ats_capture.specs.declared.fault.JoinFault.{JoinFault}
 use Rattle.ats_capture.specs.declared.fault.JoinFault.TheVariants.{Limit}
+use Rattle.ats_capture.proofs.Traffics.{ports_more}
 use Rattle.ats_capture_law.specs.Counted.{frame_of, is_over, is_oversize, is_unidentified}
 use Rattle.ats_capture_law.specs.Counted.{may_be_run, nanos_at, release_of}
 use Rattle.ats_capture_law.specs.Laws.{TrafficIsCounted}
@@ -44,8 +46,10 @@ pushed traffic release unidentified oversize = record {
 abbrev release_in : ℕ → ℕ → Option ℕ → Option Release
 release_in nanos octets stream = option_and_then (frame_of nanos octets) stream
 
-abbrev over_in : Traffic → ℕ → Option Release → Bool
-over_in traffic nanos release = is_some release && not (may_be_run nanos (length traffic.releases))
+abbrev over_in : DeclaredNetwork → Traffic → ℕ → Option Release → Bool
+over_in network traffic nanos release =
+    is_some release && not (may_be_run nanos (length traffic.releases)
+    (ports_of_frames network (traffic.releases ++ listed release)))
 
 -- the same, or the fault
 abbrev pushed_unless : Bool → Traffic → Option Release → Bool → Bool → Result Traffic JoinFault
@@ -73,14 +77,14 @@ none_more traffic unidentified oversize =
     } in t) (sym (append-nil traffic.releases))
 
 -- one record more comes to that
-step : (nanos octets : ℕ) (traffic : Traffic) (stream : Option ℕ)
-    → with_stream nanos traffic octets stream
-    ≡ pushed_unless (over_in traffic nanos (release_in nanos octets stream)) traffic (release_in nanos octets stream)
-    (is_none stream) (is_some stream && nat_lt MAX_OCTETS octets)
-step nanos octets traffic None =
+step : (network : DeclaredNetwork) (nanos octets : ℕ) (traffic : Traffic) (stream : Option ℕ)
+    → with_stream network nanos traffic octets stream
+    ≡ pushed_unless (over_in network traffic nanos (release_in nanos octets stream)) traffic
+    (release_in nanos octets stream) (is_none stream) (is_some stream && nat_lt MAX_OCTETS octets)
+step network nanos octets traffic None =
     ap (λ (t : Traffic). let r : Result Traffic JoinFault = Ok t in r)
     (none_more traffic (traffic.unidentified + 1) traffic.oversize)
-step nanos octets traffic (Some sender) = by_length (nat_lt MAX_OCTETS octets)
+step network nanos octets traffic (Some sender) = by_length (nat_lt MAX_OCTETS octets)
   where
     at : Release
     at = record { at = record { 0 = nanos * PS_PER_NS }; sender = sender; octets = octets }
@@ -96,16 +100,20 @@ step nanos octets traffic (Some sender) = by_length (nat_lt MAX_OCTETS octets)
 
     by_length : (long : Bool)
         → cond long (Ok (record traffic { records = traffic.records + 1; oversize = traffic.oversize + 1 }))
-        (cond (may_be_run nanos (length traffic.releases)) (Ok at) (Err (Limit (traffic.records + 1)))
+        (cond (may_be_run nanos (length traffic.releases) (ports_with network traffic.releases sender)) (Ok at)
+        (Err (Limit (traffic.records + 1)))
         >>= λ release. Ok (record traffic {
           releases = traffic.releases ++ release ∷ [];
           records = traffic.records + 1;
-        })) ≡ pushed_unless (over_in traffic nanos (cond long None (Some at))) traffic (cond long None (Some at))
-        false long
+        })) ≡ pushed_unless (over_in network traffic nanos (cond long None (Some at))) traffic
+        (cond long None (Some at)) false long
     by_length true =
         ap (λ (t : Traffic). let r : Result Traffic JoinFault = Ok t in r)
         (none_more traffic traffic.unidentified (traffic.oversize + 1))
-    by_length false = by_limit (may_be_run nanos (length traffic.releases))
+    by_length false =
+        by_limit (may_be_run nanos (length traffic.releases) (ports_with network traffic.releases sender))
+        ∙ ap (λ (ports : ℕ). pushed_unless (not (may_be_run nanos (length traffic.releases) ports)) traffic (Some at)
+        false false) (sym (ports_more network traffic.releases (traffic.releases ++ at ∷ []) at refl))
 
 -- numbers go on behind a list
 numbered_push : (n : ℕ) (xs : List Record) (r : Record)
@@ -152,28 +160,31 @@ map_one f xs x = filter_map-append f xs (x ∷ []) ∙ ap (λ (rs : List Release
     by None e = rw e refl
     by (Some release) e = rw e refl
 
+-- behind the releases of a front comes that of the next record, if it has one
+releases_next : (network : DeclaredNetwork) (station : ℕ) (records front : List Record) (r : Record)
+    → filter_map (release_of network station records) (enumerate_from 0 (front ++ r ∷ []))
+    ≡ filter_map (release_of network station records) (enumerate_from 0 front)
+    ++ listed (release_of network station records (length front, r))
+releases_next network station records front r =
+    ap (filter_map (release_of network station records)) (numbered_push 0 front r
+    ∙ ap (λ (k : ℕ). enumerate_from 0 front ++ (k, r) ∷ [])
+    (let e : 0 + length front ≡ length front = omega arith in e))
+    ∙ map_one (release_of network station records) (enumerate_from 0 front) (length front, r)
+
 -- with one record more it is the front that ends there
 pushed_front : (network : DeclaredNetwork) (station : ℕ) (records front : List Record) (r : Record)
     → pushed (front_counted network station records front) (release_of network station records (length front, r))
     (is_unidentified network station r) (is_oversize network station r)
     ≡ front_counted network station records (front ++ r ∷ [])
 pushed_front network station records front r =
-    same (sym releases) (sym (length_push front r)) (sym (filter_one (is_unidentified network station) front r))
+    same (sym (releases_next network station records front r)) (sym (length_push front r))
+    (sym (filter_one (is_unidentified network station) front r))
     (sym (filter_one (is_oversize network station) front r))
   where
     same : {ls ks : List Release} {n m u v o w : ℕ} → ls ≡ ks → n ≡ m → u ≡ v → o ≡ w
         → (◌≡◌ {A = Traffic} (record { releases = ls; records = n; unidentified = u; oversize = o })
         (record { releases = ks; records = m; unidentified = v; oversize = w }))
     same a b c d = cc
-
-    releases : filter_map (release_of network station records) (enumerate_from 0 (front ++ r ∷ []))
-        ≡ filter_map (release_of network station records) (enumerate_from 0 front)
-        ++ listed (release_of network station records (length front, r))
-    releases =
-        ap (filter_map (release_of network station records)) (numbered_push 0 front r
-        ∙ ap (λ (k : ℕ). enumerate_from 0 front ++ (k, r) ∷ [])
-        (let e : 0 + length front ≡ length front = omega arith in e))
-        ∙ map_one (release_of network station records) (enumerate_from 0 front) (length front, r)
 
 -- the record behind a front comes to that
 one_record : (network : DeclaredNetwork) (station : ℕ) (records front rest : List Record) (r : Record) (nanos : ℕ)
@@ -184,14 +195,24 @@ one_record : (network : DeclaredNetwork) (station : ℕ) (records front rest : L
     (is_unidentified network station r) (is_oversize network station r)
 one_record network station records front rest r nanos e time =
     ap (λ (n : ℕ). with_record network station n (front_counted network station records front) r) time
-    ∙ step (nanos_at records (length front)) r.octets (front_counted network station records front)
+    ∙ step network (nanos_at records (length front)) r.octets (front_counted network station records front)
     (stream_of network station r.identity)
-    ∙ ap (λ (xs : List Record). pushed_unless (is_some (release_of network station records (length front, r))
-    && not (may_be_run (nanos_at records (length front))
-    (length (filter_map (release_of network station records) (enumerate_from 0 xs)))))
-    (front_counted network station records front) (release_of network station records (length front, r))
-    (is_unidentified network station r) (is_oversize network station r))
+    ∙ ap (λ (rs : List Release). told (released front) rs) (sym (releases_next network station records front r))
+    ∙ ap (λ (xs : List Record). told (released xs) (released (front ++ r ∷ [])))
     (sym (ap (take (length front)) e ∙ front_of front (r ∷ rest)))
+    ∙ ap (λ (xs : List Record). told (released (take (length front) records)) (released xs))
+    (sym (ap (take (length front + 1)) e ∙ front_next front r rest))
+  where
+    released : List Record → List Release
+    released xs = filter_map (release_of network station records) (enumerate_from 0 xs)
+
+    -- by the releases before this record, and those up to it
+    told : List Release → List Release → Result Traffic JoinFault
+    told before now =
+        pushed_unless (is_some (release_of network station records (length front, r))
+        && not (may_be_run (nanos_at records (length front)) (length before) (ports_of_frames network now)))
+        (front_counted network station records front) (release_of network station records (length front, r))
+        (is_unidentified network station r) (is_oversize network station r)
 
 -- the greatest time of a front
 abbrev latest_in : List Record → List Record → ℕ

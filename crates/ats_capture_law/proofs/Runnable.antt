@@ -10,8 +10,8 @@ use Rattle.ats_capture.specs.declared.fault.RecordsFault.{RecordsFault}
 use Rattle.ats_capture.specs.declared.fault.RecordsFault.TheVariants.{TooLong}
 use Rattle.ats_capture.specs.declared.reading.TheConstants.{MAX_BYTES}
 use Rattle.ats_capture.proofs.Kept.{records_keep}
-use Rattle.ats_capture.proofs.Traffics.{traffic_releases}
-use Rattle.ats_capture_law.specs.Laws.{TrafficMayBeRun}
+use Rattle.ats_capture.proofs.Traffics.{traffic_few_ports, traffic_releases}
+use Rattle.ats_capture_law.specs.Laws.{TrafficHasFewPorts, TrafficMayBeRun}
 
 -- each record of a file has the octets of a frame at least
 long_enough : (bytes : List ℕ) (records : List Record) → records_in bytes ≡ Ok records → All IsLongEnough records
@@ -38,3 +38,6 @@ long_enough bytes records h = by (nat_lt MAX_BYTES (length bytes)) h
 pub traffic_may_be_run : TrafficMayBeRun
 traffic_may_be_run network station bytes records traffic read joined =
     traffic_releases network station records traffic joined (long_enough bytes records read)
+
+pub traffic_has_few_ports : TrafficHasFewPorts
+traffic_has_few_ports network station records traffic joined = traffic_few_ports network station records traffic joined

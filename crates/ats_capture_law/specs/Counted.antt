@@ -7,8 +7,9 @@ use Rattle.ats_num.specs.declared.time.TheConstants.{PS_PER_NS}
 use Rattle.ats_num.specs.declared.wire.TheConstants.{MAX_OCTETS}
 use Rattle.ats_pcap.specs.declared.record.Record.{Record}
 use Rattle.ats_network.specs.Network.{DeclaredNetwork}
+use Rattle.ats_trace.specs.Releases.{ports_of_frames}
 use Rattle.ats_trace.specs.declared.journey.Release.{Release}
-use Rattle.ats_trace.specs.declared.run.TheConstants.{MAX_FRAMES, MAX_RELEASE_PS}
+use Rattle.ats_trace.specs.declared.run.TheConstants.{MAX_FRAMES, MAX_HOPS, MAX_RELEASE_PS}
 use Rattle.ats_capture.specs.Traffic.{Traffic, first_time, stream_of}
 use Rattle.ats_capture.specs.declared.fault.JoinFault.{JoinFault}
 use Rattle.ats_capture.specs.declared.fault.JoinFault.TheVariants.{Limit}
@@ -44,16 +45,19 @@ abbrev pub releases_before : DeclaredNetwork → ℕ → List Record → ℕ →
 releases_before network station records n =
     filter_map (release_of network station records) (enumerate_from 0 (take n records))
 
--- a run may have a release so many nanoseconds after the first record, behind so many others
-abbrev pub may_be_run : ℕ → ℕ → Bool
-may_be_run nanos before = nat_le (nanos * PS_PER_NS) MAX_RELEASE_PS && nat_lt before MAX_FRAMES
+-- a run may have a release so many nanoseconds after the first record, behind so many others, where the frames up to it
+-- have so many ports together
+abbrev pub may_be_run : ℕ → ℕ → ℕ → Bool
+may_be_run nanos before ports =
+    nat_le (nanos * PS_PER_NS) MAX_RELEASE_PS && nat_lt before MAX_FRAMES && nat_le ports MAX_HOPS
 
 -- a record has a release, which no run may have
 abbrev pub is_over : DeclaredNetwork → ℕ → List Record → ℕ × Record → Bool
 is_over network station records numbered =
     is_some (release_of network station records numbered)
     && not (may_be_run (nanos_at records numbered.0)
-    (length (releases_before network station records numbered.0)))
+    (length (releases_before network station records numbered.0))
+    (ports_of_frames network (releases_before network station records (numbered.0 + 1))))
 
 -- the first of these, if there is one
 abbrev pub first_over : DeclaredNetwork → ℕ → List Record → Option (ℕ × Record)

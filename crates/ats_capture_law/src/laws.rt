@@ -1,6 +1,6 @@
 //! What is proved of the definitions themselves.
 
-ghost use Rattle.ats_capture_law.specs.Laws.{TrafficIsCounted, TrafficMayBeRun};
+ghost use Rattle.ats_capture_law.specs.Laws.{TrafficHasFewPorts, TrafficIsCounted, TrafficMayBeRun};
 
 /// A law: the records of a capture at a station come to the releases of those that belong to a stream of the station
 /// and are no longer than a frame, in their order, each at the greatest time of the records up to it, less the time of
@@ -15,4 +15,10 @@ pub fn traffic_is_counted()
 /// within the greatest time.
 pub fn traffic_may_be_run()
     ensures { TrafficMayBeRun }
+{}
+
+/// A law: the ports of the frames that the records of a capture come to at a station, a frame having those of its
+/// sender, are together not more than those of a run may be.
+pub fn traffic_has_few_ports()
+    ensures { TrafficHasFewPorts }
 {}

@@ -15,8 +15,9 @@ use Rattle.ats_group_law.proofs.Regulator.{ats_is_regulator}
 use Rattle.ats_group_law.proofs.WindowPlaces.{places_from_windows}
 use Rattle.ats_network.specs.Network.{DeclaredNetwork}
 use Rattle.ats_network.specs.Sender.{stream_sender, flow_sender}
+use Rattle.ats_network.specs.Senders.{sender_at}
 use Rattle.ats_trace.specs.Eligibility.{declared_by}
-use Rattle.ats_trace.specs.Releases.{AreReleases}
+use Rattle.ats_trace.specs.Releases.{AreReleases, HaveFewPorts}
 use Rattle.ats_trace.specs.Talker.{frame_of, frames_of, KeepsBuckets}
 use Rattle.ats_trace.specs.declared.journey.Release.{Release}
 use Rattle.ats_trace.specs.declared.run.TheConstants.{MAX_FRAMES, MAX_RELEASE_PS}
@@ -117,3 +118,11 @@ made-releases network seed count releases ruled some few within are = record {
         octets = own.octets;
       });
 }
+
+-- their frames have as many ports as those that were made
+pub made-few_ports : (network : DeclaredNetwork) (seed count : ℕ) (releases : List Release)
+    → AreMade network seed count releases → HaveFewPorts network (made network seed count)
+    → HaveFewPorts network releases
+made-few_ports network seed count releases are few =
+    let ports_of : Release → ℕ = λ r. length (sender_at network r.sender).ports in
+    omega (arith, sum_by-IsPermutation ports_of (made network seed count) releases are.same, few)

@@ -1,8 +1,11 @@
-use Rattle.std.proofs.Common.{◌≡◌, ℕ, ◌+◌, ◌*◌, ◌≤◌, ◌%◌, List, [], ◌∷◌, ◌++◌, All, sym, ap, ◌∙◌, subst}
-use Rattle.std.proofs.Common.{add-one}
+use Rattle.std.proofs.Common.{◌≡◌, ℕ, ◌+◌, ◌*◌, ◌≤◌, ◌%◌, List, [], ◌∷◌, ◌++◌, length, All, sym, ap, ◌∙◌, subst}
+use Rattle.std.proofs.Common.{add-one, arith}
 use Rattle.std.proofs.lemmas.List.Elements.{All-push}
+use Rattle.std.proofs.lemmas.List.Sums.{sum_by-append, sum_by-cons}
 use Rattle.ats_network.specs.Network.{DeclaredNetwork}
+use Rattle.ats_network.specs.Senders.{sender_at}
 use Rattle.ats_trace.specs.Eligibility.{declared_by}
+use Rattle.ats_trace.specs.Releases.{ports_of_frames}
 use Rattle.ats_trace.specs.declared.journey.Release.{Release}
 use Rattle.ats_trace.specs.declared.run.TheConstants.{MAX_RELEASE_PS}
 use Rattle.ats_gen.specs.declared.generator.TheConstants.{MAX_PAUSE_PS}
@@ -69,3 +72,20 @@ pub at_end : (network : DeclaredNetwork) (seed k count : ℕ) (earlier releases 
     → earlier ≡ made network seed k → AreByTime earlier releases → AreMade network seed count releases
 at_end network seed k count earlier releases end is sorted =
     subst (λ (l : List Release). AreByTime l releases) (is ∙ ap (made network seed) end) sorted
+
+-- the ports of the frames with one frame more
+pub ports-next : (network : DeclaredNetwork) (seed k ports more : ℕ)
+    → ports ≡ ports_of_frames network (made network seed k)
+    → more ≡ length (sender_at network (stream_of network k)).ports
+    → ports + more ≡ ports_of_frames network (made network seed (k + 1))
+ports-next network seed k ports more so_far is =
+    let ports_of : Release → ℕ = λ r. length (sender_at network r.sender).ports in
+    let r : Release = next_release network seed k in
+    omega (
+      arith,
+      so_far,
+      is,
+      ap (λ (n : ℕ). ports_of_frames network (made network seed n)) (add-one k),
+      sum_by-append ports_of (made network seed k) (r ∷ []),
+      sum_by-cons ports_of r [],
+    )

@@ -1,5 +1,5 @@
-use Rattle.std.specs.Prelude.{ℕ, zero, suc, ◌+◌, ◌-◌, ◌*◌, ◌%◌, ◌==◌, nat_lt, ℤ, List, [], ◌∷◌, ◌++◌, length, fold}
-use Rattle.std.specs.Prelude.{Option, Some, None, IsPermutation, if◌then◌else◌}
+use Rattle.std.specs.Prelude.{ℕ, zero, suc, ◌+◌, ◌-◌, ◌*◌, ◌%◌, ◌||◌, ◌==◌, Bool, nat_lt, ℤ, List, [], ◌∷◌, ◌++◌}
+use Rattle.std.specs.Prelude.{length, fold, Option, Some, None, IsPermutation, if◌then◌else◌}
 use Rattle.std.specs.List.{list_any}
 use Rattle.std.specs.List.Sorted.{IsNonDecreasingBy, IsStableByKey}
 use Rattle.std.specs.Ordering.{nat_cmp}
@@ -9,9 +9,10 @@ use Rattle.ats_bucket.specs.Scheduler.{first_empty, eligibility_time, empty_afte
 use Rattle.ats_streams.specs.declared.traffic.Declared.{Declared}
 use Rattle.ats_network.specs.Network.{DeclaredNetwork}
 use Rattle.ats_trace.specs.Eligibility.{declared_by}
+use Rattle.ats_trace.specs.Releases.{ports_of_frames}
 use Rattle.ats_trace.specs.Talker.{frames_of}
 use Rattle.ats_trace.specs.declared.journey.Release.{Release}
-use Rattle.ats_trace.specs.declared.run.TheConstants.{MAX_RELEASE_PS}
+use Rattle.ats_trace.specs.declared.run.TheConstants.{MAX_HOPS, MAX_RELEASE_PS}
 use Rattle.ats_gen.specs.Draw.{draw}
 use Rattle.ats_gen.specs.declared.fault.GenFault.{GenFault}
 use Rattle.ats_gen.specs.declared.fault.GenFault.TheVariants.{NoStream, Limit}
@@ -71,9 +72,15 @@ pub record AreByTime (earlier releases : List Release) : Type 0 where
 abbrev pub AreMade : DeclaredNetwork → ℕ → ℕ → List Release → Type 0
 AreMade network seed count releases = AreByTime (made network seed count) releases
 
+-- one of these releases is later than those of a run may be, or the ports of their frames are together more
+abbrev pub are_over : DeclaredNetwork → List Release → Bool
+are_over network releases =
+    list_any (λ (r : Release). nat_lt MAX_RELEASE_PS r.at.0) releases
+    || nat_lt MAX_HOPS (ports_of_frames network releases)
+
 -- why there are no made releases, where there are none
 abbrev pub gen_fault : DeclaredNetwork → ℕ → ℕ → Option GenFault
 gen_fault network seed count =
     if length network.streams == 0 then Some NoStream
-    else if list_any (λ (r : Release). nat_lt MAX_RELEASE_PS r.at.0) (made network seed count) then Some Limit
+    else if are_over network (made network seed count) then Some Limit
     else None

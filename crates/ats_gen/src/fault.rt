@@ -9,8 +9,9 @@ pub enum GenFault {
     /// The network has no stream.
     #[error("no stream is declared")]
     NoStream,
-    /// A release would be later than 100,000,000,000,000,000 ps.
-    #[error("a release is past the limit")]
+    /// A release would be later than 100,000,000,000,000,000 ps, or the ports of the frames, each with those of its
+    /// stream, would be together more than 3,200,000.
+    #[error("a release or the ports of the frames are past the limit")]
     Limit,
 }
 

@@ -1,11 +1,12 @@
 //! The making of one frame.
 
-ghost use Rattle.std.specs.Prelude.{◌≡◌, ◌<◌, ◌≤◌, [], ◌∷◌, ◌++◌, length, IfOk, IfErr, OnOk};
+ghost use Rattle.std.specs.Prelude.{◌≡◌, ℕ, ◌<◌, ◌≤◌, [], ◌∷◌, ◌++◌, length, IfOk, IfErr, OnOk};
 ghost use Rattle.ats_num.specs.declared.time.TheConstants.{END};
 ghost use Rattle.ats_streams.specs.Traffic.{IsRuled};
 ghost use Rattle.ats_trace.specs.Eligibility.{declared_by};
-ghost use Rattle.ats_trace.specs.declared.run.TheConstants.{MAX_RELEASE_PS};
-ghost use Rattle.ats_gen.specs.Made.{octets_by, release_by};
+ghost use Rattle.ats_trace.specs.Releases.{ports_of_frames};
+ghost use Rattle.ats_trace.specs.declared.run.TheConstants.{MAX_FRAMES, MAX_RELEASE_PS};
+ghost use Rattle.ats_gen.specs.Made.{made, octets_by, release_by};
 ghost use Rattle.ats_gen.specs.Making.{AreSchedulers, IsPast};
 
 use crate::fault::GenFault;
@@ -26,6 +27,20 @@ pub(crate) fn schedulers_for(alloc: Global, network: &Network) -> Result<Vec<Sch
         schedulers.push(Scheduler::new(stream.rate(), stream.burst_bits()))?;
     }
     Ok(schedulers)
+}
+
+/// The ports of so many frames of the streams of a network, which take turns, each with those of its stream.
+pub(crate) fn ports_of(network: &Network, count: u32) -> usize
+    requires some { 0 < length network.now.streams }
+    requires few { count ≤ MAX_FRAMES }
+    ensures { (seed : ℕ) → result ≡ ports_of_frames network.now (made network.now seed count) }
+{
+    let streams = network.streams().len() as u32;
+    let mut ports = 0;
+    for frame in 0..count {
+        ports += network.sender_ports(frame % streams).len();
+    }
+    ports
 }
 
 /// Octets that a stream declares, by what was drawn.

@@ -8,6 +8,7 @@ use Rattle.std.specs.List.{All}
 use Rattle.std.proofs.lemmas.Bool.Decides.{nat_tests}
 use Rattle.std.proofs.lemmas.List.{get_or_append_left, get_or-map, length-map}
 use Rattle.std.proofs.Math.Seq.{get_or-append_seam}
+use Rattle.std.proofs.lemmas.List.Sums.{sum_by-append, sum_by-cons}
 use Rattle.std.proofs.lemmas.List.Elements.{All-cons, All-head, All-nil, All-tail}
 use Rattle.ats_facts.proofs.Lists.{all_right}
 use Rattle.ats_num.specs.Failure.{◌>>=◌, ok_where, or_fault}
@@ -16,15 +17,15 @@ use Rattle.ats_num.proofs.Decimal.{reads_back}
 use Rattle.ats_network.specs.Network.{DeclaredNetwork, IsNetwork, senders_of}
 use Rattle.ats_network.specs.Senders.{no_sender, sender_at}
 use Rattle.ats_trace.specs.declared.journey.Release.{Release}
-use Rattle.ats_trace.specs.declared.run.TheConstants.{MAX_FRAMES, MAX_RELEASE_PS}
+use Rattle.ats_trace.specs.declared.run.TheConstants.{MAX_FRAMES, MAX_HOPS, MAX_RELEASE_PS}
 use Rattle.ats_csv.specs.Plain.{IsPlain}
 use Rattle.ats_csv.specs.Reading.{same_fields}
 use Rattle.ats_csv.proofs.ReadsBack.{plain_reads_back}
 use Rattle.ats_schedule.specs.Laws.{AreNamed, ScheduleReadsBack}
 use Rattle.ats_schedule.specs.Reading.{header, in_order, in_size, number_in, record_after, release_after}
 use Rattle.ats_schedule.specs.Reading.{releases_from, releases_under, sender_in, within_limits}
-use Rattle.ats_trace.specs.Releases.{AreReleases, IsRelease}
-use Rattle.ats_schedule.specs.Releases.{Follows, last_time}
+use Rattle.ats_trace.specs.Releases.{AreReleases, HaveFewPorts, IsRelease}
+use Rattle.ats_schedule.specs.Releases.{Follows, last_time, ports_with}
 use Rattle.ats_schedule.specs.Text.{fields_of}
 use Rattle.ats_schedule.specs.declared.fault.ScheduleFault.{ScheduleFault}
 use Rattle.ats_schedule.specs.declared.fault.ScheduleFault.TheVariants.{BadNumber, BadRow, BadSize, Limit, TimeBack}
@@ -64,9 +65,12 @@ release_read network is named before r follows =
     let is_later : nat_le (last_time before) r.at.0 ≡ true = passes (last_time before) r.at.0 follows.later in
     let later : in_order n (last_time before) r.at.0 ≡ Ok r.at.0 =
     ap (λ (b : Bool). ok_where b (TimeBack n) r.at.0) is_later in
-    let is_within : (nat_le r.at.0 MAX_RELEASE_PS && nat_lt (length before) MAX_FRAMES) ≡ true =
-    bounded r.at.0 MAX_RELEASE_PS (length before) MAX_FRAMES follows.is.time follows.room in
-    let time : within_limits n (length before) r.at.0 ≡ Ok r.at.0 =
+    let ports : ℕ = ports_with network before r.sender in
+    let is_within : (nat_le r.at.0 MAX_RELEASE_PS && nat_lt (length before) MAX_FRAMES && nat_le ports MAX_HOPS)
+    ≡ true =
+    bounded r.at.0 MAX_RELEASE_PS (length before) MAX_FRAMES ports MAX_HOPS follows.is.time follows.room
+    follows.ports in
+    let time : within_limits n (length before) ports r.at.0 ≡ Ok r.at.0 =
     ap (λ (b : Bool). ok_where b (Limit n) r.at.0) is_within in
     step _ _ _ _ sender (step _ _ _ _ at (step _ _ _ _ octets (step _ _ _ _ size (step _ _ _ _ later
     (step _ _ _ _ time refl)))))
@@ -77,18 +81,22 @@ release_read network is named before r follows =
     passes : (a b : ℕ) → a ≤ b → nat_le a b ≡ true
     passes a b low = grind (arith, nat_tests)
 
-    bounded : (x a y b : ℕ) → x ≤ a → y < b → (nat_le x a && nat_lt y b) ≡ true
-    bounded x a y b low below = grind (arith, nat_tests)
+    bounded : (x a y b z c : ℕ) → x ≤ a → y < b → z ≤ c → (nat_le x a && nat_lt y b && nat_le z c) ≡ true
+    bounded x a y b z c low below few = grind (arith, nat_tests)
 
 -- in releases that may be run each may follow those before it
 follows_each : (network : DeclaredNetwork) (before : List Release) (r : Release) (rest : List Release)
-    → AreReleases network (before ++ r ∷ rest) → Follows network before r
-follows_each network before r rest are = record {
+    → AreReleases network (before ++ r ∷ rest) → HaveFewPorts network (before ++ r ∷ rest) → Follows network before r
+follows_each network before r rest are few = record {
   room = omega (arith, are.few, length-append before (r ∷ rest));
+  ports = omega (arith, few, sum_by-append ports_of before (r ∷ rest), sum_by-cons ports_of r rest);
   later = later before are;
   is = All-head (IsRelease network) r rest (all_right (IsRelease network) before (r ∷ rest) are.each);
 }
   where
+    ports_of : Release → ℕ
+    ports_of x = length (sender_at network x.sender).ports
+
     later : (before : List Release) → AreReleases network (before ++ r ∷ rest) → last_time before ≤ r.at.0
     later [] are = omega arith
     later (b ∷ front) are =
@@ -112,13 +120,14 @@ follows_each network before r rest are = record {
 -- the releases that were written are read
 releases_read : (network : DeclaredNetwork) → IsNetwork network → AreNamed (senders_of network)
     → (before releases : List Release) → AreReleases network (before ++ releases)
+    → HaveFewPorts network (before ++ releases)
     → releases_from network before (map (fields_of network) releases) ≡ Ok (before ++ releases)
-releases_read network is named before [] are = ap Ok (sym (append-nil before))
-releases_read network is named before (r ∷ releases) are =
-    let one = release_read network is named before r (follows_each network before r releases are) in
+releases_read network is named before [] are few = ap Ok (sym (append-nil before))
+releases_read network is named before (r ∷ releases) are few =
+    let one = release_read network is named before r (follows_each network before r releases are few) in
     let joined : (before ++ r ∷ []) ++ releases ≡ before ++ r ∷ releases = append_assoc before (r ∷ []) releases in
     let rest = releases_read network is named (before ++ r ∷ []) releases
-    (subst (AreReleases network) (sym joined) are) in
+    (subst (AreReleases network) (sym joined) are) (subst (HaveFewPorts network) (sym joined) few) in
     step _ _ _ _ one (rest ∙ ap Ok joined)
 
 -- each record that is written is plain
@@ -137,11 +146,11 @@ unfolding header same_fields
 header_is = refl
 
 pub schedule_reads_back : ScheduleReadsBack
-schedule_reads_back network is named releases are =
+schedule_reads_back network is named releases are few =
     let records = header ∷ map (fields_of network) releases in
     let plain = All-cons IsPlain header (map (fields_of network) releases) plain_header
     (all_plain network named releases are.each) in
     ap (releases_under network) (plain_reads_back records plain)
     ∙ ap (λ (b : Bool). cond b (releases_from network [] (map (fields_of network) releases)) (Err (BadRow 1)))
     header_is
-    ∙ releases_read network is named [] releases are
+    ∙ releases_read network is named [] releases are few

@@ -9,8 +9,8 @@ use Rattle.ats_num.specs.declared.wire.TheConstants.{MIN_OCTETS, MAX_OCTETS}
 use Rattle.ats_network.specs.Network.{DeclaredNetwork, names_of, senders_of}
 use Rattle.ats_csv.specs.Reading.{field_of, records_of, same_fields}
 use Rattle.ats_trace.specs.declared.journey.Release.{Release}
-use Rattle.ats_trace.specs.declared.run.TheConstants.{MAX_FRAMES, MAX_RELEASE_PS}
-use Rattle.ats_schedule.specs.Releases.{last_time}
+use Rattle.ats_trace.specs.declared.run.TheConstants.{MAX_FRAMES, MAX_HOPS, MAX_RELEASE_PS}
+use Rattle.ats_schedule.specs.Releases.{last_time, ports_with}
 use Rattle.ats_schedule.specs.declared.fault.ScheduleFault.{ScheduleFault}
 use Rattle.ats_schedule.specs.declared.fault.ScheduleFault.TheVariants.{BadRow, UnknownName, BadNumber, BadSize}
 use Rattle.ats_schedule.specs.declared.fault.ScheduleFault.TheVariants.{TimeBack, Limit}
@@ -39,9 +39,11 @@ in_size n octets = ok_where (nat_le MIN_OCTETS octets && nat_le octets MAX_OCTET
 abbrev pub in_order : ℕ → ℕ → ℕ → Result ℕ ScheduleFault
 in_order n last at = ok_where (nat_le last at) (TimeBack n) at
 
--- this time, where it is within the greatest, and where a run may have more than so many frames
-abbrev pub within_limits : ℕ → ℕ → ℕ → Result ℕ ScheduleFault
-within_limits n count at = ok_where (nat_le at MAX_RELEASE_PS && nat_lt count MAX_FRAMES) (Limit n) at
+-- this time, where it is within the greatest, and where a run may have more than so many frames, and frames with so
+-- many ports
+abbrev pub within_limits : ℕ → ℕ → ℕ → ℕ → Result ℕ ScheduleFault
+within_limits n count ports at =
+    ok_where (nat_le at MAX_RELEASE_PS && nat_lt count MAX_FRAMES && nat_le ports MAX_HOPS) (Limit n) at
 
 -- the number of the record behind those of the header and of these releases
 abbrev pub record_after : List Release → ℕ
@@ -56,7 +58,7 @@ release_after network releases fields = do
   octets ← number_in (record_after releases) (field_of fields 2)
   size ← in_size (record_after releases) octets
   later ← in_order (record_after releases) (last_time releases) at
-  time ← within_limits (record_after releases) (length releases) later
+  time ← within_limits (record_after releases) (length releases) (ports_with network releases sender) later
   Ok (record { at = record { 0 = time }; sender = sender; octets = size })
 
 -- these releases, and those of further records, each with three fields; or the first fault

@@ -22,7 +22,8 @@ pub enum ScheduleFault {
     BadSize(u32),
     /// The release is before the one of the record before.
     TimeBack(u32),
-    /// The release is after 100,000,000,000,000,000 ps, or it is the one after the 200,000th.
+    /// The release is after 100,000,000,000,000,000 ps, or it is the one after the 200,000th, or the
+    /// ports of the frames so far, each with those of its sender, are together more than 3,200,000.
     Limit(u32),
 }
 

@@ -8,7 +8,8 @@ ghost use Rattle.ats_network.specs.Network.{senders_of};
 ghost use Rattle.ats_schedule.specs.Reading.{in_order, in_size, number_in, release_after, record_after, sender_in};
 ghost use Rattle.ats_schedule.specs.Reading.{within_limits};
 ghost use Rattle.ats_schedule.specs.Releases.{Follows, last_time};
-ghost use Rattle.ats_trace.specs.declared.run.TheConstants.{MAX_FRAMES, MAX_RELEASE_PS};
+ghost use Rattle.ats_trace.specs.Releases.{ports_of_frames};
+ghost use Rattle.ats_trace.specs.declared.run.TheConstants.{MAX_FRAMES, MAX_HOPS, MAX_RELEASE_PS};
 
 use crate::fault::ScheduleFault;
 use crate::recent::Recent;
@@ -17,7 +18,7 @@ use ats_network::Network;
 use ats_num::wire::{MAX_OCTETS, MIN_OCTETS};
 use ats_num::{Ps, number};
 use ats_trace::Release;
-use ats_trace::run::{MAX_FRAMES, MAX_RELEASE_PS};
+use ats_trace::run::{MAX_FRAMES, MAX_HOPS, MAX_RELEASE_PS};
 
 // The number of the record that follows those of these releases.
 pub(crate) fn record_after(releases: &[Release]) -> u32
@@ -27,15 +28,19 @@ pub(crate) fn record_after(releases: &[Release]) -> u32
     releases.len() as u32 + 2
 }
 
-// The release that the record with these three fields writes, behind the releases before it.
+// The release that the record with these three fields writes, behind the releases before it, whose frames have so many
+// ports.
 #[tactic(auto, unfolding(crate::specs::Reading::release_after))]
 pub(crate) fn release_after(
     recent: &mut Recent,
     releases: &[Release],
+    ports: usize,
     network: &Network,
     records: &Records,
 ) -> Result<Release, ScheduleFault>
     requires few { length releases.now ≤ MAX_FRAMES }
+    requires ports { ports ≡ ports_of_frames network.now releases.now }
+    requires few_ports { ports ≤ MAX_HOPS }
     requires fields { length records.now.fields ≡ 3 }
     ensures due { result ≡ release_after network.now releases.now records.now.fields }
     ensures follows { IfOk result (Follows network.now releases.now) }
@@ -46,7 +51,8 @@ pub(crate) fn release_after(
     let octets = number_in(n, records.field(2))?;
     let octets = in_size(n, octets)?;
     let at = in_order(n, last_time(releases), at)?;
-    let at = within_limits(n, releases.len(), at)?;
+    let ports = ports + network.sender_ports(sender).len();
+    let at = within_limits(n, releases.len(), ports, at)?;
     Ok(Release {
         at: Ps(at),
         sender,
@@ -108,13 +114,15 @@ fn in_order(n: u32, last: u64, at: u128) -> Result<u128, ScheduleFault>
     Ok(at)
 }
 
-// This time of record n, which follows so many releases, where there may be one more at this time.
-fn within_limits(n: u32, count: usize, at: u128) -> Result<u64, ScheduleFault>
-    ensures due { result ≡ within_limits n count at }
+// This time of record n, which follows so many releases, where there may be one more at this time, so that all frames
+// have so many ports.
+fn within_limits(n: u32, count: usize, ports: usize, at: u128) -> Result<u64, ScheduleFault>
+    ensures due { result ≡ within_limits n count ports at }
     ensures time { IfOk result (λ at. at ≤ MAX_RELEASE_PS) }
     ensures room { IfOk result (λ at. count < MAX_FRAMES) }
+    ensures ports { IfOk result (λ at. ports ≤ MAX_HOPS) }
 {
-    if at > u128::from(MAX_RELEASE_PS) || count >= MAX_FRAMES {
+    if at > u128::from(MAX_RELEASE_PS) || count >= MAX_FRAMES || ports > MAX_HOPS {
         return Err(ScheduleFault::Limit(n));
     }
     Ok(at as u64)

@@ -17,11 +17,13 @@ loop-record-preserved c =
       due = one_more c.args.network.now c.args.station c.first_time-first.result c.loop-record.latest
           c.max-latest.result (seen c.loop-record.traffic) (seen c.add.new.self) r (drop i c.args.records.now)
           (drop (i + 1) c.args.records.now) (traffic_of c.args.network.now c.args.station c.args.records.now)
-          c.loop-record.invariant.due front c.max-latest.ensures c.in_ok-add.ensures.due;
+          c.loop-record.invariant.due front c.max-latest.ensures c.in_ok-ports.ensures.due;
       later = omega (arith, c.max-latest.ensures);
-      counted = omega (arith, c.in_ok-add.ensures.counted);
-      unidentified = omega (arith, c.in_ok-add.ensures.unidentified);
-      oversize = omega (arith, c.in_ok-add.ensures.oversize);
+      counted = omega (arith, c.in_ok-ports.ensures.counted);
+      unidentified = omega (arith, c.in_ok-ports.ensures.unidentified);
+      oversize = omega (arith, c.in_ok-ports.ensures.oversize);
+      ports = c.in_ok-ports.ensures.ports;
+      few_ports = omega (arith, c.in_ok-ports.ensures.ports, c.in_ok-ports.ensures.few_ports);
     }
 
 -- all records came to what is kept

@@ -1,4 +1,5 @@
 use Rattle.std.proofs.Common.{◌≡◌, ◌≤◌, drop}
+use Rattle.ats_trace.specs.Releases.{HaveFewPorts, ports_of_frames}
 use Rattle.ats_capture.specs.Seen.{seen}
 use Rattle.ats_capture.specs.Traffic.{traffic_from, traffic_of}
 use Rattle.ats_capture.proofs.traffic.captured.Given as goal
@@ -12,4 +13,6 @@ invariant-loop-record l = record {
   counted : l.traffic.records ≡ l.record-index;
   unidentified : l.traffic.unidentified ≤ l.record-index;
   oversize : l.traffic.oversize ≤ l.record-index;
+  ports : l.ports ≡ ports_of_frames l.network l.traffic.releases.items;
+  few_ports : HaveFewPorts l.network l.traffic.releases.items;
 }

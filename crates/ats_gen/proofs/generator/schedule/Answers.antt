@@ -1,13 +1,14 @@
-use Rattle.std.proofs.Common.{◌≡◌, ℕ, ◌+◌, ◌*◌, ◌%◌, length, subst, ap, ◌∙◌, rules, arith}
+use Rattle.std.proofs.Common.{◌≡◌, ℕ, ◌+◌, ◌*◌, ◌%◌, ◌≤◌, length, subst, ap, ◌∙◌, rules, arith}
 use Rattle.std.proofs.lemmas.Nat.{mod_below}
 use Rattle.ats_trace.specs.declared.journey.Release.{Release}
+use Rattle.ats_trace.specs.declared.run.TheConstants.{MAX_HOPS}
 use Rattle.ats_gen.specs.Draw.{state_after, draw}
 use Rattle.ats_num.specs.Failure.{IsDue}
 use Rattle.ats_gen.specs.Made.{gen_fault, release_by, stream_of}
 use Rattle.ats_gen.specs.Making.{IsPast}
 use Rattle.ats_gen.proofs.Streams.{streams-ruled}
 use Rattle.ats_gen.proofs.MadeParts.{next_release}
-use Rattle.ats_gen.proofs.Sorted.{made-keeps, made-releases}
+use Rattle.ats_gen.proofs.Sorted.{made-few_ports, made-keeps, made-releases}
 use Rattle.ats_gen.proofs.Faults.{fault-no, past-due}
 use Rattle.ats_gen.proofs.Steps.{state-next, draw-is, release-is, made-next, within-next, clock-next, at_end}
 use Rattle.ats_gen.proofs.Steps.{within-end}
@@ -76,6 +77,7 @@ returns-clause-sound c =
     fault-no c.args.network.now c.args.seed c.args.count (λ none. absurd (omega (arith, size)))
     (within-end c.args.network.now c.args.seed c.loop-frame.frame c.args.count c.loop-frame.made.items end
     c.loop-frame.invariant.made c.loop-frame.invariant.within)
+    (subst (λ (n : ℕ). n ≤ MAX_HOPS) (c.ports_of.ensures c.args.seed) c.if-ports_of-gt-MAX_HOPS.false)
 
 pub returns-clause-releases : goal.returns-clause-releases
 returns-clause-releases c =
@@ -96,3 +98,11 @@ returns-clause-keeps c =
     (streams-ruled c.args.network.now c.streams.ensures.rules) (omega (arith, size))
     (at_end c.args.network.now c.args.seed c.loop-frame.frame c.args.count c.loop-frame.made.items
     c.in_ok-by_time.field-0.items end c.loop-frame.invariant.made c.in_ok-by_time.ensures)
+
+pub returns-clause-few_ports : goal.returns-clause-few_ports
+returns-clause-few_ports c =
+    let end : c.loop-frame.frame ≡ c.args.count = omega (arith, c.loop-frame.auto.frame-end) in
+    made-few_ports c.args.network.now c.args.seed c.args.count c.in_ok-by_time.field-0.items
+    (at_end c.args.network.now c.args.seed c.loop-frame.frame c.args.count c.loop-frame.made.items
+    c.in_ok-by_time.field-0.items end c.loop-frame.invariant.made c.in_ok-by_time.ensures)
+    (subst (λ (n : ℕ). n ≤ MAX_HOPS) (c.ports_of.ensures c.args.seed) c.if-ports_of-gt-MAX_HOPS.false)
