@@ -1,4 +1,4 @@
--- The lines of one hop more, and that a frame has no more hops than its path has ports.
+-- The lines of one hop more, and that a way has no more records than its path has ports.
 use Rattle.std.proofs.Common.{◌≡◌, ◌∙◌, ℕ, zero, suc, ◌+◌, ◌<◌, ◌≤◌, List, [], ◌∷◌, ◌++◌, length, get_or, map}
 use Rattle.std.proofs.Common.{take, sym, ap}
 use Rattle.std.proofs.Common.{refl, add-one, arith, Option, Some, None}
@@ -8,11 +8,7 @@ use Rattle.ats_num.specs.declared.time.Ps.{Ps}
 use Rattle.ats_topology.specs.Topology.{DeclaredTopology}
 use Rattle.ats_group.specs.declared.verdict.Verdict.{Verdict}
 use Rattle.ats_group.specs.declared.verdict.Verdict.TheVariants.{Eligible, Late, Size}
-use Rattle.ats_network.specs.Network.{DeclaredNetwork}
-use Rattle.ats_streams.proofs.BranchLemmas.{trunk_within}
-use Rattle.ats_network.specs.Sender.{Sender}
-use Rattle.ats_network.specs.Senders.{sender_at}
-use Rattle.ats_trace.specs.Journey.{IsJourney, IsSentOrEnds, IsWay, Travel, trunk_at}
+use Rattle.ats_trace.specs.Journey.{IsSentOrEnds, IsWay, Travel}
 use Rattle.ats_trace.specs.Stored.{journey_of, no_travel, travel_at}
 use Rattle.ats_trace.specs.declared.journey.Journey.{Journey}
 use Rattle.ats_trace.specs.declared.journey.HopRecord.{HopRecord}
@@ -58,7 +54,7 @@ next_hop topology path hops i p h x before after within fit so_far line =
     ∙ sym (ap (λ (k : ℕ). x ++ flat_map (hop_line topology) (zip path (take k hops))) (add-one i))
 
 -- a way has no more records than the path has ports
-way_fits : (path : List ℕ) (hops : List HopRecord) (ending : Ending) → IsWay path hops ending
+pub way_fits : (path : List ℕ) (hops : List HopRecord) (ending : Ending) → IsWay path hops ending
     → length hops ≤ length path
 way_fits [] [] ending way = omega arith
 way_fits [] (hop ∷ hops) (Sink at) way = absurd way
@@ -76,11 +72,3 @@ way_fits (p ∷ path) (hop ∷ hops) ending way =
     by (Late e) None last further = let none = ap (λ (rest : List HopRecord). length rest) last.0 in omega (arith, none)
     by Size (Some times) none further = absurd none
     by Size None last further = let none = ap (λ (rest : List HopRecord). length rest) last.0 in omega (arith, none)
-
--- so a journey has no more along the trunk than its sender has ports
-pub journey_fits : (network : DeclaredNetwork) (j : Travel) → IsJourney network j
-    → length j.hops ≤ length (sender_at network j.release.sender).ports
-journey_fits network j is =
-    let s : Sender = sender_at network j.release.sender in
-    let fits = way_fits (trunk_at network j.release.sender) j.hops j.ending is.way in
-    omega (arith, fits, trunk_within s.ports s.branches)

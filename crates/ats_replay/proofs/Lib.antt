@@ -1,4 +1,9 @@
 pub mod Journeys
-pub mod Counts
+pub mod Legs
 pub mod Numbered
+pub mod LastRecords
+pub mod Counts
+pub mod Places
 pub mod Summaries
+pub mod Reported
+pub mod Once

@@ -1,16 +1,19 @@
-use Rattle.std.specs.Prelude.{ℕ, ◌+◌, ◌-◌, ◌<◌, Bool, true, false, List, ◌++◌, length, Option, Some, None, codes}
-use Rattle.std.specs.Prelude.{decimal, slice_get, if◌then◌else◌}
-use Rattle.std.specs.List.{count_by}
+use Rattle.std.specs.Prelude.{ℕ, ◌-◌, Bool, true, false, List, ◌++◌, length, Option, Some, None, codes}
+use Rattle.std.specs.Prelude.{decimal, map, slice_get}
+use Rattle.std.specs.List.{count_by, flat_map, range_with_len}
 use Rattle.ats_group.specs.declared.verdict.Verdict.{Verdict}
 use Rattle.ats_group.specs.declared.verdict.Verdict.TheVariants.{Eligible, Late, Size}
-use Rattle.ats_trace.specs.Journey.{Travel}
+use Rattle.ats_network.specs.Network.{DeclaredNetwork}
+use Rattle.ats_network.specs.Sender.{Sender}
+use Rattle.ats_network.specs.Senders.{sender_at}
+use Rattle.ats_trace.specs.Journey.{Leg, Travel}
+use Rattle.ats_trace.specs.Ways.{listener_count, way_to}
 use Rattle.ats_trace.specs.declared.journey.HopRecord.{HopRecord}
 use Rattle.ats_trace.specs.declared.journey.Ending.{Ending}
 use Rattle.ats_trace.specs.declared.journey.Ending.TheVariants.{Sink, Discard}
-use Rattle.ats_trace.specs.declared.run.TheConstants.{MAX_FRAMES}
 use Rattle.ats_replay.specs.declared.totals.Totals.{Totals}
 
--- a frame's journey ended at its listener
+-- a way ended at its listener
 abbrev pub is_sunk : Ending → Bool
 is_sunk (Sink at) = true
 is_sunk Discard = false
@@ -30,38 +33,38 @@ abbrev pub passes : (Verdict → Bool) → Option HopRecord → Bool
 passes test None = false
 passes test (Some hop) = test hop.verdict
 
+-- the last of some records, where there is one
+abbrev pub last_of : List HopRecord → Option HopRecord
+last_of hops = slice_get hops (length hops - 1)
+
 -- the last verdict on a frame was that it would be eligible too late
 abbrev pub is_late : List HopRecord → Bool
-is_late hops = passes is_late_verdict (slice_get hops (length hops - 1))
+is_late hops = passes is_late_verdict (last_of hops)
 
 -- or that its octets are not allowed
 abbrev pub is_oversize : List HopRecord → Bool
-is_oversize hops = passes is_size_verdict (slice_get hops (length hops - 1))
+is_oversize hops = passes is_size_verdict (last_of hops)
 
--- how many frames a run has, and how many of them ended in each way
-abbrev pub totals_of : List Travel → Totals
-totals_of run = record {
-  frames = length run;
-  sunk = count_by (λ (j : Travel). is_sunk j.ending) run;
-  late = count_by (λ (j : Travel). is_late j.hops) run;
-  size = count_by (λ (j : Travel). is_oversize j.hops) run;
+-- so many frames, and how many of these ways of theirs, each to a listener, ended in each way
+abbrev pub totals_on : ℕ → List Leg → Totals
+totals_on frames ways = record {
+  frames = frames;
+  sunk = count_by (λ (way : Leg). is_sunk way.ending) ways;
+  late = count_by (λ (way : Leg). is_late way.hops) ways;
+  size = count_by (λ (way : Leg). is_oversize way.hops) ways;
 }
 
--- totals with one frame more
-abbrev pub with_frame : Totals → Travel → Totals
-with_frame totals j = record {
-  frames = totals.frames + 1;
-  sunk = totals.sunk + (if is_sunk j.ending then 1 else 0);
-  late = totals.late + (if is_late j.hops then 1 else 0);
-  size = totals.size + (if is_oversize j.hops then 1 else 0);
-}
+-- the ways of a frame to the listeners of its sender, one by one
+abbrev pub ways_by : Sender → Travel → List Leg
+ways_by sender journey = map (way_to sender journey) (range_with_len 0 (listener_count sender))
 
--- none of them is as great as the most frames that a run may have
-pub record AreWithin (totals : Totals) : Type 0 where
-  pub all_frames : totals.frames < MAX_FRAMES
-  pub all_sunk : totals.sunk < MAX_FRAMES
-  pub all_late : totals.late < MAX_FRAMES
-  pub all_size : totals.size < MAX_FRAMES
+-- and of a frame of a network
+abbrev pub ways_in : DeclaredNetwork → Travel → List Leg
+ways_in network journey = ways_by (sender_at network journey.release.sender) journey
+
+-- how many frames a run has, and how many of their ways, one to each listener of each frame, ended in each way
+abbrev pub totals_of : DeclaredNetwork → List Travel → Totals
+totals_of network run = totals_on (length run) (flat_map (ways_in network) run)
 
 -- `frames F sunk K late L size S`
 unfoldable pub counts_text : Totals → List ℕ

@@ -3,15 +3,18 @@
 ghost use Rattle.std.specs.Prelude.{◌≡◌, ◌++◌, ◌<◌, ◌≤◌, length, OnOk};
 ghost use Rattle.std.specs.List.{flat_map, zip};
 ghost use Rattle.ats_network.specs.Network.{senders_of};
+ghost use Rattle.ats_network.specs.Senders.{sender_at};
+ghost use Rattle.ats_streams.specs.Branches.{leg_at};
 ghost use Rattle.ats_topology.specs.Walks.{ArePorts};
-ghost use Rattle.ats_trace.specs.Journey.{IsJourney};
-ghost use Rattle.ats_trace.specs.Stored.{travel_at};
-ghost use Rattle.ats_replay.specs.Departures.{ending_line, frame_line, hop_line, journey_text, sent_text, verdict_text};
+ghost use Rattle.ats_trace.specs.Journey.{IsJourney, legs_at, legs_in};
+ghost use Rattle.ats_trace.specs.Stored.{leg_in, travel_at};
+ghost use Rattle.ats_replay.specs.Departures.{copy_text, ending_line, frame_line, hop_line, journey_text, leg_lines};
+ghost use Rattle.ats_replay.specs.Departures.{sent_text, station_line, verdict_text};
 
 use crate::lines::write_number;
 use crate::rows::row_of;
 use ats_group::Verdict;
-use ats_network::Network;
+use ats_network::{Network, station_of};
 use ats_num::Ps;
 use ats_port_names::write_port;
 use ats_topology::Topology;
@@ -101,7 +104,7 @@ fn write_hops(
     Ok(())
 }
 
-// The line of a frame's end.
+// The line of a frame's end along a leg.
 fn write_ending(out: &mut Vec<u8>, ending: &Ending) -> Result<(), AllocError>
     ensures { OnOk result (out.new.items ≡ out.old.items ++ ending_line ending.now) }
 {
@@ -112,6 +115,65 @@ fn write_ending(out: &mut Vec<u8>, ending: &Ending) -> Result<(), AllocError>
         }
         Ending::Discard => out.extend_from_slice(b"discard\n")?,
     }
+    Ok(())
+}
+
+// The lines of a frame of a run along one leg.
+fn write_leg(
+    out: &mut Vec<u8>,
+    network: &Network,
+    run: &Run,
+    frame: u32,
+    leg: u32,
+) -> Result<(), AllocError>
+    requires frame { frame < length run.now }
+    requires leg { leg < length (legs_in (travel_at run.now frame)) }
+    requires journey { IsJourney network.now (travel_at run.now frame) }
+    ensures { OnOk result (out.new.items ≡ out.old.items ++ leg_lines network.now.topology
+        (leg_at (legs_at network.now (travel_at run.now frame).release.sender) leg)
+        (leg_in (travel_at run.now frame) leg)) }
+{
+    let row = row_of(run, frame);
+    let path = network.sender_leg(row.release.sender, leg);
+    let ending = run.ending_of(frame, leg);
+    write_hops(out, network.topology(), path, run.hops_of(frame, leg))?;
+    write_ending(out, &ending)?;
+    Ok(())
+}
+
+// The line that says whose listener's the copy along a branch is, by the ports of the branch.
+#[tactic(auto, unfolding(crate::specs::Departures::station_line))]
+fn write_station(out: &mut Vec<u8>, topology: &Topology, path: &[u32]) -> Result<(), AllocError>
+    requires some { 0 < length path.now }
+    requires ports { ArePorts topology.now.ports path.now }
+    ensures { OnOk result (out.new.items ≡ out.old.items ++ station_line topology.now path.now) }
+{
+    let station = station_of(topology, path);
+    out.extend_from_slice(b"listener ")?;
+    out.extend_from_slice(station.bytes())?;
+    out.extend_from_slice(b"\n")?;
+    Ok(())
+}
+
+// The lines of a frame's copy along a branch.
+fn write_copy(
+    out: &mut Vec<u8>,
+    network: &Network,
+    run: &Run,
+    frame: u32,
+    leg: u32,
+) -> Result<(), AllocError>
+    requires frame { frame < length run.now }
+    requires leg { (1 ≤ leg) × (leg < length (legs_in (travel_at run.now frame))) }
+    requires journey { IsJourney network.now (travel_at run.now frame) }
+    ensures { OnOk result (out.new.items ≡ out.old.items ++ copy_text network.now.topology
+        (sender_at network.now (travel_at run.now frame).release.sender)
+        (leg, leg_in (travel_at run.now frame) leg)) }
+{
+    let row = row_of(run, frame);
+    let path = network.sender_leg(row.release.sender, leg);
+    write_station(out, network.topology(), path)?;
+    write_leg(out, network, run, frame, leg)?;
     Ok(())
 }
 
@@ -129,9 +191,10 @@ pub(crate) fn write_journey(
         (out.new.items ≡ out.old.items ++ journey_text network.now (frame, travel_at run.now frame)) }
 {
     let row = row_of(run, frame);
-    let path = network.sender_ports(row.release.sender);
     write_frame(out, network, frame, &row.release)?;
-    write_hops(out, network.topology(), path, run.hops_of(frame))?;
-    write_ending(out, &row.ending)?;
+    write_leg(out, network, run, frame, 0)?;
+    for leg in 1..run.legs(frame) {
+        write_copy(out, network, run, frame, leg)?;
+    }
     Ok(())
 }

@@ -3,12 +3,15 @@
 #![tactic(auto)]
 
 mod journey;
+pub mod laws;
 mod lines;
 pub mod printing;
 pub mod reporting;
+mod room;
 mod rows;
 pub mod summary;
 pub mod totals;
+mod ways;
 
 pub use printing::departures;
 pub use reporting::report;

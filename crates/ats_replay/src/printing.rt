@@ -1,27 +1,23 @@
 //! The text of a run, frame by frame.
 
-ghost use Rattle.std.specs.Prelude.{◌≡◌, ◌*◌, ◌++◌, ◌≤◌, length, All, OnOk, IfOk};
+ghost use Rattle.std.specs.Prelude.{◌≡◌, ◌++◌, All, OnOk, IfOk};
 ghost use Rattle.std.specs.List.{enumerate_from, flat_map};
 ghost use Rattle.ats_trace.specs.Journey.{IsJourney};
 ghost use Rattle.ats_replay.specs.Departures.{departures_text, journey_text};
 
 use crate::journey::write_journey;
+use crate::room::room_of;
 use crate::totals::{totals_of, write_totals};
 use ats_network::Network;
 use ats_trace::Run;
 use std::alloc::{AllocError, Global};
 
-// The most hops of a frame that are counted when room is taken for its lines.
-const MAX_HOPS: usize = 16;
-
-// The bytes of room that are taken for a line.
-const LINE_BYTES: usize = 80;
-
-/// What happened to each frame of a run, in the order of the frames: a line with its number, its
-/// sender's name, its octets and its release; a line for each hop, with the port of the sender's
-/// path at that hop; and a line with its arrival at its listener, or that it was discarded. Then a
-/// line of totals. Condition: each frame goes along its sender's path (`IsJourney`), as in every
-/// legal run. The text is made in one buffer. `AllocError` where there is no memory for it.
+/// What happened to each frame of a run, in the order of the frames: a line with its number, its sender's name, its
+/// octets and its release; a line for each hop along the trunk, with the port there; and a line with its arrival at its
+/// first listener, or that it was discarded. Behind them, for each branch of the sender in order, a line with the
+/// station of the listener, one for each hop of the copy along the branch, and one with its end. Then a line of totals.
+/// Condition: each frame goes along its sender's legs (`IsJourney`), as in every legal run. The text is made in one
+/// buffer. `AllocError` where there is no memory for it.
 #[tactic(auto, unfolding(crate::specs::Departures::departures_text))]
 pub fn departures(alloc: Global, network: &Network, run: &Run) -> Result<Vec<u8>, AllocError>
     requires { All (IsJourney network.now) run.now }
@@ -29,19 +25,8 @@ pub fn departures(alloc: Global, network: &Network, run: &Run) -> Result<Vec<u8>
 {
     let mut out = Vec::with_capacity(alloc, room_of(run))?;
     write_journeys(&mut out, network, run)?;
-    write_totals(&mut out, &totals_of(run))?;
+    write_totals(&mut out, &totals_of(network, run))?;
     Ok(out)
-}
-
-// About how many bytes the lines of a run take, so that the text seldom moves while it is made.
-fn room_of(run: &Run) -> usize
-    ensures { result ≤ 1440 * length run.now }
-{
-    let mut lines = 0;
-    for frame in 0..run.len() {
-        lines += 2 + run.hops_of(frame as u32).len().min(MAX_HOPS);
-    }
-    lines * LINE_BYTES
 }
 
 // The lines of all frames.

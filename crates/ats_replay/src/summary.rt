@@ -1,82 +1,114 @@
-//! What came of the frames of each sender.
+//! What came of the frames of each sender for each of its listeners.
 
-ghost use Rattle.std.specs.Prelude.{◌≡◌, ◌<◌, [], length, All, IfOk};
+ghost use Rattle.std.specs.Prelude.{◌≡◌, ◌+◌, ◌<◌, ◌≤◌, length, map, take, All, IfOk};
+ghost use Rattle.std.specs.List.{range_with_len};
 ghost use Rattle.ats_network.specs.Network.{senders_of};
-ghost use Rattle.ats_trace.specs.Journey.{IsJourney};
+ghost use Rattle.ats_network.specs.Senders.{sender_at};
+ghost use Rattle.ats_trace.specs.Journey.{IsJourney, legs_in};
 ghost use Rattle.ats_trace.specs.Stored.{travel_at};
-ghost use Rattle.ats_replay.specs.Totals.{AreWithin};
-ghost use Rattle.ats_replay.specs.Summary.{delay_to, summaries_of, with_travel};
+ghost use Rattle.ats_trace.specs.Ways.{way_to};
+ghost use Rattle.ats_trace.specs.declared.run.TheConstants.{MAX_FRAMES};
+ghost use Rattle.ats_replay.specs.Inside.{AreSummaries, HaveRoom, with_frame};
+ghost use Rattle.ats_replay.specs.Summary.{delay_to, first_of};
 
 use crate::rows::row_of;
-use crate::totals::{Totals, with_frame};
+use crate::totals::{NO_FRAMES, Totals, with_way};
 use ats_network::Network;
 use ats_num::Ps;
-use ats_trace::{Ending, Journey, Run};
+use ats_trace::{Ending, Run};
 use std::alloc::{AllocError, Global};
 
-/// What came of the frames of one sender.
+/// What came of the frames of one sender for one of its listeners.
 #[derive(Clone, Copy, Debug, PartialEq, Eq)]
 pub struct Summary {
-    /// How many there were, and how they ended.
+    /// How many there were, and how their ways to the listener ended.
     pub totals: Totals,
-    /// The longest that one of them took from its release to its listener; 0 where none arrived.
+    /// The longest that one of them took from its release to the listener; 0 where none arrived.
     pub worst: Ps,
 }
 
-// What came of the frames of each sender of a network.
+// The place of each sender's first listener among those of all senders, sender by sender, and the number of them all.
+pub(crate) fn firsts_of(alloc: Global, network: &Network) -> Result<Vec<usize>, AllocError>
+    ensures { IfOk result (λ firsts. firsts.items
+        ≡ map (first_of network.now) (range_with_len 0 (length (senders_of network.now) + 1))) }
+{
+    let senders = network.senders();
+    let mut firsts = Vec::with_capacity(alloc, senders as usize + 1)?;
+    let mut first = 0usize;
+    for sender in 0..senders {
+        firsts.push(first)?;
+        first += network.sender_legs(sender) as usize;
+    }
+    firsts.push(first)?;
+    Ok(firsts)
+}
+
+// What came of the frames of each sender of a network for each of its listeners, whose places begin at these.
 pub(crate) fn summarize(
     alloc: Global,
     network: &Network,
     run: &Run,
+    firsts: &[usize],
 ) -> Result<Vec<Summary>, AllocError>
-    requires { All (IsJourney network.now) run.now }
-    ensures { IfOk result (λ summaries. summaries.items ≡ summaries_of (length (senders_of network.now)) run.now) }
+    requires journeys { All (IsJourney network.now) run.now }
+    requires firsts { firsts.now ≡ map (first_of network.now) (range_with_len 0 (length (senders_of network.now) + 1)) }
+    ensures { IfOk result (λ summaries. AreSummaries network.now run.now summaries.items) }
 {
-    let mut summaries = no_frames(alloc, network.senders())?;
+    let all = firsts[network.senders() as usize];
+    let mut summaries = vec![in alloc; Summary {
+        totals: NO_FRAMES,
+        worst: Ps(0)
+    }; all]?;
     for frame in 0..run.len() as u32 {
         let sender = row_of(run, frame).release.sender as usize;
-        summaries[sender] = with_travel(&summaries[sender], run, frame);
+        add_frame(&mut summaries, firsts[sender], network, run, frame);
     }
     Ok(summaries)
 }
 
-// What came of the frames of so many senders, where there is no frame.
-fn no_frames(alloc: Global, senders: u32) -> Result<Vec<Summary>, AllocError>
-    ensures { IfOk result (λ summaries. summaries.items ≡ summaries_of senders []) }
-{
-    let mut summaries = Vec::new(alloc);
-    for _ in 0..senders {
-        summaries.push(Summary {
-            totals: Totals {
-                frames: 0,
-                sunk: 0,
-                late: 0,
-                size: 0,
-            },
-            worst: Ps(0),
-        })?;
-    }
-    Ok(summaries)
-}
-
-// A summary with one frame of a run more.
-fn with_travel(summary: &Summary, run: &Run, frame: u32) -> Summary
+// Counts a frame of a run for each listener of its sender, whose summaries begin at this place.
+fn add_frame(summaries: &mut Vec<Summary>, first: usize, network: &Network, run: &Run, frame: u32)
     requires frame { frame < length run.now }
-    requires few { AreWithin summary.now.totals }
-    ensures { result ≡ with_travel summary.now (travel_at run.now frame) }
+    requires few { length run.now ≤ MAX_FRAMES }
+    requires journeys { All (IsJourney network.now) run.now }
+    requires first { first ≡ first_of network.now (travel_at run.now frame).release.sender }
+    requires so_far { AreSummaries network.now (take frame run.now) summaries.old.items }
+    ensures { AreSummaries network.now (take (frame + 1) run.now) summaries.new.items }
 {
-    Summary {
-        totals: with_frame(&summary.totals, run, frame),
-        worst: Ps(summary.worst.0.max(delay_of(&row_of(run, frame)))),
+    let _rules = network.topology(); // for what a network keeps
+    for leg in 0..run.legs(frame) {
+        let place = first + leg as usize;
+        summaries[place] = with_frame(&summaries[place], network, run, frame, leg);
     }
 }
 
-// How long a frame took to its listener.
-fn delay_of(row: &Journey) -> u64
-    ensures { result ≡ delay_to row.now.release.at.0 row.now.ending }
+// A summary with one frame of a run more, for the listener of a leg.
+fn with_frame(summary: &Summary, network: &Network, run: &Run, frame: u32, leg: u32) -> Summary
+    requires frame { frame < length run.now }
+    requires leg { leg < length (legs_in (travel_at run.now frame)) }
+    requires journey { IsJourney network.now (travel_at run.now frame) }
+    requires room { HaveRoom summary.now.totals }
+    ensures { result ≡ with_frame summary.now (travel_at run.now frame).release.at.0
+        (way_to (sender_at network.now (travel_at run.now frame).release.sender) (travel_at run.now frame) leg) }
 {
-    match row.ending {
-        Ending::Sink(at) => at.0.saturating_sub(row.release.at.0),
+    let release = row_of(run, frame).release.at.0;
+    let delay = delay_to(release, &run.ending_of(frame, leg));
+    let ways = with_way(&summary.totals, network, run, frame, leg);
+    Summary {
+        totals: Totals {
+            frames: ways.frames + 1,
+            ..ways
+        },
+        worst: Ps(summary.worst.0.max(delay)),
+    }
+}
+
+// How long a frame of this release took to a listener.
+fn delay_to(release: u64, ending: &Ending) -> u64
+    ensures { result ≡ delay_to release ending.now }
+{
+    match ending {
+        Ending::Sink(at) => at.0.saturating_sub(release),
         Ending::Discard => 0,
     }
 }

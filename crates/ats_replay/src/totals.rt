@@ -1,62 +1,97 @@
 //! How many frames there were, and how they ended.
 
-ghost use Rattle.std.specs.Prelude.{◌≡◌, ◌++◌, ◌<◌, length, OnOk};
+ghost use Rattle.std.specs.Prelude.{◌≡◌, ◌+◌, ◌++◌, ◌<◌, ◌≤◌, length, take, All, OnOk};
+ghost use Rattle.ats_network.specs.Senders.{sender_at};
+ghost use Rattle.ats_trace.specs.Journey.{IsJourney, legs_in};
 ghost use Rattle.ats_trace.specs.Stored.{travel_at};
-ghost use Rattle.ats_replay.specs.Totals.{AreWithin, counts_text, is_late, is_oversize, is_sunk, totals_line};
-ghost use Rattle.ats_replay.specs.Totals.{totals_of, with_frame};
+ghost use Rattle.ats_trace.specs.Ways.{way_to};
+ghost use Rattle.ats_trace.specs.declared.run.TheConstants.{MAX_FRAMES};
+ghost use Rattle.ats_replay.specs.Inside.{HaveRoom, with_way};
+ghost use Rattle.ats_replay.specs.Totals.{counts_text, is_late_verdict, is_size_verdict, is_sunk, passes};
+ghost use Rattle.ats_replay.specs.Totals.{totals_line, totals_of};
 
 use crate::lines::write_number;
-use crate::rows::row_of;
+use crate::ways::last_record;
 use ats_group::Verdict;
+use ats_network::Network;
 use ats_trace::{Ending, HopRecord, Run};
 use std::alloc::AllocError;
 
-/// Numbers of frames.
+/// Numbers of frames, and of their listeners.
 #[derive(Clone, Copy, Debug, PartialEq, Eq)]
 pub struct Totals {
-    /// All of them.
+    /// All frames.
     pub frames: u32,
-    /// Those that arrived at their listeners.
-    pub sunk: u32,
-    /// Those that were discarded since they would have been eligible too late.
-    pub late: u32,
-    /// Those that were discarded for their octets.
-    pub size: u32,
+    /// For how many listeners of each, counted together, it arrived.
+    pub sunk: u64,
+    /// For how many it was discarded since it would have been eligible too late.
+    pub late: u64,
+    /// For how many it was discarded for its octets.
+    pub size: u64,
 }
 
-/// The totals of a run.
-#[tactic(auto, using(crate::proofs::Counts::totals_more, crate::proofs::Counts::totals_within))]
-pub fn totals_of(run: &Run) -> Totals
-    ensures { result ≡ totals_of run.now }
+// Of no frame.
+pub(crate) const NO_FRAMES: Totals = Totals {
+    frames: 0,
+    sunk: 0,
+    late: 0,
+    size: 0,
+};
+
+/// The totals of a run: of each frame and each of its listeners one of the last three counts one. Condition: each frame
+/// goes along its sender's legs (`IsJourney`), as in every legal run. It takes time linear in the legs of the frames.
+pub fn totals_of(network: &Network, run: &Run) -> Totals
+    requires { All (IsJourney network.now) run.now }
+    ensures { result ≡ totals_of network.now run.now }
 {
-    let mut totals = Totals {
-        frames: 0,
-        sunk: 0,
-        late: 0,
-        size: 0,
-    };
+    let mut totals = NO_FRAMES;
     for frame in 0..run.len() as u32 {
-        totals = with_frame(&totals, run, frame);
+        add_ways(&mut totals, network, run, frame);
     }
     totals
 }
 
-// The totals with one frame of a run more.
-pub(crate) fn with_frame(totals: &Totals, run: &Run, frame: u32) -> Totals
+// Counts a frame of a run, and its ways to its listeners.
+fn add_ways(totals: &mut Totals, network: &Network, run: &Run, frame: u32)
     requires frame { frame < length run.now }
-    requires few { AreWithin totals.now }
-    ensures { result ≡ with_frame totals.now (travel_at run.now frame) }
+    requires few { length run.now ≤ MAX_FRAMES }
+    requires journeys { All (IsJourney network.now) run.now }
+    requires so_far { totals.old ≡ totals_of network.now (take frame run.now) }
+    ensures { totals.new ≡ totals_of network.now (take (frame + 1) run.now) }
 {
-    let (row, hops) = (row_of(run, frame), run.hops_of(frame));
-    Totals {
-        frames: totals.frames + 1,
-        sunk: totals.sunk + u32::from(is_sunk(&row.ending)),
-        late: totals.late + u32::from(is_late(hops)),
-        size: totals.size + u32::from(is_oversize(hops)),
+    let _rules = network.topology(); // for what a network keeps
+    totals.frames += 1;
+    for leg in 0..run.legs(frame) {
+        *totals = with_way(totals, network, run, frame, leg);
     }
 }
 
-// Whether a frame arrived at its listener.
+// The totals with one way more, that of a frame of a run to the listener of a leg.
+pub(crate) fn with_way(
+    totals: &Totals,
+    network: &Network,
+    run: &Run,
+    frame: u32,
+    leg: u32,
+) -> Totals
+    requires frame { frame < length run.now }
+    requires leg { leg < length (legs_in (travel_at run.now frame)) }
+    requires journey { IsJourney network.now (travel_at run.now frame) }
+    requires room { HaveRoom totals.now }
+    ensures { result ≡ with_way totals.now (way_to (sender_at network.now (travel_at run.now frame).release.sender)
+        (travel_at run.now frame) leg) }
+{
+    let ending = run.ending_of(frame, leg);
+    let last = last_record(network, run, frame, leg);
+    Totals {
+        frames: totals.frames,
+        sunk: totals.sunk + u64::from(is_sunk(&ending)),
+        late: totals.late + u64::from(is_late(&last)),
+        size: totals.size + u64::from(is_oversize(&last)),
+    }
+}
+
+// Whether a frame arrived at a listener.
 fn is_sunk(ending: &Ending) -> bool
     ensures { result ≡ is_sunk ending.now }
 {
@@ -66,21 +101,21 @@ fn is_sunk(ending: &Ending) -> bool
     }
 }
 
-// Whether the last verdict on a frame was that it would be eligible too late.
-fn is_late(hops: &[HopRecord]) -> bool
-    ensures { result ≡ is_late hops.now }
+// Whether the verdict of the last record is that the frame would be eligible too late.
+fn is_late(last: &Option<HopRecord>) -> bool
+    ensures { result ≡ passes is_late_verdict last.now }
 {
-    match hops.last() {
+    match last {
         Some(hop) => matches!(hop.verdict, Verdict::Late(_)),
         None => false,
     }
 }
 
-// Whether the last verdict on a frame was that its octets are not allowed.
-fn is_oversize(hops: &[HopRecord]) -> bool
-    ensures { result ≡ is_oversize hops.now }
+// Whether it is that the frame's octets are not allowed.
+fn is_oversize(last: &Option<HopRecord>) -> bool
+    ensures { result ≡ passes is_size_verdict last.now }
 {
-    match hops.last() {
+    match last {
         Some(hop) => matches!(hop.verdict, Verdict::Size),
         None => false,
     }

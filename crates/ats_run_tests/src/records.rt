@@ -2,6 +2,7 @@
 
 ghost use Rattle.std.specs.Prelude.{◌≡◌, length};
 
+use ats_fixtures::lines::line;
 use ats_group::Verdict;
 use ats_num::Ps;
 use ats_run_records::Records;
@@ -10,7 +11,9 @@ use std::alloc::AllocGlobal;
 use std::process::Abort;
 
 // A release of 64 octets at this time.
-fn release(at: u64) -> Release {
+fn release(at: u64) -> Release
+    ensures { result ≡ record { at = record { 0 = at }; sender = 0; octets = 64 } }
+{
     Release {
         at: Ps(at),
         sender: 0,
@@ -29,9 +32,14 @@ fn came(at: u64) -> HopRecord {
 
 #[test]
 fn records_of_two_frames(rt: HostRuntime) {
+    let Some(network) = line(rt.alloc()) else {
+        panic!(rt; "no network");
+    };
+    assert!(rt; network.senders() == 2);
+    assert!(rt; network.sender_ports(0).len() == 2);
+    assert!(rt; network.sender_leg(0, 0).len() == 2);
     let releases = [release(5), release(7)];
-    let rooms = [1, 2];
-    let mut records = Records::open(rt.alloc(), &releases, &rooms).expect(&rt, "room");
+    let mut records = Records::open(rt.alloc(), &network, &releases).expect(&rt, "room");
     records.push(1, came(7));
     records.push(0, came(5));
     records.send(1, Ps(7), Ps(9));
@@ -47,5 +55,6 @@ fn records_of_two_frames(rt: HostRuntime) {
     assert!(rt; records.hops_of(1) == [sent, came(10)].as_slice());
     let run = records.finish();
     assert!(rt; run.journeys().len() == 2);
-    assert!(rt; run.hops_of(1) == [sent, came(10)].as_slice());
+    assert!(rt; run.legs(1) == 1);
+    assert!(rt; run.hops_of(1, 0) == [sent, came(10)].as_slice());
 }

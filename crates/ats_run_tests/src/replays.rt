@@ -1,9 +1,9 @@
 //! Runs of a line, written by hand, printed and captured, and its schedulers.
 
 ghost use Rattle.std.specs.Prelude.{◌≡◌, ◌<◌, length, All};
-ghost use Rattle.ats_network.specs.Network.{HasOneListener, senders_of};
+ghost use Rattle.ats_network.specs.Network.{senders_of};
 ghost use Rattle.ats_network.specs.Senders.{sender_at};
-ghost use Rattle.ats_trace.specs.Journey.{IsJourney};
+ghost use Rattle.ats_trace.specs.Journey.{IsJourney, legs_at};
 
 use ats_fixtures::lines::line;
 use ats_group::Verdict;
@@ -76,15 +76,27 @@ fn hop(arrival: u64, verdict: Verdict, sent: Option<(Ps, Ps)>) -> HopRecord
     }
 }
 
+// The two records from this place on.
+fn span(first: u32) -> Span
+    ensures { result ≡ record { first = first; leg = 0; count = 2; room = 2 } }
+{
+    Span {
+        first,
+        leg: 0,
+        count: 2,
+        room: 2,
+    }
+}
+
 // The run of a frame that reaches its listener.
 fn sent(rt: &(impl Abort + AllocGlobal), network: &Network) -> Run
-    requires one_listener { HasOneListener network.now }
     requires sender { 0 < length (senders_of network.now) }
+    requires one_listener { length (legs_at network.now 0) ≡ 1 }
     requires path { length (sender_at network.now 0).ports ≡ 2 }
     ensures { All (IsJourney network.now) result }
 {
     let rows = vec![in rt.alloc(); journey(1522, Ending::Sink(Ps(26_672_000)))].expect(rt, "room");
-    let spans = vec![in rt.alloc(); Span { first: 0, count: 2 }].expect(rt, "room");
+    let spans = vec![in rt.alloc(); span(0)].expect(rt, "room");
     let hops = vec![in rt.alloc();
         hop(0, Verdict::Eligible(Ps(0)), Some((Ps(0), Ps(12_336_000)))),
         hop(
@@ -94,13 +106,14 @@ fn sent(rt: &(impl Abort + AllocGlobal), network: &Network) -> Run
         ),
     ]
     .expect(rt, "room");
-    Run::new(rows, spans, hops)
+    let firsts = vec![in rt.alloc(); 1].expect(rt, "room");
+    Run::new(rows, spans, firsts, hops)
 }
 
 // The run of a frame that is too long, and one that would be eligible too late.
 fn discarded(rt: &(impl Abort + AllocGlobal), network: &Network) -> Run
-    requires one_listener { HasOneListener network.now }
     requires sender { 0 < length (senders_of network.now) }
+    requires one_listener { length (legs_at network.now 0) ≡ 1 }
     requires path { length (sender_at network.now 0).ports ≡ 2 }
     ensures { All (IsJourney network.now) result }
 {
@@ -109,10 +122,7 @@ fn discarded(rt: &(impl Abort + AllocGlobal), network: &Network) -> Run
         journey(64, Ending::Discard),
     ]
     .expect(rt, "room");
-    let spans = vec![in rt.alloc();
-        Span { first: 0, count: 2 },
-        Span { first: 2, count: 2 },
-    ].expect(rt, "room");
+    let spans = vec![in rt.alloc(); span(0), span(2)].expect(rt, "room");
     let hops = vec![in rt.alloc();
         hop(0, Verdict::Eligible(Ps(0)), Some((Ps(0), Ps(12_344_000)))),
         hop(13_844_000, Verdict::Size, None),
@@ -124,7 +134,8 @@ fn discarded(rt: &(impl Abort + AllocGlobal), network: &Network) -> Run
         hop(14_516_000, Verdict::Late(Ps(33_372_000)), None),
     ]
     .expect(rt, "room");
-    Run::new(rows, spans, hops)
+    let firsts = vec![in rt.alloc(); 2, 2].expect(rt, "room");
+    Run::new(rows, spans, firsts, hops)
 }
 
 #[test]
@@ -133,6 +144,7 @@ fn prints_a_frame_that_arrives(rt: HostRuntime) {
         panic!(rt; "no network");
     };
     assert!(rt; network.senders() == 2);
+    assert!(rt; network.sender_legs(0) == 1);
     assert!(rt; network.sender_ports(0).len() == 2);
     let run = sent(&rt, &network);
     let text = departures(rt.alloc(), &network, &run).expect(&rt, "room");
@@ -148,6 +160,7 @@ fn captures_what_a_port_sent(rt: HostRuntime) {
         panic!(rt; "no network");
     };
     assert!(rt; network.senders() == 2);
+    assert!(rt; network.sender_legs(0) == 1);
     assert!(rt; network.sender_ports(0).len() == 2);
     let run = sent(&rt, &network);
     let capture = file(rt.alloc(), &network, &run, 2).expect(&rt, "room");
@@ -162,6 +175,7 @@ fn prints_frames_that_are_discarded(rt: HostRuntime) {
         panic!(rt; "no network");
     };
     assert!(rt; network.senders() == 2);
+    assert!(rt; network.sender_legs(0) == 1);
     assert!(rt; network.sender_ports(0).len() == 2);
     let run = discarded(&rt, &network);
     let text = departures(rt.alloc(), &network, &run).expect(&rt, "room");

@@ -36,7 +36,9 @@ fn at(place: u32) -> Span
 {
     Span {
         first: place,
+        leg: 0,
         count: 1,
+        room: 1,
     }
 }
 
@@ -47,12 +49,13 @@ fn run(rt: &(impl Abort + AllocGlobal)) -> Run
     let journeys = vec![in rt.alloc(); journey(), journey()].expect(rt, "room");
     let spans = vec![in rt.alloc(); at(1), at(0)].expect(rt, "room");
     let hops = vec![in rt.alloc(); discarded(20), discarded(10)].expect(rt, "room");
-    Run::new(journeys, spans, hops)
+    let firsts = vec![in rt.alloc(); 2, 2].expect(rt, "room");
+    Run::new(journeys, spans, firsts, hops)
 }
 
 #[test]
 fn tells_whose_a_record_is(rt: HostRuntime) {
     let run = run(&rt);
-    assert!(rt; run.hops_of(0) == [discarded(10)].as_slice());
-    assert!(rt; run.hops_of(1) == [discarded(20)].as_slice());
+    assert!(rt; run.hops_of(0, 0) == [discarded(10)].as_slice());
+    assert!(rt; run.hops_of(1, 0) == [discarded(20)].as_slice());
 }

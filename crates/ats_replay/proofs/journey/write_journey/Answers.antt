@@ -1,17 +1,25 @@
-use Rattle.std.proofs.Common.{◌<◌, length}
-use Rattle.ats_network.specs.Network.{senders_of}
-use Rattle.ats_network.proofs.SenderLemmas.{sender_keeps}
+use Rattle.std.proofs.Common.{◌++◌, ap, ◌∙◌, arith}
+use Rattle.ats_network.specs.Senders.{sender_at}
 use Rattle.ats_trace.specs.Stored.{travel_at}
-use Rattle.ats_replay.proofs.Journeys.{journey_fits}
+use Rattle.ats_trace.specs.declared.journey.Journey.{Journey}
+use Rattle.ats_replay.specs.Departures.{frame_line}
+use Rattle.ats_replay.proofs.Legs.{journey_written, next_copy}
 use Rattle.ats_replay.proofs.journey.write_journey.Goals as goal
 
-pub write_hops-requires-clause-ports : goal.write_hops-requires-clause-ports
-write_hops-requires-clause-ports c =
-    let sender : c.row_of-row.result.release.sender < length (senders_of c.args.network.now) =
-    rw (c.row_of-row.ensures) c.requires.journey.sender in
-    rw (c.sender_ports-path.ensures.value, c.topology.ensures.value)
-    (sender_keeps c.args.network.now c.row_of-row.result.release.sender c.sender_ports-path.ensures.rules sender).ports
+pub loop-leg-preserved : goal.loop-leg-preserved
+loop-leg-preserved c =
+    next_copy c.args.network.now.topology
+    (sender_at c.args.network.now (travel_at c.args.run.now c.args.frame).release.sender)
+    (travel_at c.args.run.now c.args.frame) c.loop-leg.leg c.write_leg.new.out.items c.loop-leg.out.items
+    c.write_copy.new.out.items (omega arith) (omega (arith, c.legs-leg-end.ensures)) c.loop-leg.invariant
+    c.in_ok-write_copy.ensures
 
-pub write_hops-requires-clause-fit : goal.write_hops-requires-clause-fit
-write_hops-requires-clause-fit c = rw (c.hops_of.ensures, c.sender_ports-path.ensures.value, c.row_of-row.ensures)
-    (journey_fits c.args.network.now (travel_at c.args.run.now c.args.frame) c.requires.journey)
+pub returns : goal.returns
+returns c =
+    journey_written c.args.network.now c.args.frame c.loop-leg.leg (travel_at c.args.run.now c.args.frame)
+    c.args.out.now.items c.write_frame.new.out.items c.write_leg.new.out.items c.loop-leg.out.items
+    (omega (arith, c.legs-leg-end.ensures))
+    (c.in_ok-write_frame.ensures
+    ∙ ap (λ (r : Journey). c.args.out.now.items ++ frame_line c.args.network.now c.args.frame r.release)
+    c.row_of-row.ensures)
+    c.in_ok-write_leg.ensures c.loop-leg.invariant

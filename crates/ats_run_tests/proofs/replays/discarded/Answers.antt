@@ -5,5 +5,5 @@ use Rattle.ats_run_tests.proofs.replays.discarded.Goals as goal
 
 pub returns : goal.returns
 returns g c = discarded_go c.args.network.now c.new.result c.expect-rows.result.items c.expect-spans.result.items
-    c.expect-hops.result.items c.new.ensures (grind (arith, common_steps)) (search rules)
-    (grind (arith, common_steps)) c.requires.one_listener c.requires.sender c.requires.path
+    c.expect-firsts.result.items c.expect-hops.result.items c.new.ensures (grind (arith, common_steps)) (search rules)
+    (search rules) (grind (arith, common_steps)) c.requires.sender c.requires.one_listener c.requires.path
