@@ -1,22 +1,21 @@
 use Rattle.std.proofs.Common.{ℕ, ◌+◌, ◌*◌, ◌<◌, ◌≤◌, cond, Bool, true, false, List, [], ◌∷◌, length}
 use Rattle.std.proofs.Common.{ap, length-append, arith}
 use Rattle.std.specs.Prelude.{Option, Some, None, nat_lt}
-use Rattle.std.specs.List.{All, flat_map}
+use Rattle.std.specs.List.{All, concat, flat_map}
 use Rattle.std.proofs.lemmas.List.Elements.{All-nil, All-cons, All-head, All-tail, All-append}
 use Rattle.ats_num.specs.declared.time.Ps.{Ps}
 use Rattle.ats_num.specs.Wire.{IsFrameSize}
 use Rattle.ats_streams.specs.Branches.{legs_of}
 use Rattle.ats_network.specs.Sender.{Sender}
 use Rattle.ats_network.specs.Class.{class_at}
-use Rattle.ats_network.specs.Network.{DeclaredNetwork, HasOneListener, IsNetwork}
-use Rattle.ats_network.specs.Senders.{sender_at, no_sender, HasPath, IsSender}
+use Rattle.ats_network.specs.Network.{DeclaredNetwork, IsNetwork}
+use Rattle.ats_network.specs.Senders.{sender_at, no_sender, IsSender}
 use Rattle.ats_network.proofs.ClassLemmas.{class_at-le}
-use Rattle.ats_network.proofs.SenderLemmas.{each_is_sender, sender_path}
+use Rattle.ats_network.proofs.SenderLemmas.{each_is_sender}
 use Rattle.ats_group.specs.declared.verdict.Verdict.{Verdict}
 use Rattle.ats_group.specs.declared.verdict.Verdict.TheVariants.{Eligible, Late, Size}
 use Rattle.ats_port_rule.specs.Transmission.{Transmission}
 use Rattle.ats_trace.specs.Journey.{Leg, Travel, IsJourney, legs_in}
-use Rattle.ats_trace.specs.OneListener.{HasOneLeg}
 use Rattle.ats_trace.specs.Projections.{Crossing, transmission_by, transmission_of, crossing_of, crossing_at}
 use Rattle.ats_trace.specs.Projections.{crossings_along, crossings_over, journey_crossings, crossings_from}
 use Rattle.ats_trace.specs.Run.{IsLegal}
@@ -24,8 +23,8 @@ use Rattle.ats_trace.specs.declared.journey.Release.{Release}
 use Rattle.ats_trace.specs.declared.journey.HopRecord.{HopRecord}
 use Rattle.ats_trace.specs.declared.journey.Ending.{Ending}
 use Rattle.ats_trace.specs.declared.journey.Ending.TheVariants.{Sink, Discard}
-use Rattle.ats_trace.proofs.Legs.{legs_keep}
-use Rattle.ats_trace.proofs.OneListener.{one_leg}
+use Rattle.ats_tally.proofs.Network.{few_ports}
+use Rattle.ats_trace.proofs.Legs.{concat-legs_of, legs_keep}
 use Rattle.ats_buffer.specs.Moments.{moments_of, moments_in, IsInside}
 use Rattle.ats_buffer.specs.declared.moments.Moment.{Moment}
 
@@ -131,22 +130,37 @@ crossed_from network net frame (j ∷ run) all =
     (journey_crossed network net frame j (All-head (IsJourney network) j run all))
     (crossed_from network net (frame + 1) run (All-tail (IsJourney network) j run all))
 
-few_from : (network : DeclaredNetwork) → IsNetwork network → HasOneListener network → (frame : ℕ) (run : List Travel)
-    → All (IsJourney network) run → length (crossings_from network frame run) ≤ 16 * length run
-few_from network net alone frame [] all = omega arith
-few_from network net alone frame (j ∷ run) all =
+-- a frame crosses each of its sender's ports at most once
+few_over : (frame : ℕ) (release : Release) (s : Sender) (paths : List (List ℕ)) (legs : List Leg)
+    → length (crossings_over frame release s paths legs) ≤ length (concat paths)
+few_over frame release s [] legs = omega arith
+few_over frame release s (path ∷ paths) [] = omega arith
+few_over frame release s (path ∷ paths) (leg ∷ legs) =
+    omega (
+      arith,
+      few_along frame release s path leg.hops leg.ending,
+      few_over frame release s paths legs,
+      length-append (crossings_along frame release s path leg.hops leg.ending)
+          (crossings_over frame release s paths legs),
+      length-append path (concat paths),
+    )
+
+few_from : (network : DeclaredNetwork) → IsNetwork network → (frame : ℕ) (run : List Travel)
+    → All (IsJourney network) run → length (crossings_from network frame run) ≤ 65536 * length run
+few_from network net frame [] all = omega arith
+few_from network net frame (j ∷ run) all =
     let is : IsJourney network j = All-head (IsJourney network) j run all in
     let s : Sender = sender_at network j.release.sender in
-    let here = few_along frame j.release s s.ports j.hops j.ending in
-    let has : HasPath network.topology s = sender_path network j.release.sender net alone is.sender in
-    let one : HasOneLeg network j = one_leg network j has.one_listener in
-    let short = has.path.most in
-    let rest = few_from network net alone (frame + 1) run (All-tail (IsJourney network) j run all) in
+    let here : length (journey_crossings network frame j) ≤ length (concat (legs_of s.ports s.branches)) =
+    few_over frame j.release s (legs_of s.ports s.branches) (legs_in j) in
+    let whole = concat-legs_of s.ports s.branches (sender_is network net j is).branches in
+    let few = few_ports network j.release.sender net is.sender in
+    let rest = few_from network net (frame + 1) run (All-tail (IsJourney network) j run all) in
     omega (
       arith,
       here,
-      ap (λ (cs : List Crossing). length cs) (one.crossings frame),
-      short,
+      ap (λ (l : List ℕ). length l) whole,
+      few,
       rest,
       length-append (journey_crossings network frame j)
           (crossings_from network (frame + 1) run),
@@ -187,7 +201,7 @@ moments_inside network run net legal =
     all_inside (length network.topology.ports) (crossings_from network 0 run)
     (crossed_from network net 0 run legal.journeys)
 
-pub moments_few : (network : DeclaredNetwork) (run : List Travel) → IsNetwork network → HasOneListener network
-    → IsLegal network run → length (moments_in network run) ≤ 32 * length run
-moments_few network run net alone legal =
-    omega (arith, few_moments (crossings_from network 0 run), few_from network net alone 0 run legal.journeys)
+pub moments_few : (network : DeclaredNetwork) (run : List Travel) → IsNetwork network → IsLegal network run
+    → length (moments_in network run) ≤ 131072 * length run
+moments_few network run net legal =
+    omega (arith, few_moments (crossings_from network 0 run), few_from network net 0 run legal.journeys)

@@ -26,7 +26,7 @@ use Rattle.ats_certificate.specs.Form.{IsRow, AreRows}
 use Rattle.ats_certificate.specs.declared.row.Row.{Row}
 use Rattle.ats_tally.proofs.Lists.{any_gives}
 use Rattle.ats_trace.proofs.Legs.{Stands, concat-legs_of, place_is, stands}
-use Rattle.ats_buffer.specs.Buffer.{of_row, stay_of, stay_at, way_by, way_over, window_at, has_class}
+use Rattle.ats_buffer.specs.Buffer.{of_row, stay_of, stay_at, way_behind, way_by, window_at, has_class}
 use Rattle.ats_buffer.specs.Buffer.{share_at, shares_at}
 
 -- no row is found, or one is: that of the port and class, and what holds of all rows holds of it
@@ -178,10 +178,11 @@ way-most network rows net holds port class =
     (found (IsHeld network) rows port class (all_held network rows holds)) in
     omega (arith, wait, spread-most network net port)
 
-way_to-by : (network : DeclaredNetwork) (rows : List Row) → IsNetwork network → Holds network rows → (s : Sender)
-    (before : Option ℕ) → unwrap_or (option_map (way_over network rows s) before) 0 ≤ 2 * PS_PER_SECOND
-way_to-by network rows net holds s None = omega arith
-way_to-by network rows net holds s (Some q) = way-most network rows net holds q (class_at s q)
+-- by how much the ways to a port differ
+pub way_behind-most : (network : DeclaredNetwork) (rows : List Row) → IsNetwork network → Holds network rows
+    → (s : Sender) (before : Option ℕ) → way_behind network rows s before ≤ 2 * PS_PER_SECOND
+way_behind-most network rows net holds s None = omega arith
+way_behind-most network rows net holds s (Some q) = way-most network rows net holds q (class_at s q)
 
 -- and what a stream may have
 pub share-most : (network : DeclaredNetwork) (rows : List Row) → IsNetwork network → Holds network rows
@@ -190,7 +191,7 @@ share-most network rows net holds port class s is =
     let window : ℕ = window_at network rows port class (stream_sender s) in
     let short : window ≤ 3 * PS_PER_SECOND =
     (let stay = stay-most network rows net holds port class in
-    let way = way_to-by network rows net holds (stream_sender s) (port_before (stream_sender s) port) in
+    let way = way_behind-most network rows net holds (stream_sender s) (port_before (stream_sender s) port) in
     omega (arith, stay, way)) in
     let rates : s.rate * window ≤ 100000000000 * window = mul-le-mul_right window is.rules.rate.within in
     omega (arith, short, rates, is.rules.burst)

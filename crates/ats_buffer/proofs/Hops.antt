@@ -1,138 +1,320 @@
-use Rattle.std.proofs.Common.{◌≡◌, ◌≢◌, ℕ, ◌+◌, ◌<◌, ◌≤◌, List, length, get_or, take, Some, sym, ap, ◌∙◌, subst}
-use Rattle.std.proofs.Common.{Option, arith}
-use Rattle.std.specs.Prelude.{unwrap_or}
-use Rattle.std.specs.List.{AllPairs}
-use Rattle.std.specs.Option.{option_map}
+-- The hops of a stream, leg by leg: its ports and classes there, and what the ways to them are.
+use Rattle.std.proofs.Common.{◌≡◌, ℕ, zero, suc, ◌+◌, ◌-◌, ◌<◌, ◌≤◌, List, [], ◌∷◌, ◌++◌, length, get_or, map, take}
+use Rattle.std.proofs.Common.{Some, eqb, refl, sym, ap, ◌∙◌, subst, add-one, arith, length-append}
+use Rattle.std.specs.List.{concat}
+use Rattle.std.proofs.Math.Seq.{take-append-add}
+use Rattle.std.proofs.lemmas.List.{get_or-map, get_or_append_left, get_or_default, length-map, take_all}
+use Rattle.std.proofs.lemmas.List.Folds.{list_any_at}
+use Rattle.std.proofs.lemmas.Bool.{eq-eqb}
 use Rattle.std.proofs.lemmas.Option.{same_Some}
 use Rattle.ats_class_table.specs.Table.{Sets, Table, value_at}
+use Rattle.ats_streams.specs.Branches.{BeginsEarlier, leg_at, no_branch}
 use Rattle.ats_streams.specs.Stream.{DeclaredStream}
-use Rattle.ats_network.specs.Sender.{stream_sender}
-use Rattle.ats_network.specs.Class.{class_at}
-use Rattle.ats_network.specs.Network.{DeclaredNetwork, HasOneListener, IsNetwork}
+use Rattle.ats_streams.specs.declared.branch.Branch.{Branch}
+use Rattle.ats_streams.proofs.BranchLemmas.{begins_at, legs-length}
+use Rattle.ats_network.specs.Sender.{Sender, stream_sender, flow_sender}
+use Rattle.ats_network.specs.Class.{class_at, port_before}
+use Rattle.ats_network.specs.Network.{DeclaredNetwork, IsNetwork, senders_of}
 use Rattle.ats_network.specs.Edits.{no_stream}
-use Rattle.ats_network.proofs.ClassLemmas.{class_listed, port_before-one}
+use Rattle.ats_network.specs.Senders.{IsSender, sender_at, no_sender}
+use Rattle.ats_network.proofs.ClassLemmas.{class_at-stream}
+use Rattle.ats_network.proofs.SenderLemmas.{sender_keeps}
 use Rattle.ats_certificate.specs.declared.row.Row.{Row}
-use Rattle.ats_tally.proofs.Paths.{paths_inside, paths_apart}
-use Rattle.ats_buffer.specs.Buffer.{most_bits, stay_at, way_by, way_over, way_to, share_at, shares_at}
-use Rattle.ats_buffer.proofs.Before.{before_first, before_next}
-use Rattle.ats_buffer.proofs.ShareLemmas.{AreAdding, before_port, adding_more}
+use Rattle.ats_trace.specs.Journey.{legs_at}
+use Rattle.ats_trace.proofs.Legs.{concat-legs_of, place_first, place_is, place_next, place_of, place_within}
+use Rattle.ats_route_law.specs.Laws.{in_front_of, port_to}
+use Rattle.ats_route_law.proofs.Before.{port_before_is_one}
+use Rattle.ats_tally.proofs.Paths.{paths_apart}
+use Rattle.ats_buffer.specs.Buffer.{most_bits, stay_at, way_by, way_over, way_behind, way_to, share_at, shares_at}
+use Rattle.ats_buffer.specs.Sums.{AreAdding}
+use Rattle.ats_buffer.proofs.ShareLemmas.{adding_more, before_port, stream_at}
 
--- the stream with a number
-abbrev pub stream_at : DeclaredNetwork → ℕ → DeclaredStream
-stream_at network n = get_or network.streams n no_stream
+-- the first senders are the streams
+pub stream_is : (network : DeclaredNetwork) (n : ℕ) → n < length network.streams
+    → sender_at network n ≡ stream_sender (stream_at network n)
+stream_is network n h =
+    get_or_append_left (map stream_sender network.streams) (map flow_sender network.flows) no_sender n
+    (omega (arith, length-map network.streams stream_sender, h))
+    ∙ get_or-map stream_sender network.streams n no_stream no_sender h
 
--- a hop of a stream, by its ports and its classes as they are listed
-pub record IsHop (network : DeclaredNetwork) (n : ℕ) (ports classes : List ℕ) (hop : ℕ) : Type 0 where
-  pub short : hop < length (stream_at network n).ports
-  pub port : get_or ports hop 0 ≡ get_or (stream_at network n).ports hop 0
-  pub inside : get_or ports hop 0 < length network.topology.ports
-  pub class : get_or classes hop 0
-      ≡ class_at (stream_sender (stream_at network n)) (get_or (stream_at network n).ports hop 0)
-  pub least : 1 ≤ get_or classes hop 0
-  pub most : get_or classes hop 0 ≤ 7
+pub stream_exists : (network : DeclaredNetwork) (n : ℕ) → n < length network.streams
+    → n < length (senders_of network)
+stream_exists network n h =
+    omega (
+      arith,
+      h,
+      length-append (map stream_sender network.streams) (map flow_sender network.flows),
+      length-map network.streams stream_sender,
+    )
 
--- a stream has no port twice
-pub apart : (network : DeclaredNetwork) (n : ℕ) → IsNetwork network → n < length network.streams
-    → AllPairs (λ p q. p ≢ q) (stream_at network n).ports
-apart network n net h = paths_apart network net n no_stream h
+pub stream_keeps : (network : DeclaredNetwork) (n : ℕ) → IsNetwork network → n < length network.streams
+    → IsSender network.topology (sender_at network n)
+stream_keeps network n net h = sender_keeps network n net (stream_exists network n h)
 
-pub hop_is : (network : DeclaredNetwork) (n : ℕ) (ports classes : List ℕ) (hop : ℕ) → IsNetwork network
-    → n < length network.streams → ports ≡ (stream_at network n).ports → classes ≡ (stream_at network n).classes
-    → hop < length ports → IsHop network n ports classes hop
-hop_is network n ports classes hop net h path_is classes_are within =
+-- the ports of the first legs are the first ports of all legs
+front_ports : (legs : List (List ℕ)) (leg : ℕ) → leg ≤ length legs
+    → concat (take leg legs) ≡ take (place_of legs leg 0) (concat legs)
+front_ports [] zero within = refl
+front_ports [] (suc leg) within = absurd (omega arith)
+front_ports (path ∷ legs) zero within = refl
+front_ports (path ∷ legs) (suc leg) within =
+    ap (λ (l : List ℕ). path ++ l) (front_ports legs leg (omega arith))
+    ∙ sym (take-append-add path (concat legs) (place_of legs leg 0))
+
+-- the ports of a leg go up to those of the next one
+next_leg : (legs : List (List ℕ)) (leg : ℕ) → leg < length legs
+    → place_of legs leg (length (leg_at legs leg)) ≡ place_of legs (leg + 1) 0
+next_leg [] leg within = absurd (omega arith)
+next_leg (path ∷ legs) zero within = omega (arith, place_first legs 0)
+next_leg (path ∷ legs) (suc leg) within =
+    let next : suc (leg + 1) ≡ suc leg + 1 = omega arith in
+    ap (λ (n : ℕ). length path + n) (next_leg legs leg (omega arith))
+    ∙ ap (λ (n : ℕ). place_of (path ∷ legs) n 0) next
+
+-- all ports of a stream, leg by leg
+stream_ports : (network : DeclaredNetwork) (n : ℕ) → IsNetwork network → n < length network.streams
+    → concat (legs_at network n) ≡ (stream_at network n).ports
+stream_ports network n net h =
+    let keeps : IsSender network.topology (sender_at network n) = stream_keeps network n net h in
+    concat-legs_of (sender_at network n).ports (sender_at network n).branches keeps.branches
+    ∙ ap (λ (s : Sender). s.ports) (stream_is network n h)
+
+pub legs_many : (network : DeclaredNetwork) (n : ℕ)
+    → length (legs_at network n) ≡ suc (length (sender_at network n).branches)
+legs_many network n = legs-length 0 (sender_at network n).ports (sender_at network n).branches
+
+-- before a leg those of the earlier ones are added
+pub legs_before : (network : DeclaredNetwork) (rows : List Row) (n leg : ℕ) (table : Table ℕ) → IsNetwork network
+    → n < length network.streams → leg ≤ length (sender_at network n).branches
+    → AreAdding network rows n (concat (take leg (legs_at network n))) table
+    → AreAdding network rows n (take (place_of (legs_at network n) leg 0) (stream_at network n).ports) table
+legs_before network rows n leg table net h within adding =
+    let legs : List (List ℕ) = legs_at network n in
+    subst (λ (l : List ℕ). AreAdding network rows n l table)
+    (front_ports legs leg (omega (arith, within, legs_many network n))
+    ∙ ap (take (place_of legs leg 0)) (stream_ports network n net h))
+    adding
+
+-- and behind it its own
+pub leg_added : (network : DeclaredNetwork) (rows : List Row) (n leg hop : ℕ) (items : List ℕ) (table : Table ℕ)
+    → IsNetwork network → n < length network.streams → leg ≤ length (sender_at network n).branches
+    → items ≡ leg_at (legs_at network n) leg → length items ≤ hop → hop ≤ length (leg_at (legs_at network n) leg)
+    → AreAdding network rows n (take (place_of (legs_at network n) leg hop) (stream_at network n).ports) table
+    → AreAdding network rows n (concat (take (leg + 1) (legs_at network n))) table
+leg_added network rows n leg hop items table net h within are past least adding =
+    let legs : List (List ℕ) = legs_at network n in
+    let all : hop ≡ length (leg_at legs leg) =
+    omega (arith, past, least, ap (λ (l : List ℕ). length l) are) in
+    let below : leg < length legs = omega (arith, within, legs_many network n) in
+    subst (λ (l : List ℕ). AreAdding network rows n l table)
+    (ap (λ (k : ℕ). take (place_of legs leg k) (stream_at network n).ports) all
+    ∙ ap (λ (k : ℕ). take k (stream_at network n).ports) (next_leg legs leg below)
+    ∙ ap (take (place_of legs (leg + 1) 0)) (sym (stream_ports network n net h))
+    ∙ sym (front_ports legs (leg + 1) (omega (arith, below))))
+    adding
+
+-- after the last leg all ports are added
+pub legs_added : (network : DeclaredNetwork) (rows : List Row) (n leg : ℕ) (table : Table ℕ) → IsNetwork network
+    → n < length network.streams → length (legs_at network n) ≤ leg
+    → AreAdding network rows n (concat (take leg (legs_at network n))) table
+    → AreAdding network rows n (stream_at network n).ports table
+legs_added network rows n leg table net h past adding =
+    subst (λ (l : List ℕ). AreAdding network rows n l table)
+    (ap (λ (l : List (List ℕ)). concat l) (take_all leg (legs_at network n) past) ∙ stream_ports network n net h)
+    adding
+
+-- a hop of a leg of a stream: its port and the stream's class there, and the port's place among all of the stream's
+pub record IsHop (network : DeclaredNetwork) (n leg hop port class : ℕ) : Type 0 where
+  pub in_leg : hop < length (leg_at (legs_at network n) leg)
+  pub within : place_of (legs_at network n) leg hop < length (stream_at network n).ports
+  pub own : get_or (leg_at (legs_at network n) leg) hop 0 ≡ port
+  pub there : get_or (stream_at network n).ports (place_of (legs_at network n) leg hop) 0 ≡ port
+  pub inside : port < length network.topology.ports
+  pub ranked : class_at (stream_sender (stream_at network n)) port ≡ class
+  pub least : 1 ≤ class
+  pub most : class ≤ 7
+
+pub hop_is : (network : DeclaredNetwork) (n leg hop : ℕ) (items : List ℕ) (class : ℕ) → IsNetwork network
+    → n < length network.streams → leg ≤ length (sender_at network n).branches
+    → items ≡ leg_at (legs_at network n) leg → hop < length items
+    → class ≡ class_at (sender_at network n) (get_or (leg_at (legs_at network n) leg) hop 0)
+    → IsHop network n leg hop (get_or items hop 0) class
+hop_is network n leg hop items class net h within are below class_is =
+    let legs : List (List ℕ) = legs_at network n in
     let s : DeclaredStream = stream_at network n in
-    let is = net.streams n no_stream h in
-    let long : length ports ≡ length s.ports = ap (λ (l : List ℕ). length l) path_is in
-    let short : hop < length s.ports = omega (arith, long) in
-    let port : get_or ports hop 0 ≡ get_or s.ports hop 0 = ap (λ (l : List ℕ). get_or l hop 0) path_is in
-    let class : get_or classes hop 0 ≡ get_or s.classes hop 0 = ap (λ (l : List ℕ). get_or l hop 0) classes_are in
-    let one = is.classes hop 0 (omega (arith, short, is.each_port)) in
+    let place : ℕ = place_of legs leg hop in
+    let keeps : IsSender network.topology (sender_at network n) = stream_keeps network n net h in
+    let in_legs : leg < length legs = omega (arith, within, legs_many network n) in
+    let in_leg : hop < length (leg_at legs leg) =
+    omega (arith, below, ap (λ (l : List ℕ). length l) are) in
+    let own : get_or (leg_at legs leg) hop 0 ≡ get_or items hop 0 = ap (λ (l : List ℕ). get_or l hop 0) (sym are) in
+    let inside : place < length s.ports =
+    omega (
+      arith,
+      place_within legs leg hop in_legs in_leg,
+      ap (λ (l : List ℕ). length l) (stream_ports network n net h),
+    ) in
+    let port : get_or s.ports place 0 ≡ get_or items hop 0 =
+    ap (λ (l : List ℕ). get_or l place 0) (sym (stream_ports network n net h))
+    ∙ place_is legs leg hop in_legs in_leg ∙ own in
+    let same_ports : (sender_at network n).ports ≡ s.ports = ap (λ (x : Sender). x.ports) (stream_is network n h) in
+    let among : place < length (sender_at network n).ports =
+    omega (arith, inside, ap (λ (l : List ℕ). length l) same_ports) in
+    let there : get_or (sender_at network n).ports place 0 ≡ get_or items hop 0 =
+    ap (λ (l : List ℕ). get_or l place 0) same_ports ∙ port in
+    let of_class = class_at-stream s (get_or items hop 0) (net.streams n no_stream h)
+    (list_any_at (λ p. eqb p (get_or items hop 0)) s.ports place 0 inside
+    (eq-eqb (get_or s.ports place 0) (get_or items hop 0) port)) in
+    let ranked : class_at (stream_sender s) (get_or items hop 0) ≡ class =
+    ap (λ (x : Sender). class_at x (get_or items hop 0)) (sym (stream_is network n h))
+    ∙ ap (class_at (sender_at network n)) (sym own) ∙ sym class_is in
     record {
-      short = short;
-      port = port;
-      inside = (let there = paths_inside network net n no_stream h hop 0 short in omega (arith, port, there));
-      class = class_listed s ports classes hop path_is classes_are (apart network n net h) is.each_port within
-          ∙ ap (class_at (stream_sender s)) port;
-      least = omega (arith, class, one.least);
-      most = omega (arith, class, one.most);
+      in_leg = in_leg;
+      within = inside;
+      own = own;
+      there = port;
+      inside = subst (λ (p : ℕ). p < length network.topology.ports) there (keeps.ports place 0 among);
+      ranked = ranked;
+      least = omega (arith, ranked, of_class.least);
+      most = omega (arith, ranked, of_class.most);
     }
 
--- the way to the first port of a path, and to the next one
-pub way_first : (network : DeclaredNetwork) (rows : List Row) (n : ℕ) → IsNetwork network → HasOneListener network
-    → n < length network.streams → 0 < length (stream_at network n).ports
-    → 0 ≡ way_to network rows (stream_sender (stream_at network n)) (get_or (stream_at network n).ports 0 0)
-way_first network rows n net alone h some =
-    let s : DeclaredStream = stream_at network n in
-    sym (ap (λ (o : Option ℕ). unwrap_or (option_map (way_over network rows (stream_sender s)) o) 0)
-    (port_before-one (stream_sender s) (get_or s.ports 0 0) (alone n no_stream h)
-    ∙ before_first s.ports (apart network n net h) some))
+-- the way to a port is that over the one in front of its hop
+pub way_there : (network : DeclaredNetwork) (rows : List Row) (n leg hop port class way : ℕ) → IsNetwork network
+    → n < length network.streams → leg ≤ length (sender_at network n).branches → IsHop network n leg hop port class
+    → way ≡ way_behind network rows (sender_at network n) (in_front_of (sender_at network n) leg hop)
+    → way ≡ way_to network rows (stream_sender (stream_at network n)) port
+way_there network rows n leg hop port class way net h within at is =
+    let s : Sender = sender_at network n in
+    is
+    ∙ ap (way_behind network rows s)
+    (sym (port_before_is_one network.topology s leg hop (stream_keeps network n net h) within at.in_leg)
+    ∙ ap (port_before s) at.own)
+    ∙ ap (λ (x : Sender). way_to network rows x port) (stream_is network n h)
 
-pub way_next : (network : DeclaredNetwork) (rows : List Row) (n hop : ℕ) (ports classes : List ℕ) (way : ℕ)
-    → IsNetwork network → HasOneListener network → n < length network.streams → IsHop network n ports classes hop
-    → way ≡ way_by network rows (get_or ports hop 0) (get_or classes hop 0)
-    → hop + 1 < length (stream_at network n).ports
-    → way ≡ way_to network rows (stream_sender (stream_at network n)) (get_or (stream_at network n).ports (hop + 1) 0)
-way_next network rows n hop ports classes way net alone h at is more =
-    let s : DeclaredStream = stream_at network n in
-    is ∙ ap (λ (p : ℕ). way_by network rows p (get_or classes hop 0)) at.port
-    ∙ ap (way_by network rows (get_or s.ports hop 0)) at.class
-    ∙ sym (ap (λ (o : Option ℕ). unwrap_or (option_map (way_over network rows (stream_sender s)) o) 0)
-    (port_before-one (stream_sender s) (get_or s.ports (hop + 1) 0) (alone n no_stream h)
-    ∙ before_next s.ports hop (apart network n net h) more))
+-- at the next hop it is that over this one's port
+pub way_next : (network : DeclaredNetwork) (rows : List Row) (n leg hop port class way : ℕ)
+    → n < length network.streams → IsHop network n leg hop port class → way ≡ way_by network rows port class
+    → way ≡ way_behind network rows (sender_at network n) (in_front_of (sender_at network n) leg (hop + 1))
+way_next network rows n leg hop port class way h at is =
+    let s : Sender = sender_at network n in
+    let ranked : class ≡ class_at s port =
+    sym at.ranked ∙ ap (λ (x : Sender). class_at x port) (sym (stream_is network n h)) in
+    is ∙ ap (way_by network rows port) ranked ∙ ap (way_over network rows s) (sym at.own)
+    ∙ ap (λ (k : ℕ). way_behind network rows s (in_front_of s leg k)) (sym (add-one hop))
+
+-- the stream that is read is that with the number
+pub same_stream : (network : DeclaredNetwork) (streams : List DeclaredStream) (n : ℕ) (stream : DeclaredStream)
+    → streams ≡ network.streams → n < length network.streams → stream ≡ get_or streams n stream
+    → stream ≡ stream_at network n
+same_stream network streams n stream same h is =
+    is ∙ ap (λ (l : List DeclaredStream). get_or l n stream) same
+    ∙ get_or_default network.streams n stream no_stream h
+
+-- to the first port of a branch it is that over the port which leads to where the branch begins
+front_of_branch : (s : Sender) (leg : ℕ) → 1 ≤ leg
+    → in_front_of s leg 0 ≡ Some (port_to s (get_or s.branches (leg - 1) no_branch))
+front_of_branch s zero later = absurd (omega arith)
+front_of_branch s (suc n) later =
+    let same : n ≡ suc n - 1 = omega arith in
+    ap (λ (k : ℕ). Some (port_to s (get_or s.branches k no_branch))) same
+
+-- the hop of this port
+pub record LeadsThere (network : DeclaredNetwork) (n leg : ℕ) (b : Branch) : Type 0 where
+  pub in_legs : b.leg ≤ length (sender_at network n).branches
+  pub later : 1 ≤ b.hop
+  pub in_leg : b.hop - 1 < length (leg_at (legs_at network n) b.leg)
+  pub front : in_front_of (sender_at network n) leg 0
+      ≡ Some (get_or (leg_at (legs_at network n) b.leg) (b.hop - 1) 0)
+
+leads_there : (network : DeclaredNetwork) (n leg : ℕ) (b : Branch) → IsNetwork network
+    → n < length network.streams → 1 ≤ leg → leg ≤ length (sender_at network n).branches
+    → b ≡ get_or (stream_at network n).branches (leg - 1) no_branch → LeadsThere network n leg b
+leads_there network n leg b net h later within is =
+    let s : Sender = sender_at network n in
+    let legs : List (List ℕ) = legs_at network n in
+    let keeps : IsSender network.topology s = stream_keeps network n net h in
+    let same : b ≡ get_or s.branches (leg - 1) no_branch =
+    is ∙ ap (λ (x : Sender). get_or x.branches (leg - 1) no_branch) (sym (stream_is network n h)) in
+    let begins : BeginsEarlier legs (1 + (leg - 1)) b =
+    subst (BeginsEarlier legs (1 + (leg - 1))) (sym same)
+    (begins_at legs 1 s.branches (leg - 1) keeps.branches.begin (omega (arith, later, within))) in
+    record {
+      in_legs = omega (arith, begins.earlier, later, within);
+      later = begins.later;
+      in_leg = omega (arith, begins.within, begins.later);
+      front = front_of_branch s leg later ∙ ap (λ (x : Branch). Some (port_to s x)) (sym same);
+    }
+
+pub leads_by : (network : DeclaredNetwork) (streams : List DeclaredStream) (n leg : ℕ) (stream : DeclaredStream)
+    (b : Branch) → IsNetwork network → streams ≡ network.streams → n < length network.streams
+    → stream ≡ get_or streams n stream → 1 ≤ leg → leg ≤ length (sender_at network n).branches
+    → b ≡ get_or stream.branches (leg - 1) no_branch → LeadsThere network n leg b
+leads_by network streams n leg stream b net same h read later within is =
+    leads_there network n leg b net h later within
+    (is ∙ ap (λ (s : DeclaredStream). get_or s.branches (leg - 1) no_branch)
+    (same_stream network streams n stream same h read))
+
+-- so the way over this port is that to the leg
+pub way_to_branch : (network : DeclaredNetwork) (rows : List Row) (n leg : ℕ) (b : Branch) (port class way : ℕ)
+    → n < length network.streams → LeadsThere network n leg b → IsHop network n b.leg (b.hop - 1) port class
+    → way ≡ way_by network rows port class
+    → way ≡ way_behind network rows (sender_at network n) (in_front_of (sender_at network n) leg 0)
+way_to_branch network rows n leg b port class way h leads at is =
+    let s : Sender = sender_at network n in
+    let ranked : class ≡ class_at s port =
+    sym at.ranked ∙ ap (λ (x : Sender). class_at x port) (sym (stream_is network n h)) in
+    is ∙ ap (way_by network rows port) ranked ∙ ap (way_over network rows s) (sym at.own)
+    ∙ ap (way_behind network rows s) (sym leads.front)
 
 -- what the code adds at a hop is the stream's share there
-pub share_is : (network : DeclaredNetwork) (rows : List Row) (n hop : ℕ) (ports classes : List ℕ)
-    (stream : DeclaredStream) (stay way bits : ℕ) → IsHop network n ports classes hop → stream ≡ stream_at network n
-    → stay ≡ stay_at network rows (get_or ports hop 0) (get_or classes hop 0)
-    → way ≡ way_to network rows (stream_sender (stream_at network n)) (get_or (stream_at network n).ports hop 0)
-    → bits ≡ most_bits stream (stay + way)
-    → bits ≡ share_at network rows (get_or (stream_at network n).ports hop 0)
-    (class_at (stream_sender (stream_at network n)) (get_or (stream_at network n).ports hop 0)) (stream_at network n)
-share_is network rows n hop ports classes stream stay way bits at same stay_is way_is bits_are =
+pub share_is : (network : DeclaredNetwork) (rows : List Row) (n port class : ℕ) (declared : DeclaredStream)
+    (stay way bits : ℕ) → declared ≡ stream_at network n → stay ≡ stay_at network rows port class
+    → way ≡ way_to network rows (stream_sender (stream_at network n)) port → bits ≡ most_bits declared (stay + way)
+    → bits ≡ share_at network rows port class (stream_at network n)
+share_is network rows n port class declared stay way bits same stay_is way_is bits_are =
     let s : DeclaredStream = stream_at network n in
-    let port : ℕ = get_or s.ports hop 0 in
     bits_are ∙ ap (λ (t : DeclaredStream). most_bits t (stay + way)) same
-    ∙ ap (λ (k : ℕ). most_bits s (k + way)) (stay_is
-    ∙ ap (λ (p : ℕ). stay_at network rows p (get_or classes hop 0)) at.port
-    ∙ ap (stay_at network rows port) at.class)
-    ∙ ap (λ (k : ℕ). most_bits s (stay_at network rows port (class_at (stream_sender s) port) + k)) way_is
+    ∙ ap (λ (k : ℕ). most_bits s (k + way)) stay_is
+    ∙ ap (λ (k : ℕ). most_bits s (stay_at network rows port class + k)) way_is
 
 -- what the table has there
-pub sum_is : (network : DeclaredNetwork) (rows : List Row) (n hop : ℕ) (ports classes : List ℕ) (table : Table ℕ)
-    (sum : ℕ) → IsNetwork network → n < length network.streams → IsHop network n ports classes hop
-    → AreAdding network rows n (stream_at network n) (take hop (stream_at network n).ports) table
-    → value_at table (get_or ports hop 0) (get_or classes hop 0) ≡ Some sum
-    → sum ≡ shares_at network rows (get_or (stream_at network n).ports hop 0)
-    (class_at (stream_sender (stream_at network n)) (get_or (stream_at network n).ports hop 0))
-    (take n network.streams)
-sum_is network rows n hop ports classes table sum net h at adding there =
-    let s : DeclaredStream = stream_at network n in
-    let port : ℕ = get_or s.ports hop 0 in
-    let class : ℕ = class_at (stream_sender s) port in
+pub sum_is : (network : DeclaredNetwork) (rows : List Row) (n leg hop port class : ℕ) (table : Table ℕ) (sum : ℕ)
+    → IsNetwork network → n < length network.streams → IsHop network n leg hop port class
+    → AreAdding network rows n (take (place_of (legs_at network n) leg hop) (stream_at network n).ports) table
+    → value_at table port class ≡ Some sum
+    → sum ≡ shares_at network rows port class (take n network.streams)
+sum_is network rows n leg hop port class table sum net h at adding there =
+    let path : List ℕ = (stream_at network n).ports in
+    let place : ℕ = place_of (legs_at network n) leg hop in
+    let Has : ℕ → Type 0 = λ (p : ℕ). value_at table p class
+    ≡ Some (shares_at network rows p class (take n network.streams)) in
     same_Some sum (shares_at network rows port class (take n network.streams))
-    (sym there ∙ ap (λ (p : ℕ). value_at table p (get_or classes hop 0)) at.port ∙ ap (value_at table port) at.class
-    ∙ before_port network rows n s s.ports hop table (apart network n net h) at.short
-    (omega (arith, at.port, at.inside)) adding class (omega (arith, at.class, at.least))
-    (omega (arith, at.class, at.most)))
+    (sym there
+    ∙ subst Has at.there (before_port network rows n path place table (paths_apart network net n no_stream h) at.within
+    (subst (λ (p : ℕ). p < length network.topology.ports) (sym at.there) at.inside) adding class at.least at.most))
 
 -- so the table has the stream at one hop more
-pub added_hop : (network : DeclaredNetwork) (rows : List Row) (n hop : ℕ) (ports classes : List ℕ)
-    (old new : Table ℕ) (sum share : ℕ) → IsNetwork network → n < length network.streams
-    → IsHop network n ports classes hop
-    → AreAdding network rows n (stream_at network n) (take hop (stream_at network n).ports) old
-    → sum ≡ shares_at network rows (get_or (stream_at network n).ports hop 0)
-    (class_at (stream_sender (stream_at network n)) (get_or (stream_at network n).ports hop 0)) (take n network.streams)
-    → share ≡ share_at network rows (get_or (stream_at network n).ports hop 0)
-    (class_at (stream_sender (stream_at network n)) (get_or (stream_at network n).ports hop 0)) (stream_at network n)
-    → Sets (get_or ports hop 0) (get_or classes hop 0) (sum + share) old new
-    → AreAdding network rows n (stream_at network n) (take (hop + 1) (stream_at network n).ports) new
-added_hop network rows n hop ports classes old new sum share net h at adding sum_same share_same sets =
+pub added_hop : (network : DeclaredNetwork) (rows : List Row) (n leg hop port class : ℕ) (old new : Table ℕ)
+    (sum share : ℕ) → IsNetwork network → n < length network.streams → IsHop network n leg hop port class
+    → AreAdding network rows n (take (place_of (legs_at network n) leg hop) (stream_at network n).ports) old
+    → sum ≡ shares_at network rows port class (take n network.streams)
+    → share ≡ share_at network rows port class (stream_at network n)
+    → Sets port class (sum + share) old new
+    → AreAdding network rows n (take (place_of (legs_at network n) leg (hop + 1)) (stream_at network n).ports) new
+added_hop network rows n leg hop port class old new sum share net h at adding sum_same share_same sets =
     let s : DeclaredStream = stream_at network n in
-    let port : ℕ = get_or s.ports hop 0 in
-    let class : ℕ = class_at (stream_sender s) port in
-    adding_more network rows n s s.ports hop old new (apart network n net h) at.short
-    (omega (arith, at.port, at.inside)) adding
-    (subst (λ (k : ℕ). Sets port class (k + share_at network rows port class s) old new) sum_same
-    (subst (λ (k : ℕ). Sets port class (sum + k) old new) share_same
-    (subst (λ (c : ℕ). Sets port c (sum + share) old new) at.class
-    (subst (λ (p : ℕ). Sets p (get_or classes hop 0) (sum + share) old new) at.port sets))))
+    let legs : List (List ℕ) = legs_at network n in
+    let place : ℕ = place_of legs leg hop in
+    let Puts : ℕ → ℕ → Type 0 = λ (p c : ℕ). Sets p c (shares_at network rows p c (take n network.streams)
+    + share_at network rows p c s) old new in
+    let put : Puts port class = subst (λ (k : ℕ). Sets port class (k + share_at network rows port class s) old new)
+    sum_same (subst (λ (k : ℕ). Sets port class (sum + k) old new) share_same sets) in
+    let there : Puts (get_or s.ports place 0) (class_at (stream_sender s) (get_or s.ports place 0)) =
+    subst (λ (p : ℕ). Puts p (class_at (stream_sender s) p)) (sym at.there)
+    (subst (λ (c : ℕ). Puts port c) (sym at.ranked) put) in
+    let next : place + 1 ≡ place_of legs leg (hop + 1) =
+    add-one place ∙ sym (ap (place_of legs leg) (add-one hop) ∙ place_next legs leg hop) in
+    subst (λ (k : ℕ). AreAdding network rows n (take k s.ports) new) next
+    (adding_more network rows n s.ports place old new (paths_apart network net n no_stream h) at.within
+    (subst (λ (p : ℕ). p < length network.topology.ports) (sym at.there) at.inside) adding there)

@@ -1,8 +1,8 @@
-pub mod Before
 pub mod Crossings
 pub mod Cuts
 pub mod Found
 pub mod Hops
+pub mod LegHops
 pub mod LevelLemmas
 pub mod Occupied
 pub mod Peak

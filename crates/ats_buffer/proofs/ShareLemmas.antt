@@ -11,28 +11,21 @@ use Rattle.ats_class_table.specs.Table.{Sets, Table, value_at}
 use Rattle.ats_streams.specs.Stream.{DeclaredStream}
 use Rattle.ats_network.specs.Sender.{stream_sender}
 use Rattle.ats_network.specs.Class.{class_at}
+use Rattle.ats_network.specs.Edits.{no_stream}
 use Rattle.ats_network.specs.Network.{DeclaredNetwork}
 use Rattle.ats_network.proofs.ClassLemmas.{class_along-has}
 use Rattle.ats_certificate.specs.declared.row.Row.{Row}
 use Rattle.ats_buffer.specs.Buffer.{has_class, share_at, shares_at}
-use Rattle.ats_buffer.specs.Sums.{AreSums}
+use Rattle.ats_buffer.specs.Sums.{AreAdding, AreSums}
 
--- what the first streams may have at a port in a class, with one more stream where the port is one of these
-abbrev pub adding : DeclaredNetwork → List Row → ℕ → DeclaredStream → List ℕ → ℕ → ℕ → ℕ
-adding network rows number s path port class =
-    shares_at network rows port class (take number network.streams)
-    + cond (list_any (λ p. p == port) path && has_class port class s) (share_at network rows port class s) 0
+-- the stream with a number
+abbrev pub stream_at : DeclaredNetwork → ℕ → DeclaredStream
+stream_at network n = get_or network.streams n no_stream
 
--- a table has that
-pub record AreAdding (network : DeclaredNetwork) (rows : List Row) (number : ℕ) (s : DeclaredStream) (path : List ℕ)
-    (table : Table ℕ) : Type 0 where
-  pub ports : table.ports ≡ length network.topology.ports
-  pub each : (port class : ℕ) → port < length network.topology.ports → 1 ≤ class → class ≤ 7
-      → value_at table port class ≡ Some (adding network rows number s path port class)
-
-pub adding_none : (network : DeclaredNetwork) (rows : List Row) (number : ℕ) (s : DeclaredStream) (table : Table ℕ)
-    → AreSums network rows number table → AreAdding network rows number s [] table
-adding_none network rows number s table sums = record {
+-- at first no port of the stream is added
+pub adding_none : (network : DeclaredNetwork) (rows : List Row) (number : ℕ) (table : Table ℕ)
+    → AreSums network rows number table → AreAdding network rows number [] table
+adding_none network rows number table sums = record {
   ports = sums.ports;
   each = λ port class within least most.
       sums.each port class within least most ∙ ap Some (omega arith);
@@ -49,30 +42,31 @@ not_before path k apart h = list_any_none (λ p. p == get_or path k 0) (take k p
     (λ e. apart i k 0 before h (get_or_default path i 0 d (omega arith) ∙ sym (get_or-take k path i d before) ∙ e))))
 
 -- what is there already at the next port
-pub before_port : (network : DeclaredNetwork) (rows : List Row) (number : ℕ) (s : DeclaredStream) (path : List ℕ)
-    (k : ℕ) (table : Table ℕ) → AllPairs (λ p q. p ≢ q) path → k < length path
-    → get_or path k 0 < length network.topology.ports
-    → AreAdding network rows number s (take k path) table → (class : ℕ) → 1 ≤ class → class ≤ 7
+pub before_port : (network : DeclaredNetwork) (rows : List Row) (number : ℕ) (path : List ℕ) (k : ℕ) (table : Table ℕ)
+    → AllPairs (λ p q. p ≢ q) path → k < length path → get_or path k 0 < length network.topology.ports
+    → AreAdding network rows number (take k path) table → (class : ℕ) → 1 ≤ class → class ≤ 7
     → value_at table (get_or path k 0) class
     ≡ Some (shares_at network rows (get_or path k 0) class (take number network.streams))
-before_port network rows number s path k table apart h within before class least most =
+before_port network rows number path k table apart h within before class least most =
     let port : ℕ = get_or path k 0 in
+    let s : DeclaredStream = stream_at network number in
     before.each port class within least most
     ∙ ap (λ (b : Bool). Some (shares_at network rows port class (take number network.streams)
     + cond (b && has_class port class s) (share_at network rows port class s) 0)) (not_before path k apart h)
     ∙ ap Some (omega arith)
 
 -- with the share at one port more
-pub adding_more : (network : DeclaredNetwork) (rows : List Row) (number : ℕ) (s : DeclaredStream) (path : List ℕ)
-    (k : ℕ) (old new : Table ℕ) → AllPairs (λ p q. p ≢ q) path → k < length path
+pub adding_more : (network : DeclaredNetwork) (rows : List Row) (number : ℕ) (path : List ℕ) (k : ℕ)
+    (old new : Table ℕ) → AllPairs (λ p q. p ≢ q) path → k < length path
     → get_or path k 0 < length network.topology.ports
-    → AreAdding network rows number s (take k path) old
-    → Sets (get_or path k 0) (class_at (stream_sender s) (get_or path k 0))
-    (shares_at network rows (get_or path k 0) (class_at (stream_sender s) (get_or path k 0))
-    (take number network.streams)
-    + share_at network rows (get_or path k 0) (class_at (stream_sender s) (get_or path k 0)) s) old new
-    → AreAdding network rows number s (take (k + 1) path) new
-adding_more network rows number s path k old new apart h inside before sets = record {
+    → AreAdding network rows number (take k path) old
+    → Sets (get_or path k 0) (class_at (stream_sender (stream_at network number)) (get_or path k 0))
+    (shares_at network rows (get_or path k 0)
+    (class_at (stream_sender (stream_at network number)) (get_or path k 0)) (take number network.streams)
+    + share_at network rows (get_or path k 0)
+    (class_at (stream_sender (stream_at network number)) (get_or path k 0)) (stream_at network number)) old new
+    → AreAdding network rows number (take (k + 1) path) new
+adding_more network rows number path k old new apart h inside before sets = record {
   ports = sets.count ∙ before.ports;
   each = λ port class within least most. elim (cases_eq at port) as (λ _. Goal port class) [
     | inl same ↦ subst (λ (p : ℕ). Goal p class) same (here class least most)
@@ -83,8 +77,16 @@ adding_more network rows number s path k old new apart h inside before sets = re
     at : ℕ
     at = get_or path k 0
 
+    s : DeclaredStream
+    s = stream_at network number
+
+    sum_with : ℕ → ℕ → Bool → Bool → ℕ
+    sum_with port class b c = shares_at network rows port class (take number network.streams)
+        + cond (b && c) (share_at network rows port class s) 0
+
     Goal : ℕ → ℕ → Type 0
-    Goal port class = value_at new port class ≡ Some (adding network rows number s (take (k + 1) path) port class)
+    Goal port class = value_at new port class
+        ≡ Some (sum_with port class (list_any (λ p. p == port) (take (k + 1) path)) (has_class port class s))
 
     more : (port : ℕ) → list_any (λ p. p == port) (take (k + 1) path)
         ≡ (list_any (λ p. p == port) (take k path) || (at == port))
@@ -102,10 +104,6 @@ adding_more network rows number s path k old new apart h inside before sets = re
     now = more at ∙ ap (λ (b : Bool). list_any (λ p. p == at) (take k path) || b) (eq-eqb at at refl)
         ∙ or_true (list_any (λ p. p == at) (take k path))
 
-    sum_with : ℕ → ℕ → Bool → Bool → ℕ
-    sum_with port class b c = shares_at network rows port class (take number network.streams)
-        + cond (b && c) (share_at network rows port class s) 0
-
     here : (class : ℕ) → 1 ≤ class → class ≤ 7 → Goal at class
     here class least most = elim (cases_eq (class_at (stream_sender s) at) class) as (λ _. Goal at class) [
       | inl ranked ↦ subst (λ (c : ℕ). Goal at c) ranked (
@@ -116,7 +114,7 @@ adding_more network rows number s path k old new apart h inside before sets = re
           (eq-eqb (class_at (stream_sender s) at) (class_at (stream_sender s) at) refl))))
       | inr other ↦
           sets.others at class (inr (λ e. other (sym e)))
-          ∙ before_port network rows number s path k old apart h inside before class least most
+          ∙ before_port network rows number path k old apart h inside before class least most
           ∙ ap Some (sym (ap (λ (b : Bool). sum_with at class b (has_class at class s)) now
           ∙ ap (λ (c : Bool). sum_with at class true c) (ne_eqb (class_at (stream_sender s) at) class other)
           ∙ omega arith))
@@ -152,22 +150,21 @@ shares_more network rows port class number d h =
     one true f s = omega (arith, sum_by-cons f s [])
     one false f s = refl
 
--- when the stream is added along its whole path, it is one of those that are added
-pub added_all : (network : DeclaredNetwork) (rows : List Row) (number : ℕ) (d : DeclaredStream) (table : Table ℕ)
+-- when the stream is added at all of its ports, it is one of those that are added
+pub added_all : (network : DeclaredNetwork) (rows : List Row) (number : ℕ) (table : Table ℕ)
     → number < length network.streams
-    → AreAdding network rows number (get_or network.streams number d) (get_or network.streams number d).ports table
-    → AreSums network rows (number + 1) table
-added_all network rows number d table h all = record {
+    → AreAdding network rows number (stream_at network number).ports table → AreSums network rows (number + 1) table
+added_all network rows number table h all = record {
   ports = all.ports;
   each = λ port class within least most.
       all.each port class within least most
       ∙ ap Some (ap (λ (b : Bool). shares_at network rows port class (take number network.streams)
-      + cond b (share_at network rows port class (get_or network.streams number d)) 0) (used port class least)
-      ∙ sym (shares_more network rows port class number d h));
+      + cond b (share_at network rows port class s) 0) (used port class least)
+      ∙ sym (shares_more network rows port class number no_stream h));
 }
   where
     s : DeclaredStream
-    s = get_or network.streams number d
+    s = stream_at network number
 
     used : (port class : ℕ) → 1 ≤ class
         → (list_any (λ p. p == port) s.ports && has_class port class s) ≡ has_class port class s

@@ -1,36 +1,34 @@
 use Rattle.std.proofs.Common.{◌≡◌, ℕ, zero, suc, ◌+◌, ◌<◌, ◌≤◌, List, [], ◌∷◌, ◌++◌, length, get_or, drop, map, refl}
 use Rattle.std.proofs.Common.{sym, ap}
-use Rattle.std.proofs.Common.{◌∙◌, append_assoc, subst, inl, add-one, inr, ◌⊎◌, arith}
+use Rattle.std.proofs.Common.{◌∙◌, append_assoc, subst, inl, add-one, inr, arith}
 use Rattle.std.specs.Prelude.{Option, Some, None}
 use Rattle.std.specs.List.{flat_map}
 use Rattle.std.proofs.lemmas.List.{append-nil, drop_all, drop_more, get_or-map}
 use Rattle.std.proofs.lemmas.List.Concat.{flat_map-append}
 use Rattle.ats_num.specs.declared.time.Ps.{Ps}
 use Rattle.ats_num.specs.Wire.{bits_of}
+use Rattle.ats_streams.specs.Branches.{leg_at}
 use Rattle.ats_network.specs.Sender.{Sender}
 use Rattle.ats_network.specs.Class.{class_at}
-use Rattle.ats_network.specs.Network.{DeclaredNetwork, HasOneListener, IsNetwork}
+use Rattle.ats_network.specs.Network.{DeclaredNetwork}
 use Rattle.ats_network.specs.Senders.{sender_at}
-use Rattle.ats_network.proofs.SenderLemmas.{sender_path}
 use Rattle.ats_group.specs.declared.verdict.Verdict.{Verdict}
 use Rattle.ats_group.specs.declared.verdict.Verdict.TheVariants.{Eligible, Late, Size}
-use Rattle.ats_trace.specs.Journey.{Travel, IsSentOrEnds, IsWay}
-use Rattle.ats_trace.specs.Projections.{Crossing, transmission_by, transmission_of, crossing_at, crossings_along}
-use Rattle.ats_trace.specs.Projections.{journey_crossings, crossings_from}
+use Rattle.ats_trace.specs.Journey.{Leg, Travel, IsJourney, IsSentOrEnds, IsWay, legs_at, legs_in, no_leg}
+use Rattle.ats_trace.specs.Projections.{transmission_by, transmission_of, crossing_at, crossings_along}
+use Rattle.ats_trace.specs.Projections.{crossings_over, journey_crossings, crossings_from}
 use Rattle.ats_trace.specs.Run.{IsLegal}
-use Rattle.ats_trace.specs.Stored.{no_travel, travel_at, journey_of}
+use Rattle.ats_trace.specs.Stored.{leg_in, no_travel, travel_at, journey_of}
 use Rattle.ats_trace.specs.declared.journey.Journey.{Journey}
 use Rattle.ats_trace.specs.declared.journey.Release.{Release}
 use Rattle.ats_trace.specs.declared.journey.HopRecord.{HopRecord}
 use Rattle.ats_trace.specs.declared.journey.Ending.{Ending}
 use Rattle.ats_trace.specs.declared.journey.Ending.TheVariants.{Sink, Discard}
-use Rattle.ats_trace.proofs.OneListener.{one_leg, sender_alone, way_alone}
-use Rattle.ats_buffer.specs.Moments.{sent_moments, moments_at, moments_of, moments_of_frame, moments_in}
+use Rattle.ats_trace.proofs.OneVerdict.{copies_many}
+use Rattle.ats_buffer.specs.Moments.{sent_moments, moments_at, moments_of, moments_of_frame, moments_of_leg}
+use Rattle.ats_buffer.specs.Moments.{moments_in}
 use Rattle.ats_buffer.specs.declared.moments.Moment.{Moment}
-
--- the rest of a frame's way, which may be over
-abbrev pub IsRest : List ℕ → List HopRecord → Ending → Type 0
-IsRest path hops ending = IsWay path hops ending ⊎ (hops ≡ [])
+use Rattle.ats_buffer.proofs.LegHops.{IsRest, as_many}
 
 -- of what is left of a way: the moments of its crossings
 abbrev pub moments_along : ℕ → Release → Sender → List ℕ → List HopRecord → Ending → List Moment
@@ -149,65 +147,97 @@ release_is run rows frame e h =
     ap (λ (l : List Journey). (get_or l frame no_journey).release) e
     ∙ ap (λ (j : Journey). j.release) (get_or-map journey_of run frame no_travel no_journey h)
 
--- where each stream has one listener, a frame makes its way along the ports of its sender, and its moments are told
--- there
-pub way_begins : (network : DeclaredNetwork) (run : List Travel) (frame : ℕ) → IsNetwork network
-    → HasOneListener network → IsLegal network run → frame < length run
-    → IsRest (sender_at network (travel_at run frame).release.sender).ports (travel_at run frame).hops
-    (travel_at run frame).ending
-way_begins network run frame net alone legal h =
+-- the moments of a frame along the legs from one on
+abbrev pub moments_left : DeclaredNetwork → ℕ → Travel → ℕ → List Moment
+moments_left network frame j leg = flat_map moments_of (crossings_over frame j.release
+    (sender_at network j.release.sender) (drop leg (legs_at network j.release.sender)) (drop leg (legs_in j)))
+
+-- are those along this one, and those along the next ones
+pub legs_next : (network : DeclaredNetwork) (frame : ℕ) (j : Travel) (leg : ℕ) → IsJourney network j
+    → leg < length (legs_in j)
+    → moments_left network frame j leg ≡ moments_of_leg network frame j leg ++ moments_left network frame j (leg + 1)
+legs_next network frame j leg is h =
+    let r : Release = j.release in
+    let s : Sender = sender_at network r.sender in
+    let paths : List (List ℕ) = legs_at network r.sender in
+    let path : List ℕ = leg_at paths leg in
+    let one : Leg = leg_in j leg in
+    ap (λ (l : List (List ℕ)). flat_map moments_of (crossings_over frame r s l (drop leg (legs_in j))))
+    (drop_more paths leg [] (omega (arith, h, as_many network j is)))
+    ∙ ap (λ (l : List Leg). flat_map moments_of (crossings_over frame r s (path ∷ drop (leg + 1) paths) l))
+    (drop_more (legs_in j) leg no_leg h)
+    ∙ flat_map-append moments_of (crossings_along frame r s path one.hops one.ending)
+    (crossings_over frame r s (drop (leg + 1) paths) (drop (leg + 1) (legs_in j)))
+
+-- so the moments so far and those that are left stay those of the frame
+pub legs_more : (network : DeclaredNetwork) (frame : ℕ) (j : Travel) (leg : ℕ) (old new all : List Moment)
+    → IsJourney network j → leg < length (legs_in j) → new ≡ old ++ moments_of_leg network frame j leg
+    → old ++ moments_left network frame j leg ≡ all → new ++ moments_left network frame j (leg + 1) ≡ all
+legs_more network frame j leg old new all is h grown before =
+    ap (λ (l : List Moment). l ++ moments_left network frame j (leg + 1)) grown
+    ∙ append_assoc old (moments_of_leg network frame j leg) (moments_left network frame j (leg + 1))
+    ∙ ap (λ (l : List Moment). old ++ l) (sym (legs_next network frame j leg is h)) ∙ before
+
+-- and when no leg is left, the moments are those of the frame
+pub legs_over : (network : DeclaredNetwork) (frame : ℕ) (j : Travel) (leg : ℕ) (moments all : List Moment)
+    → IsJourney network j → length (legs_in j) ≤ leg → moments ++ moments_left network frame j leg ≡ all
+    → moments ≡ all
+legs_over network frame j leg moments all is over told =
+    let none : moments_left network frame j leg ≡ [] =
+    ap (λ (l : List (List ℕ)). flat_map moments_of (crossings_over frame j.release
+    (sender_at network j.release.sender) l (drop leg (legs_in j))))
+    (drop_all leg (legs_at network j.release.sender) (omega (arith, over, as_many network j is))) in
+    sym (append-nil moments) ∙ ap (λ (l : List Moment). moments ++ l) (sym none) ∙ told
+
+-- a leg of a frame, by its number
+pub record IsLegOf (network : DeclaredNetwork) (run : List Travel) (frame leg : ℕ) : Type 0 where
+  pub journey : IsJourney network (travel_at run frame)
+  pub in_legs : leg ≤ length (sender_at network (travel_at run frame).release.sender).branches
+
+pub leg_of_frame : (network : DeclaredNetwork) (run : List Travel) (frame leg : ℕ) → IsLegal network run
+    → frame < length run → leg < length (legs_in (travel_at run frame)) → IsLegOf network run frame leg
+leg_of_frame network run frame leg legal h within =
     let j : Travel = travel_at run frame in
-    inl (way_alone network j (sender_alone network alone j.release.sender) (legal.journeys frame no_travel h))
+    let is : IsJourney network j = legal.journeys frame no_travel h in
+    record {
+      journey = is;
+      in_legs = omega (arith, within, copies_many (sender_at network j.release.sender) j is.copies);
+    }
 
-pub moments_begin : (network : DeclaredNetwork) (frame : ℕ) (j : Travel) (moments : List Moment)
-    → HasOneListener network
-    → moments ++ moments_along frame j.release (sender_at network j.release.sender)
-    (sender_at network j.release.sender).ports j.hops j.ending
-    ≡ moments ++ moments_of_frame network frame j
-moments_begin network frame j moments alone =
-    ap (λ (cs : List Crossing). moments ++ flat_map moments_of cs)
-    (sym ((one_leg network j (sender_alone network alone j.release.sender)).crossings frame))
-
--- and it has 16 of them at most
-pub few_visits : (network : DeclaredNetwork) (run : List Travel) (frame : ℕ) → IsNetwork network
-    → HasOneListener network → IsLegal network run → frame < length run
-    → length (sender_at network (travel_at run frame).release.sender).ports ≤ 16
-few_visits network run frame net alone legal h =
-    (sender_path network (travel_at run frame).release.sender net alone
-    (legal.journeys frame no_travel h).sender).path.most
-
--- a frame's next visit, by its records as they are listed
-pub visit_of : (network : DeclaredNetwork) (run : List Travel) (frame k : ℕ) (d : HopRecord) (items : List HopRecord)
-    → items ≡ (travel_at run frame).hops → k < length items
-    → IsRest (drop k (sender_at network (travel_at run frame).release.sender).ports) (drop k (travel_at run frame).hops)
-    (travel_at run frame).ending
+-- a frame's next visit along a leg, by its records as they are listed
+pub visit_of : (network : DeclaredNetwork) (run : List Travel) (frame leg k : ℕ) (d : HopRecord)
+    (items : List HopRecord) → items ≡ (leg_in (travel_at run frame) leg).hops → k < length items
+    → IsRest (drop k (leg_at (legs_at network (travel_at run frame).release.sender) leg))
+    (drop k (leg_in (travel_at run frame) leg).hops) (leg_in (travel_at run frame) leg).ending
     → IsNextVisit frame (travel_at run frame).release (sender_at network (travel_at run frame).release.sender)
-    (sender_at network (travel_at run frame).release.sender).ports (travel_at run frame).hops
-    (travel_at run frame).ending k (k + 1) d
-visit_of network run frame k d items e h rest =
+    (leg_at (legs_at network (travel_at run frame).release.sender) leg) (leg_in (travel_at run frame) leg).hops
+    (leg_in (travel_at run frame) leg).ending k (k + 1) d
+visit_of network run frame leg k d items e h rest =
     let j : Travel = travel_at run frame in
-    let s : Sender = sender_at network j.release.sender in
-    let long : length items ≡ length j.hops = ap (λ (l : List HopRecord). length l) e in
-    next_is frame j.release s s.ports j.hops j.ending k d (omega (arith, h, long)) rest
+    let one : Leg = leg_in j leg in
+    let long : length items ≡ length one.hops = ap (λ (l : List HopRecord). length l) e in
+    next_is frame j.release (sender_at network j.release.sender) (leg_at (legs_at network j.release.sender) leg)
+    one.hops one.ending k d (omega (arith, h, long)) rest
 
 -- what the code knows of a visit: the frame's port, class and bits there, and its record
-pub record IsRead (network : DeclaredNetwork) (j : Travel) (k : ℕ) (d : HopRecord) (p c b : ℕ)
+pub record IsRead (network : DeclaredNetwork) (j : Travel) (leg k : ℕ) (d : HopRecord) (p c b : ℕ)
     (h : HopRecord) : Type 0 where
-  pub port : p ≡ get_or (sender_at network j.release.sender).ports k 0
+  pub port : p ≡ get_or (leg_at (legs_at network j.release.sender) leg) k 0
   pub class : c ≡ class_at (sender_at network j.release.sender)
-      (get_or (sender_at network j.release.sender).ports k 0)
+      (get_or (leg_at (legs_at network j.release.sender) leg) k 0)
   pub bits : b ≡ bits_of j.release.octets
-  pub hop : h ≡ get_or j.hops k d
+  pub hop : h ≡ get_or (leg_in j leg).hops k d
 
-pub read_of : (network : DeclaredNetwork) (j : Travel) (k : ℕ) (d : HopRecord) (r : Release) (path : List ℕ)
-    (class bits : ℕ) (items : List HopRecord) → r ≡ j.release → path ≡ (sender_at network r.sender).ports
-    → class ≡ class_at (sender_at network r.sender) (get_or (sender_at network r.sender).ports k 0)
-    → bits ≡ bits_of r.octets → items ≡ j.hops
-    → IsRead network j k d (get_or path k 0) class bits (get_or items k d)
-read_of network j k d r path class bits items same path_is class_is bits_is items_are = record {
-  port = ap (λ (l : List ℕ). get_or l k 0) (path_is ∙ ap (λ (r : Release). (sender_at network r.sender).ports) same);
+pub read_of : (network : DeclaredNetwork) (j : Travel) (leg k : ℕ) (d : HopRecord) (r : Release) (path : List ℕ)
+    (class bits : ℕ) (items : List HopRecord) → r ≡ j.release → path ≡ leg_at (legs_at network r.sender) leg
+    → class ≡ class_at (sender_at network r.sender) (get_or (leg_at (legs_at network r.sender) leg) k 0)
+    → bits ≡ bits_of r.octets → items ≡ (leg_in j leg).hops
+    → IsRead network j leg k d (get_or path k 0) class bits (get_or items k d)
+read_of network j leg k d r path class bits items same path_is class_is bits_is items_are = record {
+  port = ap (λ (l : List ℕ). get_or l k 0)
+      (path_is ∙ ap (λ (r : Release). leg_at (legs_at network r.sender) leg) same);
   class = class_is ∙ ap (λ (r : Release). class_at (sender_at network r.sender)
-      (get_or (sender_at network r.sender).ports k 0)) same;
+      (get_or (leg_at (legs_at network r.sender) leg) k 0)) same;
   bits = bits_is ∙ ap (λ (r : Release). bits_of r.octets) same;
   hop = ap (λ (l : List HopRecord). get_or l k d) items_are;
 }
@@ -218,37 +248,43 @@ moments_same port class bits p c b hop h pe ce be he =
     ap (λ (n : ℕ). moments_at n class bits hop) pe ∙ ap (λ (n : ℕ). moments_at p n bits hop) ce
     ∙ ap (λ (n : ℕ). moments_at p c n hop) be ∙ ap (moments_at p c b) he
 
--- so the moments so far and those that are left stay those of the frame
-pub told_more : (network : DeclaredNetwork) (frame : ℕ) (j : Travel) (k : ℕ) (d : HopRecord) (port class bits : ℕ)
-    (hop : HopRecord) (old new all : List Moment)
-    → IsNextVisit frame j.release (sender_at network j.release.sender) (sender_at network j.release.sender).ports j.hops
-    j.ending k (k + 1) d
-    → IsRead network j k d port class bits hop → new ≡ old ++ moments_at port class bits hop
+-- so the moments so far and those that are left stay those of the leg
+pub told_more : (network : DeclaredNetwork) (frame : ℕ) (j : Travel) (leg k : ℕ) (d : HopRecord)
+    (port class bits : ℕ) (hop : HopRecord) (old new all : List Moment)
+    → IsNextVisit frame j.release (sender_at network j.release.sender) (leg_at (legs_at network j.release.sender) leg)
+    (leg_in j leg).hops (leg_in j leg).ending k (k + 1) d
+    → IsRead network j leg k d port class bits hop → new ≡ old ++ moments_at port class bits hop
     → old ++ moments_along frame j.release (sender_at network j.release.sender)
-    (drop k (sender_at network j.release.sender).ports) (drop k j.hops) j.ending ≡ all
+    (drop k (leg_at (legs_at network j.release.sender) leg)) (drop k (leg_in j leg).hops) (leg_in j leg).ending ≡ all
     → new ++ moments_along frame j.release (sender_at network j.release.sender)
-    (drop (k + 1) (sender_at network j.release.sender).ports) (drop (k + 1) j.hops) j.ending ≡ all
-told_more network frame j k d port class bits hop old new all v read grown before =
+    (drop (k + 1) (leg_at (legs_at network j.release.sender) leg)) (drop (k + 1) (leg_in j leg).hops)
+    (leg_in j leg).ending ≡ all
+told_more network frame j leg k d port class bits hop old new all v read grown before =
     let s : Sender = sender_at network j.release.sender in
-    let here : List Moment = moments_at (get_or s.ports k 0) (class_at s (get_or s.ports k 0))
-    (bits_of j.release.octets) (get_or j.hops k d) in
-    let rest : List Moment = moments_along frame j.release s (drop (k + 1) s.ports) (drop (k + 1) j.hops) j.ending in
+    let path : List ℕ = leg_at (legs_at network j.release.sender) leg in
+    let one : Leg = leg_in j leg in
+    let here : List Moment = moments_at (get_or path k 0) (class_at s (get_or path k 0))
+    (bits_of j.release.octets) (get_or one.hops k d) in
+    let rest : List Moment = moments_along frame j.release s (drop (k + 1) path) (drop (k + 1) one.hops) one.ending in
     let same : moments_at port class bits hop ≡ here =
-    moments_same port class bits (get_or s.ports k 0) (class_at s (get_or s.ports k 0)) (bits_of j.release.octets) hop
-    (get_or j.hops k d) read.port read.class read.bits read.hop in
+    moments_same port class bits (get_or path k 0) (class_at s (get_or path k 0)) (bits_of j.release.octets) hop
+    (get_or one.hops k d) read.port read.class read.bits read.hop in
     ap (λ (l : List Moment). l ++ rest) (grown ∙ ap (λ (l : List Moment). old ++ l) same)
     ∙ append_assoc old here rest
     ∙ ap (λ (l : List Moment). old ++ l) (sym v.told) ∙ before
 
--- when no record is left, the moments are those of the frame
-pub told_all : (network : DeclaredNetwork) (frame : ℕ) (j : Travel) (k : ℕ) (items : List HopRecord)
-    (moments all : List Moment) → items ≡ j.hops → length items ≤ k
+-- when no record is left, the moments are those of the leg
+pub told_all : (network : DeclaredNetwork) (frame : ℕ) (j : Travel) (leg k : ℕ) (items : List HopRecord)
+    (moments all : List Moment) → items ≡ (leg_in j leg).hops → length items ≤ k
     → moments ++ moments_along frame j.release (sender_at network j.release.sender)
-    (drop k (sender_at network j.release.sender).ports) (drop k j.hops) j.ending ≡ all → moments ≡ all
-told_all network frame j k items moments all e over told =
+    (drop k (leg_at (legs_at network j.release.sender) leg)) (drop k (leg_in j leg).hops) (leg_in j leg).ending ≡ all
+    → moments ≡ all
+told_all network frame j leg k items moments all e over told =
     let s : Sender = sender_at network j.release.sender in
-    let long : length items ≡ length j.hops = ap (λ (l : List HopRecord). length l) e in
-    let none = all_told frame j.release s s.ports j.hops j.ending k (omega (arith, long, over)) in
+    let one : Leg = leg_in j leg in
+    let long : length items ≡ length one.hops = ap (λ (l : List HopRecord). length l) e in
+    let none = all_told frame j.release s (leg_at (legs_at network j.release.sender) leg) one.hops one.ending k
+    (omega (arith, long, over)) in
     sym (append-nil moments) ∙ ap (λ (l : List Moment). moments ++ l) (sym none) ∙ told
 
 -- when no frame is left, the moments are those of the run

@@ -1,4 +1,4 @@
-use Rattle.std.specs.Prelude.{ℕ, ◌+◌, ◌*◌, ◌/◌, Bool, ◌==◌, List, map, filter, sum_by, unwrap_or}
+use Rattle.std.specs.Prelude.{ℕ, ◌+◌, ◌*◌, ◌/◌, Bool, ◌==◌, List, map, filter, sum_by, Option, unwrap_or}
 use Rattle.std.specs.Option.{option_map}
 use Rattle.ats_num.specs.declared.time.TheConstants.{PS_PER_SECOND}
 use Rattle.ats_topology.specs.Port.{port_at}
@@ -32,10 +32,14 @@ way_by network rows port class =
 abbrev pub way_over : DeclaredNetwork → List Row → Sender → ℕ → ℕ
 way_over network rows sender port = way_by network rows port (class_at sender port)
 
--- by how much a sender's ways to a port differ, over the port before it; 0 where there is none
+-- the same, where there is such a port; 0 where there is none
+abbrev pub way_behind : DeclaredNetwork → List Row → Sender → Option ℕ → ℕ
+way_behind network rows sender before = unwrap_or (option_map (way_over network rows sender) before) 0
+
+-- by how much a sender's ways to a port differ: over the port before it, from which its frames come to the node that
+-- this one leaves; the first port of the trunk has none before it
 abbrev pub way_to : DeclaredNetwork → List Row → Sender → ℕ → ℕ
-way_to network rows sender port =
-    unwrap_or (option_map (way_over network rows sender) (port_before sender port)) 0
+way_to network rows sender port = way_behind network rows sender (port_before sender port)
 
 -- the frames of a sender that are together at a port, where it has this class, became eligible within this time at the
 -- port before; or at this port, where there is none

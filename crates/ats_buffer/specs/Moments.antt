@@ -2,12 +2,16 @@ use Rattle.std.specs.Prelude.{◌≡◌, ℕ, ◌+◌, ◌*◌, ◌<◌, ◌≤�
 use Rattle.std.specs.Prelude.{◌∷◌, length, filter, sum_by, All, IsPermutation, if◌then◌else◌, Option, Some, None}
 use Rattle.std.specs.List.{flat_map}
 use Rattle.std.specs.List.Sorted.{IsNonDecreasingBy}
+use Rattle.ats_streams.specs.Branches.{leg_at}
 use Rattle.ats_network.specs.Network.{DeclaredNetwork}
+use Rattle.ats_network.specs.Senders.{sender_at}
 use Rattle.ats_num.specs.declared.time.Ps.{Ps}
 use Rattle.ats_num.specs.declared.wire.TheConstants.{MAX_WIRE_BITS}
-use Rattle.ats_trace.specs.Journey.{Travel}
+use Rattle.ats_trace.specs.Journey.{Leg, Travel, legs_at}
+use Rattle.ats_trace.specs.Stored.{leg_in}
 use Rattle.ats_trace.specs.declared.journey.HopRecord.{HopRecord}
-use Rattle.ats_trace.specs.Projections.{Crossing, journey_crossings, crossings_from}
+use Rattle.ats_trace.specs.declared.journey.Release.{Release}
+use Rattle.ats_trace.specs.Projections.{Crossing, crossings_along, crossings_from, journey_crossings}
 use Rattle.ats_buffer.specs.declared.moments.Moment.{Moment}
 use Rattle.ats_buffer.specs.declared.moments.TheConstants.{MAX_MOMENTS}
 
@@ -31,7 +35,17 @@ moments_at port class bits hop = sent_moments port class bits hop.arrival.0 hop.
 abbrev pub moments_of : Crossing → List Moment
 moments_of c = moments_between c.port c.sent.class c.sent.bits c.came c.sent.end
 
--- those of all crossings of the frame with this number
+-- those of the crossings of a frame along a leg with these ports
+abbrev pub moments_over : DeclaredNetwork → ℕ → Release → List ℕ → Leg → List Moment
+moments_over network frame release path leg =
+    flat_map moments_of (crossings_along frame release (sender_at network release.sender) path leg.hops leg.ending)
+
+-- of the frame with this number, along one of its legs
+abbrev pub moments_of_leg : DeclaredNetwork → ℕ → Travel → ℕ → List Moment
+moments_of_leg network frame journey leg = moments_over network frame journey.release
+    (leg_at (legs_at network journey.release.sender) leg) (leg_in journey leg)
+
+-- and of all its crossings
 abbrev pub moments_of_frame : DeclaredNetwork → ℕ → Travel → List Moment
 moments_of_frame network frame journey = flat_map moments_of (journey_crossings network frame journey)
 

@@ -1,7 +1,6 @@
 //! What ports hold of each class as the moments of a run pass, and the peaks.
 
 ghost use Rattle.std.specs.Prelude.{◌≡◌, ◌+◌, ◌^◌, ◌<◌, ◌≤◌, length, IfOk, All};
-ghost use Rattle.ats_network.specs.Network.{HasOneListener};
 ghost use Rattle.ats_trace.specs.Run.{IsLegal};
 ghost use Rattle.ats_buffer.specs.Moments.{AreOrdered};
 ghost use Rattle.ats_buffer.specs.Levels.{AreLevels, IsNext, level_after};
@@ -43,17 +42,16 @@ impl Level {
     }
 }
 
-/// For each of these rows the greatest occupancy of its port and class, in bits, over all times of
-/// a legal run, where each stream has one listener: 0 where no frame of the class comes to the port. A frame that comes
-/// at a time is there at that time, and one whose transmission ends then is not. It takes the time of sorting two
-/// moments for each hop of the run's frames. `AllocError` where there is no memory for these, and as much again.
+/// For each of these rows the greatest occupancy of its port and class, in bits, over all times of a legal run: 0 where
+/// no frame of the class comes to the port. A copy counts like any other frame. A frame that comes at a time is there
+/// at that time, and one whose transmission ends then is not. It takes the time of sorting two moments for each hop of
+/// the legs of the run's frames. `AllocError` where there is no memory for these, and as much again.
 pub fn peaks(
     alloc: Global,
     network: &Network,
     run: &Run,
     rows: &[Row],
 ) -> Result<Vec<u64>, AllocError>
-    requires one_listener { HasOneListener network.now }
     requires legal { IsLegal network.now run.now }
     requires places { All (HasPlace (length network.now.topology.ports)) rows.now }
     ensures { IfOk result (λ peaks. ArePeaks network.now run.now rows.now peaks.items) }

@@ -1,21 +1,22 @@
 //! The moments of a run at which what ports hold changes.
 
 ghost use Rattle.std.specs.Prelude.{◌≡◌, ◌<◌, ◌++◌, length, IfOk, OnOk};
-ghost use Rattle.ats_network.specs.Network.{HasOneListener};
+ghost use Rattle.ats_trace.specs.Journey.{legs_in};
 ghost use Rattle.ats_trace.specs.Run.{IsLegal};
 ghost use Rattle.ats_trace.specs.Stored.{travel_at};
 ghost use Rattle.ats_buffer.specs.Moments.{AreByFrame, AreMomentsOf, AreReordered};
-ghost use Rattle.ats_buffer.specs.Moments.{moments_of_frame, moments_at};
+ghost use Rattle.ats_buffer.specs.Moments.{moments_of_frame, moments_of_leg, moments_at};
 ghost use Rattle.ats_buffer.specs.Moments.{moments_between, order_of};
 
+use crate::legs::class_of;
 use ats_network::Network;
 use ats_num::Ps;
 use ats_num::wire::wire_bits;
 use ats_trace::{HopRecord, Run};
 use std::alloc::{AllocError, Global};
 
-/// The most moments of a run: two for each of at most 200,000 frames at each of at most 16 ports.
-pub const MAX_MOMENTS: u64 = 6_400_000;
+/// No run has more moments: two for each of at most 200,000 frames at each of at most 65,536 ports.
+pub const MAX_MOMENTS: u64 = 26_214_400_000;
 
 /// A moment at which what a port holds of a class changes.
 #[derive(Clone, Copy)]
@@ -41,15 +42,14 @@ impl Moment {
     }
 }
 
-/// The moments of a legal run, where each stream has one listener, in their order: of each frame at
-/// each port to which it comes, when it comes and when its transmission ends, where there is time
-/// between them. It takes the time of sorting them. `AllocError` where there is no memory for them, and as much again.
+/// The moments of a legal run, in their order: of each frame at each port to which it comes, on whichever of its legs,
+/// when it comes and when its transmission ends, where there is time between them. It takes the time of sorting them.
+/// `AllocError` where there is no memory for them, and as much again.
 pub fn moments_in_order(
     alloc: Global,
     network: &Network,
     run: &Run,
 ) -> Result<Vec<Moment>, AllocError>
-    requires one_listener { HasOneListener network.now }
     requires legal { IsLegal network.now run.now }
     ensures { IfOk result (λ moments. AreMomentsOf network.now run.now moments.items) }
 {
@@ -66,7 +66,6 @@ fn in_order(mut moments: Vec<Moment>) -> Result<Vec<Moment>, AllocError>
 
 // The moments of a run, frame by frame.
 fn moments_by_frame(alloc: Global, network: &Network, run: &Run) -> Result<Vec<Moment>, AllocError>
-    requires one_listener { HasOneListener network.now }
     requires legal { IsLegal network.now run.now }
     ensures { IfOk result (λ moments. AreByFrame network.now run.now moments.items) }
 {
@@ -78,24 +77,43 @@ fn moments_by_frame(alloc: Global, network: &Network, run: &Run) -> Result<Vec<M
     Ok(moments)
 }
 
-// Adds the moments of a frame.
+// Adds the moments of a frame, leg by leg.
 fn push_frame(
     moments: &mut Vec<Moment>,
     network: &Network,
     run: &Run,
     frame: u32,
 ) -> Result<(), AllocError>
-    requires one_listener { HasOneListener network.now }
     requires legal { IsLegal network.now run.now }
     requires frame { frame < length run.now }
     ensures { OnOk result (moments.new.items
         ≡ moments.old.items ++ moments_of_frame network.now frame (travel_at run.now frame)) }
 {
+    for leg in 0..run.legs(frame) {
+        push_leg(moments, network, run, frame, leg)?;
+    }
+    Ok(())
+}
+
+// Adds the moments of a frame along one leg.
+fn push_leg(
+    moments: &mut Vec<Moment>,
+    network: &Network,
+    run: &Run,
+    frame: u32,
+    leg: u32,
+) -> Result<(), AllocError>
+    requires legal { IsLegal network.now run.now }
+    requires frame { frame < length run.now }
+    requires leg { leg < length (legs_in (travel_at run.now frame)) }
+    ensures { OnOk result (moments.new.items
+        ≡ moments.old.items ++ moments_of_leg network.now frame (travel_at run.now frame) leg) }
+{
     let release = run.journeys()[frame as usize].release;
-    let path = network.sender_ports(release.sender);
+    let path = network.sender_leg(release.sender, leg);
     let bits = wire_bits(release.octets);
-    for (hop, visit) in run.hops_of(frame).iter().enumerate() {
-        let class = network.sender_class(release.sender, hop as u32);
+    for (hop, visit) in run.hops_of(frame, leg).iter().enumerate() {
+        let class = class_of(network, release.sender, leg, hop as u32);
         push_visit(moments, path[hop], class, bits, visit)?;
     }
     Ok(())

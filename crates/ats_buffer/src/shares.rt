@@ -1,13 +1,15 @@
 //! What streams may have at each port and class, and the buffers that this makes.
 
-ghost use Rattle.std.specs.Prelude.{◌≡◌, ◌+◌, ◌^◌, ◌<◌, ◌≤◌, length, IfOk};
-ghost use Rattle.ats_network.specs.Network.{HasOneListener, IsNetwork};
-ghost use Rattle.ats_network.specs.Sender.{stream_sender};
-ghost use Rattle.ats_network.specs.Class.{class_at};
+ghost use Rattle.std.specs.Prelude.{◌≡◌, ◌+◌, ◌^◌, ◌<◌, ◌≤◌, length, take, IfOk};
+ghost use Rattle.std.specs.List.{concat};
+ghost use Rattle.ats_network.specs.Senders.{sender_at};
+ghost use Rattle.ats_trace.specs.Journey.{legs_at};
+ghost use Rattle.ats_route_law.specs.Laws.{in_front_of};
 ghost use Rattle.ats_certificate.specs.Certificate.{Holds};
-ghost use Rattle.ats_buffer.specs.Buffer.{buffers_of, most_bits, stay_at, way_by};
-ghost use Rattle.ats_buffer.specs.Sums.{AreSums};
+ghost use Rattle.ats_buffer.specs.Buffer.{buffers_of, most_bits, stay_at, way_behind, way_by};
+ghost use Rattle.ats_buffer.specs.Sums.{AreAdding, AreSums};
 
+use crate::legs::class_of;
 use crate::row_table::RowTable;
 use ats_certificate::Certificate;
 use ats_class_table::PortClassTable;
@@ -16,22 +18,19 @@ use ats_num::time::PS_PER_SECOND;
 use ats_streams::Stream;
 use std::alloc::{AllocError, Global};
 
-/// The buffer of each row of a certificate that holds for a network, in bits, in the order of the
-/// rows: the sum, over the streams with the row's class at its port, of the stream's burst and of
-/// what its rate gives, rounded down for each stream by itself, in the time within which its frames
-/// that are there together became eligible. That time is the wait and the transmission of the
-/// shortest frame by the row, and where a port is before this one on the stream's path also that
-/// port's spread and the wait by the row of the stream's class there.
+/// The buffer of each row of a certificate that holds for a network, in bits, in the order of the rows: the sum, over
+/// the streams with the row's class at its port, of the stream's burst and of what its rate gives, rounded down for
+/// each stream by itself, in the time within which its frames that are there together became eligible. That time is the
+/// wait and the transmission of the shortest frame by the row, and where a port of the stream leads to this port's
+/// bridge also that port's spread and the wait by the row of the stream's class there.
 ///
-/// Condition: each stream has one listener. It takes time linear in the sum of the paths' lengths and
-/// in the numbers of ports and rows. `AllocError` where there is no memory for the buffers, or for a
-/// row and a sum of each port and class.
+/// It takes time linear in the numbers of the streams' ports, of ports and of rows. `AllocError` where there is no
+/// memory for the buffers, or for a row and a sum of each port and class.
 pub fn buffers(
     alloc: Global,
     network: &Network,
     certificate: &Certificate,
 ) -> Result<Vec<u128>, AllocError>
-    requires one_listener { HasOneListener network.now }
     requires holds { Holds network.now certificate.now }
     ensures { IfOk result (λ buffers. buffers.items ≡ buffers_of network.now certificate.now) }
 {
@@ -50,37 +49,75 @@ fn sums_of(
     network: &Network,
     rows: &RowTable,
 ) -> Result<PortClassTable<u128>, AllocError>
-    requires one_listener { HasOneListener network.now }
     requires ports { rows.now.ports ≡ length network.now.topology.ports }
     requires holds { Holds network.now rows.now.rows }
     ensures { IfOk result (AreSums network.now rows.now.rows (length network.now.streams)) }
 {
     let mut sums = PortClassTable::new(alloc, network.topology().ports().len(), 0)?;
-    for stream in 0..network.streams().len() {
+    for stream in 0..network.streams().len() as u32 {
         add_shares(&mut sums, network, rows, stream);
     }
     Ok(sums)
 }
 
 // Adds what a stream may have at each of its ports, in the class that it has there.
-fn add_shares(sums: &mut PortClassTable<u128>, network: &Network, rows: &RowTable, number: usize)
-    requires one_listener { HasOneListener network.now }
-    requires number { number < length network.now.streams }
+fn add_shares(sums: &mut PortClassTable<u128>, network: &Network, rows: &RowTable, stream: u32)
+    requires stream { stream < length network.now.streams }
     requires ports { rows.now.ports ≡ length network.now.topology.ports }
     requires holds { Holds network.now rows.now.rows }
-    requires before { AreSums network.now rows.now.rows number sums.old }
-    ensures { AreSums network.now rows.now.rows (number + 1) sums.new }
+    requires before { AreSums network.now rows.now.rows stream sums.old }
+    ensures { AreSums network.now rows.now.rows (stream + 1) sums.new }
 {
-    let stream = &network.streams()[number];
-    let classes = stream.classes();
-    let mut way = 0;
-    for (hop, port) in stream.ports().iter().enumerate() {
-        let class = classes[hop];
+    for leg in 0..network.sender_legs(stream) {
+        add_leg(sums, network, rows, stream, leg);
+    }
+}
+
+// Adds what a stream may have at the ports of one leg, where what it may have at those of earlier legs is added.
+fn add_leg(
+    sums: &mut PortClassTable<u128>,
+    network: &Network,
+    rows: &RowTable,
+    stream: u32,
+    leg: u32,
+)
+    requires stream { stream < length network.now.streams }
+    requires leg { leg ≤ length (sender_at network.now stream).branches }
+    requires ports { rows.now.ports ≡ length network.now.topology.ports }
+    requires holds { Holds network.now rows.now.rows }
+    requires before { AreAdding network.now rows.now.rows stream
+        (concat (take leg (legs_at network.now stream))) sums.old }
+    ensures { AreAdding network.now rows.now.rows stream
+        (concat (take (leg + 1) (legs_at network.now stream))) sums.new }
+{
+    let declared = &network.streams()[stream as usize];
+    let mut way = way_to_leg(network, rows, stream, leg);
+    for (hop, port) in network.sender_leg(stream, leg).iter().enumerate() {
+        let class = class_of(network, stream, leg, hop as u32);
         let window = stay(network, rows, *port, class) + way;
-        let sum = sums.get(*port, class) + bits_within(stream, window);
+        let sum = sums.get(*port, class) + bits_within(declared, window);
         sums.set(*port, class, sum);
         way = way_over(network, rows, *port, class);
     }
+}
+
+// By how much a stream's ways to the first port of a leg differ, over the port that leads to the bridge where the leg
+// begins; nothing leads to where the trunk does.
+fn way_to_leg(network: &Network, rows: &RowTable, stream: u32, leg: u32) -> u128
+    requires stream { stream < length network.now.streams }
+    requires leg { leg ≤ length (sender_at network.now stream).branches }
+    requires ports { rows.now.ports ≡ length network.now.topology.ports }
+    requires holds { Holds network.now rows.now.rows }
+    ensures { result ≡ way_behind network.now rows.now.rows (sender_at network.now stream)
+        (in_front_of (sender_at network.now stream) leg 0) }
+{
+    if leg == 0 {
+        return 0;
+    }
+    let branch = network.streams()[stream as usize].branch(leg);
+    let port = network.sender_leg(stream, branch.leg)[branch.hop as usize - 1];
+    let class = class_of(network, stream, branch.leg, branch.hop - 1);
+    way_over(network, rows, port, class)
 }
 
 // The most bits of a stream that a window of time holds.

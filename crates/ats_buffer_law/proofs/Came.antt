@@ -6,26 +6,26 @@ use Rattle.ats_topology.specs.Port.{port_at}
 use Rattle.ats_topology.specs.Topology.{IsStationAt}
 use Rattle.ats_network.specs.Sender.{Sender}
 use Rattle.ats_network.specs.Bridges.{IsBridgeAt, MeetAtBridge}
-use Rattle.ats_network.specs.Network.{DeclaredNetwork, HasOneListener}
+use Rattle.ats_network.specs.Network.{DeclaredNetwork, IsNetwork}
 use Rattle.ats_network.specs.Senders.{sender_at, AllNeighbours}
-use Rattle.ats_network.proofs.SenderLemmas.{sender_path}
 use Rattle.ats_group.specs.declared.verdict.Verdict.{Verdict}
 use Rattle.ats_group.specs.declared.verdict.Verdict.TheVariants.{Eligible}
 use Rattle.ats_group.specs.Judge.{ats_judge, bucket_rule}
 use Rattle.ats_trace.specs.Journey.{Travel, IsJourney, IsReleased, class_at, legs_at, legs_in}
 use Rattle.ats_trace.specs.Projections.{Hop, Crossing, transmission_by, transmission_of, crossing_at}
-use Rattle.ats_trace.specs.Projections.{crossings_along, crossings_from}
+use Rattle.ats_trace.specs.Projections.{crossings_along, crossings_from, journey_crossings}
+use Rattle.ats_trace.specs.Ways.{route_to, way_to}
 use Rattle.ats_trace.specs.declared.journey.Release.{Release}
 use Rattle.ats_trace.specs.declared.journey.HopRecord.{HopRecord}
 use Rattle.ats_trace.specs.declared.journey.Ending.{Ending}
 use Rattle.ats_trace.specs.declared.journey.Ending.TheVariants.{Sink, Discard}
-use Rattle.ats_trace.proofs.OneListener.{one_leg, sender_alone}
 use Rattle.ats_soundness_law.proofs.Along.{hop_of, all_hops, all_were_sent}
-use Rattle.ats_soundness_law.proofs.Journeys.{each_was_sent}
+use Rattle.ats_soundness_law.proofs.Journeys.{each_was_sent, journey_route, journey_sender}
 use Rattle.ats_soundness_law.proofs.Known.{Case, IsKnown, known}
 use Rattle.ats_soundness_law.proofs.Lifts.{run_were_sent}
 use Rattle.ats_soundness_law.proofs.Paths.{not_both, later_bridges}
 use Rattle.ats_buffer_law.proofs.Crossed.{run_crossings}
+use Rattle.ats_buffer_law.proofs.OnRoutes.{crossings_by_routes}
 
 -- a frame comes to a station's port when it becomes eligible there
 abbrev pub IsOwnFrame : DeclaredNetwork → Crossing → Type 0
@@ -79,16 +79,18 @@ own_along network n r s (p ∷ path) (hop ∷ hops) ending meet released =
     (first_own network n (class_at s p) r p hop.arrival hop.verdict hop.sent hops ending released.0 released.1)
     (later_own network n r s p path hops ending meet)
 
-pub all_own : (network : DeclaredNetwork) (run : List Travel) → HasOneListener network
-    → Case ats_judge bucket_rule network run → All (IsOwnFrame network) (crossings_from network 0 run)
-all_own network run alone c =
-    run_crossings (IsJourney network) (IsOwnFrame network) network 0 run
-    (λ n j is. subst (All (IsOwnFrame network))
-    (sym ((one_leg network j (sender_alone network alone j.release.sender)).crossings n))
-    (own_along network n j.release (sender_at network j.release.sender)
-    (sender_at network j.release.sender).ports j.hops j.ending
-    (sender_path network j.release.sender c.net alone is.sender).bridges is.released))
-    c.legal.journeys
+journey_own : (network : DeclaredNetwork) → IsNetwork network → (n : ℕ) (j : Travel) → IsJourney network j
+    → All (IsOwnFrame network) (journey_crossings network n j)
+journey_own network net n j is =
+    let s : Sender = sender_at network j.release.sender in
+    crossings_by_routes (IsOwnFrame network) network n j net is
+    (λ m within. own_along network n j.release s (route_to s m) (way_to s j m).hops (way_to s j m).ending
+    ((journey_sender network j net is).bridges m [] within) (journey_route network j m net is within).released)
+
+pub all_own : (network : DeclaredNetwork) (run : List Travel) → Case ats_judge bucket_rule network run
+    → All (IsOwnFrame network) (crossings_from network 0 run)
+all_own network run c =
+    run_crossings (IsJourney network) (IsOwnFrame network) network 0 run (journey_own network c.net) c.legal.journeys
 
 -- and of each crossing is known what is known of its transmission
 pub all_known : (network : DeclaredNetwork) (run : List Travel) → Case ats_judge bucket_rule network run

@@ -1,13 +1,17 @@
 use Rattle.std.proofs.Common.{◌≡◌, ℕ, ◌+◌, ◌-◌, ◌*◌, ◌<◌, ◌≤◌, cond, List, [], ◌∷◌, filter, length, get_or, All, sum_by}
-use Rattle.std.proofs.Common.{◌∙◌, arith}
+use Rattle.std.proofs.Common.{true, sym, subst, ◌∙◌, arith}
 use Rattle.std.specs.Prelude.{◌==◌}
 use Rattle.std.proofs.lemmas.List.Elements.{All-nil, All-cons}
 use Rattle.ats_num.specs.declared.time.TheConstants.{PS_PER_SECOND}
+use Rattle.ats_facts.proofs.Lists.{all_right}
+use Rattle.ats_streams.specs.Branches.{leads_of, leg_at, legs_of}
+use Rattle.ats_streams.proofs.BranchLemmas.{route-at}
 use Rattle.ats_network.specs.Path.{IsValidPath}
 use Rattle.ats_network.specs.Bridges.{MeetAtBridge}
-use Rattle.ats_network.specs.Network.{DeclaredNetwork, HasOneListener}
-use Rattle.ats_network.specs.Senders.{sender_at, HasPath, AllNeighbours}
-use Rattle.ats_network.proofs.SenderLemmas.{sender_path}
+use Rattle.ats_network.specs.Network.{DeclaredNetwork}
+use Rattle.ats_network.specs.Sender.{Sender}
+use Rattle.ats_network.specs.Senders.{sender_at, IsSender, AllNeighbours}
+use Rattle.ats_certificate.specs.PortSums.{uses}
 use Rattle.ats_group.specs.Judge.{ats_judge, bucket_rule}
 use Rattle.ats_group_law.proofs.WindowBits.{bits_in}
 use Rattle.ats_port_rule.specs.Transmission.{Transmission}
@@ -18,11 +22,13 @@ use Rattle.ats_trace.specs.Journey.{Travel}
 use Rattle.ats_trace.specs.Projections.{hops_from, sent_by}
 use Rattle.ats_trace.specs.Run.{releases_of}
 use Rattle.ats_trace.specs.Talker.{start_of, talker_of, KeepsBuckets}
+use Rattle.ats_trace.specs.Ways.{listener_count, route_to}
 use Rattle.ats_soundness_law.proofs.Bits.{sum_by-map, hop_weight, frames_weight}
 use Rattle.ats_soundness_law.proofs.Bridge.{bridge_fed}
+use Rattle.ats_soundness_law.proofs.Journeys.{StandsAt, leg_listener, listeners_many, route_starts, stands_at}
 use Rattle.ats_soundness_law.proofs.Known.{Case}
 use Rattle.ats_soundness_law.proofs.Offered.{IsFed}
-use Rattle.ats_soundness_law.proofs.Paths.{first_station, later_bridges}
+use Rattle.ats_soundness_law.proofs.Paths.{first_station, later_bridges, sender_is}
 use Rattle.ats_soundness_law.proofs.Station.{station_fed}
 use Rattle.ats_soundness_law.proofs.Streams.{stream_exists}
 
@@ -37,14 +43,25 @@ by_path network run c (p ∷ path) valid meet keeps =
     (station_fed network run p c (first_station network.topology p path valid) keeps)
     (λ k d h. bridge_fed network run (get_or path k d) c (later_bridges network.topology p path meet k d h))
 
-pub fed_along : (network : DeclaredNetwork) (run : List Travel) → HasOneListener network
-    → Case ats_judge bucket_rule network run → (i : ℕ)
+-- so each port of a stream is
+pub fed_at : (network : DeclaredNetwork) (run : List Travel) → Case ats_judge bucket_rule network run → (i : ℕ)
     → i < length network.streams → KeepsBuckets network (releases_of run) (talker_of network i)
-    → All (λ q. IsFed bucket_rule network run q) (sender_at network i).ports
-fed_along network run alone c i h keeps =
-    let has : HasPath network.topology (sender_at network i) =
-    sender_path network i c.net alone (stream_exists network i h) in
-    by_path network run c (sender_at network i).ports has.valid has.bridges keeps
+    → (q : ℕ) → uses q (sender_at network i) ≡ true → IsFed bucket_rule network run q
+fed_at network run c i h keeps q used =
+    let s : Sender = sender_at network i in
+    let is : IsSender network.topology s = sender_is network c.net i (stream_exists network i h) in
+    let stands : StandsAt s q = stands_at s q is.branches used in
+    let m : ℕ = stands.leg in
+    let within : m < listener_count s = leg_listener s q m stands.hop stands.at in
+    let own : List ℕ = leg_at (legs_of s.ports s.branches) m in
+    let along : All (λ p. IsFed bucket_rule network run p) (route_to s m) =
+    by_path network run c (route_to s m) (is.valid m [] within) (is.bridges m [] within)
+    (subst (KeepsBuckets network (releases_of run)) (sym (route_starts network.topology s m is within)) keeps) in
+    let there : All (λ p. IsFed bucket_rule network run p) own =
+    all_right (λ p. IsFed bucket_rule network run p) (leg_at (leads_of s.ports s.branches) m) own
+    (subst (All (λ p. IsFed bucket_rule network run p)) (route-at s.ports s.branches m [] (listeners_many s m within))
+    along) in
+    subst (λ (p : ℕ). IsFed bucket_rule network run p) stands.at.is (there stands.hop 0 stands.at.in_leg)
 
 -- the bits of a stream that became eligible at a fed port in a window of time are within its rate and burst
 pub fed_window : (network : DeclaredNetwork) (run : List Travel) (port i : ℕ) (from to : ℕ)

@@ -8,7 +8,7 @@ use Rattle.std.proofs.lemmas.List.Elements.{All-filter, filter_passes}
 use Rattle.ats_num.specs.declared.time.TheConstants.{PS_PER_SECOND}
 use Rattle.ats_streams.specs.Stream.{DeclaredStream}
 use Rattle.ats_network.specs.Sender.{Sender, stream_sender}
-use Rattle.ats_network.specs.Network.{DeclaredNetwork, HasOneListener}
+use Rattle.ats_network.specs.Network.{DeclaredNetwork}
 use Rattle.ats_network.specs.Senders.{sender_at}
 use Rattle.ats_certificate.specs.Certificate.{Holds}
 use Rattle.ats_certificate.specs.declared.row.Row.{Row}
@@ -24,7 +24,7 @@ use Rattle.ats_buffer.specs.Occupancy.{is_there, is_held, no_row, row_at}
 use Rattle.ats_buffer.specs.Buffer.{has_class, share_at, window_at, buffer_at}
 use Rattle.ats_buffer_law.specs.Laws.{TalkersKeepBuckets, BuffersHold, PeaksFit}
 use Rattle.ats_buffer_law.proofs.Came.{all_known}
-use Rattle.ats_buffer_law.proofs.Fed.{fed_along}
+use Rattle.ats_buffer_law.proofs.Fed.{fed_at}
 use Rattle.ats_buffer_law.proofs.Windows.{OfStream, held_weight, within_window}
 
 -- what is known of a crossing that is counted: its port, its class, and its sender
@@ -98,12 +98,12 @@ rounded rate window burst bits h = omega (arith, h)
 
 -- each stream has at most its share there
 share_holds : (network : DeclaredNetwork) (rows : List Row) (run : List Travel) (port class time : ℕ)
-    → HasOneListener network → Case ats_judge bucket_rule network run → Holds network rows → 1 ≤ class
+    → Case ats_judge bucket_rule network run → Holds network rows → 1 ≤ class
     → TalkersKeepBuckets network run port class → (i : ℕ) → i < length network.streams
     → sum_by (λ (c : Crossing). cond (c.sent.sender == i) c.sent.bits 0) (held network run port class time)
     ≤ cond (has_class port class (get_or network.streams i no_stream))
     (share_at network rows port class (get_or network.streams i no_stream)) 0
-share_holds network rows run port class time alone c holds some keep i h =
+share_holds network rows run port class time c holds some keep i h =
     let s : DeclaredStream = get_or network.streams i no_stream in
     let same : sender_at network i ≡ stream_sender s = stream_at network i h in
     let own = λ (c : Crossing). cond (c.sent.sender == i) c.sent.bits 0 in
@@ -115,12 +115,11 @@ share_holds network rows run port class time alone c holds some keep i h =
           ap (λ (x : Sender). class_at x port) same ∙ eqb-true (class_at (stream_sender s) port) class has in
           let o : OfStream network rows run i port class = record {
             case = c;
-            alone = alone;
             holds = holds;
             exists = h;
             some = some;
             ranked = ranked;
-            fed = fed_along network run alone c i h (keep i h ranked);
+            fed = fed_at network run c i h (keep i h ranked);
           } in
           let Within : Sender → Type 0 = λ (x : Sender).
           PS_PER_SECOND * sum_by (held_weight i port time) (crossings_from network 0 run)
@@ -153,7 +152,7 @@ share_holds network rows run port class time alone c holds some keep i h =
     other false n h = omega arith
 
 pub buffers_hold : BuffersHold
-buffers_hold network rows run port class net alone holds legal some keep time =
+buffers_hold network rows run port class net holds legal some keep time =
     let c : Case ats_judge bucket_rule network run = ats_case network run net legal in
     let share = λ (s : DeclaredStream). cond (has_class port class s) (share_at network rows port class s) 0 in
     let counted = all_counted network run port class time c in
@@ -161,17 +160,17 @@ buffers_hold network rows run port class net alone holds legal some keep time =
     (held network run port class time) share network.streams no_stream
     (λ k d h. counted_stream network port class (get_or (held network run port class time) k d) some (counted k d h))
     (λ i h. (
-    let one = share_holds network rows run port class time alone c holds some keep i h in
+    let one = share_holds network rows run port class time c holds some keep i h in
     omega (arith, one))) in
     let shares = sum_by-filter (share_at network rows port class) (has_class port class) network.streams in
     omega (arith, all, shares)
 
 pub peaks_fit : PeaksFit
-peaks_fit network rows run peaks net alone holds legal are n h keep =
+peaks_fit network rows run peaks net holds legal are n h keep =
     let row : Row = row_at rows n in
     let peak = are.each n h in
     let some : 1 ≤ row.class =
     (used_place network row.port row.class net (holds.rows_of.used n no_row h)).ranked in
-    let fits = buffers_hold network rows run row.port row.class net alone holds legal some keep peak.reached.0 in
+    let fits = buffers_hold network rows run row.port row.class net holds legal some keep peak.reached.0 in
     let buffer = get_or-map (λ (row : Row). buffer_at network rows row.port row.class) rows n no_row 0 h in
     omega (arith, fits, peak.reached.1, buffer)

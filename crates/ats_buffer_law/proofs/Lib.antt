@@ -2,6 +2,7 @@ pub mod Came
 pub mod Crossed
 pub mod Fed
 pub mod Held
+pub mod OnRoutes
 pub mod Passed
 pub mod Places
 pub mod Sent

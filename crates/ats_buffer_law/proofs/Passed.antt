@@ -1,34 +1,39 @@
 use Rattle.std.proofs.Common.{◌≡◌, ℕ, ◌+◌, ◌-◌, ◌<◌, ◌≤◌, Bool, true, false, cond, List, [], ◌∷◌, length}
-use Rattle.std.proofs.Common.{sum_by, refl, ap, ◌∙◌, subst, inl, inr, arith}
+use Rattle.std.proofs.Common.{get_or, sum_by, refl, sym, ap, ◌∙◌, subst, inl, inr, arith}
 use Rattle.std.specs.Prelude.{◌==◌, ◌&&◌, nat_le, nat_lt}
-use Rattle.std.proofs.lemmas.Bool.{cases_Bool, and_parts, eqb-true, eq-eqb, leb-true, ltb-true, cond-true, cond-false}
+use Rattle.std.proofs.lemmas.Bool.{cases_Bool, cases_eq, and_parts, eqb-true, eq-eqb, leb-true, ltb-true, cond-true}
+use Rattle.std.proofs.lemmas.Bool.{cond-false}
 use Rattle.std.proofs.lemmas.List.Sums.{sum_by-append}
 use Rattle.ats_num.specs.Wire.{bits_of}
 use Rattle.ats_topology.specs.Port.{port_at}
 use Rattle.ats_topology.specs.Topology.{IsStationAt}
 use Rattle.ats_network.specs.Sender.{Sender}
 use Rattle.ats_network.specs.Bridges.{IsBridgeAt}
-use Rattle.ats_network.specs.Network.{DeclaredNetwork, HasOneListener}
-use Rattle.ats_network.specs.Senders.{sender_at, HasPath, IsSender, AllNeighbours}
-use Rattle.ats_network.proofs.SenderLemmas.{sender_path}
+use Rattle.ats_network.specs.Network.{DeclaredNetwork, IsNetwork}
+use Rattle.ats_network.specs.Senders.{sender_at, IsSender, AllNeighbours}
 use Rattle.ats_network.specs.Path.{IsValidPath}
 use Rattle.ats_group.specs.declared.verdict.Verdict.{Verdict}
 use Rattle.ats_group.specs.declared.verdict.Verdict.TheVariants.{Eligible, Late, Size}
 use Rattle.ats_group.specs.Judge.{ats_judge, bucket_rule}
 use Rattle.ats_group_law.proofs.WindowBits.{bits_in, bits_in-inside}
-use Rattle.ats_trace.specs.Journey.{Travel, IsJourney, IsWay, class_at}
-use Rattle.ats_trace.specs.OneListener.{HasOneLeg}
-use Rattle.ats_trace.specs.Projections.{Crossing, Handed, transmission_of, crossing_at, crossings_along}
+use Rattle.ats_port_law.proofs.Sums.{sum_by-none}
+use Rattle.ats_streams.specs.Branches.{legs_of}
+use Rattle.ats_trace.specs.Journey.{Leg, Travel, IsJourney, IsWay, class_at, legs_in}
+use Rattle.ats_trace.specs.Ways.{listener_count, route_to, way_to}
+use Rattle.ats_trace.specs.Projections.{Hop, Crossing, Handed, transmission_of, crossing_at, crossings_along}
 use Rattle.ats_trace.specs.Projections.{handed_along, journey_crossings, journey_handed, crossings_from, handed_from}
 use Rattle.ats_trace.specs.declared.journey.Release.{Release}
 use Rattle.ats_trace.specs.declared.journey.HopRecord.{HopRecord}
 use Rattle.ats_trace.specs.declared.journey.Ending.{Ending}
-use Rattle.ats_trace.proofs.OneListener.{one_leg}
 use Rattle.ats_soundness_law.specs.Sound.{IsEligibleBy}
+use Rattle.ats_soundness_law.proofs.Journeys.{IsAt, each_hop, each_on_route, each_was_sent, journey_route}
+use Rattle.ats_soundness_law.proofs.Journeys.{journey_sender, leg_listener, route_apart, route_handed-le}
 use Rattle.ats_soundness_law.proofs.Known.{Case}
-use Rattle.ats_soundness_law.proofs.Paths.{sender_is, not_both, first_station, neighbours_with, port_before}
+use Rattle.ats_soundness_law.proofs.Routes.{OnRoute}
+use Rattle.ats_soundness_law.proofs.Paths.{not_both, first_station, neighbours_with, port_before}
 use Rattle.ats_soundness_law.proofs.Paths.{port_before-is}
 use Rattle.ats_buffer_law.proofs.Crossed.{IsCrossedOn, later_crossed-le, none_here, run_crossings-le}
+use Rattle.ats_buffer_law.proofs.OnRoutes.{weighs_on_route}
 
 -- the bits of a sender's crossing of a port, where it came by a time and may still be there, at most so long after its
 -- eligibility
@@ -58,28 +63,33 @@ counted_before true true false n h = absurd (cc (h refl refl))
 counted_before true false before n h = omega arith
 counted_before false own before n h = omega arith
 
+counted_neither : (there own : Bool) (n : ℕ) → (own ≡ true → ⊥) → cond there (cond own n 0) 0 ≤ 0
+counted_neither true true n h = absurd (h refl)
+counted_neither true false n h = omega arith
+counted_neither false own n h = omega arith
+
 counted_none : (there : Bool) (n : ℕ) → (there ≡ true → ⊥) → cond there n 0 ≤ 0
 counted_none true n h = absurd (h refl)
 counted_none false n h = omega arith
 
--- the port before this one on a sender's path
-abbrev pub group_port : DeclaredNetwork → ℕ → ℕ → ℕ
-group_port network port i = port_before port (sender_at network i).ports
+-- the port before this one on the route of a sender's leg
+abbrev pub group_port : DeclaredNetwork → ℕ → ℕ → ℕ → ℕ
+group_port network port leg i = port_before port (route_to (sender_at network i) leg)
 
 -- a frame's crossings of a port that leaves a bridge weigh no more than what the port before handed on
-soon_behind : (network : DeclaredNetwork) (i port time stay : ℕ)
+soon_behind : (network : DeclaredNetwork) (i port leg time stay : ℕ)
     → IsBridgeAt network.topology (port_at network.topology.ports port).from → (n : ℕ) (r : Release) (s : Sender)
     → (path : List ℕ) (hops : List HopRecord) (ending : Ending) → IsValidPath network.topology path
     → IsWay path hops ending
     → AllNeighbours (IsCrossedOn (soon_weight i port time stay)
-    (passed_weight i (group_port network port i) time stay) n r s) path
+    (passed_weight i (group_port network port leg i) time stay) n r s) path
     → sum_by (soon_weight i port time stay) (crossings_along n r s path hops ending)
-    ≤ sum_by (passed_weight i (group_port network port i) time stay) (handed_along n r s path hops)
-soon_behind network i port time stay bridge n r s [] hops ending valid way on = omega arith
-soon_behind network i port time stay bridge n r s (p ∷ path) [] ending valid way on = omega arith
-soon_behind network i port time stay bridge n r s (p ∷ path) (hop ∷ hops) ending valid way on =
+    ≤ sum_by (passed_weight i (group_port network port leg i) time stay) (handed_along n r s path hops)
+soon_behind network i port leg time stay bridge n r s [] hops ending valid way on = omega arith
+soon_behind network i port leg time stay bridge n r s (p ∷ path) [] ending valid way on = omega arith
+soon_behind network i port leg time stay bridge n r s (p ∷ path) (hop ∷ hops) ending valid way on =
     let f : Crossing → ℕ = soon_weight i port time stay in
-    let g : Handed → ℕ = passed_weight i (group_port network port i) time stay in
+    let g : Handed → ℕ = passed_weight i (group_port network port leg i) time stay in
     let here = none_here f r.octets hop.arrival.0 p (transmission_of n r (class_at s p) hop) hops ending
     (λ x next. counted_none (p == port) _ (λ same. not_both network.topology
     (port_at network.topology.ports port).from
@@ -91,47 +101,80 @@ soon_behind network i port time stay bridge n r s (p ∷ path) (hop ∷ hops) en
     (crossings_along n r s path hops ending) in
     omega (arith, here, later, all)
 
-journey_soon : (network : DeclaredNetwork) (run : List Travel) (i port time stay : ℕ) → HasOneListener network
-    → Case ats_judge bucket_rule network run
+-- of the frames of the sender whose leg has the port
+own_soon : (network : DeclaredNetwork) (i port leg hop time stay : ℕ) → IsNetwork network
     → IsBridgeAt network.topology (port_at network.topology.ports port).from → (n : ℕ) (j : Travel)
-    → IsJourney network j → sum_by (soon_weight i port time stay) (journey_crossings network n j)
-    ≤ sum_by (passed_weight i (group_port network port i) time stay) (journey_handed network n j)
-journey_soon network run i port time stay alone c bridge n j is =
+    → IsJourney network j → IsAt (sender_at network j.release.sender) port leg hop
+    → sum_by (soon_weight i port time stay) (journey_crossings network n j)
+    ≤ sum_by (passed_weight i (group_port network port leg i) time stay) (journey_handed network n j)
+own_soon network i port leg hop time stay net bridge n j is at =
     let r : Release = j.release in
     let s : Sender = sender_at network r.sender in
-    let keeps : IsSender network.topology s = sender_is network c.net r.sender is.sender in
-    let has : HasPath network.topology s = sender_path network r.sender c.net alone is.sender in
-    let one : HasOneLeg network j = one_leg network j has.one_listener in
+    let keeps : IsSender network.topology s = journey_sender network j net is in
     let f : Crossing → ℕ = soon_weight i port time stay in
-    let g : Handed → ℕ = passed_weight i (group_port network port i) time stay in
-    let along : sum_by f (crossings_along n r s s.ports j.hops j.ending)
-    ≤ sum_by g (handed_along n r s s.ports j.hops) =
-    soon_behind network i port time stay bridge n r s s.ports j.hops j.ending has.valid (one.is.0 is).way
-    (neighbours_with (λ p. p < length network.topology.ports) (λ p q. q ≡ port → p ≡ port_before port s.ports)
+    let g : Handed → ℕ = passed_weight i (group_port network port leg i) time stay in
+    let within : leg < listener_count s = leg_listener s port leg hop at in
+    let route : List ℕ = route_to s leg in
+    let way : Leg = way_to s j leg in
+    let on : OnRoute s j leg = journey_route network j leg net is within in
+    let along : sum_by f (crossings_along n r s route way.hops way.ending)
+    ≤ sum_by g (handed_along n r s route way.hops) =
+    soon_behind network i port leg time stay bridge n r s route way.hops way.ending (keeps.valid leg [] within) on.way
+    (neighbours_with (λ p. p < length network.topology.ports) (λ p q. q ≡ port → p ≡ port_before port route)
     (IsCrossedOn f g n r s)
     (λ p q within only e since times earlier came arrival next.
-    counted_before (q == port) (r.sender == i) (p == group_port network port i)
+    counted_before (q == port) (r.sender == i) (p == group_port network port leg i)
     (cond (nat_le arrival time && nat_lt time (e.0 + stay)) (bits_of r.octets) 0)
-    (λ there own. eq-eqb p (group_port network port i)
+    (λ there own. eq-eqb p (group_port network port leg i)
     (only (eqb-true q port there)
-    ∙ ap (λ (k : ℕ). port_before port (sender_at network k).ports) (eqb-true r.sender i own))))
-    s.ports keeps.ports (port_before-is port s.ports keeps.apart)) in
+    ∙ ap (λ (k : ℕ). port_before port (route_to (sender_at network k) leg)) (eqb-true r.sender i own))))
+    route (each_on_route (λ p. p < length network.topology.ports) s leg keeps.ports within)
+    (port_before-is port route (route_apart network.topology s leg keeps within))) in
     omega (
       arith,
+      weighs_on_route f network port n j leg hop
+          (λ c other. counted_none (c.port == port) _ (λ same. other (eqb-true c.port port same))) net is at,
       along,
-      ap (λ (cs : List Crossing). sum_by f cs) (one.crossings n),
-      ap (λ (hs : List Handed). sum_by g hs) (one.handed n),
+      route_handed-le g network n j leg on,
     )
 
-pub run_soon : (network : DeclaredNetwork) (run : List Travel) (i port time stay : ℕ) → HasOneListener network
+-- frames of others are not counted
+others_none : (i port time stay : ℕ) (c : Crossing) → (c.sent.sender ≡ i → ⊥) → soon_weight i port time stay c ≤ 0
+others_none i port time stay c other =
+    counted_neither (c.port == port) (c.sent.sender == i) _ (λ same. other (eqb-true c.sent.sender i same))
+
+journey_soon : (network : DeclaredNetwork) (i port leg hop time stay : ℕ) → IsNetwork network
+    → IsBridgeAt network.topology (port_at network.topology.ports port).from
+    → IsAt (sender_at network i) port leg hop → (n : ℕ) (j : Travel) → IsJourney network j
+    → sum_by (soon_weight i port time stay) (journey_crossings network n j)
+    ≤ sum_by (passed_weight i (group_port network port leg i) time stay) (journey_handed network n j)
+journey_soon network i port leg hop time stay net bridge at n j is =
+    let r : Release = j.release in
+    let s : Sender = sender_at network r.sender in
+    let f : Crossing → ℕ = soon_weight i port time stay in
+    elim (cases_eq r.sender i) as (λ _. sum_by f (journey_crossings network n j)
+    ≤ sum_by (passed_weight i (group_port network port leg i) time stay) (journey_handed network n j)) [
+      | inl same ↦ own_soon network i port leg hop time stay net bridge n j is
+          (subst (λ (k : ℕ). IsAt (sender_at network k) port leg hop) (sym same) at)
+      | inr other ↦ (
+          let its = each_was_sent (λ (g : Hop). g.sent.sender ≡ r.sender) n r s (legs_of s.ports s.branches) (legs_in j)
+          (each_hop (λ (g : Hop). g.sent.sender ≡ r.sender) n r s (legs_in j) (λ k d h e times. refl)) in
+          let none = sum_by-none f (journey_crossings network n j)
+          (λ k d h. others_none i port time stay (get_or (journey_crossings network n j) k d)
+          (λ same. other (sym (its k d h) ∙ same))) in
+          omega (arith, none))
+    ]
+
+pub run_soon : (network : DeclaredNetwork) (run : List Travel) (i port leg hop time stay : ℕ)
     → Case ats_judge bucket_rule network run
     → IsBridgeAt network.topology (port_at network.topology.ports port).from
+    → IsAt (sender_at network i) port leg hop
     → sum_by (soon_weight i port time stay) (crossings_from network 0 run)
-    ≤ sum_by (passed_weight i (group_port network port i) time stay) (handed_from network 0 run)
-run_soon network run i port time stay alone c bridge =
+    ≤ sum_by (passed_weight i (group_port network port leg i) time stay) (handed_from network 0 run)
+run_soon network run i port leg hop time stay c bridge at =
     run_crossings-le (IsJourney network) (soon_weight i port time stay)
-    (passed_weight i (group_port network port i) time stay) network 0 run
-    (journey_soon network run i port time stay alone c bridge) c.legal.journeys
+    (passed_weight i (group_port network port leg i) time stay) network 0 run
+    (journey_soon network i port leg hop time stay c.net bridge at) c.legal.journeys
 
 -- what is counted of a frame that was handed on, with what is known of it, is counted in the window
 pub passed-le : (time stay bound soonest octets arrival bits since : ℕ) (verdict : Verdict) → bits ≡ bits_of octets

@@ -1,21 +1,23 @@
 use Rattle.std.proofs.Common.{◌≡◌, ℕ, ◌+◌, ◌-◌, ◌*◌, ◌<◌, ◌≤◌, Bool, true, false, cond, List, length, get_or}
-use Rattle.std.proofs.Common.{All, sum_by}
+use Rattle.std.proofs.Common.{sum_by, [], ◌++◌, length-append}
 use Rattle.std.proofs.Common.{Option, refl, sym, ap, ◌∙◌, subst, arith}
 use Rattle.std.specs.Prelude.{◌==◌, ◌&&◌, nat_le, nat_lt, unwrap_or, Contains}
 use Rattle.std.specs.Option.{option_map}
 use Rattle.std.proofs.Math.Nat.{mul-le-mul_left}
 use Rattle.std.proofs.lemmas.Bool.{and_parts, and_from, eqb-true, eq-eqb, leb-true, ltb-true, lt-ltb}
 use Rattle.std.proofs.lemmas.List.Elements.{All-contains}
-use Rattle.std.proofs.lemmas.List.Folds.{list_any_at}
+use Rattle.std.proofs.lemmas.List.{get_or-append-add}
 use Rattle.ats_facts.proofs.Lists.{All-from_filter}
 use Rattle.ats_num.specs.declared.time.TheConstants.{PS_PER_SECOND}
 use Rattle.ats_topology.specs.Port.{port_at}
 use Rattle.ats_topology.specs.Topology.{IsStationAt}
 use Rattle.ats_network.specs.Sender.{Sender}
-use Rattle.ats_network.specs.Network.{DeclaredNetwork, HasOneListener}
-use Rattle.ats_network.specs.Senders.{sender_at, HasPath, IsSender}
-use Rattle.ats_network.proofs.ClassLemmas.{class_along-has, port_before-one}
-use Rattle.ats_network.proofs.SenderLemmas.{sender_path}
+use Rattle.ats_streams.specs.Branches.{leads_of, leg_at, legs_of}
+use Rattle.ats_streams.proofs.BranchLemmas.{route-at}
+use Rattle.ats_network.specs.Class.{port_before}
+use Rattle.ats_network.specs.Network.{DeclaredNetwork}
+use Rattle.ats_network.specs.Senders.{sender_at, IsSender}
+use Rattle.ats_network.proofs.ClassLemmas.{class_along-has}
 use Rattle.ats_certificate.specs.PortSums.{uses, is_used}
 use Rattle.ats_certificate.specs.Certificate.{bound_at, Holds}
 use Rattle.ats_certificate.specs.declared.row.Row.{Row}
@@ -29,11 +31,14 @@ use Rattle.ats_trace.specs.Projections.{Crossing, Handed, hops_from, crossings_f
 use Rattle.ats_soundness_law.proofs.Along.{hop_of}
 use Rattle.ats_soundness_law.proofs.Arrivals.{crossed_there}
 use Rattle.ats_soundness_law.proofs.Bits.{hop_weight}
-use Rattle.ats_soundness_law.proofs.Journeys.{each_handed-le}
+use Rattle.ats_trace.specs.Ways.{listener_count, route_to}
+use Rattle.ats_route_law.proofs.Before.{before_on_route}
+use Rattle.ats_soundness_law.proofs.Journeys.{StandsAt, each_handed-le, each_on_route, leg_listener, listeners_many}
+use Rattle.ats_soundness_law.proofs.Journeys.{route_apart, stands_at}
 use Rattle.ats_soundness_law.proofs.Known.{Case, told}
 use Rattle.ats_soundness_law.proofs.Lifts.{run_handed-le}
 use Rattle.ats_soundness_law.proofs.Offered.{IsFed}
-use Rattle.ats_soundness_law.proofs.Paths.{sender_is}
+use Rattle.ats_soundness_law.proofs.Paths.{sender_is, uses_own}
 use Rattle.ats_soundness_law.proofs.Streams.{stream_exists, stream_used}
 use Rattle.ats_buffer.specs.Occupancy.{is_there}
 use Rattle.ats_buffer.specs.Buffer.{stay_at, way_by, way_over, way_to, window_at}
@@ -41,19 +46,17 @@ use Rattle.ats_buffer_law.proofs.Came.{all_own, all_known}
 use Rattle.ats_buffer_law.proofs.Crossed.{run_crossed-le}
 use Rattle.ats_buffer_law.proofs.Fed.{fed_window}
 use Rattle.ats_buffer_law.proofs.Passed.{soon_weight, passed_weight, passed_bits, run_soon, passed-le}
-use Rattle.ats_buffer_law.proofs.Places.{IsIn, in_path, IsPlaced, first, behind, placed}
+use Rattle.ats_buffer_law.proofs.Places.{IsPlaced, first, behind, placed}
 use Rattle.ats_buffer_law.proofs.Stays.{IsBrief, all_brief, IsTimely, all_timely}
 
--- a stream with its class at a port, in a legal run by a certificate that holds, whose path is fed, where each stream
--- has one listener
+-- a stream with its class at a port, in a legal run by a certificate that holds, each port of which is fed
 pub record OfStream (network : DeclaredNetwork) (rows : List Row) (run : List Travel) (i port class : ℕ) : Type 0 where
   pub case : Case ats_judge bucket_rule network run
-  pub alone : HasOneListener network
   pub holds : Holds network rows
   pub exists : i < length network.streams
   pub some : 1 ≤ class
   pub ranked : class_at (sender_at network i) port ≡ class
-  pub fed : All (λ q. IsFed bucket_rule network run q) (sender_at network i).ports
+  pub fed : (q : ℕ) → uses q (sender_at network i) ≡ true → IsFed bucket_rule network run q
 
 -- the bits of a stream's crossing of the port that is there at a time
 abbrev pub held_weight : ℕ → ℕ → ℕ → Crossing → ℕ
@@ -94,20 +97,19 @@ module _ (network : DeclaredNetwork) (rows : List Row) (run : List Travel) (i po
   keeps : IsSender network.topology (sender_at network i)
   keeps = sender_is network o.case.net i (stream_exists network i o.exists)
 
-  path : HasPath network.topology (sender_at network i)
-  path = sender_path network i o.case.net o.alone (stream_exists network i o.exists)
+  -- the leg that has the port
+  stands : StandsAt (sender_at network i) port
+  stands = stands_at (sender_at network i) port keeps.branches uses_port
 
-  fed_at : (q : ℕ) → uses q (sender_at network i) ≡ true → IsFed bucket_rule network run q
-  fed_at q on =
-      let there : IsIn q (sender_at network i).ports = in_path q (sender_at network i).ports on in
-      subst (λ (p : ℕ). IsFed bucket_rule network run p) there.is (o.fed there.place 0 there.within)
+  listener : stands.leg < listener_count (sender_at network i)
+  listener = leg_listener (sender_at network i) port stands.leg stands.hop stands.at
 
   -- what is there at a time ends within the stay, so it became eligible not long before
   held_soon : (time : ℕ) → sum_by (held_weight i port time) (crossings_from network 0 run)
       ≤ sum_by (soon_weight i port time (stay_at network rows port class)) (crossings_from network 0 run)
   held_soon time =
       let stay : ℕ = stay_at network rows port class in
-      let brief = all_brief network rows run port class o.case o.holds used_here (fed_at port uses_port) in
+      let brief = all_brief network rows run port class o.case o.holds used_here (o.fed port uses_port) in
       let sent = All-from_filter (λ (c : Crossing). c.port == port)
       (λ (c : Crossing). Contains (sent_by network run port) c.sent) (crossings_from network 0 run)
       (crossed_there network run port) in
@@ -134,7 +136,7 @@ module _ (network : DeclaredNetwork) (rows : List Row) (run : List Travel) (i po
       → sum_by (soon_weight i port time stay) (crossings_from network 0 run)
       ≤ sum_by (hop_weight i port (bits_in (time - stay) time)) (hops_from network 0 run)
   soon_first station time stay =
-      let own_frames = all_own network run o.alone o.case in
+      let own_frames = all_own network run o.case in
       let each = sum_by-le-all (soon_weight i port time stay)
       (λ (c : Crossing). hop_weight i port (bits_in (time - stay) time) (hop_of c)) (crossings_from network 0 run)
       (λ k d h. (
@@ -164,7 +166,7 @@ module _ (network : DeclaredNetwork) (rows : List Row) (run : List Travel) (i po
       let weight = hop_weight i q (bits_in (time - (stay + bound)) (time - soonest)) in
       let timely = All-from_filter (λ (h : Handed). h.crossing.port == q && h.crossing.sent.class == c)
       (IsTimely network rows q c) (handed_from network 0 run)
-      (all_timely network rows run q c o.case o.holds (stream_used network q i o.exists on) (fed_at q on)) in
+      (all_timely network rows run q c o.case o.holds (stream_used network q i o.exists on) (o.fed q on)) in
       let is_told = told network run o.case in
       let each = sum_by-le-all (passed_weight i q time stay) (λ (h : Handed). weight (hop_of h.crossing))
       (handed_from network 0 run)
@@ -188,7 +190,7 @@ module _ (network : DeclaredNetwork) (rows : List Row) (run : List Travel) (i po
       omega (arith, each, sent)
 
   -- so the bits of the stream that are there are within its rate in the window, and its burst
-  by_window : IsPlaced network.topology (sender_at network i).ports port → (time : ℕ)
+  by_window : IsPlaced network.topology (route_to (sender_at network i) stands.leg) port → (time : ℕ)
       → PS_PER_SECOND * sum_by (held_weight i port time) (crossings_from network 0 run)
       ≤ (sender_at network i).rate * window_at network rows port class (sender_at network i)
       + PS_PER_SECOND * (sender_at network i).burst_bits
@@ -196,14 +198,16 @@ module _ (network : DeclaredNetwork) (rows : List Row) (run : List Travel) (i po
       let stay : ℕ = stay_at network rows port class in
       let soon = held_soon time in
       let sent = soon_first station time stay in
-      let window = fed_window network run port i (time - stay) time (fed_at port uses_port) o.exists (omega arith) in
+      let window = fed_window network run port i (time - stay) time (o.fed port uses_port) o.exists (omega arith) in
       in_window (sum_by (held_weight i port time) (crossings_from network 0 run)) _ (sender_at network i).rate
       (time - (time - stay)) (window_at network rows port class (sender_at network i)) (sender_at network i).burst_bits
       (omega (arith, soon, sent)) window (omega arith)
-  by_window (behind k within before group bridge) time =
+  by_window (behind k within is group bridge) time =
       let s : Sender = sender_at network i in
-      let q : ℕ = get_or s.ports k 0 in
-      let on : uses q s ≡ true = list_any_at (λ p. p == q) s.ports k 0 within (eq-eqb q q refl) in
+      let route : List ℕ = route_to s stands.leg in
+      let q : ℕ = get_or route k 0 in
+      let on : uses q s ≡ true =
+      each_on_route (λ p. uses p s ≡ true) s stands.leg (uses_own s) listener k 0 (omega (arith, within)) in
       let stay : ℕ = stay_at network rows port class in
       let bound : ℕ = bound_at rows q (class_at s q) in
       let way : ℕ = way_by network rows q (class_at s q) in
@@ -212,13 +216,14 @@ module _ (network : DeclaredNetwork) (rows : List Row) (run : List Travel) (i po
       ≤ sum_by (passed_weight i q time stay) (handed_from network 0 run) =
       subst (λ (p : ℕ). sum_by (soon_weight i port time stay) (crossings_from network 0 run)
       ≤ sum_by (passed_weight i p time stay) (handed_from network 0 run)) group
-      (run_soon network run i port time stay o.alone o.case bridge) in
+      (run_soon network run i port stands.leg stands.hop time stay o.case bridge stands.at) in
       let sent = passed_window q on time stay in
-      let window = fed_window network run q i (time - (stay + bound)) (time - (bound - way)) (fed_at q on) o.exists
+      let window = fed_window network run q i (time - (stay + bound)) (time - (bound - way)) (o.fed q on) o.exists
       (omega arith) in
       let way_is : way_to network rows s port ≡ way =
       ap (λ (b : Option ℕ). unwrap_or (option_map (way_over network rows s) b) 0)
-      (port_before-one s port path.one_listener ∙ before) in
+      (ap (port_before s) (sym is) ∙ before_on_route network.topology s stands.leg k keeps
+      (listeners_many s stands.leg listener) within) in
       in_window (sum_by (held_weight i port time) (crossings_from network 0 run)) _ s.rate
       (time - (bound - way) - (time - (stay + bound))) (window_at network rows port class s) s.burst_bits
       (omega (arith, soon, passed, sent)) window (omega (arith, way_is))
@@ -227,5 +232,16 @@ module _ (network : DeclaredNetwork) (rows : List Row) (run : List Travel) (i po
       ≤ (sender_at network i).rate * window_at network rows port class (sender_at network i)
       + PS_PER_SECOND * (sender_at network i).burst_bits
   within_window time =
-      by_window (placed network.topology port (sender_at network i).ports path.valid path.bridges keeps.apart
-      uses_port) time
+      let s : Sender = sender_at network i in
+      let m : ℕ = stands.leg in
+      let lead : List ℕ = leg_at (leads_of s.ports s.branches) m in
+      let own : List ℕ = leg_at (legs_of s.ports s.branches) m in
+      let whole : lead ++ own ≡ route_to s m =
+      sym (route-at s.ports s.branches m [] (listeners_many s m listener)) in
+      let long : length (lead ++ own) ≡ length (route_to s m) = ap (λ (l : List ℕ). length l) whole in
+      let is : get_or (route_to s m) (length lead + stands.hop) 0 ≡ port =
+      ap (λ (l : List ℕ). get_or l (length lead + stands.hop) 0) (sym whole)
+      ∙ get_or-append-add lead own stands.hop 0 ∙ stands.at.is in
+      by_window (placed network.topology port (route_to s m) (length lead + stands.hop) (keeps.valid m [] listener)
+      (keeps.bridges m [] listener) (route_apart network.topology s m keeps listener)
+      (omega (arith, long, length-append lead own, stands.at.in_leg)) is) time

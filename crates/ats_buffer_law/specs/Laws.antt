@@ -1,6 +1,6 @@
 use Rattle.std.specs.Prelude.{◌≡◌, ℕ, ◌<◌, ◌≤◌, List, length, map, slice_index}
 use Rattle.ats_network.specs.Class.{class_at}
-use Rattle.ats_network.specs.Network.{DeclaredNetwork, HasOneListener, IsNetwork}
+use Rattle.ats_network.specs.Network.{DeclaredNetwork, IsNetwork}
 use Rattle.ats_network.specs.Senders.{sender_at}
 use Rattle.ats_certificate.specs.Certificate.{Holds}
 use Rattle.ats_certificate.specs.declared.row.Row.{Row}
@@ -17,18 +17,17 @@ TalkersKeepBuckets network run port class =
     (i : ℕ) → i < length network.streams → class_at (sender_at network i) port ≡ class
     → KeepsBuckets network (releases_of run) (talker_of network i)
 
--- where each stream has one listener, at every time a port holds of a class of streams at most its buffer
+-- at every time a port holds of a class of streams at most its buffer
 abbrev pub BuffersHold : Type 0
 BuffersHold = (network : DeclaredNetwork) (rows : List Row) (run : List Travel) (port class : ℕ) → IsNetwork network
-    → HasOneListener network → Holds network rows → IsLegal network run → 1 ≤ class
+    → Holds network rows → IsLegal network run → 1 ≤ class
     → TalkersKeepBuckets network run port class
     → (time : ℕ) → occupancy network run port class time ≤ buffer_at network rows port class
 
 -- so the peak of a row is at most its buffer
 abbrev pub PeaksFit : Type 0
 PeaksFit = (network : DeclaredNetwork) (rows : List Row) (run : List Travel) (peaks : List ℕ) → IsNetwork network
-    → HasOneListener network → Holds network rows → IsLegal network run → ArePeaks network run rows peaks → (n : ℕ)
-    → n < length rows
+    → Holds network rows → IsLegal network run → ArePeaks network run rows peaks → (n : ℕ) → n < length rows
     → TalkersKeepBuckets network run (row_at rows n).port (row_at rows n).class
     → slice_index peaks n ≤ slice_index (buffers_of network rows) n
 

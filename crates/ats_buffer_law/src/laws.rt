@@ -2,9 +2,9 @@
 
 ghost use Rattle.ats_buffer_law.specs.Laws.{BuffersHold, EachTransmissionCrosses, PeaksFit};
 
-/// Where a certificate holds and each stream has one listener, in each legal run the occupancy of each port and class
-/// is at every time at most its buffer by the certificate's rows, if each station keeps its buckets at which a stream
-/// begins that has the class at the port. Nothing is asked of any other station.
+/// Where a certificate holds, in each legal run the occupancy of each port and class is at every time at most its
+/// buffer by the certificate's rows, if each station keeps its buckets at which a stream begins that has the class at
+/// the port. Nothing is asked of any other station.
 pub fn buffers_hold()
     ensures { BuffersHold }
 {}

@@ -3,3 +3,4 @@ pub mod Frames
 pub mod Ordered
 pub mod Records
 pub mod Runs
+pub mod Ways

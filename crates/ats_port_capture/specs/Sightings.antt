@@ -3,10 +3,13 @@ use Rattle.std.specs.Prelude.{IsPermutation}
 use Rattle.std.specs.List.Sorted.{IsNonDecreasingBy}
 use Rattle.ats_num.specs.declared.time.TheConstants.{PS_PER_NS}
 use Rattle.ats_num.specs.Wire.{IsFrameSize}
+use Rattle.ats_streams.specs.Branches.{leg_at}
 use Rattle.ats_network.specs.Network.{DeclaredNetwork}
+use Rattle.ats_network.specs.Senders.{sender_at}
 use Rattle.ats_port_rule.specs.Transmission.{Transmission}
-use Rattle.ats_trace.specs.Journey.{Travel}
-use Rattle.ats_trace.specs.Projections.{Hop, journey_hops}
+use Rattle.ats_trace.specs.Journey.{Travel, legs_at}
+use Rattle.ats_trace.specs.Projections.{Hop, hops_along, journey_hops}
+use Rattle.ats_trace.specs.Stored.{leg_in}
 use Rattle.ats_port_capture.specs.Capture.{octets_of, record_bytes}
 use Rattle.ats_port_capture.specs.Frame.{captured_bytes, identity_of}
 use Rattle.ats_port_capture.specs.declared.sighting.Sighting.{Sighting}
@@ -46,3 +49,10 @@ listed (Some x) = x ∷ []
 abbrev pub sent_of : DeclaredNetwork → ℕ → ℕ → Travel → List Transmission
 sent_of network port frame journey =
     map (λ (h : Hop). h.sent) (filter (λ (h : Hop). h.port == port) (journey_hops network frame journey))
+
+-- those along one leg
+abbrev pub sent_in : DeclaredNetwork → ℕ → ℕ → Travel → ℕ → List Transmission
+sent_in network port frame journey leg =
+    map (λ (h : Hop). h.sent) (filter (λ (h : Hop). h.port == port)
+    (hops_along frame journey.release (sender_at network journey.release.sender)
+    (leg_at (legs_at network journey.release.sender) leg) (leg_in journey leg).hops))

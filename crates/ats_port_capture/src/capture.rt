@@ -1,7 +1,6 @@
 //! The file of a port's capture.
 
 ghost use Rattle.std.specs.Prelude.{◌≡◌, ◌++◌, ◌<◌, All, IfOk, OnOk};
-ghost use Rattle.ats_network.specs.Network.{HasOneListener};
 ghost use Rattle.ats_trace.specs.Journey.{IsJourney};
 ghost use Rattle.ats_port_capture.specs.Capture.{IsCapture};
 ghost use Rattle.ats_port_capture.specs.Sightings.{AreReordered};
@@ -20,12 +19,13 @@ use std::alloc::{AllocError, Global};
 /// identifier where they are declared, with its class at this port as the priority (IEEE Std 802.1Q,
 /// 9.6), else an address with the number of its sender.
 ///
-/// Conditions: each stream has one listener, and each frame goes along its sender's path (`IsJourney`), as in every
-/// legal run. The capture of a port that no frame passed is the header. It takes the time of sorting the transmissions.
-/// `AllocError` where there is no memory for the file, or for the transmissions and as much again.
+/// A frame that was copied has one record where its stream has the port, however many listeners are behind.
+///
+/// Condition: each frame goes along its sender's legs (`IsJourney`), as in every legal run. The capture of a port that
+/// no frame passed is the header. It takes the time of sorting the transmissions. `AllocError` where there is no memory
+/// for the file, or for the transmissions and as much again.
 pub fn file(alloc: Global, network: &Network, run: &Run, port: u32) -> Result<Vec<u8>, AllocError>
-    requires one_listener { HasOneListener network.now }
-    requires journeys { All (IsJourney network.now) run.now }
+    requires { All (IsJourney network.now) run.now }
     ensures { IfOk result (λ file. IsCapture network.now run.now port file.items) }
 {
     let sent = in_order(sent_by(alloc, network, run, port)?)?;

@@ -16,13 +16,16 @@ use Rattle.ats_port_capture.specs.Frame.{tagged, untagged}
 use Rattle.ats_port_capture.specs.Numbers.{high_first16, high_first32, high_first48, low_first16, low_first32}
 use Rattle.ats_examples.specs.Networks.{fork, line}
 use Rattle.ats_examples.specs.Runs.{late, long_frame, one_frame, one_frame_at, second_goes_first}
+use Rattle.ats_tree_examples.specs.Networks.{split}
+use Rattle.ats_tree_examples.specs.Runs.{long_split, one_split}
 use Rattle.ats_pcap.specs.Capture.{form_of, header_fault, is_whole, order_of, position_of, record_fault, record_of}
 use Rattle.ats_pcap.specs.Capture.{records_of}
 use Rattle.ats_pcap.specs.Identity.{address_of, identity_of}
 use Rattle.ats_pcap.specs.Numbers.{number16, number32}
 use Rattle.ats_port_capture_law.specs.Worked.{PortCapturesAreWorked, at_13836, at_26172, at_second, at_start}
 use Rattle.ats_port_capture_law.specs.Worked.{before_second}
-use Rattle.ats_port_capture_law.specs.Worked.{front_bytes, header_bytes, of_class, of_classes, sender_bytes, with_frame}
+use Rattle.ats_port_capture_law.specs.Worked.{front_bytes, header_bytes, of_class, of_classes, sender_bytes}
+use Rattle.ats_port_capture_law.specs.Worked.{split_of_classes, with_frame}
 
 -- a transmission starts in a second of 32 bits
 abbrev seconds_fit : Transmission → Bool
@@ -72,6 +75,22 @@ discarded_is : IsCapture line long_frame 2 header_bytes
 unfolding header record_bytes tagged untagged high_first16 high_first32 high_first48 low_first16 low_first32
 discarded_is = short line long_frame 2 header_bytes (lit≤ tt) refl refl
 
+shared_is : IsCapture split_of_classes one_split 0 (with_frame at_start 0xC0)
+unfolding header record_bytes tagged untagged high_first16 high_first32 high_first48 low_first16 low_first32
+shared_is = short split_of_classes one_split 0 (with_frame at_start 0xC0) (lit≤ tt) refl refl
+
+trunk_is : IsCapture split_of_classes one_split 2 (with_frame at_13836 0xC0)
+unfolding header record_bytes tagged untagged high_first16 high_first32 high_first48 low_first16 low_first32
+trunk_is = short split_of_classes one_split 2 (with_frame at_13836 0xC0) (lit≤ tt) refl refl
+
+copied_is : IsCapture split_of_classes one_split 4 (with_frame at_13836 0xA0)
+unfolding header record_bytes tagged untagged high_first16 high_first32 high_first48 low_first16 low_first32
+copied_is = short split_of_classes one_split 4 (with_frame at_13836 0xA0) (lit≤ tt) refl refl
+
+copy_discarded_is : IsCapture split long_split 4 header_bytes
+unfolding header record_bytes tagged untagged high_first16 high_first32 high_first48 low_first16 low_first32
+copy_discarded_is = short split long_split 4 header_bytes (lit≤ tt) refl refl
+
 -- one frame of a sender without an address, and two of them
 abbrev one_untagged : List ℕ
 one_untagged = header_bytes ++ front_bytes at_13836 14 ++ sender_bytes 0
@@ -119,5 +138,9 @@ port_captures_are_worked = record {
   by_start = by_start_is;
   discarded = discarded_is;
   late_discarded = late_is;
+  shared = shared_is;
+  trunk = trunk_is;
+  copied = copied_is;
+  copy_discarded = copy_discarded_is;
   read = read_is;
 }

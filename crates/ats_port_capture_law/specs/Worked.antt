@@ -1,10 +1,12 @@
 use Rattle.std.specs.Prelude.{◌≡◌, ℕ, List, [], ◌∷◌, ◌++◌, codes, Some, Ok}
 use Rattle.ats_topology.specs.Topology.{topology_of}
-use Rattle.ats_streams.specs.Stream.{declared_stream}
+use Rattle.ats_streams.specs.Stream.{branching_stream, declared_stream}
 use Rattle.ats_network.specs.Network.{DeclaredNetwork, declared_network}
 use Rattle.ats_pcap.specs.Capture.{records_of}
 use Rattle.ats_examples.specs.Networks.{fork, line, line_links, line_nodes}
 use Rattle.ats_examples.specs.Runs.{late, long_frame, one_frame, one_frame_at, second_goes_first}
+use Rattle.ats_tree_examples.specs.Networks.{branch, split, split_topology}
+use Rattle.ats_tree_examples.specs.Runs.{long_split, one_split}
 use Rattle.ats_port_capture.specs.Capture.{IsCapture}
 
 -- Captures of worked runs, byte by byte.
@@ -21,6 +23,13 @@ of_class = identified (6 ∷ 6 ∷ [])
 
 abbrev pub of_classes : DeclaredNetwork
 of_classes = identified (6 ∷ 5 ∷ [])
+
+-- the split, whose stream has that address and identifier, class 6 along the trunk, and class 5 at the branch's port
+abbrev pub split_of_classes : DeclaredNetwork
+split_of_classes = declared_network split_topology
+    (branching_stream (codes "a") (0 ∷ 2 ∷ 4 ∷ []) (branch 2 0 1 ∷ []) (6 ∷ 6 ∷ 5 ∷ []) 100000000 12336 64 1522 1000000
+    (Some (0x020000000001, 1)) ∷ [])
+    []
 
 -- the header: the magic number, the version, zone and accuracy, the most bytes of a record, the link type
 abbrev pub header_bytes : List ℕ
@@ -62,7 +71,8 @@ with_frame time tag = header_bytes ++ front_bytes time 18 ++ stream_bytes tag
 
 -- one frame of 1522 octets over the line, captured at each of its ports, and at one that sent nothing; the tag has the
 -- class at that port. A start is rounded down to a nanosecond. Of senders without an address the number is told, the
--- one that is sent first goes first, and a frame that is discarded before the port is not told of
+-- one that is sent first goes first, and a frame that is discarded before the port is not told of. Of a frame over the
+-- split, the port in front of the bridge has one record for both listeners, and that of the branch the copy's
 pub record PortCapturesAreWorked : Type 0 where
   pub first : IsCapture of_class one_frame 0 (with_frame at_start 0xC0)
   pub second : IsCapture of_class one_frame 2 (with_frame at_13836 0xC0)
@@ -74,5 +84,9 @@ pub record PortCapturesAreWorked : Type 0 where
       ++ front_bytes at_26172 14 ++ sender_bytes 0)
   pub discarded : IsCapture line long_frame 2 header_bytes
   pub late_discarded : IsCapture line late 2 (header_bytes ++ front_bytes at_13836 14 ++ sender_bytes 0)
+  pub shared : IsCapture split_of_classes one_split 0 (with_frame at_start 0xC0)
+  pub trunk : IsCapture split_of_classes one_split 2 (with_frame at_13836 0xC0)
+  pub copied : IsCapture split_of_classes one_split 4 (with_frame at_13836 0xA0)
+  pub copy_discarded : IsCapture split long_split 4 header_bytes
   pub read : records_of (with_frame at_13836 0xA0)
       ≡ Ok (record { nanos = 13836; octets = 1522; identity = Some (0x020000000001, 1) } ∷ [])

@@ -15,8 +15,8 @@ pub fn capture_is_one()
 {}
 
 /// The captures of worked runs, byte by byte: with each kind of sender, a class that changes on the way, starts just
-/// before a second and in it, frames that are sent in another order than they are numbered, and frames that are
-/// discarded before the port.
+/// before a second and in it, frames that are sent in another order than they are numbered, frames that are discarded
+/// before the port, and a frame that is copied on its way.
 pub fn port_captures_are_worked()
     ensures { PortCapturesAreWorked }
 {}

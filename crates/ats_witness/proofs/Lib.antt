@@ -1,9 +1,11 @@
 mod LongestLemmas
 mod TravelLemmas
-mod StreamLemmas
+pub mod StreamLemmas
+mod LeadLemmas
 pub mod CopyLemmas
 pub mod BurstLemmas
 pub mod KeptLemmas
 mod SizeLemmas
+mod FewPortLemmas
 pub mod FoundLemmas
 pub mod PlayedLemmas

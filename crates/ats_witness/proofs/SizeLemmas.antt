@@ -1,37 +1,41 @@
 -- The burst may be run: it has not too many frames, none too late, and each of a sender.
 use Rattle.std.proofs.Common.{◌≡◌, ℕ, zero, suc, ◌+◌, ◌-◌, ◌*◌, ◌<◌, ◌≤◌, Bool, true, false, cond, List, [], ◌∷◌}
 use Rattle.std.proofs.Common.{get_or, map, filter, fold, length, length-append, length-take, sym, ap, subst}
-use Rattle.std.proofs.Common.{◌∙◌, arith, eqb, refl}
+use Rattle.std.proofs.Common.{◌∙◌, arith, sum_by}
 use Rattle.std.specs.Prelude.{max}
 use Rattle.std.specs.List.{All, before_first, position_or_len}
 use Rattle.std.proofs.Math.Nat.{mul-le-mul_right}
-use Rattle.std.proofs.lemmas.Bool.{eq-eqb, lt-leb}
+use Rattle.std.proofs.lemmas.Bool.{lt-leb}
 use Rattle.std.proofs.lemmas.List.{length-map, length-replicate}
 use Rattle.std.proofs.lemmas.List.Elements.{All-head, All-tail, All-take}
-use Rattle.std.proofs.lemmas.List.Folds.{list_any_at}
 use Rattle.std.proofs.lemmas.List.Sorted.{length_permutation}
 use Rattle.std.proofs.lemmas.List.Sums.{sum_by-le}
 use Rattle.ats_num.specs.Wire.{bits_of}
 use Rattle.ats_topology.specs.Port.{no_port, port_at}
 use Rattle.ats_topology.proofs.Rules.{ports_are_lawful}
+use Rattle.ats_streams.specs.Branches.{routes_of}
+use Rattle.ats_streams.specs.Path.{IsPath}
+use Rattle.ats_streams.proofs.RouteLemmas.{each_on_routes}
 use Rattle.ats_network.specs.Sender.{Sender, flow_sender, stream_sender}
 use Rattle.ats_network.specs.Class.{class_at}
 use Rattle.ats_network.specs.Edits.{no_stream}
-use Rattle.ats_network.specs.Network.{DeclaredNetwork, HasOneListener, IsNetwork, senders_of}
-use Rattle.ats_network.specs.Senders.{HasPath, IsSender, sender_at}
+use Rattle.ats_network.specs.Network.{DeclaredNetwork, IsNetwork, senders_of}
+use Rattle.ats_network.specs.Senders.{IsSender, sender_at}
 use Rattle.ats_network.proofs.ClassLemmas.{class_at-stream}
-use Rattle.ats_network.proofs.SenderLemmas.{each_is_sender, each_sender_has_path, flow_class, sender_keeps}
+use Rattle.ats_network.proofs.SenderLemmas.{each_is_sender, flow_class, sender_keeps}
 use Rattle.ats_certificate.specs.PortSums.{uses}
 use Rattle.ats_trace.specs.Releases.{AreReleases, IsRelease}
 use Rattle.ats_trace.specs.declared.journey.Release.{Release}
 use Rattle.ats_witness.specs.Burst.{IsBurst, burst_of, frames_in_burst, interferes, time_in_burst, time_over, travel_to}
-use Rattle.ats_witness.specs.Burst.{greatest_travel, port_of_hop, whole_frames}
+use Rattle.ats_witness.specs.Burst.{greatest_travel, whole_frames}
 use Rattle.ats_witness.specs.Made.{AreReordered, by_sender}
 use Rattle.ats_witness.proofs.BurstLemmas.{burst_times, by_sender_more, own_release, own_sender, release_in}
+use Rattle.ats_witness.proofs.LeadLemmas.{each_in_front}
 use Rattle.ats_witness.proofs.StreamLemmas.{stream_at}
+use Rattle.ats_witness.proofs.TravelLemmas.{is_port}
 
 -- a sender has at most 40 frames in the burst
-frames-le : (port class : ℕ) (s : Sender) → frames_in_burst port class s ≤ 40
+pub frames-le : (port class : ℕ) (s : Sender) → frames_in_burst port class s ≤ 40
 frames-le port class s = by (uses port s) (interferes port class s)
   where
     by : (b c : Bool) → cond b (cond c (whole_frames s) 1) 0 ≤ 40
@@ -40,7 +44,7 @@ frames-le port class s = by (uses port s) (interferes port class s)
     by false c = omega arith
 
 -- and at most one where it does not interfere
-one_frame : (port class : ℕ) (s : Sender) → interferes port class s ≡ false → frames_in_burst port class s ≤ 1
+pub one_frame : (port class : ℕ) (s : Sender) → interferes port class s ≡ false → frames_in_burst port class s ≤ 1
 one_frame port class s not =
     subst (λ (c : Bool). cond (uses port s) (cond c (whole_frames s) 1) 0 ≤ 1) (sym not) (by (uses port s))
   where
@@ -113,17 +117,28 @@ over-le network octets p net few within =
     omega (arith, slow, bits, lawful.latency)
 
 travel-le : (network : DeclaredNetwork) (port : ℕ) (s : Sender) → IsNetwork network → IsSender network.topology s
-    → HasPath network.topology s → travel_to network port s ≤ 57856000000
-travel-le network port s net keeps has =
-    let before : List ℕ = before_first (λ (p : ℕ). eqb p port) s.ports in
-    let short : length before ≤ 16 =
-    omega (arith, has.path.most, length-take (position_or_len (λ (p : ℕ). eqb p port) s.ports) s.ports) in
-    let each : All (λ (p : ℕ). time_over network s.max_octets p ≤ 3616000000) before = λ k d h.
-    over-le network s.max_octets (get_or before k d) net keeps.sizes.most
-    (All-take (λ (p : ℕ). p < length network.topology.ports)
-    (position_or_len (λ (p : ℕ). eqb p port) s.ports) s.ports keeps.ports k d h) in
-    let sum = sum_by-le (time_over network s.max_octets) 3616000000 before each in
-    omega (arith, sum, short)
+    → travel_to network port s ≤ 57856000000
+travel-le network port s net keeps =
+    each_in_front Short port (routes_of s.ports s.branches) (omega arith)
+    (λ k d h. along (get_or (routes_of s.ports s.branches) k d) (keeps.routes k d h) (ports k d h))
+  where
+    Short : List ℕ → Type 0
+    Short l = sum_by (time_over network s.max_octets) l ≤ 57856000000
+
+    ports : All (All (λ (p : ℕ). p < length network.topology.ports)) (routes_of s.ports s.branches)
+    ports = each_on_routes (λ (p : ℕ). p < length network.topology.ports) s.ports s.branches keeps.ports
+
+    along : (route : List ℕ) → IsPath route → All (λ (p : ℕ). p < length network.topology.ports) route
+        → Short (before_first (is_port port) route)
+    along route path there =
+        let place : ℕ = position_or_len (is_port port) route in
+        let before : List ℕ = before_first (is_port port) route in
+        let short : length before ≤ 16 = omega (arith, path.most, length-take place route) in
+        let each : All (λ (p : ℕ). time_over network s.max_octets p ≤ 3616000000) before = λ k d h.
+        over-le network s.max_octets (get_or before k d) net keeps.sizes.most
+        (All-take (λ (p : ℕ). p < length network.topology.ports) place route there k d h) in
+        let sum = sum_by-le (time_over network s.max_octets) 3616000000 before each in
+        omega (arith, sum, short)
 
 greatest-le : (network : DeclaredNetwork) (port a : ℕ) (senders : List Sender) → a ≤ 57856000000
     → All (λ (s : Sender). travel_to network port s ≤ 57856000000) senders
@@ -146,12 +161,11 @@ greatest-le network port a (s ∷ senders) start all =
     by true with_it without = with_it
     by false with_it without = without
 
-time-le : (network : DeclaredNetwork) (port class : ℕ) (s : Sender) → IsNetwork network → HasOneListener network
+time-le : (network : DeclaredNetwork) (port class : ℕ) (s : Sender) → IsNetwork network
     → time_in_burst network port class s ≤ 57856000001
-time-le network port class s net alone =
+time-le network port class s net =
     let most = greatest-le network port 0 (senders_of network) (omega arith)
-    (λ k d h. travel-le network port (get_or (senders_of network) k d) net (each_is_sender network net k d h)
-    (each_sender_has_path network net alone k d h)) in
+    (λ k d h. travel-le network port (get_or (senders_of network) k d) net (each_is_sender network net k d h)) in
     by (interferes port class s) most
   where
     by : (b : Bool) → greatest_travel network port ≤ 57856000000
@@ -160,15 +174,15 @@ time-le network port class s net alone =
     by true most = omega (arith, most)
     by false most = omega (arith, most)
 
-each_may_run : (network : DeclaredNetwork) (port class : ℕ) (r : Release) → IsNetwork network → HasOneListener network
+each_may_run : (network : DeclaredNetwork) (port class : ℕ) (r : Release) → IsNetwork network
     → r ≡ release_in network port class r.sender → r.sender < length (senders_of network) → IsRelease network r
-each_may_run network port class r net alone is own =
+each_may_run network port class r net is own =
     let s : Sender = sender_at network r.sender in
     let keeps = sender_keeps network r.sender net own in
     let at = ap (λ (x : Release). x.at.0) is in
     let longest = ap (λ (x : Release). x.octets) is in
     record {
-      time = omega (arith, at, time-le network port class s net alone);
+      time = omega (arith, at, time-le network port class s net);
       sender = own;
       octets = record {
         least = omega (arith, longest, keeps.sizes.least, keeps.sizes.ordered);
@@ -178,28 +192,23 @@ each_may_run network port class r net alone is own =
 
 -- so it may be run
 pub burst_may_run : (network : DeclaredNetwork) (port class : ℕ) (made releases : List Release) → IsNetwork network
-    → HasOneListener network → 1 ≤ class → made ≡ by_sender network port class (length (senders_of network))
-    → AreReordered made releases
+    → 1 ≤ class → made ≡ by_sender network port class (length (senders_of network)) → AreReordered made releases
     → IsBurst network port class releases → AreReleases network releases
-burst_may_run network port class made releases net alone some is order burst = record {
+burst_may_run network port class made releases net some is order burst = record {
   few = (let same = ap (λ (l : List Release). length l) is in
       omega (arith, few_frames network port class net some, same, length_permutation made releases order.same));
   in_order = burst_times network port class releases burst;
-  each = λ k d h. each_may_run network port class (get_or releases k d) net alone
+  each = λ k d h. each_may_run network port class (get_or releases k d) net
       (own_release network port class releases burst.of_each k d h)
       (own_sender network port class releases burst.of_each k d h);
 }
 
--- a stream's class at a hop of its path is not 0
-pub hop_class : (network : DeclaredNetwork) (stream hop : ℕ) → IsNetwork network → stream < length network.streams
-    → hop < length (sender_at network stream).ports
-    → 1 ≤ class_at (sender_at network stream) (port_of_hop network stream hop)
-hop_class network stream hop net h within =
-    let s : Sender = sender_at network stream in
-    let is : s ≡ stream_sender (get_or network.streams stream no_stream) = stream_at network stream h in
-    let port : ℕ = port_of_hop network stream hop in
-    let on : uses port s ≡ true =
-    list_any_at (λ (p : ℕ). eqb p port) s.ports hop 0 within (eq-eqb port port refl) in
+-- a stream's class at one of its ports is not 0
+pub port_class : (network : DeclaredNetwork) (stream port : ℕ) → IsNetwork network → stream < length network.streams
+    → uses port (sender_at network stream) ≡ true → 1 ≤ class_at (sender_at network stream) port
+port_class network stream port net h on =
+    let is : sender_at network stream ≡ stream_sender (get_or network.streams stream no_stream) =
+    stream_at network stream h in
     let class = class_at-stream (get_or network.streams stream no_stream) port (net.streams stream no_stream h)
     (subst (λ (x : Sender). uses port x ≡ true) is on) in
     let same = ap (λ (x : Sender). class_at x port) is in

@@ -1,13 +1,16 @@
 use Rattle.std.specs.Prelude.{◌≡◌, ◌⊎◌, ℕ, ◌+◌, ◌-◌, ◌*◌, ◌/◌, ◌<◌, ◌≤◌, Bool, ◌==◌, nat_le, min, max}
-use Rattle.std.specs.Prelude.{if◌then◌else◌, List, AllPairs, filter, fold, map, replicate, slice_index_or, sum_by}
-use Rattle.std.specs.List.{before_first}
+use Rattle.std.specs.Prelude.{if◌then◌else◌, List, [], ◌∷◌, AllPairs, filter, fold, map, replicate, slice_index_or}
+use Rattle.std.specs.Prelude.{sum_by}
+use Rattle.std.specs.List.{before_first, list_any}
 use Rattle.ats_num.specs.Wire.{bits_of}
 use Rattle.ats_topology.specs.Port.{port_at}
+use Rattle.ats_streams.specs.Branches.{routes_of}
 use Rattle.ats_network.specs.Sender.{Sender}
 use Rattle.ats_network.specs.Class.{class_at}
 use Rattle.ats_network.specs.Network.{DeclaredNetwork, senders_of}
 use Rattle.ats_network.specs.Senders.{sender_at}
 use Rattle.ats_certificate.specs.PortSums.{uses}
+use Rattle.ats_trace.specs.Ways.{route_to}
 use Rattle.ats_trace.specs.declared.journey.Release.{Release}
 
 -- how long a frame of so many octets takes over a port where nothing delays it and it arrives behind the port as late
@@ -16,9 +19,20 @@ abbrev pub time_over : DeclaredNetwork → ℕ → ℕ → ℕ
 time_over network octets p =
     (port_at network.topology.ports p).ps_per_bit * bits_of octets + (port_at network.topology.ports p).latency.0
 
--- a sender's travel to a port: what its longest frame takes over the ports of its path before that one
+-- the ports in front of one on the first of these routes that has it
+abbrev pub in_front_on : ℕ → List (List ℕ) → List ℕ
+in_front_on port [] = []
+in_front_on port (route ∷ routes) =
+    if list_any (λ p. p == port) route then before_first (λ p. p == port) route else in_front_on port routes
+
+-- the ports over which a sender's frames come to one of its ports: those in front of it on its routes, all of which
+-- come to it in the same way
+abbrev pub ports_to : Sender → ℕ → List ℕ
+ports_to s port = in_front_on port (routes_of s.ports s.branches)
+
+-- a sender's travel to a port: what its longest frame takes over the ports in front of that one
 abbrev pub travel_to : DeclaredNetwork → ℕ → Sender → ℕ
-travel_to network port s = sum_by (time_over network s.max_octets) (before_first (λ p. p == port) s.ports)
+travel_to network port s = sum_by (time_over network s.max_octets) (ports_to s port)
 
 -- the greatest travel to a port, of all senders that have it
 abbrev pub greatest_travel : DeclaredNetwork → ℕ → ℕ
@@ -71,6 +85,6 @@ abbrev pub IsBurstFor : DeclaredNetwork → ℕ → ℕ → List Release → Typ
 IsBurstFor network stream port releases =
     IsBurst network port (class_at (sender_at network stream) port) releases
 
--- the port of a hop of a sender's path, counted from 0
-abbrev pub port_of_hop : DeclaredNetwork → ℕ → ℕ → ℕ
-port_of_hop network sender hop = slice_index_or (sender_at network sender).ports hop 0
+-- the port at a hop, counted from 0, of the route to a sender's listener
+abbrev pub port_on_route : DeclaredNetwork → ℕ → ℕ → ℕ → ℕ
+port_on_route network sender listener hop = slice_index_or (route_to (sender_at network sender) listener) hop 0

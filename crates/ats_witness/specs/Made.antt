@@ -13,7 +13,7 @@ use Rattle.ats_trace.specs.declared.journey.Release.{Release}
 use Rattle.ats_witness.specs.Burst.{burst_of, travel_to}
 use Rattle.ats_witness.specs.declared.participant.Participant.{Participant}
 
--- a sender whose path has the port, as it takes part in the burst there: what the port sees of it, and its travel
+-- a sender that has the port, as it takes part in the burst there: what the port sees of it, and its travel
 pub record IsParticipant (network : DeclaredNetwork) (port : ℕ) (s : Sender) (p : Participant) : Type 0 where
   pub used : uses port s ≡ true
   pub seen : port_sender p.seen ≡ seen_at port s

@@ -9,10 +9,11 @@ use Rattle.ats_witness.specs.Delay.{IsGreatestDelay}
 use Rattle.ats_witness.specs.Found.{greatest_wait}
 use Rattle.ats_witness.specs.Last.{last_key}
 
--- the greatest delay of a stream in a run of these releases, in which each port sends the stream's frames last of those
--- that tie, and behind each port each frame arrives as late as it may
-pub record IsPlayed (network : DeclaredNetwork) (stream : ℕ) (releases : List Release) (delay : ℕ) : Type 0 where
+-- the greatest delay of a stream for a listener in a run of these releases, in which each port sends the stream's
+-- frames last of those that tie, and behind each port each frame arrives as late as it may
+pub record IsPlayed (network : DeclaredNetwork) (stream listener : ℕ) (releases : List Release) (delay : ℕ)
+    : Type 0 where
   pub run : List Travel
   pub by : IsRunBy (last_key stream) greatest_wait network run
   pub released : releases_of run ≡ releases
-  pub greatest : IsGreatestDelay run stream delay
+  pub greatest : IsGreatestDelay run stream listener delay

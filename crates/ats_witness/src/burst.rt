@@ -1,11 +1,13 @@
 //! The burst at a port.
 
-ghost use Rattle.std.specs.Prelude.{◌≡◌, ◌++◌, ◌<◌, ◌≤◌, ℕ, length, replicate, IfOk, OnOk};
-ghost use Rattle.ats_network.specs.Network.{HasOneListener, senders_of};
+ghost use Rattle.std.specs.Prelude.{◌≡◌, ◌++◌, ◌<◌, ◌≤◌, ℕ, length, replicate, IfOk, IsTrue, OnOk};
+ghost use Rattle.ats_network.specs.Class.{class_at};
+ghost use Rattle.ats_network.specs.Network.{IsNetwork, senders_of};
 ghost use Rattle.ats_network.specs.Senders.{sender_at};
-ghost use Rattle.ats_trace.specs.Releases.{AreReleases};
+ghost use Rattle.ats_certificate.specs.PortSums.{uses};
+ghost use Rattle.ats_trace.specs.Releases.{AreReleases, HaveFewPorts};
 ghost use Rattle.ats_trace.specs.Talker.{KeepsBuckets};
-ghost use Rattle.ats_witness.specs.Burst.{IsBurstFor, burst_of, greatest_travel, port_of_hop};
+ghost use Rattle.ats_witness.specs.Burst.{IsBurstFor, burst_of, greatest_travel};
 ghost use Rattle.ats_witness.specs.Made.{AreReordered, by_sender, order_of, with_travel};
 
 use crate::participant::taking_part;
@@ -14,30 +16,41 @@ use ats_num::Ps;
 use ats_trace::Release;
 use std::alloc::{AllocError, Global};
 
-/// The burst at a hop of a stream, counted from 0, as releases that may be run, where each stream has one listener. The
-/// senders that have the port of the hop take part, with longest frames: each stream whose class there is at least this
-/// stream's with as many as its burst holds whole, but at most 40, and each other stream and each flow with one. The
-/// first are released so that they come to the port at one moment if nothing delays them, the others a picosecond
-/// earlier. The releases are in the order of times and then of senders, and by them every station keeps its buckets. It
-/// looks at each path twice, and takes the time of sorting the releases. `AllocError` where there is no memory for
-/// them, and as much again.
+/// The burst at one of a stream's ports, as releases that may be run. The senders that have the port take part, with
+/// longest frames: each stream whose class there is at least this stream's with as many as its burst holds whole, but
+/// at most 40, and each other stream and each flow with one. The first are released so that they come to the port at
+/// one moment if nothing delays them, the others a picosecond earlier. The releases are in the order of times and then
+/// of senders, and by them every station keeps its buckets. It looks at the ports of each sender twice, and takes the
+/// time of sorting the releases. `AllocError` where there is no memory for them, and as much again.
 pub fn releases(
     alloc: Global,
     network: &Network,
     stream: u32,
-    hop: u32,
+    port: u32,
 ) -> Result<Vec<Release>, AllocError>
-    requires one_listener { HasOneListener network.now }
     requires stream { stream < length network.now.streams }
-    requires hop { hop < length (sender_at network.now stream).ports }
-    ensures burst { IfOk result (λ releases.
-        IsBurstFor network.now stream (port_of_hop network.now stream hop) releases.items) }
+    requires port { IsTrue (uses port (sender_at network.now stream)) }
+    ensures burst { IfOk result (λ releases. IsBurstFor network.now stream port releases.items) }
     ensures releases { IfOk result (λ releases. AreReleases network.now releases.items) }
+    ensures few_ports { IfOk result (λ releases. HaveFewPorts network.now releases.items) }
     ensures keeps { IfOk result (λ releases. (station : ℕ) → KeepsBuckets network.now releases.items station) }
 {
-    let port = network.sender_ports(stream)[hop as usize];
-    let class = network.sender_class(stream, hop);
+    let class = class_at(network, stream, port);
     in_order(by_sender(alloc, network, port, class)?)
+}
+
+// A stream's class at one of its ports.
+fn class_at(network: &Network, stream: u32, port: u32) -> u8
+    requires stream { stream < length network.now.streams }
+    requires port { IsTrue (uses port (sender_at network.now stream)) }
+    ensures class { result ≡ class_at (sender_at network.now stream) port }
+    ensures rules { IsNetwork network.now }
+{
+    let _rules = network.topology(); // for what a network keeps
+    match taking_part(network, stream, port) {
+        Some(participant) => participant.seen.class,
+        None => unreachable!(),
+    }
 }
 
 // The frames of the burst at a port for a class, sender by sender.
@@ -47,7 +60,6 @@ fn by_sender(
     port: u32,
     class: u8,
 ) -> Result<Vec<Release>, AllocError>
-    requires one_listener { HasOneListener network.now }
     ensures { IfOk result (λ releases.
         releases.items ≡ by_sender network.now port class (length (senders_of network.now))) }
 {
@@ -61,7 +73,6 @@ fn by_sender(
 
 // The greatest travel to a port.
 fn greatest_travel(network: &Network, port: u32) -> u64
-    requires one_listener { HasOneListener network.now }
     ensures value { result ≡ greatest_travel network.now port }
     ensures most { result ≤ 57856000000 }
 {
@@ -74,7 +85,6 @@ fn greatest_travel(network: &Network, port: u32) -> u64
 
 // The greatest travel so far with one sender more.
 fn with_travel(greatest: u64, network: &Network, sender: u32, port: u32) -> u64
-    requires one_listener { HasOneListener network.now }
     requires sender { sender < length (senders_of network.now) }
     requires most { greatest ≤ 57856000000 }
     ensures value { result ≡ with_travel network.now port greatest (sender_at network.now sender) }
@@ -95,7 +105,6 @@ fn push_frames(
     class: u8,
     greatest: u64,
 ) -> Result<(), AllocError>
-    requires one_listener { HasOneListener network.now }
     requires sender { sender < length (senders_of network.now) }
     requires greatest { greatest ≡ greatest_travel network.now port }
     requires most { greatest ≤ 57856000000 }

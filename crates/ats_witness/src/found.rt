@@ -6,8 +6,9 @@ ghost use Rattle.ats_witness.specs.Found.{IsFirstGreatest, found_delays};
 use ats_trace::Release;
 use std::marker::Model;
 
-/// What is found of a stream: for each of its ports a delay, the first hop at which the delay is greatest, and the
-/// releases of the burst at the port of this hop. Contracts see the delays in picoseconds, the hop, and the releases.
+/// What is found of a stream for a listener: for each port of the route there a delay, the first hop at which the delay
+/// is greatest, and the releases of the burst at the port of this hop. Contracts see the delays in picoseconds, the
+/// hop, and the releases.
 #[derive(Drop)]
 pub struct Found {
     by_hop: Vec<u64>,
@@ -38,7 +39,7 @@ impl Found {
         }
     }
 
-    /// The delay found at each port of the stream, in order, in picoseconds.
+    /// The delay found at each port of the route, in order, in picoseconds.
     pub fn delays(&self) -> &[u64]
         ensures value { result.now ≡ self.now.delays }
         ensures first { IsFirstGreatest self.now.delays self.now.hop }
@@ -46,7 +47,7 @@ impl Found {
         self.by_hop.as_slice()
     }
 
-    /// The first hop of the path, counted from 0, at which the delay found is greatest.
+    /// The first hop of the route, counted from 0, at which the delay found is greatest.
     pub fn hop(&self) -> u32
         ensures value { result ≡ self.now.hop }
         ensures first { IsFirstGreatest self.now.delays self.now.hop }

@@ -5,11 +5,11 @@ ghost use Rattle.std.specs.Prelude.{nat_le, position, sum_by, MatchOption, IfSom
 ghost use Rattle.ats_num.specs.Wire.{IsFrameSize, bits_of};
 ghost use Rattle.ats_topology.specs.Port.{port_at};
 ghost use Rattle.ats_topology.specs.Walks.{ArePorts};
-ghost use Rattle.ats_network.specs.Network.{HasOneListener, senders_of};
+ghost use Rattle.ats_network.specs.Network.{senders_of};
 ghost use Rattle.ats_network.specs.Senders.{sender_at};
 ghost use Rattle.ats_certificate.specs.PortSums.{uses};
 ghost use Rattle.ats_tally.specs.SenderAtPort.{KeepsLimits};
-ghost use Rattle.ats_witness.specs.Burst.{time_over};
+ghost use Rattle.ats_witness.specs.Burst.{ports_to, time_over};
 ghost use Rattle.ats_witness.specs.Made.{IsParticipant};
 
 use ats_network::Network;
@@ -19,7 +19,7 @@ use ats_tally::SeenSender;
 /// The most frames of a sender in a burst.
 pub const MAX_BURST_FRAMES: u64 = 40;
 
-/// A sender whose path has a port.
+/// A sender that has a port.
 #[derive(Clone, Copy)]
 pub(crate) struct Participant {
     /// What the port sees of it.
@@ -60,26 +60,41 @@ impl Participant {
 
 /// A sender as it takes part in the burst at a port; `None` exactly where it does not have the port.
 pub(crate) fn taking_part(network: &Network, sender: u32, port: u32) -> Option<Participant>
-    requires one_listener { HasOneListener network.now }
     requires sender { sender < length (senders_of network.now) }
     ensures { MatchOption result (uses port (sender_at network.now sender) ≡ false)
         (IsParticipant network.now port (sender_at network.now sender)) }
 {
-    let path = network.sender_ports(sender);
-    let hop = hop_of(path, port)?;
-    let seen = SeenSender::at(network, sender, hop as u32);
+    let place = place_of(network.sender_ports(sender), port)?;
+    let seen = SeenSender::at(network, sender, place as u32);
     Some(Participant {
         seen,
-        travel: time_along(network, seen.max_octets, &path[..hop]),
+        travel: travel_to(network, sender, port, seen.max_octets),
     })
 }
 
-// The place of a port on a path.
-fn hop_of(path: &[u32], port: u32) -> Option<usize>
-    ensures place { result ≡ position (λ p. p == port) path.now }
-    ensures within { IfSome result (λ hop. hop < length path.now) }
+// The place of a port among others.
+fn place_of(ports: &[u32], port: u32) -> Option<usize>
+    ensures place { result ≡ position (λ p. p == port) ports.now }
+    ensures within { IfSome result (λ place. place < length ports.now) }
 {
-    path.iter().position(|p| *p == port)
+    ports.iter().position(|p| *p == port)
+}
+
+// How long a frame of so many octets takes over the ports by which those of a sender come to a port, where nothing
+// delays it.
+fn travel_to(network: &Network, sender: u32, port: u32, octets: u32) -> u64
+    requires sender { sender < length (senders_of network.now) }
+    requires octets { IsFrameSize octets }
+    ensures value { result ≡ sum_by (time_over network.now octets) (ports_to (sender_at network.now sender) port) }
+    ensures most { result ≤ 57856000000 }
+{
+    for leg in 0..network.sender_legs(sender) {
+        let route = network.sender_route(sender, leg);
+        if let Some(hop) = place_of(route.as_slice(), port) {
+            return time_along(network, octets, &route.as_slice()[..hop]);
+        }
+    }
+    0
 }
 
 // How long a frame of so many octets takes over these ports where nothing delays it.

@@ -1,29 +1,27 @@
 -- What is found can happen, and is no more than sound bounds.
-use Rattle.std.proofs.Common.{◌≡◌, ℕ, ◌+◌, ◌≤◌, ◌^◌, Bool, cond, List, [], ◌++◌, Some, refl, ap, subst, ◌∙◌}
-use Rattle.std.proofs.Common.{arith, sum_by}
+use Rattle.std.proofs.Common.{◌≡◌, ℕ, ◌+◌, ◌≤◌, ◌^◌, Bool, cond, length, Some, refl, ap, subst, ◌∙◌, arith}
+use Rattle.std.proofs.Common.{sum_by}
 use Rattle.std.specs.Prelude.{slice_get}
 use Rattle.std.proofs.lemmas.Bool.{eq-eqb, ne_eqb}
 use Rattle.std.proofs.lemmas.Option.{slice_get_within}
 use Rattle.ats_network.specs.Sender.{Sender}
 use Rattle.ats_network.specs.Class.{class_at}
-use Rattle.ats_network.specs.Network.{DeclaredNetwork}
 use Rattle.ats_network.specs.Senders.{sender_at}
-use Rattle.ats_streams.specs.Branches.{trunk_of}
-use Rattle.ats_streams.specs.Stream.{DeclaredStream}
-use Rattle.ats_streams.proofs.BranchLemmas.{lead_of_trunk, route-at}
-use Rattle.ats_certificate.specs.Certificate.{bound_along}
-use Rattle.ats_certificate.specs.declared.row.Row.{Row}
 use Rattle.ats_checker.proofs.InTime.{sender_of_stream}
-use Rattle.ats_soundness_law.specs.Sound.{ArrivesBy, IsSound, bounds_of}
+use Rattle.ats_soundness_law.specs.Sound.{ArrivesBy, bounds_of}
 use Rattle.ats_soundness_law.proofs.Soundness.{certificate_is_sound}
 use Rattle.ats_trace.specs.Journey.{Travel}
+use Rattle.ats_trace.specs.Stored.{leg_in}
 use Rattle.ats_trace.specs.Talker.{talker_of}
 use Rattle.ats_trace.specs.Ways.{route_to}
 use Rattle.ats_trace.specs.declared.journey.Ending.TheVariants.{Sink}
+use Rattle.ats_witness.specs.Found.{bound_for}
+use Rattle.ats_witness.proofs.FoundLemmas.{listener_of}
 use Rattle.ats_witness.proofs.KeptLemmas.{burst_keeps}
-use Rattle.ats_witness_law.specs.Laws.{BurstKeepsBuckets, CanHappen, FoundDelaysHappen, FoundIsWithin, LastGoesLast}
-use Rattle.ats_witness_law.specs.Laws.{NoSoundBoundIsLess}
-use Rattle.ats_witness_law.proofs.LateArrivals.{delays_are_exact, some_listener}
+use Rattle.ats_witness.proofs.StreamLemmas.{is_listener}
+use Rattle.ats_witness_law.specs.Laws.{BurstKeepsBuckets, FoundDelaysHappen, FoundIsWithin, HappensLawfully}
+use Rattle.ats_witness_law.specs.Laws.{HappensWithin, LastGoesLast, NoSoundBoundIsLess}
+use Rattle.ats_witness_law.proofs.LateArrivals.{delays_are_exact}
 
 pub last_goes_last : LastGoesLast
 last_goes_last last sender frame next other small =
@@ -36,7 +34,7 @@ burst_keeps_buckets network port class releases station net burst =
     burst_keeps network port class releases net burst station
 
 pub found_delays_happen : FoundDelaysHappen
-found_delays_happen network stream port delay net found =
+found_delays_happen network stream listener port delay net found =
     let one = found.greatest.one in
     record {
       run = found.run;
@@ -45,44 +43,39 @@ found_delays_happen network stream port delay net found =
       journey = found.greatest.journey;
       there = one.there;
       sent = one.sent;
-      took = delays_are_exact network found.run stream delay found.greatest.journey net found.of_burst.by.legal one;
+      took = delays_are_exact network found.run stream listener delay found.greatest.journey net
+          found.of_burst.by.legal one;
     }
 
--- the route to the first listener is the trunk
-first_route : (s : Sender) → route_to s 0 ≡ trunk_of s.ports s.branches
-first_route s =
-    route-at s.ports s.branches 0 [] (omega arith)
-    ∙ ap (λ (l : List ℕ). l ++ trunk_of s.ports s.branches) (lead_of_trunk s.ports s.branches)
+pub happens_lawfully : HappensLawfully
+happens_lawfully network stream listener delay can = (can.legal, can.keeps)
 
 -- a delay that can happen is no more than sound bounds together
-happens_within : (network : DeclaredNetwork) (rows : List Row) (place delay : ℕ) (stream : DeclaredStream)
-    → IsSound network rows → slice_get network.streams place ≡ Some stream → CanHappen network place delay
-    → delay ≤ bound_along rows stream
-happens_within network rows place delay stream sound named can =
+pub happens_within : HappensWithin
+happens_within network rows place listener delay stream sound named can =
     let j : Travel = can.journey in
     let i : ℕ = j.release.sender in
     let own : slice_get network.streams i ≡ Some stream = ap (slice_get network.streams) can.sent ∙ named in
     let s : Sender = sender_at network i in
+    let there : listener ≤ length s.branches = listener_of network can.run listener j
+    (record { 0 = j.release.at.0 + delay }) can.legal can.there can.took in
     let served = sound.served can.run can.legal j can.there (slice_get_within network.streams i stream own)
-    (can.keeps (talker_of network i)) 0 (some_listener s) in
-    let along : ArrivesBy (j.release.at.0 + sum_by (bounds_of rows s) (trunk_of s.ports s.branches)) j.ending =
-    subst (λ (route : List ℕ). ArrivesBy (j.release.at.0 + sum_by (bounds_of rows s) route) j.ending)
-    (first_route s) served.arrives in
-    let by : ArrivesBy (j.release.at.0 + bound_along rows stream) j.ending =
+    (can.keeps (talker_of network i)) listener (is_listener s listener there) in
+    let by : ArrivesBy (j.release.at.0 + bound_for rows stream listener) (leg_in j listener).ending =
     subst (λ (x : Sender).
-    ArrivesBy (j.release.at.0 + sum_by (bounds_of rows x) (trunk_of x.ports x.branches)) j.ending)
-    (sender_of_stream network i stream own) along in
-    let reached : ArrivesBy (j.release.at.0 + bound_along rows stream)
+    ArrivesBy (j.release.at.0 + sum_by (bounds_of rows x) (route_to x listener)) (leg_in j listener).ending)
+    (sender_of_stream network i stream own) served.arrives in
+    let reached : ArrivesBy (j.release.at.0 + bound_for rows stream listener)
     (Sink (record { 0 = j.release.at.0 + delay })) =
-    subst (ArrivesBy (j.release.at.0 + bound_along rows stream)) can.took by in
+    subst (ArrivesBy (j.release.at.0 + bound_for rows stream listener)) can.took by in
     omega (arith, reached)
 
 pub no_sound_bound_is_less : NoSoundBoundIsLess
-no_sound_bound_is_less network rows place port delay stream net sound named found =
-    happens_within network rows place delay stream sound named
-    (found_delays_happen network place port delay net found)
+no_sound_bound_is_less network rows place listener port delay stream net sound named found =
+    happens_within network rows place listener delay stream sound named
+    (found_delays_happen network place listener port delay net found)
 
 pub found_is_within : FoundIsWithin
-found_is_within network rows place port delay stream net holds named found =
-    no_sound_bound_is_less network rows place port delay stream net (certificate_is_sound network rows net holds) named
-    found
+found_is_within network rows place listener port delay stream net holds named found =
+    no_sound_bound_is_less network rows place listener port delay stream net
+    (certificate_is_sound network rows net holds) named found

@@ -19,7 +19,6 @@ use Rattle.ats_group_law.specs.Regulator.{IsEligibleArrived}
 use Rattle.ats_port_rule.specs.PortRule.{KeepsPortRule}
 use Rattle.ats_port_rule.specs.Transmission.{Transmission}
 use Rattle.ats_streams.specs.Path.{IsPath}
-use Rattle.ats_streams.proofs.BranchLemmas.{routes-length}
 use Rattle.ats_streams.specs.Traffic.{is_declared_size}
 use Rattle.ats_soundness_law.proofs.Along.{crossing_by, handed_on}
 use Rattle.ats_soundness_law.proofs.Arrivals.{crossed_there}
@@ -39,6 +38,8 @@ use Rattle.ats_trace.specs.declared.journey.Ending.TheVariants.{Sink, Discard}
 use Rattle.ats_trace.specs.declared.journey.HopRecord.{HopRecord}
 use Rattle.ats_trace.specs.declared.journey.Release.{Release}
 use Rattle.ats_trace.specs.Ways.{listener_count, route_to, way_to}
+use Rattle.ats_witness.proofs.FoundLemmas.{listener_of}
+use Rattle.ats_witness.proofs.StreamLemmas.{is_listener}
 use Rattle.ats_witness_law.specs.Laws.{DelaysAreExact}
 
 -- a frame arrives behind a port no sooner than it was eligible there
@@ -224,26 +225,23 @@ exactly release took at le after =
     ap (λ (n : ℕ). let t : Ps = record { 0 = n } in t)
     (let e : at.0 ≡ release + took = omega (arith, le, after) in e)
 
--- each sender has a listener
-pub some_listener : (s : Sender) → 0 < listener_count s
-some_listener s = omega (arith, routes-length s.ports s.branches)
-
 pub delays_are_exact : DelaysAreExact
-delays_are_exact network run sender took j net legal a =
+delays_are_exact network run sender listener took j net legal a =
     let c = ats_case network run net legal in
     let n = numbered CrossesAfter EligibleAfter network run j a.there (all_cross network run net legal)
     (all_after network run net legal) in
     let is : IsJourney network j = All-contains (IsJourney network) run j legal.journeys a.there in
     let s : Sender = sender_at network j.release.sender in
-    let some : 0 < listener_count s = some_listener s in
-    let route : List ℕ = route_to s 0 in
-    let way : Leg = way_to s j 0 in
-    let on : OnRoute s j 0 = journey_route network j 0 net is some in
-    let path : IsPath route = (sender_is network net j.release.sender is.sender).routes 0 [] some in
-    let late : NotBefore j.release.at.0 j.ending =
+    let there = listener_of network run listener j a.at legal a.there a.arrived in
+    let some : listener < listener_count s = is_listener s listener there in
+    let route : List ℕ = route_to s listener in
+    let way : Leg = way_to s j listener in
+    let on : OnRoute s j listener = journey_route network j listener net is some in
+    let path : IsPath route = (sender_is network net j.release.sender is.sender).routes listener [] some in
+    let late : NotBefore j.release.at.0 way.ending =
     not_before j.release.at.0 n.number j.release s route way.hops way.ending on.way
-    (crossings_on_route CrossesAfter network n.number j 0 on n.crossings)
-    (handed_on_route EligibleAfter network n.number j 0 on n.handed)
+    (crossings_on_route CrossesAfter network n.number j listener on n.crossings)
+    (handed_on_route EligibleAfter network n.number j listener on n.handed)
     (comes_first j.release route way.hops way.ending (omega (arith, path.least)) on.released) in
     let reached : j.release.at.0 ≤ a.at.0 = subst (NotBefore j.release.at.0) a.arrived late in
     a.arrived ∙ ap (λ (t : Ps). Sink t) (exactly j.release.at.0 took a.at reached a.after)

@@ -3,3 +3,4 @@ mod OneBurst
 mod PortBefore
 pub mod FoundLaws
 pub mod WorkedBursts
+pub mod WorkedListeners

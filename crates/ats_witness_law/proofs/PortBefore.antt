@@ -1,90 +1,210 @@
 -- Travels, by the port before.
-use Rattle.std.proofs.Common.{◌≡◌, ◌≢◌, ℕ, zero, suc, ◌+◌, ◌<◌, Bool, true, false, cond, List, [], ◌∷◌, get_or, length}
-use Rattle.std.proofs.Common.{inl, inr, take, sum_by, Option, Some, None, refl, sym, ap, subst, ◌∙◌, arith, eqb}
-use Rattle.std.proofs.Common.{add-one}
-use Rattle.std.specs.List.{All, AllPairs, before_first, list_any, position_or_len}
+use Rattle.std.proofs.Common.{◌≡◌, ℕ, zero, suc, ◌+◌, ◌<◌, ◌≤◌, Bool, true, false, List, [], ◌∷◌, ◌++◌, get_or}
+use Rattle.std.proofs.Common.{length, length-append, inl, inr, take, sum_by, Option, None, refl, sym, ap, subst, ◌∙◌}
+use Rattle.std.proofs.Common.{arith, eqb, add-one}
+use Rattle.std.specs.List.{All, before_first, list_any, position_or_len}
 use Rattle.std.specs.Option.{option_map_or}
-use Rattle.std.proofs.lemmas.Bool.{cases_lt, eq-eqb, eqb-true, ne_eqb, true≢false}
+use Rattle.std.proofs.Math.Seq.{take-append-add}
+use Rattle.std.proofs.lemmas.Bool.{cases_Bool, cases_lt, cond-false, cond-true, eq-eqb, eqb-true, true≢false}
+use Rattle.std.proofs.lemmas.List.{get_or-append-add, get_or-take, get_or_append_left, get_or_default, take_more}
 use Rattle.std.proofs.lemmas.List.Elements.{All-head, All-tail}
-use Rattle.std.proofs.lemmas.List.Folds.{list_any_none}
-use Rattle.std.proofs.lemmas.List.Sums.{fails_before_first, passes_at_first, position_or_len_is, sum_by_more}
-use Rattle.ats_facts.proofs.Lists.{pairs_head}
-use Rattle.ats_network.specs.Class.{before_along, port_before}
-use Rattle.ats_network.proofs.ClassLemmas.{before_along-at, port_before-one}
-use Rattle.ats_witness.specs.Burst.{time_over, travel_to}
-use Rattle.ats_witness_law.specs.Laws.{TravelGoesOverThePortBefore}
+use Rattle.std.proofs.lemmas.List.Folds.{list_any_at, list_any_none}
+use Rattle.std.proofs.lemmas.List.Sums.{fails_before_first, passes_at_first, sum_by_more}
+use Rattle.std.proofs.lemmas.Option.{none-some, same_Some}
+use Rattle.ats_streams.specs.Branches.{AreBranches, BeginsEarlier, leads_of, leg_at, legs_of, no_branch, routes_of}
+use Rattle.ats_streams.specs.Path.{IsPath}
+use Rattle.ats_streams.specs.declared.branch.Branch.{Branch}
+use Rattle.ats_streams.proofs.BranchLemmas.{begins_at, lead-length, lead_of, lead_of_trunk, legs-length, route-at}
+use Rattle.ats_streams.proofs.BranchLemmas.{routes-length}
+use Rattle.ats_topology.specs.Topology.{DeclaredTopology}
+use Rattle.ats_network.specs.Class.{port_before}
+use Rattle.ats_network.specs.Sender.{Sender}
+use Rattle.ats_network.specs.Senders.{IsSender}
+use Rattle.ats_trace.specs.Ways.{route_to}
+use Rattle.ats_route_law.specs.Laws.{ports_of_leg}
+use Rattle.ats_route_law.proofs.Before.{before_on_route, port_before_is_one}
+use Rattle.ats_soundness_law.proofs.Journeys.{StandsAt, stands_at}
+use Rattle.ats_witness.specs.Burst.{in_front_on, ports_to, time_over, travel_to}
+use Rattle.ats_witness_law.specs.Laws.{OneListenerComesByItsPath, TravelGoesOverThePortBefore}
 
 abbrev is_port : ℕ → ℕ → Bool
 is_port port p = eqb p port
 
--- the ports before that at a place are those at the places before
-before_place : (path : List ℕ) (k : ℕ) → AllPairs (λ p q. p ≢ q) path → k < length path
-    → before_first (is_port (get_or path k 0)) path ≡ take k path
-before_place path k apart within =
-    ap (λ (n : ℕ). take n path)
-    (position_or_len_is (is_port (get_or path k 0)) path k 0 (omega (arith, within))
-    (λ i less. ne_eqb (get_or path i 0) (get_or path k 0) (apart i k 0 less within))
-    (λ inside. eq-eqb (get_or path k 0) (get_or path k 0) refl))
+-- the ports in front of a leg
+abbrev lead_on : Sender → ℕ → List ℕ
+lead_on s n = leg_at (leads_of s.ports s.branches) n
 
--- the first port of a path has none before it
-none_before : (port p : ℕ) (path : List ℕ) → All (λ (q : ℕ). eqb q port ≡ false) path
-    → before_along port (p ∷ path) ≡ None
-none_before port p [] not = refl
-none_before port p (q ∷ path) not =
-    ap (λ (b : Bool). cond b (Some p) (before_along port (q ∷ path)))
-    (All-head (λ (q : ℕ). eqb q port ≡ false) q path not)
-    ∙ none_before port q path (All-tail (λ (q : ℕ). eqb q port ≡ false) q path not)
+-- all routes begin with the first port of the trunk
+first_port : (s : Sender) → AreBranches s.ports s.branches → (fuel n : ℕ) → n ≤ fuel → n ≤ length s.branches
+    → get_or (route_to s n) 0 0 ≡ get_or (ports_of_leg s 0) 0 0
+first_port s are fuel zero enough within =
+    ap (λ (l : List ℕ). get_or l 0 0)
+    (route-at s.ports s.branches 0 [] within
+    ∙ ap (λ (l : List ℕ). l ++ ports_of_leg s 0) (lead_of_trunk s.ports s.branches))
+first_port s are zero (suc n) enough within = absurd (omega (arith, enough))
+first_port s are (suc fuel) (suc n) enough within =
+    let below : n < length s.branches = omega (arith, within) in
+    let next : suc n ≡ 1 + n = omega arith in
+    let b : Branch = get_or s.branches n no_branch in
+    let begins : BeginsEarlier (legs_of s.ports s.branches) (1 + n) b =
+    begins_at (legs_of s.ports s.branches) 1 s.branches n are.begin below in
+    let lead : List ℕ = lead_on s (1 + n) in
+    let before : List ℕ = lead_on s b.leg in
+    let own : List ℕ = ports_of_leg s b.leg in
+    let some : 0 < length lead = omega (arith, lead-length s.ports s.branches n are below, begins.later) in
+    ap (λ (k : ℕ). get_or (route_to s k) 0 0) next
+    ∙ ap (λ (l : List ℕ). get_or l 0 0) (route-at s.ports s.branches (1 + n) [] (omega (arith, within)))
+    ∙ get_or_append_left lead (ports_of_leg s (1 + n)) 0 0 some
+    ∙ ap (λ (l : List ℕ). get_or l 0 0)
+    (lead_of s.ports s.branches n are below ∙ sym (take-append-add before own b.hop))
+    ∙ get_or-take (length before + b.hop) (before ++ own) 0 0 (omega (arith, begins.later))
+    ∙ ap (λ (l : List ℕ). get_or l 0 0)
+    (sym (route-at s.ports s.branches b.leg [] (omega (arith, begins.earlier, within))))
+    ∙ first_port s are fuel b.leg (omega (arith, begins.earlier, enough)) (omega (arith, begins.earlier, within))
 
-first_before : (path : List ℕ) → AllPairs (λ p q. p ≢ q) path → 0 < length path
-    → before_along (get_or path 0 0) path ≡ None
-first_before [] apart some = absurd (omega arith)
-first_before (p ∷ path) apart some =
-    none_before p p path (λ k d h. ne_eqb (get_or path k d) p
-    (λ same. pairs_head (λ p q. p ≢ q) p path apart k d h (sym same)))
+-- which has none before it
+none_before : (topology : DeclaredTopology) (s : Sender) (n : ℕ) → IsSender topology s → n ≤ length s.branches
+    → port_before s (get_or (route_to s n) 0 0) ≡ None
+none_before topology s n is within =
+    let path : IsPath (route_to s 0) = is.routes 0 [] (omega (arith, routes-length s.ports s.branches)) in
+    let trunk : route_to s 0 ≡ ports_of_leg s 0 =
+    route-at s.ports s.branches 0 [] (omega arith)
+    ∙ ap (λ (l : List ℕ). l ++ ports_of_leg s 0) (lead_of_trunk s.ports s.branches) in
+    ap (port_before s) (first_port s is.branches n n (omega arith) within)
+    ∙ port_before_is_one topology s 0 0 is (omega arith)
+    (omega (arith, path.least, ap (λ (l : List ℕ). length l) trunk))
 
--- the sum over the ports before that at a place
-by_place : (f : ℕ → ℕ) (path : List ℕ) (k : ℕ) → AllPairs (λ p q. p ≢ q) path → k < length path
-    → sum_by f (before_first (is_port (get_or path k 0)) path)
-    ≡ option_map_or (λ before. sum_by f (before_first (is_port before) path) + f before)
-    (before_along (get_or path k 0) path) 0
-by_place f path zero apart within =
-    ap (sum_by f) (before_place path 0 apart within)
-    ∙ sym (ap (λ (o : Option ℕ). option_map_or (λ before. sum_by f (before_first (is_port before) path) + f before) o 0)
-    (first_before path apart within))
-by_place f path (suc k) apart within =
-    ap (sum_by f) (before_place path (suc k) apart within)
-    ∙ ap (λ (n : ℕ). sum_by f (take n path)) (sym (add-one k))
-    ∙ sum_by_more f path k 0 (omega (arith, within))
-    ∙ ap (λ (l : List ℕ). sum_by f l + f (get_or path k 0)) (sym (before_place path k apart (omega (arith, within))))
-    ∙ sym (ap (λ (o : Option ℕ). option_map_or (λ before. sum_by f (before_first (is_port before) path) + f before) o 0)
-    (before_along-at path k apart within))
+-- routes that have a port come to it in one way
+same_way : (topology : DeclaredTopology) (s : Sender) (n m h g : ℕ) → IsSender topology s → n ≤ length s.branches
+    → m ≤ length s.branches → h < length (route_to s n) → g < length (route_to s m)
+    → get_or (route_to s n) h 0 ≡ get_or (route_to s m) g 0 → take h (route_to s n) ≡ take g (route_to s m)
+same_way topology s n m zero zero is in_n in_m in_h in_g same = refl
+same_way topology s n m zero (suc g) is in_n in_m in_h in_g same =
+    absurd (none-some (get_or (route_to s m) g 0)
+    (sym (none_before topology s n is in_n) ∙ ap (port_before s) same ∙ before_on_route topology s m g is in_m in_g))
+same_way topology s n m (suc h) zero is in_n in_m in_h in_g same =
+    absurd (none-some (get_or (route_to s n) h 0)
+    (sym (none_before topology s m is in_m) ∙ ap (port_before s) (sym same)
+    ∙ before_on_route topology s n h is in_n in_h))
+same_way topology s n m (suc h) (suc g) is in_n in_m in_h in_g same =
+    let before : get_or (route_to s n) h 0 ≡ get_or (route_to s m) g 0 =
+    same_Some (get_or (route_to s n) h 0) (get_or (route_to s m) g 0)
+    (sym (before_on_route topology s n h is in_n in_h) ∙ ap (port_before s) same
+    ∙ before_on_route topology s m g is in_m in_g) in
+    let rest = same_way topology s n m h g is in_n in_m (omega (arith, in_h)) (omega (arith, in_g)) before in
+    one_more (route_to s n) h (omega (arith, in_h))
+    ∙ ap (λ (l : List ℕ). l ++ get_or (route_to s n) h 0 ∷ []) rest
+    ∙ ap (λ (p : ℕ). take g (route_to s m) ++ p ∷ []) before
+    ∙ sym (one_more (route_to s m) g (omega (arith, in_g)))
+  where
+    one_more : (path : List ℕ) (k : ℕ) → k < length path → take (suc k) path ≡ take k path ++ get_or path k 0 ∷ []
+    one_more path k within = ap (λ (j : ℕ). take j path) (sym (add-one k)) ∙ take_more path k 0 within
 
--- the place of a port that a path has
-record HasPlace (port : ℕ) (path : List ℕ) : Type 0 where
-  place : ℕ
-  within : place < length path
-  there : get_or path place 0 ≡ port
-
-has_place : (port : ℕ) (path : List ℕ) → list_any (is_port port) path ≡ true → HasPlace port path
-has_place port path used =
-    let place : ℕ = position_or_len (is_port port) path in
-    elim (cases_lt place (length path)) as (λ _. HasPlace port path) [
-      | inl inside ↦ record {
-        place = place;
-        within = inside;
-        there = eqb-true (get_or path place 0) port (passes_at_first (is_port port) path 0 inside);
-      }
-      | inr past ↦ absurd (true≢false (sym used ∙ list_any_none (is_port port) path
-          (λ k d h. fails_before_first (is_port port) path k d (omega (arith, past, h)))))
+-- where all routes that have a port come to it in this way, and one has it
+way_is : (port : ℕ) (want : List ℕ) (routes : List (List ℕ))
+    → All (λ (route : List ℕ). (h : ℕ) → h < length route → get_or route h 0 ≡ port → take h route ≡ want) routes
+    → (n h : ℕ) → n < length routes → h < length (get_or routes n []) → get_or (get_or routes n []) h 0 ≡ port
+    → in_front_on port routes ≡ want
+way_is port want [] each n h in_n in_h at = absurd (omega (arith, in_n))
+way_is port want (route ∷ routes) each n h in_n in_h at =
+    elim (cases_Bool (list_any (is_port port) route)) as (λ _. in_front_on port (route ∷ routes) ≡ want) [
+      | inl has ↦ cond-true (list_any (is_port port) route) (before_first (is_port port) route)
+          (in_front_on port routes) has ∙ here has
+      | inr not ↦ cond-false (list_any (is_port port) route) (before_first (is_port port) route)
+          (in_front_on port routes) not
+          ∙ rest (way_is port want routes (All-tail Comes route routes each)) not n in_n in_h at
     ]
+  where
+    Comes : List ℕ → Type 0
+    Comes l = (h : ℕ) → h < length l → get_or l h 0 ≡ port → take h l ≡ want
+
+    here : list_any (is_port port) route ≡ true → before_first (is_port port) route ≡ want
+    here has =
+        let place : ℕ = position_or_len (is_port port) route in
+        elim (cases_lt place (length route)) as (λ _. before_first (is_port port) route ≡ want) [
+          | inl inside ↦ All-head Comes route routes each place inside
+              (eqb-true (get_or route place 0) port (passes_at_first (is_port port) route 0 inside))
+          | inr past ↦ absurd (true≢false (sym has ∙ list_any_none (is_port port) route
+              (λ k d w. fails_before_first (is_port port) route k d (omega (arith, past, w)))))
+        ]
+
+    rest : ((m g : ℕ) → m < length routes → g < length (get_or routes m []) → get_or (get_or routes m []) g 0 ≡ port
+        → in_front_on port routes ≡ want)
+        → list_any (is_port port) route ≡ false → (n : ℕ) → n < length (route ∷ routes)
+        → h < length (get_or (route ∷ routes) n []) → get_or (get_or (route ∷ routes) n []) h 0 ≡ port
+        → in_front_on port routes ≡ want
+    rest further not zero in_n in_h at = absurd (true≢false
+        (sym (list_any_at (is_port port) route h 0 in_h (eq-eqb (get_or route h 0) port at)) ∙ not))
+    rest further not (suc m) in_n in_h at = further m h (omega (arith, in_n)) in_h at
+
+-- so the ports by which frames come to that at a place of a route are those in front of it there
+pub comes_by : (topology : DeclaredTopology) (s : Sender) (n h : ℕ) → IsSender topology s → n ≤ length s.branches
+    → h < length (route_to s n) → ports_to s (get_or (route_to s n) h 0) ≡ take h (route_to s n)
+comes_by topology s n h is in_n in_h =
+    way_is (get_or (route_to s n) h 0) (take h (route_to s n)) (routes_of s.ports s.branches) each n h
+    (omega (arith, in_n, routes-length s.ports s.branches)) in_h refl
+  where
+    each : All (λ (route : List ℕ). (g : ℕ) → g < length route → get_or route g 0 ≡ get_or (route_to s n) h 0
+        → take g route ≡ take h (route_to s n)) (routes_of s.ports s.branches)
+    each m d in_routes g in_g at =
+        let route_is : get_or (routes_of s.ports s.branches) m d ≡ route_to s m =
+        get_or_default (routes_of s.ports s.branches) m d [] in_routes in
+        ap (take g) route_is
+        ∙ same_way topology s m n g h is (omega (arith, in_routes, routes-length s.ports s.branches)) in_n
+        (omega (arith, in_g, ap (λ (l : List ℕ). length l) route_is)) in_h
+        (ap (λ (l : List ℕ). get_or l g 0) (sym route_is) ∙ at)
+
+-- the travel to such a port
+by_place : (topology : DeclaredTopology) (s : Sender) (f : ℕ → ℕ) (n h : ℕ) → IsSender topology s
+    → n ≤ length s.branches → h < length (route_to s n)
+    → sum_by f (ports_to s (get_or (route_to s n) h 0))
+    ≡ option_map_or (λ before. sum_by f (ports_to s before) + f before)
+    (port_before s (get_or (route_to s n) h 0)) 0
+by_place topology s f n zero is in_n in_h =
+    ap (sum_by f) (comes_by topology s n 0 is in_n in_h)
+    ∙ sym (ap (λ (o : Option ℕ). option_map_or (λ before. sum_by f (ports_to s before) + f before) o 0)
+    (none_before topology s n is in_n))
+by_place topology s f n (suc h) is in_n in_h =
+    ap (sum_by f) (comes_by topology s n (suc h) is in_n in_h)
+    ∙ ap (λ (k : ℕ). sum_by f (take k (route_to s n))) (sym (add-one h))
+    ∙ sum_by_more f (route_to s n) h 0 (omega (arith, in_h))
+    ∙ ap (λ (l : List ℕ). sum_by f l + f (get_or (route_to s n) h 0))
+    (sym (comes_by topology s n h is in_n (omega (arith, in_h))))
+    ∙ sym (ap (λ (o : Option ℕ). option_map_or (λ before. sum_by f (ports_to s before) + f before) o 0)
+    (before_on_route topology s n h is in_n in_h))
 
 pub travel_goes_over_the_port_before : TravelGoesOverThePortBefore
-travel_goes_over_the_port_before network s port is alone used =
-    let at : HasPlace port s.ports = has_place port s.ports used in
+travel_goes_over_the_port_before network s port is used =
     subst (λ (p : ℕ). travel_to network p s
     ≡ option_map_or (λ before. travel_to network before s + time_over network s.max_octets before) (port_before s p) 0)
-    at.there
-    (by_place (time_over network s.max_octets) s.ports at.place is.apart at.within
-    ∙ sym (ap (λ (o : Option ℕ).
-    option_map_or (λ before. travel_to network before s + time_over network s.max_octets before) o 0)
-    (port_before-one s (get_or s.ports at.place 0) alone)))
+    there (by_place network.topology s (time_over network s.max_octets) at.leg place is in_legs within)
+  where
+    at : StandsAt s port
+    at = stands_at s port is.branches used
+
+    in_legs : at.leg ≤ length s.branches
+    in_legs = omega (arith, at.at.in_legs, legs-length 0 s.ports s.branches)
+
+    place : ℕ
+    place = length (lead_on s at.leg) + at.hop
+
+    route_is : route_to s at.leg ≡ lead_on s at.leg ++ ports_of_leg s at.leg
+    route_is = route-at s.ports s.branches at.leg [] in_legs
+
+    within : place < length (route_to s at.leg)
+    within = omega (
+      arith,
+      at.at.in_leg,
+      ap (λ (l : List ℕ). length l) route_is,
+      length-append (lead_on s at.leg) (ports_of_leg s at.leg),
+    )
+
+    there : get_or (route_to s at.leg) place 0 ≡ port
+    there = ap (λ (l : List ℕ). get_or l place 0) route_is
+        ∙ get_or-append-add (lead_on s at.leg) (ports_of_leg s at.leg) at.hop 0 ∙ at.at.is
+
+-- a sender with one listener has one route
+pub one_listener_comes_by_its_path : OneListenerComesByItsPath
+one_listener_comes_by_its_path s port alone used =
+    ap (λ (branches : List Branch). in_front_on port (routes_of s.ports branches)) alone
+    ∙ cond-true (list_any (is_port port) s.ports) (before_first (is_port port) s.ports) [] used

@@ -1,7 +1,8 @@
 //! Laws of the burst at a port, and of found delays.
 
 ghost use Rattle.ats_witness_law.specs.Laws.{BurstIsOne, BurstKeepsBuckets, DelaysAreExact, FoundDelaysHappen};
-ghost use Rattle.ats_witness_law.specs.Laws.{FoundIsWithin, LastGoesLast, NoSoundBoundIsLess};
+ghost use Rattle.ats_witness_law.specs.Laws.{FoundIsWithin, HappensLawfully, HappensWithin, LastGoesLast};
+ghost use Rattle.ats_witness_law.specs.Laws.{NoSoundBoundIsLess, OneListenerComesByItsPath};
 ghost use Rattle.ats_witness_law.specs.Laws.{TravelGoesOverThePortBefore};
 
 /// Of frames that tie, those of any other sender go before those of the last one.
@@ -9,10 +10,15 @@ pub fn last_goes_last()
     ensures { LastGoesLast }
 {}
 
-/// Where a sender has one listener, its travel to the first port of its path is nothing; to each other port it is the
-/// travel to the port before and the time over that one.
+/// The travel of a sender to the first port of its routes is nothing; to each other port it is the travel to the port
+/// before and the time over that one.
 pub fn travel_goes_over_the_port_before()
     ensures { TravelGoesOverThePortBefore }
+{}
+
+/// Where a sender has one listener, its frames come to a port over the ports before it on its path.
+pub fn one_listener_comes_by_its_path()
+    ensures { OneListenerComesByItsPath }
 {}
 
 /// No two lists of releases are the burst at a port for a class.
@@ -31,17 +37,29 @@ pub fn delays_are_exact()
 {}
 
 /// What is found can happen: in a legal run in which every station keeps its buckets, a frame of the stream takes just
-/// so long.
+/// so long to the listener.
 pub fn found_delays_happen()
     ensures { FoundDelaysHappen }
 {}
 
-/// So no bounds are sound that give the stream less together: where its least bounds give just as much, they are tight.
+/// The run of a delay that can happen is legal, and in it every station keeps its buckets.
+pub fn happens_lawfully()
+    ensures { HappensLawfully }
+{}
+
+/// A delay that can happen is no more than sound bounds give the stream together along the route to the listener.
+pub fn happens_within()
+    ensures { HappensWithin }
+{}
+
+/// So no bounds are sound that give the stream less together along the route there: where its least bounds give just
+/// as much, they are tight.
 pub fn no_sound_bound_is_less()
     ensures { NoSoundBoundIsLess }
 {}
 
-/// Nothing that is found of a stream is above the sum of its bounds by a certificate that holds.
+/// Nothing that is found of a stream for a listener is above the sum of its bounds along the route there, by a
+/// certificate that holds.
 pub fn found_is_within()
     ensures { FoundIsWithin }
 {}

@@ -3,4 +3,4 @@
 
 pub mod printing;
 
-pub use printing::witnessed;
+pub use printing::write_found;

@@ -1,70 +1,114 @@
 //! The text of found delays.
 
-ghost use Rattle.std.specs.Prelude.{◌≡◌, ◌++◌, ◌<◌, ◌≤◌, length, All, IfOk, OnOk};
+ghost use Rattle.std.specs.Prelude.{◌≡◌, ◌++◌, ◌<◌, ◌≤◌, length, All, OnOk};
 ghost use Rattle.std.specs.List.{flat_map, zip};
 ghost use Rattle.ats_topology.specs.Walks.{ArePorts};
+ghost use Rattle.ats_network.specs.Listeners.{listener_text};
 ghost use Rattle.ats_network.specs.Network.{senders_of};
+ghost use Rattle.ats_network.specs.Senders.{sender_at};
 ghost use Rattle.ats_trace.specs.Releases.{AreReleases, IsRelease};
 ghost use Rattle.ats_witness.specs.Found.{AreFound};
-ghost use Rattle.ats_witness_text.specs.Text.{hop_line, release_line, witness_line, witness_text};
+ghost use Rattle.ats_witness_text.specs.Text.{found_text, hop_line, release_line, station_at, title_line};
+ghost use Rattle.ats_witness_text.specs.Text.{witness_line};
 
-use ats_network::Network;
+use ats_network::{Network, station_of};
 use ats_num::Name;
 use ats_port_names::write_port;
 use ats_topology::Topology;
 use ats_trace::Release;
 use ats_witness::Found;
 use itoa::{Buffer, Integer};
-use std::alloc::{AllocError, Global};
+use std::alloc::AllocError;
 
-/// What is found of a stream of a network, as text: a line for each of its ports with the delay found there, a line
-/// for each release of the burst at the port of the first hop with a greatest delay, and a last one with the stream's
-/// name, this delay, a bound, and by how much the bound is above the delay: 0 where it is not. All times are in
-/// picoseconds. It takes time linear in the number of lines. `AllocError` where there is no memory for the text.
-#[tactic(auto, unfolding(crate::specs::Text::witness_text))]
-pub fn witnessed(
-    alloc: Global,
+/// Appends what is found of a stream for one of its listeners, that of a leg counted from 0: of another listener than
+/// the first a line with the stream's name and its station's, then a line for each port of the route to it with the
+/// delay found there, a line for each release of the burst at the port of the first hop with a greatest delay, and a
+/// last one with the stream's name, for another listener than the first its station's, this delay, a bound, and by how
+/// much the bound is above the delay: 0 where it is not. All times are in picoseconds. It takes time linear in the
+/// number of lines. `AllocError` where there is no memory for them.
+#[tactic(auto, unfolding(crate::specs::Text::found_text))]
+pub fn write_found(
+    out: &mut Vec<u8>,
     network: &Network,
     stream: u32,
+    listener: u32,
     found: &Found,
     bound: u128,
-) -> Result<Vec<u8>, AllocError>
+) -> Result<(), AllocError>
     requires stream { stream < length network.now.streams }
-    requires found { AreFound network.now stream found.now }
+    requires listener { listener ≤ length (sender_at network.now stream).branches }
+    requires found { AreFound network.now stream listener found.now }
     requires releases { AreReleases network.now found.now.releases }
-    ensures { IfOk result (λ text. text.items ≡ witness_text network.now stream found.now bound) }
+    ensures { OnOk result
+        (out.new.items ≡ out.old.items ++ found_text network.now stream listener found.now bound) }
 {
-    let mut out = Vec::new(alloc);
-    write_hops(
-        &mut out,
-        network.topology(),
-        network.sender_ports(stream),
-        found.delays(),
-    )?;
-    write_releases(&mut out, network, found.releases())?;
-    write_witness(
-        &mut out,
-        &network.sender_name(stream),
-        found.greatest(),
-        bound,
-    )?;
-    Ok(out)
+    let name = network.sender_name(stream);
+    let station = station_at(network, stream, listener);
+    let route = network.sender_route(stream, listener);
+    write_title(out, &name, &station)?;
+    write_hops(out, network.topology(), route.as_slice(), found.delays())?;
+    write_releases(out, network, found.releases())?;
+    write_witness(out, &name, &station, found.greatest(), bound)
 }
 
-// A line for each port of a path, with the delay found there.
+// The name of the station of another listener than the first.
+fn station_at(network: &Network, stream: u32, listener: u32) -> Option<Name>
+    requires stream { stream < length network.now.streams }
+    requires listener { listener ≤ length (sender_at network.now stream).branches }
+    ensures { result ≡ station_at network.now stream listener }
+{
+    if listener == 0 {
+        return None;
+    }
+    let route = network.sender_route(stream, listener);
+    Some(station_of(network.topology(), route.as_slice()))
+}
+
+// The line in front of what is found for a listener at this station.
+#[tactic(auto, unfolding(crate::specs::Text::title_line))]
+fn write_title(out: &mut Vec<u8>, stream: &Name, station: &Option<Name>) -> Result<(), AllocError>
+    ensures { OnOk result (out.new.items ≡ out.old.items ++ title_line stream.now station.now) }
+{
+    let Some(_) = station else {
+        return Ok(());
+    };
+    out.extend_from_slice(b"listener ")?;
+    write_listener(out, stream, station)?;
+    out.extend_from_slice(b"\n")?;
+    Ok(())
+}
+
+// The name of a stream, and behind it that of the station of a further listener.
+fn write_listener(
+    out: &mut Vec<u8>,
+    stream: &Name,
+    station: &Option<Name>,
+) -> Result<(), AllocError>
+    ensures { OnOk result (out.new.items ≡ out.old.items ++ listener_text stream.now station.now) }
+{
+    out.extend_from_slice(stream.bytes())?;
+    let Some(station) = station else {
+        return Ok(());
+    };
+    out.extend_from_slice(b" ")?;
+    out.extend_from_slice(station.bytes())?;
+    Ok(())
+}
+
+// A line for each port of a route, with the delay found there.
 fn write_hops(
     out: &mut Vec<u8>,
     topology: &Topology,
-    path: &[u32],
+    route: &[u32],
     delays: &[u64],
 ) -> Result<(), AllocError>
-    requires ports { ArePorts topology.now.ports path.now }
-    requires fit { length delays.now ≤ length path.now }
+    requires ports { ArePorts topology.now.ports route.now }
+    requires fit { length delays.now ≤ length route.now }
     ensures { OnOk result
-        (out.new.items ≡ out.old.items ++ flat_map (hop_line topology.now) (zip path.now delays.now)) }
+        (out.new.items ≡ out.old.items ++ flat_map (hop_line topology.now) (zip route.now delays.now)) }
 {
     for (hop, delay) in delays.iter().enumerate() {
-        write_hop(out, topology, path[hop], *delay)?;
+        write_hop(out, topology, route[hop], *delay)?;
     }
     Ok(())
 }
@@ -118,13 +162,20 @@ fn write_release(out: &mut Vec<u8>, network: &Network, release: &Release) -> Res
     Ok(())
 }
 
-// The last line, with this name, delay and bound.
+// The last line, with this name, station, delay and bound.
 #[tactic(auto, unfolding(crate::specs::Text::witness_line))]
-fn write_witness(out: &mut Vec<u8>, name: &Name, delay: u64, bound: u128) -> Result<(), AllocError>
-    ensures { OnOk result (out.new.items ≡ out.old.items ++ witness_line name.now delay bound) }
+fn write_witness(
+    out: &mut Vec<u8>,
+    stream: &Name,
+    station: &Option<Name>,
+    delay: u64,
+    bound: u128,
+) -> Result<(), AllocError>
+    ensures { OnOk result
+        (out.new.items ≡ out.old.items ++ witness_line stream.now station.now delay bound) }
 {
     out.extend_from_slice(b"witness ")?;
-    out.extend_from_slice(name.bytes())?;
+    write_listener(out, stream, station)?;
     write_number(out, b" delay ", delay)?;
     write_number(out, b" bound ", bound)?;
     write_number(out, b" gap ", bound.saturating_sub(u128::from(delay)))?;

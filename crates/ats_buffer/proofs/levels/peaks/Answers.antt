@@ -19,6 +19,6 @@ loop-row-preserved c =
     let peak = peak_at network c.args.run.now c.deref.result.now (length c.ports.result.now) c.in_ok-levels.levels
     row.port row.class c.get.result is c.in_ok-levels.ensures (omega (arith, many, place.port)) place.class
     c.get.ensures in
-    subst (ArePeaks network c.args.run.now (take (k + 1) c.args.rows.now)) (sym c.in_ok-push.ensures.items)
+    subst (ArePeaks network c.args.run.now (take (k + 1) c.args.rows.now)) (sym {A = List ℕ} c.in_ok-push.ensures.items)
     (peaks_more network c.args.run.now c.args.rows.now k c.loop-row.peaks.items c.get.result.peak c.loop-row-test.true
     c.loop-row.invariant peak)

@@ -21,7 +21,6 @@ returns c =
             arith,
             many,
             c.len-frame-end.ensures.bounded,
-            moments_few c.args.network.now c.args.run.now c.topology-topology.ensures.rules c.requires.one_listener
-                c.requires.legal,
+            moments_few c.args.network.now c.args.run.now c.topology-topology.ensures.rules c.requires.legal,
           ));
     }

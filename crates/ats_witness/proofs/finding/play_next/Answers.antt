@@ -1,6 +1,6 @@
 use Rattle.std.proofs.Common.{◌≡◌, subst}
 use Rattle.std.proofs.lemmas.Slice.Eq.{slice_eq-Decides}
-use Rattle.ats_witness.specs.Burst.{IsBurstFor, port_of_hop}
+use Rattle.ats_witness.specs.Burst.{IsBurstFor}
 use Rattle.ats_witness.proofs.PlayedLemmas.{equal_releases}
 use Rattle.ats_witness.proofs.finding.play_next.Goals as goal
 
@@ -10,5 +10,4 @@ returns-then-eq-clause-burst c =
     let same : c.in_ok-next.next.items ≡ c.args.last.burst.items =
     (slice_eq-Decides equal_releases c.in_ok-next.next.items c.args.last.burst.items c.eq.result c.eq.ensures).0
     c.if-eq.true in
-    subst (IsBurstFor c.args.network.now c.args.stream (port_of_hop c.args.network.now c.args.stream c.args.hop)) same
-    c.in_ok-next.ensures.burst
+    subst (IsBurstFor c.args.network.now c.args.stream c.args.port) same c.in_ok-next.ensures.burst
