@@ -4,4 +4,6 @@ pub mod StepLemmas
 pub mod Identities
 pub mod Documents
 pub mod SenderLemmas
+pub mod Trees
 pub mod Networks
+pub mod LegsFound

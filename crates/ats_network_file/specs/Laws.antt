@@ -1,9 +1,10 @@
-use Rattle.std.specs.Prelude.{◌≡◌, ℕ, List, Ok, IsTrue, ◌↔◌}
+use Rattle.std.specs.Prelude.{◌≡◌, ℕ, List, Ok, Some, IsTrue, ◌↔◌}
 use Rattle.ats_topology.specs.Topology.{DeclaredTopology}
 use Rattle.ats_network.specs.Path.{IsValidPath}
 use Rattle.ats_network.specs.Network.{DeclaredNetwork, HasOneListener, IsNetwork}
-use Rattle.ats_network_file.specs.Reading.{network_of}
-use Rattle.ats_network_file.specs.Routes.{is_valid}
+use Rattle.ats_network_file.specs.Reading.{IsBeforeFormat3, network_of}
+use Rattle.ats_network_file.specs.Routes.{is_valid, legs_with}
+use Rattle.ats_route_tree.specs.Legs.{DeclaredLegs, HaveRoutes}
 
 -- the test of a path passes exactly the valid paths
 abbrev pub PassesValidPaths : Type 0
@@ -14,6 +15,12 @@ PassesValidPaths = (topology : DeclaredTopology) (path : List ℕ)
 abbrev pub EachIsNetwork : Type 0
 EachIsNetwork = (text : List ℕ) (network : DeclaredNetwork) → network_of text ≡ Ok network → IsNetwork network
 
--- what a text declares has one listener for each stream
+-- what a text of format 1 or 2 declares has one listener for each stream
 abbrev pub EachHasOneListener : Type 0
-EachHasOneListener = (text : List ℕ) (network : DeclaredNetwork) → network_of text ≡ Ok network → HasOneListener network
+EachHasOneListener = (text : List ℕ) (network : DeclaredNetwork) → IsBeforeFormat3 text
+    → network_of text ≡ Ok network → HasOneListener network
+
+-- the legs that are found are those of the one tree that has these routes
+abbrev pub LegsAreThoseOfRoutes : Type 0
+LegsAreThoseOfRoutes = (topology : DeclaredTopology) (routes : List (List ℕ)) (legs : DeclaredLegs)
+    → legs_with topology routes ≡ Some legs ↔ HaveRoutes topology routes legs

@@ -1,4 +1,4 @@
-use Rattle.std.specs.Prelude.{ℕ, List, [], ◌++◌, map, Result, Ok, Err}
+use Rattle.std.specs.Prelude.{◌≡◌, ℕ, List, [], ◌++◌, map, Result, Ok, Err}
 use Rattle.ats_topology.specs.Faults.{topology_fault}
 use Rattle.ats_topology.specs.Topology.{DeclaredTopology, topology_of}
 use Rattle.ats_topology.specs.declared.node.Kind.TheVariants.{Station, Bridge}
@@ -6,8 +6,9 @@ use Rattle.ats_topology.specs.declared.node.Node.{Node}
 use Rattle.ats_topology.specs.declared.link.Link.{Link}
 use Rattle.ats_network.specs.Network.{DeclaredNetwork, declared_network}
 use Rattle.ats_network_table.specs.declared.fault.DocumentFault.{DocumentFault}
+use Rattle.ats_network_table.specs.declared.format.Format.TheVariants.{Three}
 use Rattle.ats_network_toml.specs.Document as file
-use Rattle.ats_network_toml.specs.Reading.{document_of}
+use Rattle.ats_network_toml.specs.Reading.{document_of, format_in}
 use Rattle.ats_network_toml.specs.declared.entries.StationEntry.{StationEntry}
 use Rattle.ats_network_toml.specs.declared.entries.BridgeEntry.{BridgeEntry}
 use Rattle.ats_network_toml.specs.declared.entries.LinkEntry.{LinkEntry}
@@ -52,3 +53,7 @@ network_in d = do
 -- the network that a text declares, or its first fault
 abbrev pub network_of : List ℕ → Result DeclaredNetwork NetFault
 network_of text = tables_of (document_of text) >>= network_in
+
+-- the text is not of format 3: each of its streams has one listener
+abbrev pub IsBeforeFormat3 : List ℕ → Type 0
+IsBeforeFormat3 text = ¬ (format_in text ≡ Ok Three)

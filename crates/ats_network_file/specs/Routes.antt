@@ -1,4 +1,5 @@
 use Rattle.std.specs.Prelude.{◌⊎◌, ℕ, Bool, true, false, List, [], ◌∷◌, Option, None, Some, option_and_then}
+use Rattle.std.specs.Prelude.{if◌then◌else◌}
 use Rattle.std.specs.Option.{option_map}
 use Rattle.std.proofs.Common.{inl, inr}
 use Rattle.ats_num.specs.Places.{place_of}
@@ -7,6 +8,8 @@ use Rattle.ats_topology.specs.Port.{port_at, port_between}
 use Rattle.ats_topology.specs.Topology.{DeclaredTopology}
 use Rattle.ats_network.specs.Shortest.{shortest_of}
 use Rattle.ats_network.proofs.PathTests.{valid_or_not}
+use Rattle.ats_route_tree.specs.Legs.{DeclaredLegs, HasLegs}
+use Rattle.ats_route_tree.proofs.Found.{legs_or_none}
 use Rattle.ats_network_toml.specs.Document as file
 
 -- the port from a node to the one with this name, where a link joins them
@@ -30,6 +33,27 @@ ports_of topology (file.ends from to) =
     option_and_then (λ a. option_and_then (λ b. shortest_of topology a b) (place_of to (names_of topology.nodes)))
     (place_of from (names_of topology.nodes))
 
+-- the ports of each of some routes, where each has some
+abbrev pub ports_of_each : DeclaredTopology → List file.DeclaredRoute → Option (List (List ℕ))
+ports_of_each topology [] = Some []
+ports_of_each topology (route ∷ routes) =
+    option_and_then (λ ports. option_map (λ more. ports ∷ more) (ports_of_each topology routes))
+    (ports_of topology route)
+
+-- where it was decided whether routes have legs, these legs, if they have some
+abbrev pub legs_where : {topology : DeclaredTopology} {routes : List (List ℕ)}
+    → HasLegs topology routes ⊎ ¬ HasLegs topology routes → Option DeclaredLegs
+legs_where (inl has) = Some has.legs
+legs_where (inr never) = None
+
+-- the legs of the tree that has just these routes, if there is one
+abbrev pub legs_with : DeclaredTopology → List (List ℕ) → Option DeclaredLegs
+legs_with topology routes = legs_where (legs_or_none topology routes)
+
+-- the legs of a stream that has these routes
+abbrev pub legs_of : DeclaredTopology → List file.DeclaredRoute → Option DeclaredLegs
+legs_of topology routes = option_and_then (legs_with topology) (ports_of_each topology routes)
+
 -- a statement that was decided holds
 abbrev pub holds : {A : Type 0} → A ⊎ ¬ A → Bool
 holds (inl is) = true
@@ -38,3 +62,14 @@ holds (inr never) = false
 -- the ports make a valid path
 abbrev pub is_valid : DeclaredTopology → List ℕ → Bool
 is_valid topology path = holds (valid_or_not topology path)
+
+-- the ports of a route, where they make a valid path
+abbrev pub path_of : DeclaredTopology → file.DeclaredRoute → Option (List ℕ)
+path_of topology route =
+    option_and_then (λ ports. if is_valid topology ports then Some ports else None) (ports_of topology route)
+
+-- and those of each of some routes
+abbrev pub paths_of : DeclaredTopology → List file.DeclaredRoute → Option (List (List ℕ))
+paths_of topology [] = Some []
+paths_of topology (route ∷ routes) =
+    option_and_then (λ path. option_map (λ paths. path ∷ paths) (paths_of topology routes)) (path_of topology route)

@@ -1,8 +1,9 @@
 use Rattle.std.specs.Prelude.{ℕ, ◌+◌, List, [], ◌∷◌, length, Result, Ok}
 use Rattle.ats_topology.specs.Topology.{DeclaredTopology}
-use Rattle.ats_streams.specs.Stream.{DeclaredStream, declared_stream, classes_for, stream_fault}
+use Rattle.ats_streams.specs.Stream.{DeclaredStream, branching_stream, classes_for, stream_fault}
 use Rattle.ats_streams.specs.Flow.{DeclaredFlow, declared_flow, flow_fault}
 use Rattle.ats_network.specs.Network.{DeclaredNetwork}
+use Rattle.ats_route_tree.specs.Legs.{DeclaredLegs}
 use Rattle.ats_network.specs.Pushes.{with_stream, with_flow, stream_push_fault, flow_push_fault}
 use Rattle.ats_network.specs.declared.fault.PushFault.{PushFault}
 use Rattle.ats_network.specs.declared.fault.PushFault.TheVariants.{NameTaken, IdentityTaken, Limit}
@@ -11,7 +12,7 @@ use Rattle.ats_network_table.specs.declared.table.Table.TheVariants as table
 use Rattle.ats_network_table.specs.declared.fault.DocumentFault.TheVariants as form
 use Rattle.ats_network_toml.specs.Document as file
 use Rattle.ats_num.specs.Failure.{◌>>=◌, or_fault, ok_where, unless}
-use Rattle.ats_network_file.specs.Routes.{ports_of, is_valid}
+use Rattle.ats_network_file.specs.Routes.{legs_of, ports_of, is_valid}
 use Rattle.ats_network_file.specs.declared.senders.SenderTable.{SenderTable}
 use Rattle.ats_network_file.specs.declared.senders.SenderTable.TheVariants.{Stream, Flow}
 use Rattle.ats_network_file.specs.declared.fault.NetFault.{NetFault}
@@ -23,17 +24,21 @@ abbrev pub table_of : SenderTable → Table
 table_of Stream = table.Stream
 table_of Flow = table.Flow
 
--- the path of an entry, which is valid
-abbrev pub path_in : DeclaredTopology → SenderTable → ℕ → file.DeclaredRoute → Result (List ℕ) NetFault
-path_in topology t n route = do
-  path ← or_fault (BadPath t n) (ports_of topology route)
-  ok_where (is_valid topology path) (BadPath t n) path
+-- the path of a flow entry, which is valid
+abbrev pub path_in : DeclaredTopology → ℕ → file.DeclaredRoute → Result (List ℕ) NetFault
+path_in topology n route = do
+  path ← or_fault (BadPath Flow n) (ports_of topology route)
+  ok_where (is_valid topology path) (BadPath Flow n) path
 
--- a stream entry over a path; a single class stands for each of its ports
-abbrev pub stream_over : List ℕ → file.DeclaredStream → DeclaredStream
-stream_over path e =
-    declared_stream e.name path (classes_for (length path) e.classes) e.rate_bps e.burst_bits e.min_octets e.max_octets
-    e.deadline_ns e.identity
+-- the legs of a stream entry: the tree that they make has the entry's routes
+abbrev pub legs_in : DeclaredTopology → ℕ → List file.DeclaredRoute → Result DeclaredLegs NetFault
+legs_in topology n routes = or_fault (BadPath Stream n) (legs_of topology routes)
+
+-- a stream entry over legs; a single class stands for each of its ports
+abbrev pub stream_over : DeclaredLegs → file.DeclaredStream → DeclaredStream
+stream_over legs e =
+    branching_stream e.name legs.ports legs.branches (classes_for (length legs.ports) e.classes) e.rate_bps e.burst_bits
+    e.min_octets e.max_octets e.deadline_ns e.identity
 
 -- a flow entry over a path
 abbrev pub flow_over : List ℕ → file.DeclaredFlow → DeclaredFlow
@@ -56,14 +61,14 @@ refusal_of t n Limit = Form (form.Limit (table_of t))
 -- the network with the stream of an entry, in view of what was declared before it
 abbrev pub stream_added : DeclaredNetwork → ℕ → file.DeclaredStream → Result DeclaredNetwork NetFault
 stream_added network n e = do
-  path ← path_in network.topology Stream n e.route
-  stream ← stream_made n e (stream_over path e)
+  legs ← legs_in network.topology n e.routes
+  stream ← stream_made n e (stream_over legs e)
   unless (refusal_of Stream n) (stream_push_fault network stream) (with_stream network stream)
 
 -- the network with the flow of an entry
 abbrev pub flow_added : DeclaredNetwork → ℕ → file.DeclaredFlow → Result DeclaredNetwork NetFault
 flow_added network n e = do
-  path ← path_in network.topology Flow n e.route
+  path ← path_in network.topology n e.route
   flow ← flow_made n (flow_over path e)
   unless (refusal_of Flow n) (flow_push_fault network flow) (with_flow network flow)
 

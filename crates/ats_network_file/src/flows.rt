@@ -25,14 +25,7 @@ impl SenderEntry for FlowEntry {
         kept: &mut KeptRoutes,
         number: u32,
     ) -> Result<(), Failure<NetFault>> {
-        let path = path_in(
-            alloc,
-            network.topology(),
-            kept,
-            SenderTable::Flow,
-            number,
-            &self.route,
-        )?;
+        let path = path_in(alloc, network.topology(), kept, number, &self.route)?;
         let flow = flow_over(path, number, self)?;
         match network.push_flow(flow) {
             Ok(()) => Ok(()),

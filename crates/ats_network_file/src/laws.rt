@@ -1,6 +1,7 @@
 //! Laws of the definitions.
 
 ghost use Rattle.ats_network_file.specs.Laws.{PassesValidPaths, EachHasOneListener, EachIsNetwork};
+ghost use Rattle.ats_network_file.specs.Laws.{LegsAreThoseOfRoutes};
 
 /// A law: the test of a path passes exactly the valid paths.
 pub fn passes_valid_paths()
@@ -12,7 +13,13 @@ pub fn each_is_network()
     ensures { EachIsNetwork }
 {}
 
-/// A law: what a text declares has one listener for each stream.
+/// A law: what a text of format 1 or 2 declares has one listener for each stream.
 pub fn each_has_one_listener()
     ensures { EachHasOneListener }
+{}
+
+/// A law: the legs that are found for some routes are those of the one tree that has just these routes; none are found
+/// where no tree has them.
+pub fn legs_are_those_of_routes()
+    ensures { LegsAreThoseOfRoutes }
 {}

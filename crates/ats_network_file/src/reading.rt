@@ -3,7 +3,7 @@
 ghost use Rattle.std.specs.Prelude.{IfOk};
 ghost use Rattle.ats_network.specs.Network.{HasOneListener};
 ghost use Rattle.ats_num.specs.Failure.{Gives};
-ghost use Rattle.ats_network_file.specs.Reading.{network_in, network_of};
+ghost use Rattle.ats_network_file.specs.Reading.{IsBeforeFormat3, network_in, network_of};
 
 use crate::fault::NetFault;
 use crate::kept_routes::KeptRoutes;
@@ -22,10 +22,11 @@ use std::alloc::Global;
 /// names them: the text is no TOML, a key is missing, unknown or of the wrong kind, an array is
 /// over its limit. Then `Topology`: the first fault of the nodes, which are the stations and behind
 /// them the bridges, and the links. Then the streams in order and the flows in order, of each
-/// `BadPath`, `Sender`, `SenderTwice` and, for a stream, `IdentityTwice`, in this order.
+/// `BadPath`, `Sender`, `SenderTwice` and, for a stream, `IdentityTwice` and `Form`, that the streams so far
+/// have more ports together than a network may have, in this order.
 pub fn read_network(alloc: Global, bytes: &[u8]) -> Result<Network, Failure<NetFault>>
     ensures value { Gives result (network_of bytes.now) }
-    ensures one_listener { IfOk result HasOneListener }
+    ensures one_listener { IsBeforeFormat3 bytes.now → IfOk result HasOneListener }
 {
     let document = read_document(alloc, bytes).map_err(Failure::within::<NetFault>)?;
     network_in(alloc, &document)

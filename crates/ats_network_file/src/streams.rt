@@ -1,16 +1,19 @@
 //! The streams that a network file declares.
 
-ghost use Rattle.std.specs.Prelude.{◌≡◌, [], IfOk};
+ghost use Rattle.std.specs.Prelude.{◌≡◌, IfOk};
+ghost use Rattle.ats_streams.specs.Branches.{AreBranches};
+ghost use Rattle.ats_route_tree.specs.LegsView.{legs_view};
 ghost use Rattle.ats_num.specs.Failure.{Gives};
 ghost use Rattle.ats_network_file.specs.Senders.{stream_over, stream_made};
 
 use crate::fault::NetFault;
 use crate::kept_routes::KeptRoutes;
-use crate::routes::path_in;
+use crate::routes::legs_in;
 use crate::senders::{SenderEntry, SenderTable, broken, refused};
 use ats_network::Network;
 use ats_network_toml::StreamEntry;
 use ats_num::Failure;
+use ats_route_tree::Legs;
 use ats_streams::Stream;
 use std::alloc::Global;
 
@@ -26,15 +29,8 @@ impl SenderEntry for StreamEntry {
         kept: &mut KeptRoutes,
         number: u32,
     ) -> Result<(), Failure<NetFault>> {
-        let path = path_in(
-            alloc,
-            network.topology(),
-            kept,
-            SenderTable::Stream,
-            number,
-            &self.route,
-        )?;
-        let stream = stream_over(alloc, path, number, self)?;
+        let legs = legs_in(alloc, network.topology(), kept, number, &self.routes)?;
+        let stream = stream_over(alloc, legs, number, self)?;
         match network.push_stream(stream) {
             Ok(()) => Ok(()),
             Err(failure) => Err(refused(SenderTable::Stream, number, failure)),
@@ -42,22 +38,23 @@ impl SenderEntry for StreamEntry {
     }
 }
 
-// The stream of an entry over a path.
+// The stream of an entry over legs.
 fn stream_over(
     alloc: Global,
-    path: Vec<u32>,
+    legs: Legs,
     number: u32,
     entry: &StreamEntry,
 ) -> Result<Stream, Failure<NetFault>>
-    ensures value { Gives result (stream_made number entry.now (stream_over path.items entry.now)) }
-    ensures path { IfOk result (λ stream. stream.ports ≡ path.items) }
-    ensures one_listener { IfOk result (λ stream. stream.branches ≡ []) }
+    requires { AreBranches legs.ports.items legs.branches.items }
+    ensures value { Gives result (stream_made number entry.now (stream_over (legs_view legs) entry.now)) }
+    ensures ports { IfOk result (λ stream. stream.ports ≡ legs.ports.items) }
+    ensures branches { IfOk result (λ stream. stream.branches ≡ legs.branches.items) }
 {
     let made = Stream::new(
         alloc,
         entry.name,
-        path,
-        Vec::new(alloc),
+        legs.ports,
+        legs.branches,
         &entry.classes,
         entry.rate_bps,
         entry.burst_bits,
