@@ -1,86 +1,102 @@
 -- Each entry of a document stands in its network.
-use Rattle.std.proofs.Common.{◌≡◌, ◌∙◌, ℕ, ◌+◌, List, [], ◌∷◌, ◌++◌, Some, None, Result, Ok, Err, refl, sym, ap, subst}
+use Rattle.std.proofs.Common.{◌≡◌, ◌∙◌, ℕ, ◌+◌, List, [], ◌∷◌, ◌++◌, Some, Result, Ok, Err, refl, sym, ap, subst}
 use Rattle.std.proofs.Common.{append_assoc}
 use Rattle.std.proofs.lemmas.List.{append-nil}
-use Rattle.std.specs.List.{AllZip}
+use Rattle.std.specs.List.{All, AllZip}
+use Rattle.std.proofs.lemmas.List.Elements.{All-head, All-tail}
 use Rattle.ats_num.specs.Failure.{◌>>=◌, ok_where, or_fault, unless}
 use Rattle.ats_topology.specs.Faults.{topology_fault}
 use Rattle.ats_topology.specs.Topology.{DeclaredTopology, topology_of}
-use Rattle.ats_streams.proofs.OneListener.{alone_path}
-use Rattle.ats_streams.specs.Path.{IsPath}
 use Rattle.ats_streams.specs.Stream.{DeclaredStream, stream_fault}
 use Rattle.ats_streams.specs.Flow.{DeclaredFlow, flow_fault}
 use Rattle.ats_network.specs.Network.{DeclaredNetwork, declared_network}
 use Rattle.ats_network.specs.Path.{IsValidPath}
 use Rattle.ats_network.specs.Pushes.{flow_push_fault, stream_push_fault, with_flow, with_stream}
+use Rattle.ats_route_tree.specs.Legs.{DeclaredLegs}
+use Rattle.ats_route_tree.proofs.Found.{have_valid}
 use Rattle.ats_network_table.specs.declared.fault.DocumentFault.{DocumentFault}
 use Rattle.ats_network_toml.specs.Document as file
 use Rattle.ats_network_toml.specs.Reading.{document_of}
 use Rattle.ats_network_file.specs.Reading.{links_of, network_in, nodes_of, tables_of, topology_in}
 use Rattle.ats_network_file.specs.Routes.{is_valid, ports_of}
-use Rattle.ats_network_file.specs.Senders.{all_added, flow_added, flow_made, flow_over, path_in, refusal_of}
+use Rattle.ats_network_file.specs.Senders.{all_added, flow_added, flow_made, flow_over, legs_in, path_in, refusal_of}
 use Rattle.ats_network_file.specs.Senders.{stream_added, stream_made, stream_over}
-use Rattle.ats_network_file.specs.declared.senders.SenderTable.{SenderTable}
 use Rattle.ats_network_file.specs.declared.senders.SenderTable.TheVariants.{Flow, Stream}
 use Rattle.ats_network_file.specs.declared.fault.NetFault.{NetFault}
 use Rattle.ats_network_file.specs.declared.fault.NetFault.TheVariants as net
-use Rattle.ats_network_file.proofs.SenderLemmas.{routes_keep}
 use Rattle.ats_network_file.proofs.Steps.{Given, Sound, both, ok_where_ok, or_fault_ok, unless_ok}
 use Rattle.ats_network_file.proofs.ValidPaths.{valid_passed}
 use Rattle.ats_network_file_law.specs.Entries.{EachEntryStands, IsFlowOf, IsNetworkOf, IsPathOf, IsStreamOf}
+use Rattle.ats_network_file_law.specs.SenderFaults.{HasPorts, IsRouted}
+use Rattle.ats_network_file_law.specs.SenderFaults as entry
 use Rattle.ats_network_file_law.proofs.Paths.{path_of_route}
+use Rattle.ats_network_file_law.proofs.Routed.{stream_reads}
 
 -- a path is valid, and that of a route
 record IsFound (topology : DeclaredTopology) (route : file.DeclaredRoute) (path : List ℕ) : Type 0 where
   valid : IsValidPath topology path
   of_route : IsPathOf topology route path
 
-path_found : (topology : DeclaredTopology) (table : SenderTable) (n : ℕ) (route : file.DeclaredRoute) (path : List ℕ)
-    → path_in topology table n route ≡ Ok path → IsFound topology route path
-path_found topology table n route path h =
-    let read = both (or_fault (net.BadPath table n) (ports_of topology route))
-    (λ p. ok_where (is_valid topology p) (net.BadPath table n) p) path h in
+path_found : (topology : DeclaredTopology) (n : ℕ) (route : file.DeclaredRoute) (path : List ℕ)
+    → path_in topology n route ≡ Ok path → IsFound topology route path
+path_found topology n route path h =
+    let read = both (or_fault (net.BadPath Flow n) (ports_of topology route))
+    (λ p. ok_where (is_valid topology p) (net.BadPath Flow n) p) path h in
     let given : Given (is_valid topology read.first) read.first path =
-    ok_where_ok (is_valid topology read.first) (net.BadPath table n) read.first path read.then in
+    ok_where_ok (is_valid topology read.first) (net.BadPath Flow n) read.first path read.then in
     let valid : IsValidPath topology path =
     subst (λ p. IsValidPath topology p) given.same (valid_passed topology read.first given.passed) in
-    let at = or_fault_ok (net.BadPath table n) (ports_of topology route) read.first read.is ∙ ap Some given.same in
+    let at = or_fault_ok (net.BadPath Flow n) (ports_of topology route) read.first read.is ∙ ap Some given.same in
     record { valid = valid; of_route = path_of_route topology route path at valid }
 
--- over a path that breaks no rule the stream of an entry has few ports
-pub path_ruled : (e : file.DeclaredStream) (path : List ℕ) → stream_fault e.classes (stream_over path e) ≡ None
-    → IsPath path
-path_ruled e path none = alone_path path [] refl (routes_keep e.classes (stream_over path e) none)
+-- the ports of the routes of an entry are those of the routes, one by one
+routes_stand : (topology : DeclaredTopology) (routes : List file.DeclaredRoute) (paths : List (List ℕ))
+    → AllZip (HasPorts topology) routes paths → All (IsValidPath topology) paths
+    → AllZip (IsPathOf topology) routes paths
+routes_stand topology [] [] zipped valid = tt
+routes_stand topology [] (path ∷ paths) zipped valid = absurd zipped
+routes_stand topology (route ∷ routes) [] zipped valid = absurd zipped
+routes_stand topology (route ∷ routes) (path ∷ paths) zipped valid = (
+  path_of_route topology route path zipped.0 (All-head (IsValidPath topology) path paths valid),
+  routes_stand topology routes paths zipped.1 (All-tail (IsValidPath topology) path paths valid),
+)
 
 -- what one entry adds: a sender that is its own, behind those that are there
 pub record AddsStream (network next : DeclaredNetwork) (e : file.DeclaredStream) : Type 0 where
   pub stream : DeclaredStream
   pub is_of : IsStreamOf network.topology e stream
-  pub path : IsPath stream.ports
+  pub legs : DeclaredLegs
+  pub routed : IsRouted network.topology (entry.stream e) legs
+  pub ports : stream.ports ≡ legs.ports
   pub added : next ≡ with_stream network stream
 
 pub stream_stands : (network : DeclaredNetwork) (n : ℕ) (e : file.DeclaredStream) (next : DeclaredNetwork)
     → stream_added network n e ≡ Ok next → AddsStream network next e
 stream_stands network n e next h =
-    let routed = both (path_in network.topology Stream n e.route)
-    (λ path. stream_made n e (stream_over path e)
+    let read = both (legs_in network.topology n e.routes)
+    (λ legs. stream_made n e (stream_over legs e)
     >>= λ s. unless (refusal_of Stream n) (stream_push_fault network s) (with_stream network s)) next h in
-    let stream : DeclaredStream = stream_over routed.first e in
+    let stream : DeclaredStream = stream_over read.first e in
     let made = both (stream_made n e stream)
-    (λ s. unless (refusal_of Stream n) (stream_push_fault network s) (with_stream network s)) next routed.then in
+    (λ s. unless (refusal_of Stream n) (stream_push_fault network s) (with_stream network s)) next read.then in
     let sound : Sound (stream_fault e.classes stream) stream made.first =
     unless_ok (net.Sender Stream n) (stream_fault e.classes stream) stream made.first made.is in
     let pushed : Sound (stream_push_fault network made.first) (with_stream network made.first) next =
     unless_ok (refusal_of Stream n) (stream_push_fault network made.first) (with_stream network made.first) next
     made.then in
-    let found = path_found network.topology Stream n e.route routed.first routed.is in
+    let routed : IsRouted network.topology (entry.stream e) read.first =
+    (stream_reads network.topology e n).some read.first read.is in
+    let stand : AllZip (IsPathOf network.topology) e.routes routed.routes =
+    routes_stand network.topology e.routes routed.routes routed.ports
+    (have_valid network.topology routed.routes read.first routed.have) in
     record {
       stream = stream;
       is_of = record {
         name = refl;
-        one_listener = refl;
-        route = found.of_route;
-        valid = found.valid;
+        branches = routed.have.are;
+        tree = routed.have.tree;
+        routes = subst (λ (rs : List (List ℕ)). AllZip (IsPathOf network.topology) e.routes rs)
+            (sym routed.have.routes_are) stand;
         classes = refl;
         rate = refl;
         burst = refl;
@@ -89,7 +105,9 @@ stream_stands network n e next h =
         deadline = refl;
         identity = refl;
       };
-      path = path_ruled e routed.first sound.none;
+      legs = read.first;
+      routed = routed;
+      ports = refl;
       added = sym pushed.same ∙ ap (with_stream network) (sym sound.same);
     }
 
@@ -101,7 +119,7 @@ pub record AddsFlow (network next : DeclaredNetwork) (e : file.DeclaredFlow) : T
 pub flow_stands : (network : DeclaredNetwork) (n : ℕ) (e : file.DeclaredFlow) (next : DeclaredNetwork)
     → flow_added network n e ≡ Ok next → AddsFlow network next e
 flow_stands network n e next h =
-    let routed = both (path_in network.topology Flow n e.route)
+    let routed = both (path_in network.topology n e.route)
     (λ path. flow_made n (flow_over path e)
     >>= λ f. unless (refusal_of Flow n) (flow_push_fault network f) (with_flow network f)) next h in
     let flow : DeclaredFlow = flow_over routed.first e in
@@ -112,7 +130,7 @@ flow_stands network n e next h =
     let pushed : Sound (flow_push_fault network made.first) (with_flow network made.first) next =
     unless_ok (refusal_of Flow n) (flow_push_fault network made.first) (with_flow network made.first) next
     made.then in
-    let found = path_found network.topology Flow n e.route routed.first routed.is in
+    let found = path_found network.topology n e.route routed.first routed.is in
     record {
       flow = flow;
       is_of = record { name = refl; route = found.of_route; valid = found.valid; greatest = refl };

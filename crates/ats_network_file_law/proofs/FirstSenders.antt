@@ -1,6 +1,6 @@
 -- The fault of a document's senders is their first.
 use Rattle.std.proofs.Common.{◌≡◌, ◌∙◌, ℕ, ◌+◌, List, [], length, map, Option, None, Result, Ok, refl, sym, ap}
-use Rattle.std.proofs.Common.{subst, arith}
+use Rattle.std.proofs.Common.{subst}
 use Rattle.std.proofs.lemmas.List.{append-nil}
 use Rattle.ats_num.specs.Failure.{◌>>=◌, unless}
 use Rattle.ats_topology.specs.Faults.{topology_fault}
@@ -63,7 +63,9 @@ senders_tell topology d =
       names = refl;
       identities = refl;
       many = refl;
-      few_ports = omega arith;
+      legs = [];
+      routed = tt;
+      ports = refl;
       flows = refl;
       no_flows = refl;
       next = refl;

@@ -188,8 +188,8 @@ list_told e k right = by (has e k) refl
 format_there : (e : Entry) → has e key.Format ≡ true
     → Told (λ (f : Format). f ≡ format_told e) (wrong e key.Format) (format_at e)
 format_there e there =
-    made (λ (n : ℕ). value_at (whole_in 1 2) e key.Format ≡ Some n) (λ (f : Format). f ≡ format_told e)
-    (wrong e key.Format) (at e key.Format (whole_in 1 2)) format_of (leaf e key.Format (whole_in 1 2) there refl)
+    made (λ (n : ℕ). value_at (whole_in 1 3) e key.Format ≡ Some n) (λ (f : Format). f ≡ format_told e)
+    (wrong e key.Format) (at e key.Format (whole_in 1 3)) format_of (leaf e key.Format (whole_in 1 3) there refl)
     (λ n is. sym (ap (λ (o : Option ℕ). format_of (unwrap_or o 1)) is))
 
 abbrev arrays : Format → List Members → List Members → List Members → List Members → List Members → Arrays

@@ -6,7 +6,7 @@ use Rattle.ats_num.specs.Failure.{◌>>=◌, or_fault}
 use Rattle.ats_network_table.specs.Kinds.{name_in}
 use Rattle.ats_network_table.specs.Walk.{Entry, at, formed, has, name_at, short_at, wrong_kind}
 use Rattle.ats_network_table.specs.declared.format.Format.{Format}
-use Rattle.ats_network_table.specs.declared.format.Format.TheVariants.{One, Two}
+use Rattle.ats_network_table.specs.declared.format.Format.TheVariants.{One, Two, Three}
 use Rattle.ats_network_table.specs.declared.table.Table.{Table}
 use Rattle.ats_network_table.specs.declared.table.Table.TheVariants.{Bridge, Link, Station}
 use Rattle.ats_network_table.specs.declared.key.Key.{Key}
@@ -141,3 +141,4 @@ pub bridge_told : (f : Format) (n : ℕ) (ms : Members)
     → Told (λ (x : BridgeEntry). Any x) (table_fault (entry_of f Bridge n ms)) (bridge_in (entry_of f Bridge n ms))
 bridge_told One n ms = bridge_one n ms
 bridge_told Two n ms = bridge_two n ms
+bridge_told Three n ms = bridge_two n ms

@@ -1,26 +1,29 @@
 -- The first fault of a stream's or a flow's table is the one that is given.
-use Rattle.std.proofs.Common.{◌≡◌, ◌∙◌, ℕ, Bool, true, false, cond, List, [], ◌∷◌, Option, Some, None, Result}
-use Rattle.std.proofs.Common.{Ok, refl, sym, ap, subst, arith}
+use Rattle.std.proofs.Common.{◌≡◌, ◌∙◌, ℕ, ◌<◌, Bool, true, false, cond, List, [], ◌∷◌, ◌++◌, length, get_or, Option}
+use Rattle.std.proofs.Common.{Some, None, Result, Ok, refl, sym, ap, subst, arith}
 use Rattle.std.specs.Prelude.{not, ◌&&◌}
+use Rattle.std.specs.List.{All}
 use Rattle.std.specs.Option.{option_or}
 use Rattle.std.proofs.lemmas.Bool.{false≢true}
+use Rattle.std.proofs.lemmas.List.Elements.{All-get_or, All-head, All-tail}
 use Rattle.toml.specs.Data.{Members}
 use Rattle.ats_num.specs.Failure.{◌>>=◌, ok_where}
 use Rattle.ats_network_table.specs.Kinds.{address_in, list_in, long_in, name_in, whole_in}
 use Rattle.ats_network_table.specs.Walk.{Entry, at, classes_at, deadline_at, formed, has, identity_at, is_missing}
-use Rattle.ats_network_table.specs.Walk.{long_at, name_at, whole_at, wrong_kind}
+use Rattle.ats_network_table.specs.Walk.{long_at, may_branch, name_at, whole_at, wrong_kind}
 use Rattle.ats_network_table.specs.declared.format.Format.{Format}
+use Rattle.ats_network_table.specs.declared.format.Format.TheVariants.{One, Two, Three}
 use Rattle.ats_network_table.specs.declared.table.Table.TheVariants.{Flow, Stream}
 use Rattle.ats_network_table.specs.declared.key.Key.{Key}
 use Rattle.ats_network_table.specs.declared.key.Key.TheVariants as key
 use Rattle.ats_network_table.specs.declared.fault.DocumentFault.{DocumentFault}
 use Rattle.ats_network_toml.specs.Document as file
-use Rattle.ats_network_toml.specs.Entries.{flow_in, numbers_in, route_at, stream_in}
-use Rattle.ats_network_file_law.specs.FormFaults.{IsComplete, is_kind}
+use Rattle.ats_network_toml.specs.Entries.{flow_in, numbers_in, route_at, routes_at, stream_in}
+use Rattle.ats_network_file_law.specs.FormFaults.{IsComplete, is_kind, keys_in}
 use Rattle.ats_network_file_law.proofs.FormFirsts.{table_fault, wrongs}
 use Rattle.ats_network_file_law.proofs.FormKeys.{Any, absent, chained_keys, leaf, not_missing, stands, value_at, wrong}
 use Rattle.ats_network_file_law.proofs.FormReaders.{entry_of, next_key, skip_key, table_told}
-use Rattle.ats_network_file_law.proofs.FormRoutes.{route_told}
+use Rattle.ats_network_file_law.proofs.FormRoutes.{route_keys, route_told, routes_keys, routes_told}
 use Rattle.ats_network_file_law.proofs.Told.{Told, chained, same_faults, weaker}
 
 -- one class, beside which no others may stand
@@ -121,9 +124,9 @@ number_keys = key.RateBps ∷ key.BurstBits ∷ key.MinOctets ∷ key.MaxOctets 
 numbers_by : {N : Type 0} (e : Entry) (read : Result N DocumentFault) (last : ℕ → ℕ → ℕ → ℕ → ℕ → N)
     → read ≡ (long_at e key.RateBps >>= λ r. long_at e key.BurstBits >>= λ b. long_at e key.MinOctets
     >>= λ l. long_at e key.MaxOctets >>= λ m. deadline_at e >>= λ d. Ok (last r b l m d))
-    → IsComplete e → has e key.RateBps ≡ true → has e key.BurstBits ≡ true → has e key.MinOctets ≡ true
+    → has e key.RateBps ≡ true → has e key.BurstBits ≡ true → has e key.MinOctets ≡ true
     → has e key.MaxOctets ≡ true → Told (λ (x : N). Any x) (wrongs e number_keys) read
-numbers_by {N} e read last is c rate burst least most =
+numbers_by {N} e read last is rate burst least most =
     let G : N → Type 0 = λ x. Any x in
     subst (Told G (wrongs e number_keys)) (sym is)
     (next_key e key.RateBps (key.BurstBits ∷ key.MinOctets ∷ key.MaxOctets ∷ key.DeadlineNs ∷ []) long_in G
@@ -171,53 +174,127 @@ identity_told e address vlan = by (has e key.Address) refl (has e key.Vlan) refl
           tt,
         )
 
-abbrev route_keys : List Key
-route_keys = key.Path ∷ key.From ∷ key.To ∷ []
+-- the keys of a stream behind those of its routes
+abbrev behind_routes : List Key
+behind_routes = key.Class ∷ key.Classes ∷ key.RateBps ∷ key.BurstBits ∷ key.MinOctets ∷ key.MaxOctets ∷ key.DeadlineNs
+    ∷ key.Address ∷ key.Vlan ∷ []
+
+-- the keys of a stream that may have several paths, or one alone
+abbrev stream_keys : Bool → List Key
+stream_keys several = key.Name ∷ routes_keys several ++ behind_routes
+
+-- what is not missing in a stream's table
+record IsWhole (e : Entry) : Type 0 where
+  name : is_missing e key.Name ≡ false
+  path : is_missing e key.Path ≡ false
+  from : is_missing e key.From ≡ false
+  to : is_missing e key.To ≡ false
+  behind : All (λ (k : Key). is_missing e k ≡ false) behind_routes
+
+-- of the keys behind the routes that at a place is not missing
+behind_missing : (e : Entry) → IsWhole e → (i : ℕ) → i < length behind_routes
+    → is_missing e (get_or behind_routes i key.Name) ≡ false
+behind_missing e w i below = All-get_or (λ (k : Key). is_missing e k ≡ false) behind_routes i key.Name below w.behind
+
+whole_from : (e : Entry) → is_missing e key.Name ≡ false → is_missing e key.Path ≡ false
+    → All (λ (k : Key). is_missing e k ≡ false) (key.From ∷ key.To ∷ behind_routes) → IsWhole e
+whole_from e name path rest =
+    let P : Key → Type 0 = λ k. is_missing e k ≡ false in
+    let behind : All P (key.To ∷ behind_routes) = All-tail P key.From (key.To ∷ behind_routes) rest in
+    record {
+      name = name;
+      path = path;
+      from = All-head P key.From (key.To ∷ behind_routes) rest;
+      to = All-head P key.To behind_routes behind;
+      behind = All-tail P key.To behind_routes behind;
+    }
+
+whole_alone : (e : Entry) → All (λ (k : Key). is_missing e k ≡ false) (stream_keys false) → IsWhole e
+whole_alone e all =
+    let P : Key → Type 0 = λ k. is_missing e k ≡ false in
+    let routes : All P (routes_keys false ++ behind_routes) =
+    All-tail P key.Name (routes_keys false ++ behind_routes) all in
+    whole_from e (All-head P key.Name (routes_keys false ++ behind_routes) all)
+    (All-head P key.Path (key.From ∷ key.To ∷ behind_routes) routes)
+    (All-tail P key.Path (key.From ∷ key.To ∷ behind_routes) routes)
+
+whole_several : (e : Entry) → All (λ (k : Key). is_missing e k ≡ false) (stream_keys true) → IsWhole e
+whole_several e all =
+    let P : Key → Type 0 = λ k. is_missing e k ≡ false in
+    let routes : All P (routes_keys true ++ behind_routes) =
+    All-tail P key.Name (routes_keys true ++ behind_routes) all in
+    let paths : All P (key.Paths ∷ key.From ∷ key.To ∷ behind_routes) =
+    All-tail P key.Path (key.Paths ∷ key.From ∷ key.To ∷ behind_routes) routes in
+    whole_from e (All-head P key.Name (routes_keys true ++ behind_routes) all)
+    (All-head P key.Path (key.Paths ∷ key.From ∷ key.To ∷ behind_routes) routes)
+    (All-tail P key.Paths (key.From ∷ key.To ∷ behind_routes) paths)
+
+-- which keys a stream's table has in a format, and what is not missing where it is complete
+record IsOf (e : Entry) : Type 0 where
+  several : Bool
+  may : may_branch e.format e.table ≡ several
+  keys : keys_in e ≡ stream_keys several
+  whole : IsComplete e → IsWhole e
+
+of_format : (f : Format) (n : ℕ) (ms : Members) → IsOf (entry_of f Stream n ms)
+of_format One n ms =
+    record { several = false; may = refl; keys = refl; whole = λ c. whole_alone (entry_of One Stream n ms) c }
+of_format Two n ms =
+    record { several = false; may = refl; keys = refl; whole = λ c. whole_alone (entry_of Two Stream n ms) c }
+of_format Three n ms =
+    record { several = true; may = refl; keys = refl; whole = λ c. whole_several (entry_of Three Stream n ms) c }
+
+-- the keys of a stream, whose numbers are read as one
+keys_told : {N : Type 0} (e : Entry) (several : Bool) (numbers : Result N DocumentFault)
+    (last : List ℕ → List file.DeclaredRoute → List ℕ → N → Option (ℕ × ℕ) → file.DeclaredStream)
+    → may_branch e.format e.table ≡ several → IsWhole e → Told (λ (x : N). Any x) (wrongs e number_keys) numbers
+    → Told (λ (x : file.DeclaredStream). Any x) (wrongs e (stream_keys several))
+    (name_at e key.Name >>= λ name. routes_at e >>= λ routes. classes_at e >>= λ classes.
+    numbers >>= λ m. identity_at e >>= λ identity. Ok (last name routes classes m identity))
+keys_told {N} e several numbers last may w told =
+    let G : file.DeclaredStream → Type 0 = λ x. Any x in
+    next_key e key.Name (routes_keys several ++ behind_routes) name_in G
+    (λ name. routes_at e >>= λ routes. classes_at e >>= λ classes.
+    numbers >>= λ m. identity_at e >>= λ identity. Ok (last name routes classes m identity))
+    (stands (has e key.Name) w.name) refl
+    (λ name is. chained_keys e (λ (x : List file.DeclaredRoute). Any x) G (routes_keys several) behind_routes
+    (routes_at e) (λ routes. classes_at e >>= λ classes. numbers >>= λ m. identity_at e
+    >>= λ identity. Ok (last name routes classes m identity))
+    (routes_told e several may w.path w.from w.to)
+    (λ routes known. chained_keys e (λ (x : List ℕ). Any x) G class_keys (key.RateBps
+    ∷ key.BurstBits ∷ key.MinOctets ∷ key.MaxOctets ∷ key.DeadlineNs ∷ key.Address ∷ key.Vlan ∷ []) (classes_at e)
+    (λ classes. numbers >>= λ m. identity_at e >>= λ identity. Ok (last name routes classes m identity))
+    (classes_told e (behind_missing e w 0 (omega arith)))
+    (λ classes known. chained_keys e (λ (x : N). Any x) G number_keys (key.Address ∷ key.Vlan ∷ []) numbers
+    (λ m. identity_at e >>= λ identity. Ok (last name routes classes m identity)) told
+    (λ m known. chained_keys e (λ (x : Option (ℕ × ℕ)). Any x) G identity_keys [] (identity_at e)
+    (λ identity. Ok (last name routes classes m identity))
+    (identity_told e (behind_missing e w 7 (omega arith)) (behind_missing e w 8 (omega arith)))
+    (λ identity known. (refl, tt))))))
 
 -- a stream, whose numbers are read as one
-stream_by : {N : Type 0} (f : Format) (n : ℕ) (ms : Members) (numbers : Result N DocumentFault)
-    (last : List ℕ → file.DeclaredRoute → List ℕ → N → Option (ℕ × ℕ) → file.DeclaredStream)
-    → (IsComplete (entry_of f Stream n ms)
-    → Told (λ (x : N). Any x) (wrongs (entry_of f Stream n ms) number_keys) numbers)
-    → Told (λ (x : file.DeclaredStream). Any x) (table_fault (entry_of f Stream n ms))
-    (formed (entry_of f Stream n ms) >>= λ u. name_at (entry_of f Stream n ms) key.Name >>= λ name.
-    route_at (entry_of f Stream n ms) >>= λ route. classes_at (entry_of f Stream n ms) >>= λ classes.
-    numbers >>= λ m. identity_at (entry_of f Stream n ms) >>= λ identity. Ok (last name route classes m identity))
-stream_by {N} f n ms numbers last told =
-    let e : Entry = entry_of f Stream n ms in
-    let G : file.DeclaredStream → Type 0 = λ x. Any x in
-    table_told e (λ u. name_at e key.Name >>= λ name. route_at e >>= λ route. classes_at e >>= λ classes.
-    numbers >>= λ m. identity_at e >>= λ identity. Ok (last name route classes m identity))
-    (λ u c. next_key e key.Name (key.Path ∷ key.From ∷ key.To ∷ key.Class ∷ key.Classes ∷ key.RateBps
-    ∷ key.BurstBits ∷ key.MinOctets ∷ key.MaxOctets ∷ key.DeadlineNs ∷ key.Address ∷ key.Vlan ∷ []) name_in G
-    (λ name. route_at e >>= λ route. classes_at e >>= λ classes.
-    numbers >>= λ m. identity_at e >>= λ identity. Ok (last name route classes m identity))
-    (stands (has e key.Name) (not_missing e 0 c (omega arith))) refl
-    (λ name is. chained_keys e (λ (x : file.DeclaredRoute). Any x) G route_keys (key.Class ∷ key.Classes ∷ key.RateBps
-    ∷ key.BurstBits ∷ key.MinOctets ∷ key.MaxOctets ∷ key.DeadlineNs ∷ key.Address ∷ key.Vlan ∷ []) (route_at e)
-    (λ route. classes_at e >>= λ classes. numbers >>= λ m. identity_at e
-    >>= λ identity. Ok (last name route classes m identity))
-    (route_told e (not_missing e 1 c (omega arith)) (not_missing e 2 c (omega arith))
-    (not_missing e 3 c (omega arith)))
-    (λ route known. chained_keys e (λ (x : List ℕ). Any x) G class_keys (key.RateBps
-    ∷ key.BurstBits ∷ key.MinOctets ∷ key.MaxOctets ∷ key.DeadlineNs ∷ key.Address ∷ key.Vlan ∷ []) (classes_at e)
-    (λ classes. numbers >>= λ m. identity_at e >>= λ identity. Ok (last name route classes m identity))
-    (classes_told e (not_missing e 4 c (omega arith)))
-    (λ classes known. chained_keys e (λ (x : N). Any x) G number_keys (key.Address ∷ key.Vlan ∷ []) numbers
-    (λ m. identity_at e >>= λ identity. Ok (last name route classes m identity)) (told c)
-    (λ m known. chained_keys e (λ (x : Option (ℕ × ℕ)). Any x) G identity_keys [] (identity_at e)
-    (λ identity. Ok (last name route classes m identity))
-    (identity_told e (not_missing e 11 c (omega arith)) (not_missing e 12 c (omega arith)))
-    (λ identity known. (refl, tt)))))))
+stream_by : {N : Type 0} (e : Entry) (numbers : Result N DocumentFault)
+    (last : List ℕ → List file.DeclaredRoute → List ℕ → N → Option (ℕ × ℕ) → file.DeclaredStream) → IsOf e
+    → (IsWhole e → Told (λ (x : N). Any x) (wrongs e number_keys) numbers)
+    → Told (λ (x : file.DeclaredStream). Any x) (table_fault e)
+    (formed e >>= λ u. name_at e key.Name >>= λ name. routes_at e >>= λ routes. classes_at e >>= λ classes.
+    numbers >>= λ m. identity_at e >>= λ identity. Ok (last name routes classes m identity))
+stream_by {N} e numbers last of told =
+    let read : Result file.DeclaredStream DocumentFault =
+    name_at e key.Name >>= λ name. routes_at e >>= λ routes. classes_at e >>= λ classes.
+    numbers >>= λ m. identity_at e >>= λ identity. Ok (last name routes classes m identity) in
+    table_told e (λ u. read)
+    (λ u c. subst (λ (ks : List Key). Told (λ (x : file.DeclaredStream). Any x) (wrongs e ks) read) (sym of.keys)
+    (keys_told e of.several numbers last of.may (of.whole c) (told (of.whole c))))
 
 pub stream_told : (f : Format) (n : ℕ) (ms : Members)
     → Told (λ (x : file.DeclaredStream). Any x) (table_fault (entry_of f Stream n ms))
     (stream_in (entry_of f Stream n ms))
 stream_told f n ms =
     let e : Entry = entry_of f Stream n ms in
-    stream_by f n ms (numbers_in e) (λ name route classes m identity. record {
+    stream_by e (numbers_in e) (λ name routes classes m identity. record {
       name = name;
-      route = route;
+      routes = routes;
       classes = classes;
       rate_bps = m.rate_bps;
       burst_bits = m.burst_bits;
@@ -225,17 +302,23 @@ stream_told f n ms =
       max_octets = m.max_octets;
       deadline_ns = m.deadline_ns;
       identity = identity;
-    })
-    (λ c. numbers_by e (numbers_in e) (λ r b l m d. record {
+    }) (of_format f n ms)
+    (λ w. numbers_by e (numbers_in e) (λ r b l m d. record {
       rate_bps = r;
       burst_bits = b;
       min_octets = l;
       max_octets = m;
       deadline_ns = d;
-    }) refl c (stands (has e key.RateBps) (not_missing e 6 c (omega arith)))
-    (stands (has e key.BurstBits) (not_missing e 7 c (omega arith)))
-    (stands (has e key.MinOctets) (not_missing e 8 c (omega arith)))
-    (stands (has e key.MaxOctets) (not_missing e 9 c (omega arith))))
+    }) refl (stands (has e key.RateBps) (behind_missing e w 2 (omega arith)))
+    (stands (has e key.BurstBits) (behind_missing e w 3 (omega arith)))
+    (stands (has e key.MinOctets) (behind_missing e w 4 (omega arith)))
+    (stands (has e key.MaxOctets) (behind_missing e w 5 (omega arith))))
+
+-- a flow has one listener, in each format
+flow_alone : (f : Format) → may_branch f Flow ≡ false
+flow_alone One = refl
+flow_alone Two = refl
+flow_alone Three = refl
 
 pub flow_told : (f : Format) (n : ℕ) (ms : Members)
     → Told (λ (x : file.DeclaredFlow). Any x) (table_fault (entry_of f Flow n ms)) (flow_in (entry_of f Flow n ms))
@@ -251,7 +334,7 @@ flow_told f n ms =
     (stands (has e key.Name) (not_missing e 0 c (omega arith))) refl
     (λ name is. chained_keys e (λ (x : file.DeclaredRoute). Any x) G route_keys (key.MaxOctets ∷ []) (route_at e)
     (λ route. long_at e key.MaxOctets >>= λ most. last name route most)
-    (route_told e (not_missing e 1 c (omega arith)) (not_missing e 2 c (omega arith))
+    (route_told e (flow_alone f) (not_missing e 1 c (omega arith)) (not_missing e 2 c (omega arith))
     (not_missing e 3 c (omega arith)))
     (λ route known. next_key e key.MaxOctets [] long_in G (λ most. last name route most)
     (stands (has e key.MaxOctets) (not_missing e 4 c (omega arith))) refl (λ most is. (refl, tt)))))

@@ -1,4 +1,5 @@
 pub mod Paths
+pub mod Routed
 pub mod Entries
 pub mod FoundFaults
 pub mod FirstFaults
@@ -16,3 +17,8 @@ pub mod FormStreams
 pub mod FormArrays
 pub mod PassedOn
 pub mod Named
+pub mod Several
+pub mod Formats
+pub mod WrittenPaths
+pub mod ByPath
+pub mod EndsMeant

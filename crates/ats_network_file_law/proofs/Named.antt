@@ -1,4 +1,4 @@
--- Each sender that a text declares has a proper name.
+-- Each node and each sender that a text declares has a proper name.
 use Rattle.std.proofs.Common.{◌≡◌, ◌∙◌, ℕ, ◌-◌, Bool, true, false, cond, List, [], ◌∷◌, ◌++◌, length}
 use Rattle.std.proofs.Common.{map, Option, Some, None, Result, Ok, Err, refl, sym, ap, subst}
 use Rattle.std.specs.Prelude.{IsTrue, nat_lt, option_and_then}
@@ -7,13 +7,14 @@ use Rattle.std.proofs.lemmas.List.Elements.{All-append, All-cons, All-head, All-
 use Rattle.toml.specs.Data.{Data, Members, as_str, get_member}
 use Rattle.ats_num.specs.Name.{is_name, name_of}
 use Rattle.ats_num.specs.Failure.{◌>>=◌, or_fault}
+use Rattle.ats_topology.specs.declared.node.Node.{Node}
 use Rattle.ats_streams.specs.Stream.{DeclaredStream}
 use Rattle.ats_streams.specs.Flow.{DeclaredFlow}
 use Rattle.ats_network.specs.Network.{DeclaredNetwork}
 use Rattle.ats_network.specs.Sender.{Sender, flow_sender, stream_sender}
 use Rattle.ats_network_table.specs.Kinds.{name_in}
-use Rattle.ats_network_table.specs.Walk.{Entry, classes_at, formed, identity_at, long_at, name_at, wrong_kind}
-use Rattle.ats_network_table.specs.Words.{key_text}
+use Rattle.ats_network_table.specs.Walk.{Entry, classes_at, formed, identity_at, long_at, name_at, short_at, wrong_kind}
+use Rattle.ats_network_table.specs.Words.{greatest_processing_key, key_text, least_processing_key}
 use Rattle.ats_network_table.specs.declared.fault.DocumentFault.{DocumentFault}
 use Rattle.ats_network_table.specs.declared.fault.DocumentFault.TheVariants as fault
 use Rattle.ats_network_table.specs.declared.format.Format.{Format}
@@ -22,17 +23,18 @@ use Rattle.ats_network_table.specs.declared.key.Key.TheVariants as key
 use Rattle.ats_network_table.specs.declared.table.Table.{Table}
 use Rattle.ats_network_table.specs.declared.table.Table.TheVariants as table
 use Rattle.ats_network_toml.specs.Document as file
-use Rattle.ats_network_toml.specs.Entries.{bridge_in, flow_in, link_in, numbers_in, route_at, station_in, stream_in}
+use Rattle.ats_network_toml.specs.Entries.{bridge_in, flow_in, link_in, numbers_in, route_at, routes_at}
+use Rattle.ats_network_toml.specs.Entries.{station_in, stream_in}
 use Rattle.ats_network_toml.specs.Reading.{Arrays, arrays_in, arrays_read, document_in, document_of, entries_from}
 use Rattle.ats_network_toml.specs.Reading.{entries_in, tree_of}
 use Rattle.ats_network_toml.specs.declared.entries.BridgeEntry.{BridgeEntry}
 use Rattle.ats_network_toml.specs.declared.entries.LinkEntry.{LinkEntry}
 use Rattle.ats_network_toml.specs.declared.entries.StationEntry.{StationEntry}
-use Rattle.ats_network_file.specs.Reading.{network_in, tables_of}
+use Rattle.ats_network_file.specs.Reading.{bridge_of, network_in, nodes_of, station_of, tables_of}
 use Rattle.ats_network_file.proofs.Documents.{entries_kept}
 use Rattle.ats_network_file.proofs.Steps.{both, or_fault_ok}
 use Rattle.ats_network_file_law.specs.Entries.{IsFlowOf, IsNetworkOf, IsStreamOf}
-use Rattle.ats_network_file_law.specs.Named.{EachSenderIsNamed}
+use Rattle.ats_network_file_law.specs.Named.{EachNodeIsNamed, EachSenderIsNamed}
 use Rattle.ats_network_file_law.proofs.Entries.{each_entry_stands}
 
 -- a proper name
@@ -67,13 +69,32 @@ made_named {A} {B} name_of name (Ok a) made x same h =
     let is : made a ≡ x = cc h in
     sym (same a) ∙ ap name_of is
 
+-- the entries of stations and bridges
+station_kept : (e : Entry) (s : StationEntry) → station_in e ≡ Ok s → IsNamed s.name
+station_kept e s h =
+    let well = both (formed e) _ s h in
+    let name = both (name_at e key.Name) _ s well.then in
+    let made : StationEntry = record { name = name.first } in
+    let same : made ≡ s = cc (name.then) in
+    subst (λ (x : StationEntry). IsNamed x.name) same (name_kept e name.first name.is)
+
+bridge_kept : (e : Entry) (b : BridgeEntry) → bridge_in e ≡ Ok b → IsNamed b.name
+bridge_kept e b h =
+    let well = both (formed e) _ b h in
+    let name = both (name_at e key.Name) _ b well.then in
+    let least = both (short_at e (least_processing_key e.format)) _ b name.then in
+    let most = both (short_at e (greatest_processing_key e.format)) _ b least.then in
+    subst IsNamed
+    (made_named (λ (b : BridgeEntry). b.name) name.first (short_at e key.ResidenceNs) _ b (λ n. refl) most.then)
+    (name_kept e name.first name.is)
+
 -- the entries of streams and flows
 stream_kept : (e : Entry) (s : file.DeclaredStream) → stream_in e ≡ Ok s → IsNamed s.name
 stream_kept e s h =
     let well = both (formed e) _ s h in
     let name = both (name_at e key.Name) _ s well.then in
-    let route = both (route_at e) _ s name.then in
-    let classes = both (classes_at e) _ s route.then in
+    let routes = both (routes_at e) _ s name.then in
+    let classes = both (classes_at e) _ s routes.then in
     let numbers = both (numbers_in e) _ s classes.then in
     subst IsNamed
     (made_named (λ (s : file.DeclaredStream). s.name) name.first (identity_at e) _ s (λ o. refl) numbers.then)
@@ -101,6 +122,8 @@ array_kept {A} P read keeps f t most tables xs h = by (nat_lt most (length table
 
 -- those of a document
 record AreNamed (d : file.DeclaredDocument) : Type 0 where
+  stations : All (λ (s : StationEntry). IsNamed s.name) d.stations
+  bridges : All (λ (b : BridgeEntry). IsNamed b.name) d.bridges
   streams : All (λ (s : file.DeclaredStream). IsNamed s.name) d.streams
   flows : All (λ (f : file.DeclaredFlow). IsNamed f.name) d.flows
 
@@ -108,6 +131,9 @@ arrays_from : (stations : Result (List StationEntry) DocumentFault)
     (bridges : List StationEntry → Result (List BridgeEntry) DocumentFault)
     (links : Result (List LinkEntry) DocumentFault) (streams : Result (List file.DeclaredStream) DocumentFault)
     (flows : Result (List file.DeclaredFlow) DocumentFault)
+    → ((xs : List StationEntry) → stations ≡ Ok xs → All (λ (s : StationEntry). IsNamed s.name) xs)
+    → ((before : List StationEntry) (xs : List BridgeEntry) → bridges before ≡ Ok xs
+    → All (λ (b : BridgeEntry). IsNamed b.name) xs)
     → ((xs : List file.DeclaredStream) → streams ≡ Ok xs → All (λ (s : file.DeclaredStream). IsNamed s.name) xs)
     → ((xs : List file.DeclaredFlow) → flows ≡ Ok xs → All (λ (f : file.DeclaredFlow). IsNamed f.name) xs)
     → (d : file.DeclaredDocument)
@@ -115,15 +141,19 @@ arrays_from : (stations : Result (List StationEntry) DocumentFault)
     >>= λ streams. flows >>= λ flows.
     Ok (record { stations = stations; bridges = bridges; links = links; streams = streams; flows = flows })) ≡ Ok d
     → AreNamed d
-arrays_from stations bridges links streams flows streams_named flows_named d h =
+arrays_from stations bridges links streams flows stations_named bridges_named streams_named flows_named d h =
     let a = both stations _ d h in
     let b = both (bridges a.first) _ d a.then in
     let c = both links _ d b.then in
     let s = both streams _ d c.then in
     let f = both flows _ d s.then in
+    let stations_are : a.first ≡ d.stations = cc (f.then) in
+    let bridges_are : b.first ≡ d.bridges = cc (f.then) in
     let streams_are : s.first ≡ d.streams = cc (f.then) in
     let flows_are : f.first ≡ d.flows = cc (f.then) in
     record {
+      stations = subst (All (λ (s : StationEntry). IsNamed s.name)) stations_are (stations_named a.first a.is);
+      bridges = subst (All (λ (b : BridgeEntry). IsNamed b.name)) bridges_are (bridges_named a.first b.first b.is);
       streams = subst (All (λ (s : file.DeclaredStream). IsNamed s.name)) streams_are (streams_named s.first s.is);
       flows = subst (All (λ (f : file.DeclaredFlow). IsNamed f.name)) flows_are (flows_named f.first f.is);
     }
@@ -135,6 +165,10 @@ arrays_kept arrays d h =
     (λ stations. entries_in bridge_in f table.Bridge (1024 - length stations) arrays.bridges)
     (entries_in link_in f table.Link 2048 arrays.links) (entries_in stream_in f table.Stream 4096 arrays.streams)
     (entries_in flow_in f table.Flow 1024 arrays.flows)
+    (λ xs is. array_kept (λ (s : StationEntry). IsNamed s.name) station_in station_kept f table.Station 1024
+    arrays.stations xs is)
+    (λ before xs is. array_kept (λ (b : BridgeEntry). IsNamed b.name) bridge_in bridge_kept f table.Bridge
+    (1024 - length before) arrays.bridges xs is)
     (λ xs is. array_kept (λ (s : file.DeclaredStream). IsNamed s.name) stream_in stream_kept f table.Stream 4096
     arrays.streams xs is)
     (λ xs is. array_kept (λ (l : file.DeclaredFlow). IsNamed l.name) flow_in flow_kept f table.Flow 1024
@@ -182,3 +216,17 @@ each_sender_is_named text network h =
     let document = tables_are (document_of text) read.first read.is in
     network_named read.first network (each_entry_stands text read.first network document h)
     (document_kept text read.first document)
+
+nodes_named : (d : file.DeclaredDocument) → AreNamed d → All (λ (n : Node). IsNamed n.name) (nodes_of d)
+nodes_named d named =
+    All-append (λ (n : Node). IsNamed n.name) (map station_of d.stations) (map bridge_of d.bridges)
+    (All-map (λ (n : Node). IsNamed n.name) station_of d.stations named.stations)
+    (All-map (λ (n : Node). IsNamed n.name) bridge_of d.bridges named.bridges)
+
+pub each_node_is_named : EachNodeIsNamed
+each_node_is_named text network h =
+    let read = both (tables_of (document_of text)) network_in network h in
+    let document = tables_are (document_of text) read.first read.is in
+    let stands = each_entry_stands text read.first network document h in
+    subst (λ (nodes : List Node). All (λ (n : Node). IsNamed n.name) nodes) (sym stands.nodes)
+    (nodes_named read.first (document_kept text read.first document))

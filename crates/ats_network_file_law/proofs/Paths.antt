@@ -20,22 +20,22 @@ use Rattle.ats_network_file.specs.Routes.{port_to, ports_of, ports_onward}
 use Rattle.ats_network_file_law.specs.Entries.{IsPathOf, names_along}
 
 -- what an option and then a function of its value gave
-record Then {A B : Type 0} (o : Option A) (f : A → Option B) (y : B) : Type 0 where
-  first : A
-  is : o ≡ Some first
-  next : f first ≡ Some y
+pub record Then {A B : Type 0} (o : Option A) (f : A → Option B) (y : B) : Type 0 where
+  pub first : A
+  pub is : o ≡ Some first
+  pub next : f first ≡ Some y
 
-and_then : {A B : Type 0} (o : Option A) (f : A → Option B) (y : B) → option_and_then f o ≡ Some y → Then o f y
+pub and_then : {A B : Type 0} (o : Option A) (f : A → Option B) (y : B) → option_and_then f o ≡ Some y → Then o f y
 and_then None f y h = cc h
 and_then (Some x) f y h = record { first = x; is = refl; next = h }
 
 -- what a function made of the value of an option
-record Mapped {A B : Type 0} (f : A → B) (o : Option A) (y : B) : Type 0 where
-  value : A
-  is : o ≡ Some value
-  made : f value ≡ y
+pub record Mapped {A B : Type 0} (f : A → B) (o : Option A) (y : B) : Type 0 where
+  pub value : A
+  pub is : o ≡ Some value
+  pub made : f value ≡ y
 
-mapped : {A B : Type 0} (f : A → B) (o : Option A) (y : B) → option_map f o ≡ Some y → Mapped f o y
+pub mapped : {A B : Type 0} (f : A → B) (o : Option A) (y : B) → option_map f o ≡ Some y → Mapped f o y
 mapped f None y h = cc h
 mapped f (Some x) y h = record { value = x; is = refl; made = cc h }
 

@@ -1,14 +1,17 @@
 -- The entries of streams and flows, each behind those that were added.
-use Rattle.std.proofs.Common.{◌≡◌, ◌∙◌, ℕ, ◌+◌, ◌*◌, ◌≤◌, Bool, true, false, cond, List, [], ◌∷◌, ◌++◌, length, map}
-use Rattle.std.proofs.Common.{Option, Some, None, refl, sym, ap, subst, arith, append_assoc, length-append}
-use Rattle.std.specs.Prelude.{◌||◌, is_some, filter, nat_le}
-use Rattle.std.specs.List.{list_any, position_from}
+use Rattle.std.proofs.Common.{◌≡◌, ◌∙◌, ◌⊎◌, ℕ, ◌+◌, ◌≤◌, ◌<◌, Bool, true, false, cond, List, [], ◌∷◌, ◌++◌, length}
+use Rattle.std.proofs.Common.{map, Option, Some, None, Result, Ok, inl, inr, refl, sym, ap, subst, arith, append_assoc}
+use Rattle.std.proofs.Common.{length-append}
+use Rattle.std.specs.Prelude.{◌||◌, is_some, filter, nat_le, nat_lt}
+use Rattle.std.specs.List.{AllZip, list_any, position_from}
+use Rattle.std.proofs.lemmas.Bool.{le-leb, leb-true, lt-ltb, ltb-true}
 use Rattle.std.proofs.lemmas.List.{append-nil, map-append}
 use Rattle.std.proofs.lemmas.List.Elements.{filter-append}
 use Rattle.std.proofs.lemmas.List.Sums.{sum_by_push}
+use Rattle.ats_num.specs.Failure.{◌>>=◌}
 use Rattle.ats_num.specs.Places.{place_of}
 use Rattle.ats_topology.specs.Topology.{DeclaredTopology}
-use Rattle.ats_streams.specs.Stream.{DeclaredStream, stream_fault}
+use Rattle.ats_streams.specs.Stream.{DeclaredStream}
 use Rattle.ats_streams.specs.Flow.{DeclaredFlow}
 use Rattle.ats_network.specs.Network.{DeclaredNetwork, names_of, ports_together, senders_of}
 use Rattle.ats_network.specs.Pushes.{flow_push_fault, has_identity, is_identity, is_identity_taken, stream_push_fault}
@@ -16,18 +19,22 @@ use Rattle.ats_network.specs.Pushes.{is_full, with_flow, with_stream}
 use Rattle.ats_network.specs.Tables.{flow_names, stream_identities, stream_names}
 use Rattle.ats_network.specs.declared.fault.PushFault.{PushFault}
 use Rattle.ats_network.specs.declared.fault.PushFault.TheVariants.{NameTaken, IdentityTaken, Limit}
-use Rattle.ats_network.specs.declared.network.TheConstants.{MAX_FLOWS, MAX_STREAMS}
+use Rattle.ats_network.specs.declared.network.TheConstants.{MAX_FLOWS, MAX_PORTS_TOGETHER, MAX_STREAMS}
 use Rattle.ats_network.proofs.NameLemmas.{names_of-senders}
-use Rattle.ats_network.proofs.Together.{full_where_few}
+use Rattle.ats_route_tree.specs.Legs.{DeclaredLegs}
 use Rattle.ats_network_toml.specs.Document as file
-use Rattle.ats_network_file.specs.Senders.{flow_added, flow_over, stream_added, stream_over}
+use Rattle.ats_network_file.specs.Senders.{flow_added, flow_over, legs_in, path_in, stream_added, stream_over}
 use Rattle.ats_network_file.specs.declared.senders.SenderTable.{SenderTable}
 use Rattle.ats_network_file.specs.declared.senders.SenderTable.TheVariants.{Flow, Stream}
-use Rattle.ats_network_file_law.specs.SenderFaults.{HasFault, IsAt, SenderEntry, count_in, flow, identity_in}
-use Rattle.ats_network_file_law.specs.SenderFaults.{is_identity_given}
-use Rattle.ats_network_file_law.specs.SenderFaults.{name_in, stands_in, stream}
-use Rattle.ats_network_file_law.proofs.Entries.{AddsFlow, AddsStream, flow_stands, path_ruled, stream_stands}
-use Rattle.ats_network_file_law.proofs.SenderSteps.{due, fault_had, had_given}
+use Rattle.ats_network_file.specs.declared.fault.NetFault.{NetFault}
+use Rattle.ats_network_file_law.specs.SenderFaults as law
+use Rattle.ats_network_file_law.specs.SenderFaults.{IsAt, IsPortsPast, IsRouted, SenderEntry, count_in, flow}
+use Rattle.ats_network_file_law.specs.SenderFaults.{identity_in, is_identity_given, name_in, stands_in, stream}
+use Rattle.ats_network_file_law.proofs.Ends.{grouped}
+use Rattle.ats_network_file_law.proofs.Entries.{AddsFlow, AddsStream, flow_stands, stream_stands}
+use Rattle.ats_network_file_law.proofs.Routed.{Reads, alone, flow_reads, routed_once, stream_reads, zipped_more}
+use Rattle.ats_network_file_law.proofs.Routed.{zipped_once}
+use Rattle.ats_network_file_law.proofs.SenderSteps.{IsOver, Judges, fault_had, had_given, onward}
 use Rattle.ats_network_file_law.proofs.SenderWalks.{TellsOne}
 
 -- a network has the streams of these entries, and the next one has this number
@@ -37,7 +44,9 @@ pub record StreamsStand (topology : DeclaredTopology) (done : List SenderEntry) 
     pub names : stream_names s.streams ≡ map name_in done
     pub identities : stream_identities s.streams ≡ map identity_in done
     pub many : length s.streams ≡ count_in Stream done
-    pub few_ports : ports_together s.streams ≤ 16 * length s.streams
+    pub legs : List DeclaredLegs
+    pub routed : AllZip (IsRouted topology) (filter (stands_in Stream) done) legs
+    pub ports : ports_together s.streams ≡ law.ports_together legs
     pub flows : s.flows ≡ []
     pub no_flows : count_in Flow done ≡ 0
     pub next : n ≡ count_in Stream done + 1
@@ -96,6 +105,21 @@ names_there topology done s n h =
     names_of-senders s ∙ ap (λ fs. stream_names s.streams ++ flow_names fs) h.flows
     ∙ append-nil (stream_names s.streams) ∙ h.names
 
+-- the legs of the streams with one more
+legs_next : (topology : DeclaredTopology) (done : List SenderEntry) (legs : List DeclaredLegs) (e : file.DeclaredStream)
+    (own : DeclaredLegs) → AllZip (IsRouted topology) (filter (stands_in Stream) done) legs
+    → IsRouted topology (stream e) own
+    → AllZip (IsRouted topology) (filter (stands_in Stream) (done ++ stream e ∷ [])) (legs ++ own ∷ [])
+legs_next topology done legs e own routed one =
+    subst (λ (es : List SenderEntry). AllZip (IsRouted topology) es (legs ++ own ∷ []))
+    (sym (filter-append (stands_in Stream) done (stream e ∷ [])))
+    (zipped_more (IsRouted topology) (filter (stands_in Stream) done) legs (stream e) own routed one)
+
+-- and their ports
+together_more : (legs : List DeclaredLegs) (own : DeclaredLegs)
+    → law.ports_together (legs ++ own ∷ []) ≡ law.ports_together legs + length own.ports
+together_more legs own = sum_by_push (λ (l : DeclaredLegs). length l.ports) legs own
+
 stream_next : (topology : DeclaredTopology) (done : List SenderEntry) (s : DeclaredNetwork) (n : ℕ)
     (e : file.DeclaredStream) (next : DeclaredNetwork) → StreamsStand topology done s n
     → AddsStream s next e → StreamsStand topology (done ++ stream e ∷ []) next (n + 1)
@@ -111,8 +135,7 @@ stream_next topology done s n e next h a =
     let ports : ports_together next.streams ≡ ports_together s.streams + length a.stream.ports =
     ap (λ (m : DeclaredNetwork). ports_together m.streams) a.added
     ∙ sum_by_push (λ (t : DeclaredStream). length t.ports) s.streams a.stream in
-    let grown : length next.streams ≡ length s.streams + 1 =
-    ap (λ (m : DeclaredNetwork). length m.streams) a.added ∙ long in
+    let own : length a.stream.ports ≡ length a.legs.ports = ap (λ (ps : List ℕ). length ps) a.ports in
     record {
       over = ap (λ (m : DeclaredNetwork). m.topology) a.added ∙ h.over;
       names = ap (λ (m : DeclaredNetwork). stream_names m.streams) a.added
@@ -125,41 +148,104 @@ stream_next topology done s n e next h a =
           ∙ ap (λ x. map identity_in done ++ x ∷ []) a.is_of.identity
           ∙ sym (more identity_in done (stream e));
       many = ap (λ (m : DeclaredNetwork). length m.streams) a.added ∙ long ∙ omega (arith, many, counts);
-      few_ports = omega (arith, ports, grown, h.few_ports, a.path.most);
+      legs = h.legs ++ a.legs ∷ [];
+      routed = legs_next topology done h.legs e a.legs h.routed
+          (subst (λ (t : DeclaredTopology). IsRouted t (stream e) a.legs) h.over a.routed);
+      ports = omega (arith, ports, own, h.ports, together_more h.legs a.legs);
       flows = ap (λ (m : DeclaredNetwork). m.flows) a.added ∙ h.flows;
       no_flows = omega (arith, none, flows);
       next = omega (arith, number, counts);
     }
 
--- what a network takes of a stream that breaks no rule, it takes of the entry
-stream_pushes : (topology : DeclaredTopology) (done : List SenderEntry) (s : DeclaredNetwork) (n : ℕ)
-    (e : file.DeclaredStream) (path : List ℕ) → StreamsStand topology done s n
-    → stream_fault e.classes (stream_over path e) ≡ None
-    → stream_push_fault s (stream_over path e) ≡ due done (stream e)
-stream_pushes topology done s n e path h kept =
-    same_push (is_some (place_of e.name (names_of (senders_of s)))) (is_identity_taken s.streams e.identity)
-    (is_full s.streams path) (is_some (place_of e.name (map name_in done)))
-    (is_identity_given done e.identity) (nat_le MAX_STREAMS (count_in Stream done))
-    (ap (λ ns. is_some (place_of e.name ns)) (names_there topology done s n h))
-    (identity_taken s.streams done e.identity h.identities)
-    (full_where_few s.streams path h.few_ports (path_ruled e path kept) ∙ ap (nat_le MAX_STREAMS) h.many)
+-- a network is full just where there are as many streams as may be, or with the entry their ports are too many
+stream_past : (topology : DeclaredTopology) (done : List SenderEntry) (s : DeclaredNetwork) (n : ℕ)
+    (e : file.DeclaredStream) (own : DeclaredLegs) → StreamsStand topology done s n
+    → IsRouted topology (stream e) own → is_full s.streams own.ports ≡ true → IsOver topology done (stream e)
+stream_past topology done s n e own h routed full = by (nat_le MAX_STREAMS (length s.streams)) refl full
+  where
+    together : nat_lt MAX_PORTS_TOGETHER (ports_together s.streams + length own.ports) ≡ true
+        → MAX_PORTS_TOGETHER < law.ports_together (h.legs ++ own ∷ [])
+    together f = omega (
+      arith,
+      ltb-true MAX_PORTS_TOGETHER (ports_together s.streams + length own.ports) f,
+      h.ports,
+      together_more h.legs own,
+    )
+
+    by : (b : Bool) → nat_le MAX_STREAMS (length s.streams) ≡ b
+        → (b || nat_lt MAX_PORTS_TOGETHER (ports_together s.streams + length own.ports)) ≡ true
+        → IsOver topology done (stream e)
+    by true many f = inl (omega (arith, leb-true MAX_STREAMS (length s.streams) many, h.many))
+    by false few f = inr (record {
+      stands = refl;
+      legs = h.legs ++ own ∷ [];
+      routed = zipped_more (IsRouted topology) (filter (stands_in Stream) done) h.legs (stream e) own h.routed routed;
+      past = together f;
+    })
+
+stream_over_full : (topology : DeclaredTopology) (done : List SenderEntry) (s : DeclaredNetwork) (n : ℕ)
+    (e : file.DeclaredStream) (own : DeclaredLegs) → StreamsStand topology done s n
+    → IsRouted topology (stream e) own → IsOver topology done (stream e) → is_full s.streams own.ports ≡ true
+stream_over_full topology done s n e own h routed over = by over
+  where
+    second : (b : Bool) → nat_lt MAX_PORTS_TOGETHER (ports_together s.streams + length own.ports) ≡ true
+        → (b || nat_lt MAX_PORTS_TOGETHER (ports_together s.streams + length own.ports)) ≡ true
+    second true f = refl
+    second false f = f
+
+    by : (MAX_STREAMS ≤ count_in Stream done) ⊎ IsPortsPast topology done (stream e)
+        → is_full s.streams own.ports ≡ true
+    by (inl many) =
+        ap (λ (b : Bool). b || nat_lt MAX_PORTS_TOGETHER (ports_together s.streams + length own.ports))
+        (le-leb MAX_STREAMS (length s.streams) (omega (arith, many, h.many)))
+    by (inr past) =
+        let legs : past.legs ≡ h.legs ++ own ∷ [] =
+        zipped_once (IsRouted topology) (routed_once topology) (filter (stands_in Stream) done ++ stream e ∷ [])
+        past.legs (h.legs ++ own ∷ []) past.routed
+        (zipped_more (IsRouted topology) (filter (stands_in Stream) done) h.legs (stream e) own h.routed routed) in
+        second (nat_le MAX_STREAMS (length s.streams))
+        (lt-ltb MAX_PORTS_TOGETHER (ports_together s.streams + length own.ports) (omega (
+          arith,
+          past.past,
+          ap (λ (ls : List DeclaredLegs). law.ports_together ls) legs,
+          h.ports,
+          together_more h.legs own,
+        )))
+
+-- what a network takes of a stream it takes of the entry
+stream_judges : (topology : DeclaredTopology) (done : List SenderEntry) (s : DeclaredNetwork) (n : ℕ)
+    (e : file.DeclaredStream) → StreamsStand topology done s n
+    → Judges topology done (stream e) (λ legs. stream_over legs e) (stream_push_fault s)
+stream_judges topology done s n e h = record {
+  full = λ legs. is_full s.streams legs.ports;
+  pushes = λ legs. same_push (is_some (place_of e.name (names_of (senders_of s))))
+      (is_identity_taken s.streams e.identity) (is_full s.streams legs.ports)
+      (is_some (place_of e.name (map name_in done))) (is_identity_given done e.identity)
+      (is_full s.streams legs.ports)
+      (ap (λ ns. is_some (place_of e.name ns)) (names_there topology done s n h))
+      (identity_taken s.streams done e.identity h.identities) refl;
+  past = λ legs routed full. stream_past topology done s n e legs h routed full;
+  given = λ legs routed over. stream_over_full topology done s n e legs h routed over;
+}
 
 pub stream_tells : (topology : DeclaredTopology) (done : List SenderEntry) (s : DeclaredNetwork) (n : ℕ)
     (e : file.DeclaredStream) → StreamsStand topology done s n
     → TellsOne topology done (stream e) (stream_added s n e)
     (λ next. StreamsStand topology (done ++ stream e ∷ []) next (n + 1))
 stream_tells topology done s n e h = record {
-  first = λ f is. subst (λ (t : DeclaredTopology). HasFault t done (stream e) f) h.over
-      (fault_had s.topology done (stream e) n (λ path. stream_over path e) (stream_push_fault s) (with_stream s) f at
-      (λ path. stream_pushes topology done s n e path h) is);
-  given = λ f had. had_given s.topology done (stream e) n (λ path. stream_over path e) (stream_push_fault s)
-      (with_stream s) f at (λ path. stream_pushes topology done s n e path h)
-      (subst (λ (t : DeclaredTopology). HasFault t done (stream e) f) (sym h.over) had);
+  first = λ f is. fault_had topology done (stream e) n (legs_in s.topology n e.routes) (λ legs. stream_over legs e)
+      (stream_push_fault s) (with_stream s) f at reads (stream_judges topology done s n e h) is;
+  given = λ f had. had_given topology done (stream e) n (legs_in s.topology n e.routes) (λ legs. stream_over legs e)
+      (stream_push_fault s) (with_stream s) f at reads (stream_judges topology done s n e h) had;
   next = λ next is. stream_next topology done s n e next h (stream_stands s n e next is);
 }
   where
     at : IsAt done (stream e) Stream n
     at = record { stands = refl; counted = h.next }
+
+    reads : Reads topology (stream e) n (legs_in s.topology n e.routes)
+    reads = subst (λ (t : DeclaredTopology). Reads topology (stream e) n (legs_in t n e.routes)) (sym h.over)
+        (stream_reads topology e n)
 
 flow_next : (topology : DeclaredTopology) (done : List SenderEntry) (s : DeclaredNetwork) (n : ℕ)
     (e : file.DeclaredFlow) (next : DeclaredNetwork) → FlowsStand topology done s n
@@ -181,28 +267,47 @@ flow_next topology done s n e next h a =
       next = omega (arith, number, counts);
     }
 
-flow_pushes : (topology : DeclaredTopology) (done : List SenderEntry) (s : DeclaredNetwork) (n : ℕ)
-    (e : file.DeclaredFlow) (path : List ℕ) → FlowsStand topology done s n
-    → flow_push_fault s (flow_over path e) ≡ due done (flow e)
-flow_pushes topology done s n e path h =
-    same_push (is_some (place_of e.name (names_of (senders_of s)))) false
-    (nat_le MAX_FLOWS (length s.flows)) (is_some (place_of e.name (map name_in done)))
-    false (nat_le MAX_FLOWS (count_in Flow done))
-    (ap (λ ns. is_some (place_of e.name ns)) h.names) refl (ap (nat_le MAX_FLOWS) h.many)
+flow_judges : (topology : DeclaredTopology) (done : List SenderEntry) (s : DeclaredNetwork) (n : ℕ)
+    (e : file.DeclaredFlow) → FlowsStand topology done s n
+    → Judges topology done (flow e) (λ legs. flow_over legs.ports e) (flow_push_fault s)
+flow_judges topology done s n e h = record {
+  full = λ legs. nat_le MAX_FLOWS (count_in Flow done);
+  pushes = λ legs. same_push (is_some (place_of e.name (names_of (senders_of s)))) false
+      (nat_le MAX_FLOWS (length s.flows)) (is_some (place_of e.name (map name_in done)))
+      false (nat_le MAX_FLOWS (count_in Flow done))
+      (ap (λ ns. is_some (place_of e.name ns)) h.names) refl (ap (nat_le MAX_FLOWS) h.many);
+  past = λ legs routed full. inl (leb-true MAX_FLOWS (count_in Flow done) full);
+  given = λ legs routed over. by over;
+}
+  where
+    by : (MAX_FLOWS ≤ count_in Flow done) ⊎ IsPortsPast topology done (flow e)
+        → nat_le MAX_FLOWS (count_in Flow done) ≡ true
+    by (inl many) = le-leb MAX_FLOWS (count_in Flow done) many
+    by (inr past) = cc (past.stands)
 
 pub flow_tells : (topology : DeclaredTopology) (done : List SenderEntry) (s : DeclaredNetwork) (n : ℕ)
     (e : file.DeclaredFlow) → FlowsStand topology done s n
     → TellsOne topology done (flow e) (flow_added s n e)
     (λ next. FlowsStand topology (done ++ flow e ∷ []) next (n + 1))
 flow_tells topology done s n e h = record {
-  first = λ f is. subst (λ (t : DeclaredTopology). HasFault t done (flow e) f) h.over
-      (fault_had s.topology done (flow e) n (λ path. flow_over path e) (flow_push_fault s) (with_flow s) f at
-      (λ path kept. flow_pushes topology done s n e path h) is);
-  given = λ f had. had_given s.topology done (flow e) n (λ path. flow_over path e) (flow_push_fault s) (with_flow s) f
-      at (λ path kept. flow_pushes topology done s n e path h)
-      (subst (λ (t : DeclaredTopology). HasFault t done (flow e) f) (sym h.over) had);
+  first = λ f is. fault_had topology done (flow e) n read (λ legs. flow_over legs.ports e) (flow_push_fault s)
+      (with_flow s) f at reads (flow_judges topology done s n e h) (as_legs ∙ is);
+  given = λ f had. sym as_legs ∙ had_given topology done (flow e) n read (λ legs. flow_over legs.ports e)
+      (flow_push_fault s) (with_flow s) f at reads (flow_judges topology done s n e h) had;
   next = λ next is. flow_next topology done s n e next h (flow_stands s n e next is);
 }
   where
     at : IsAt done (flow e) Flow n
     at = record { stands = refl; counted = h.next }
+
+    read : Result DeclaredLegs NetFault
+    read = path_in s.topology n e.route >>= λ path. Ok (alone path)
+
+    reads : Reads topology (flow e) n read
+    reads = subst (λ (t : DeclaredTopology). Reads topology (flow e) n
+        (path_in t n e.route >>= λ path. Ok (alone path))) (sym h.over) (flow_reads topology e n)
+
+    as_legs : (read >>= onward (flow e) n (λ legs. flow_over legs.ports e) (flow_push_fault s) (with_flow s))
+        ≡ flow_added s n e
+    as_legs = grouped (path_in s.topology n e.route) (λ path. Ok (alone path))
+        (onward (flow e) n (λ legs. flow_over legs.ports e) (flow_push_fault s) (with_flow s))

@@ -1,12 +1,13 @@
-use Rattle.std.specs.Prelude.{◌≡◌, ℕ, List, [], length, map, Some, Ok}
+use Rattle.std.specs.Prelude.{◌≡◌, ℕ, List, length, map, Some, Ok}
 use Rattle.std.specs.List.{AllZip}
 use Rattle.ats_num.specs.Places.{place_of}
 use Rattle.ats_topology.specs.Node.{names_of}
 use Rattle.ats_topology.specs.Topology.{DeclaredTopology, node_at}
+use Rattle.ats_streams.specs.Branches.{AreBranches, routes_of}
 use Rattle.ats_streams.specs.Stream.{DeclaredStream, classes_for}
 use Rattle.ats_streams.specs.Flow.{DeclaredFlow}
 use Rattle.ats_network.specs.Network.{DeclaredNetwork}
-use Rattle.ats_network.specs.Path.{IsValidPath, nodes_along}
+use Rattle.ats_network.specs.Path.{IsTree, IsValidPath, nodes_along}
 use Rattle.ats_network.specs.Shortest.{shortest_of}
 use Rattle.ats_network_toml.specs.Document as file
 use Rattle.ats_network_toml.specs.Reading.{document_of}
@@ -30,14 +31,14 @@ abbrev pub IsPathOf : DeclaredTopology → file.DeclaredRoute → List ℕ → T
 IsPathOf topology (file.path names) path = names_along topology path ≡ names
 IsPathOf topology (file.ends from to) path = IsBetweenEnds topology from to path
 
--- a stream is the one of an entry: the same name and numbers, one listener, a valid path, that of the route, and the
--- classes given, a single one of which stands for each port
+-- a stream is the one of an entry: the same name and numbers, legs that make a tree, whose routes are, one by one,
+-- those of the entry, and the classes given, a single one of which stands for each port
 pub record IsStreamOf (topology : DeclaredTopology) (entry : file.DeclaredStream) (stream : DeclaredStream) : Type 0
   where
     pub name : stream.name ≡ entry.name
-    pub one_listener : stream.branches ≡ []
-    pub route : IsPathOf topology entry.route stream.ports
-    pub valid : IsValidPath topology stream.ports
+    pub branches : AreBranches stream.ports stream.branches
+    pub tree : IsTree topology stream.ports stream.branches
+    pub routes : AllZip (IsPathOf topology) entry.routes (routes_of stream.ports stream.branches)
     pub classes : stream.classes ≡ classes_for (length stream.ports) entry.classes
     pub rate : stream.rate ≡ entry.rate_bps
     pub burst : stream.burst_bits ≡ entry.burst_bits

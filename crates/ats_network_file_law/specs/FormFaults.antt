@@ -2,7 +2,7 @@ use Rattle.std.specs.Prelude.{◌≡◌, ◌↔◌, ◌⊎◌, ℕ, ◌+◌, ◌
 use Rattle.std.specs.Prelude.{◌∷◌, ◌++◌, length, All, Option, None, Some, is_some, option_and_then, unwrap_or, Err}
 use Rattle.toml.specs.Data.{Data, Members, get_member}
 use Rattle.ats_network_table.specs.Kinds.{address_in, list_in, long_in, name_in, some_where, whole_in}
-use Rattle.ats_network_table.specs.Walk.{Entry, format_of, has, has_unknown, is_missing}
+use Rattle.ats_network_table.specs.Walk.{Entry, format_of, has, has_unknown, is_missing, may_branch}
 use Rattle.ats_network_table.specs.Words.{key_text, keys_of}
 use Rattle.ats_network_table.specs.declared.format.Format.{Format}
 use Rattle.ats_network_table.specs.declared.format.Format.TheVariants.{One}
@@ -30,13 +30,22 @@ is_kind kind e k = is_some (option_and_then kind (get_member (key_text k) e.memb
 abbrev pub nodes_in : Data → Option (List (List ℕ))
 nodes_in d = option_and_then (λ names. some_where (nat_le 2 (length names)) names) (list_in name_in d)
 
+-- an array of such arrays, one of them at least
+abbrev pub several_in : Data → Option (List (List (List ℕ)))
+several_in d = option_and_then (λ paths. some_where (nat_le 1 (length paths)) paths) (list_in nodes_in d)
+
+-- an array of names, one of them at least
+abbrev pub listeners_in : Data → Option (List (List ℕ))
+listeners_in d = option_and_then (λ names. some_where (nat_le 1 (length names)) names) (list_in name_in d)
+
 -- a whole number of 32 bits
 abbrev pub short_in : Data → Option ℕ
 short_in = whole_in 0 4294967295
 
--- what stands with a key is of the kind that the key asks; a path has none of its ends beside it, and classes no class
+-- what stands with a key is of the kind that the key asks; of a path, paths and ends one kind alone stands, and beside
+-- classes no class; a stream of format 3 may name several listeners
 abbrev pub is_right : Entry → Key → Bool
-is_right e key.Format = is_kind (whole_in 1 2) e key.Format
+is_right e key.Format = is_kind (whole_in 1 3) e key.Format
 is_right e key.Station = is_kind tables_in e key.Station
 is_right e key.Bridge = is_kind tables_in e key.Bridge
 is_right e key.Link = is_kind tables_in e key.Link
@@ -44,10 +53,11 @@ is_right e key.Stream = is_kind tables_in e key.Stream
 is_right e key.Flow = is_kind tables_in e key.Flow
 is_right e key.Name = is_kind name_in e key.Name
 is_right e key.From = is_kind name_in e key.From
-is_right e key.To = is_kind name_in e key.To
+is_right e key.To = is_kind name_in e key.To || (may_branch e.format e.table && is_kind listeners_in e key.To)
 is_right e key.A = is_kind name_in e key.A
 is_right e key.B = is_kind name_in e key.B
-is_right e key.Path = not (has e key.From || has e key.To) && is_kind nodes_in e key.Path
+is_right e key.Path = not (has e key.From || has e key.To || has e key.Paths) && is_kind nodes_in e key.Path
+is_right e key.Paths = not (has e key.Path || has e key.From || has e key.To) && is_kind several_in e key.Paths
 is_right e key.Class = is_kind long_in e key.Class
 is_right e key.Classes = not (has e key.Class) && is_kind (list_in long_in) e key.Classes
 is_right e key.RateBps = is_kind long_in e key.RateBps
@@ -123,7 +133,7 @@ pieces_in format t most tables = array t most (length tables) ∷ tables_from fo
 -- the format that the top table gives, and the tables of an array; where it gives none, format 1 and no tables
 abbrev pub format_told : Entry → Format
 format_told top =
-    format_of (unwrap_or (option_and_then (whole_in 1 2) (get_member (key_text key.Format) top.members)) 1)
+    format_of (unwrap_or (option_and_then (whole_in 1 3) (get_member (key_text key.Format) top.members)) 1)
 
 abbrev pub tables_told : Entry → Key → List Members
 tables_told top k = unwrap_or (option_and_then tables_in (get_member (key_text k) top.members)) []

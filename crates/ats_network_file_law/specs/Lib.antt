@@ -5,3 +5,7 @@ pub mod SenderFaults
 pub mod FormFaults
 pub mod Passed
 pub mod Named
+pub mod OneListener
+pub mod Ends
+pub mod Several
+pub mod Formats

@@ -1,15 +1,15 @@
-use Rattle.std.specs.Prelude.{◌≡◌, ◌↔◌, ℕ, ◌+◌, ◌≤◌, Bool, true, false, List, ◌∷◌, ◌++◌, length, map, filter}
-use Rattle.std.specs.Prelude.{Option, Some, None, is_some, Err}
-use Rattle.std.specs.List.{list_any}
+use Rattle.std.specs.Prelude.{◌≡◌, ◌↔◌, ◌⊎◌, ℕ, ◌+◌, ◌≤◌, ◌<◌, Bool, true, false, List, [], ◌∷◌, ◌++◌, length, map}
+use Rattle.std.specs.Prelude.{filter, sum_by, Option, Some, None, is_some, Err}
+use Rattle.std.specs.List.{AllZip, list_any}
 use Rattle.ats_num.specs.Places.{place_of}
 use Rattle.ats_topology.specs.Faults.{topology_fault}
 use Rattle.ats_topology.specs.Topology.{DeclaredTopology, topology_of}
 use Rattle.ats_streams.specs.Stream.{stream_fault}
 use Rattle.ats_streams.specs.Flow.{flow_fault}
 use Rattle.ats_streams.specs.declared.fault.StreamFault.{StreamFault}
-use Rattle.ats_network.specs.Path.{IsValidPath}
 use Rattle.ats_network.specs.Pushes.{is_identity}
-use Rattle.ats_network.specs.declared.network.TheConstants.{MAX_STREAMS, MAX_FLOWS}
+use Rattle.ats_network.specs.declared.network.TheConstants.{MAX_STREAMS, MAX_FLOWS, MAX_PORTS_TOGETHER}
+use Rattle.ats_route_tree.specs.Legs.{DeclaredLegs, HaveRoutes}
 use Rattle.ats_network_table.specs.declared.fault.DocumentFault.TheVariants as form
 use Rattle.ats_network_toml.specs.Document as file
 use Rattle.ats_network_file.specs.Reading.{links_of, network_in, nodes_of}
@@ -35,23 +35,23 @@ abbrev pub table_in : SenderEntry → SenderTable
 table_in (stream e) = Stream
 table_in (flow e) = Flow
 
--- its name, its route, and the identity of its frames, which no flow has
+-- its name, the routes to its listeners, and the identity of its frames, which no flow has
 abbrev pub name_in : SenderEntry → List ℕ
 name_in (stream e) = e.name
 name_in (flow e) = e.name
 
-abbrev pub route_in : SenderEntry → file.DeclaredRoute
-route_in (stream e) = e.route
-route_in (flow e) = e.route
+abbrev pub routes_in : SenderEntry → List file.DeclaredRoute
+routes_in (stream e) = e.routes
+routes_in (flow e) = e.route ∷ []
 
 abbrev pub identity_in : SenderEntry → Option (ℕ × ℕ)
 identity_in (stream e) = e.identity
 identity_in (flow e) = None
 
--- the first rule that an entry breaks over a path, if it breaks one
-abbrev pub broken_over : SenderEntry → List ℕ → Option StreamFault
-broken_over (stream e) path = stream_fault e.classes (stream_over path e)
-broken_over (flow e) path = flow_fault (flow_over path e)
+-- the first rule that an entry breaks over legs, if it breaks one
+abbrev pub broken_over : SenderEntry → DeclaredLegs → Option StreamFault
+broken_over (stream e) legs = stream_fault e.classes (stream_over legs e)
+broken_over (flow e) legs = flow_fault (flow_over legs.ports e)
 
 -- one of these entries has this name
 abbrev pub is_name_given : List SenderEntry → List ℕ → Bool
@@ -76,26 +76,31 @@ abbrev pub most_in : SenderTable → ℕ
 most_in Stream = MAX_STREAMS
 most_in Flow = MAX_FLOWS
 
--- the ports of the entry's route make a valid path, which is this one
-pub record IsRouted (topology : DeclaredTopology) (entry : SenderEntry) (path : List ℕ) : Type 0 where
-  pub ports : ports_of topology (route_in entry) ≡ Some path
-  pub valid : IsValidPath topology path
+-- a route has these ports
+abbrev pub HasPorts : DeclaredTopology → file.DeclaredRoute → List ℕ → Type 0
+HasPorts topology route ports = ports_of topology route ≡ Some ports
 
--- no valid path is that of its route
+-- the ports of the entry's routes are those of the routes of a tree, which has these legs; that of a flow is a path
+pub record IsRouted (topology : DeclaredTopology) (entry : SenderEntry) (legs : DeclaredLegs) : Type 0 where
+  pub routes : List (List ℕ)
+  pub ports : AllZip (HasPorts topology) (routes_in entry) routes
+  pub have : HaveRoutes topology routes legs
+
+-- no tree has its routes
 abbrev pub IsPathless : DeclaredTopology → SenderEntry → Type 0
-IsPathless topology entry = (path : List ℕ) → IsRouted topology entry path → ⊥
+IsPathless topology entry = (legs : DeclaredLegs) → IsRouted topology entry legs → ⊥
 
--- it has a path, and over it breaks this rule first
+-- it has legs, and over them breaks this rule first
 pub record IsBreach (topology : DeclaredTopology) (entry : SenderEntry) (fault : StreamFault) : Type 0 where
-  pub path : List ℕ
-  pub routed : IsRouted topology entry path
-  pub broken : broken_over entry path ≡ Some fault
+  pub legs : DeclaredLegs
+  pub routed : IsRouted topology entry legs
+  pub broken : broken_over entry legs ≡ Some fault
 
--- it has a path, and over it breaks no rule
+-- it has legs, and over them breaks no rule
 pub record IsRuled (topology : DeclaredTopology) (entry : SenderEntry) : Type 0 where
-  pub path : List ℕ
-  pub routed : IsRouted topology entry path
-  pub kept : broken_over entry path ≡ None
+  pub legs : DeclaredLegs
+  pub routed : IsRouted topology entry legs
+  pub kept : broken_over entry legs ≡ None
 
 -- it breaks no rule, and an entry before it has its name
 pub record IsNameTwice (topology : DeclaredTopology) (before : List SenderEntry) (entry : SenderEntry) : Type 0 where
@@ -113,11 +118,23 @@ pub record IsIdentityTwice (topology : DeclaredTopology) (before : List SenderEn
     pub new : IsNew topology before entry
     pub taken : is_identity_given before (identity_in entry) ≡ true
 
--- nothing is wrong with it but that as many of its table stand before it as a network takes
+-- the ports of some legs, counted together
+abbrev pub ports_together : List DeclaredLegs → ℕ
+ports_together legs = sum_by (λ (l : DeclaredLegs). length l.ports) legs
+
+-- the streams before a stream and the stream itself have more ports together than the streams of a network may have
+pub record IsPortsPast (topology : DeclaredTopology) (before : List SenderEntry) (entry : SenderEntry) : Type 0 where
+  pub stands : table_in entry ≡ Stream
+  pub legs : List DeclaredLegs
+  pub routed : AllZip (IsRouted topology) (filter (stands_in Stream) before ++ entry ∷ []) legs
+  pub past : MAX_PORTS_TOGETHER < ports_together legs
+
+-- nothing is wrong with it but that as many of its table stand before it as a network takes, or that the streams so far
+-- have too many ports
 pub record IsPast (topology : DeclaredTopology) (before : List SenderEntry) (entry : SenderEntry) : Type 0 where
   pub new : IsNew topology before entry
   pub own : is_identity_given before (identity_in entry) ≡ false
-  pub past : most_in (table_in entry) ≤ count_in (table_in entry) before
+  pub past : (most_in (table_in entry) ≤ count_in (table_in entry) before) ⊎ IsPortsPast topology before entry
 
 -- an entry behind these has this number in this table; the entries of a table are counted from 1
 pub record IsAt (before : List SenderEntry) (entry : SenderEntry) (table : SenderTable) (number : ℕ) : Type 0 where

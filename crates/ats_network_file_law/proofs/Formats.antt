@@ -1,0 +1,374 @@
+-- A text of format 3 that says nothing new declares what it does in format 2.
+use Rattle.std.proofs.Common.{◌≡◌, ◌∙◌, ℕ, ◌+◌, ◌-◌, Bool, true, false, cond, List, [], ◌∷◌, length, Option, Some, None}
+use Rattle.std.proofs.Common.{Result, Ok, Err, refl, sym, ap, subst}
+use Rattle.std.specs.Prelude.{not, ◌&&◌, ◌||◌, pos, nat_le, nat_lt, is_some, find, map, option_and_then, unwrap_or}
+use Rattle.std.specs.List.{All}
+use Rattle.std.specs.Option.{option_map, option_or}
+use Rattle.std.specs.Str.{bytes_eq}
+use Rattle.std.proofs.lemmas.Bool.{true≢false}
+use Rattle.std.proofs.lemmas.List.Elements.{All-cons, All-head, All-nil, All-tail}
+use Rattle.std.proofs.lemmas.Option.{none-some}
+use Rattle.toml.specs.Data.{Data, Items, Members, as_array, get_member, integer, member, no_members}
+use Rattle.ats_facts.proofs.Bytes.{bytes_eq-true}
+use Rattle.ats_num.specs.Failure.{◌>>=◌, ok_where, or_fault}
+use Rattle.ats_network_table.specs.Kinds.{all_in, name_in, one_or_more, some_where, whole_in}
+use Rattle.ats_network_table.specs.Walk.{Entry, classes_at, format_at, format_of, formed, has, has_paths}
+use Rattle.ats_network_table.specs.Walk.{has_unknown}
+use Rattle.ats_network_table.specs.Walk.{identity_at, is_known, is_missing, listeners_at, missing_key, name_at}
+use Rattle.ats_network_table.specs.Walk.{none_missing, path_at, paths_at}
+use Rattle.ats_network_table.specs.Words.{key_text, keys_behind_routes, keys_of}
+use Rattle.ats_network_table.specs.declared.format.Format.{Format}
+use Rattle.ats_network_table.specs.declared.format.Format.TheVariants.{Three, Two}
+use Rattle.ats_network_table.specs.declared.key.Key.{Key}
+use Rattle.ats_network_table.specs.declared.key.Key.TheVariants as key
+use Rattle.ats_network_table.specs.declared.fault.DocumentFault.{DocumentFault}
+use Rattle.ats_network_table.specs.declared.fault.DocumentFault.TheVariants.{Limit, NotToml, Unknown, WrongKind}
+use Rattle.ats_network_table.specs.declared.table.Table.{Table}
+use Rattle.ats_network_table.specs.declared.table.Table.TheVariants.{Bridge, Flow, Link, Station, Stream, Top}
+use Rattle.ats_network_table.proofs.Places.{get_first}
+use Rattle.ats_network_toml.specs.Document as file
+use Rattle.ats_network_toml.specs.Entries.{bridge_in, flow_in, link_in, numbers_in, routes_at, station_in, stream_in}
+use Rattle.ats_network_toml.specs.Reading.{arrays_read, document_in, entries_from, entries_in, tables_at}
+use Rattle.ats_network_toml.specs.Reading.{tables_in}
+use Rattle.ats_network_file_law.specs.FormFaults.{tables_told, top_of}
+use Rattle.ats_network_file_law.specs.Formats.{FormatThreeIsFormatTwo, SaysNothingNew, with_format}
+use Rattle.ats_network_file_law.proofs.FormReaders.{entry_of}
+
+-- The top tables.
+
+-- another key has what it had
+get_other : (n : ℕ) (text : List ℕ) (ms : Members) → bytes_eq (key_text key.Format) text ≡ false
+    → get_member text (with_format n ms) ≡ get_member text ms
+get_other n text no_members other = refl
+get_other n text (member own d ms) other =
+    get_first text own (cond (bytes_eq (key_text key.Format) own) (integer (pos n)) d) (with_format n ms)
+    ∙ by (bytes_eq text own) refl (get_other n text ms other) ∙ sym (get_first text own d ms)
+  where
+    value : Bool → Data
+    value b = cond b (integer (pos n)) d
+
+    by : (same : Bool) → bytes_eq text own ≡ same → get_member text (with_format n ms) ≡ get_member text ms
+        → cond same (Some (value (bytes_eq (key_text key.Format) own))) (get_member text (with_format n ms))
+        ≡ cond same (Some d) (get_member text ms)
+    by true e rest =
+        ap (λ (b : Bool). Some (value b))
+        (ap (bytes_eq (key_text key.Format)) (sym (bytes_eq-true text own e)) ∙ other)
+    by false e rest = rest
+
+-- and the format has the number
+get_format : (n : ℕ) (d : Data) (ms : Members) → get_member (key_text key.Format) ms ≡ Some d
+    → get_member (key_text key.Format) (with_format n ms) ≡ Some (integer (pos n))
+get_format n d no_members there = absurd (none-some d there)
+get_format n d (member own e ms) there =
+    get_first (key_text key.Format) own (value (bytes_eq (key_text key.Format) own)) (with_format n ms)
+    ∙ by (bytes_eq (key_text key.Format) own) (sym (get_first (key_text key.Format) own e ms) ∙ there)
+    (get_format n d ms)
+  where
+    value : Bool → Data
+    value b = cond b (integer (pos n)) e
+
+    by : (same : Bool) → cond same (Some e) (get_member (key_text key.Format) ms) ≡ Some d
+        → (get_member (key_text key.Format) ms ≡ Some d
+        → get_member (key_text key.Format) (with_format n ms) ≡ Some (integer (pos n)))
+        → cond same (Some (value same)) (get_member (key_text key.Format) (with_format n ms)) ≡ Some (integer (pos n))
+    by true h rest = refl
+    by false h rest = rest h
+
+unknown_same : (n : ℕ) (ks : List Key) (ms : Members) → has_unknown ks (with_format n ms) ≡ has_unknown ks ms
+unknown_same n ks no_members = refl
+unknown_same n ks (member text d ms) = ap (λ (b : Bool). not (is_known ks text) || b) (unknown_same n ks ms)
+
+-- a search among keys by two tests that are the same there
+find_same : (t u : Key → Bool) (ks : List Key) → All (λ k. t k ≡ u k) ks → find t ks ≡ find u ks
+find_same t u [] same = refl
+find_same t u (k ∷ ks) same =
+    ap (λ (b : Bool). cond b (Some k) (find t ks)) (All-head (λ (l : Key). t l ≡ u l) k ks same)
+    ∙ ap (λ (o : Option Key). cond (u k) (Some k) o) (find_same t u ks (All-tail (λ (l : Key). t l ≡ u l) k ks same))
+
+-- what the top table has
+record IsTop (tree : Members) : Type 0 where
+  has_format : has (top_of (with_format 2 tree)) key.Format ≡ has (top_of tree) key.Format
+  others : (k : Key) → bytes_eq (key_text key.Format) (key_text k) ≡ false
+      → get_member (key_text k) (with_format 2 tree) ≡ get_member (key_text k) tree
+
+is_top : (tree : Members) → get_member (key_text key.Format) tree ≡ Some (integer (pos 3)) → IsTop tree
+is_top tree three = record {
+  has_format = ap (λ (o : Option Data). is_some o) (get_format 2 (integer (pos 3)) tree three)
+      ∙ sym (ap (λ (o : Option Data). is_some o) three);
+  others = λ k other. get_other 2 (key_text k) tree other;
+}
+
+formed_same : (tree : Members) → IsTop tree → formed (top_of (with_format 2 tree)) ≡ formed (top_of tree)
+formed_same tree is =
+    let two : Entry = top_of (with_format 2 tree) in
+    let three : Entry = top_of tree in
+    let P : Key → Type 0 = λ k. is_missing two k ≡ is_missing three k in
+    let missing : missing_key two ≡ missing_key three =
+    find_same (is_missing two) (is_missing three) (keys_of two.format Top)
+    (All-cons P key.Format (key.Station ∷ key.Bridge ∷ key.Link ∷ key.Stream ∷ key.Flow ∷ [])
+    (ap (λ (b : Bool). not b) is.has_format)
+    (All-cons P key.Station (key.Bridge ∷ key.Link ∷ key.Stream ∷ key.Flow ∷ []) refl
+    (All-cons P key.Bridge (key.Link ∷ key.Stream ∷ key.Flow ∷ []) refl
+    (All-cons P key.Link (key.Stream ∷ key.Flow ∷ []) refl
+    (All-cons P key.Stream (key.Flow ∷ []) refl (All-cons P key.Flow [] refl (All-nil P))))))) in
+    ap (λ (o : Option Key). none_missing two o
+    >>= λ complete. ok_where (not (has_unknown (keys_of two.format Top) (with_format 2 tree))) (Unknown Top 0) complete)
+    missing
+    ∙ ap (λ (b : Bool). none_missing three (missing_key three)
+    >>= λ complete. ok_where (not b) (Unknown Top 0) complete) (unknown_same 2 (keys_of two.format Top) tree)
+
+tables_same : (tree : Members) (k : Key) → get_member (key_text k) (with_format 2 tree) ≡ get_member (key_text k) tree
+    → tables_at (top_of (with_format 2 tree)) k ≡ tables_at (top_of tree) k
+tables_same tree k same =
+    ap (λ (o : Option Data). cond (is_some o) (or_fault (WrongKind Top 0 k) (option_and_then tables_in o)) (Ok [])) same
+
+-- The tables of arrays.
+
+abbrev AreSame : {A : Type 0} → (Entry → Result A DocumentFault) → Table → Members → Type 0
+AreSame read t ms = (n : ℕ) → read (entry_of Three t n ms) ≡ read (entry_of Two t n ms)
+
+entries_same : {A : Type 0} (read : Entry → Result A DocumentFault) (t : Table) (n : ℕ) (tables : List Members)
+    → All (AreSame read t) tables → entries_from read Three t n tables ≡ entries_from read Two t n tables
+entries_same read t n [] same = refl
+entries_same {A} read t n (ms ∷ tables) same =
+    ap (λ (r : Result A DocumentFault). r >>= λ entry. entries_from read Three t (n + 1) tables
+    >>= λ more. Ok (entry ∷ more)) (All-head (AreSame read t) ms tables same n)
+    ∙ ap (λ (r : Result (List A) DocumentFault). read (entry_of Two t n ms) >>= λ entry. r
+    >>= λ more. Ok (entry ∷ more))
+    (entries_same read t (n + 1) tables (All-tail (AreSame read t) ms tables same))
+
+array_same : {A : Type 0} (read : Entry → Result A DocumentFault) (t : Table) (most : ℕ) (tables : List Members)
+    → All (AreSame read t) tables → entries_in read Three t most tables ≡ entries_in read Two t most tables
+array_same {A} read t most tables same =
+    ap (λ (r : Result (List A) DocumentFault). cond (nat_lt most (length tables)) (Err (Limit t)) r)
+    (entries_same read t 1 tables same)
+
+-- where the tables of an array are the same in both formats, whatever they are
+all_same : (P : Members → Type 0) → ((ms : Members) → P ms) → (tables : List Members) → All P tables
+all_same P each [] = All-nil P
+all_same P each (ms ∷ tables) = All-cons P ms tables (each ms) (all_same P each tables)
+
+-- A stream's table.
+
+-- a key that does not stand there is the text of no member
+other_text : (text own : List ℕ) (d : Data) (ms : Members) → get_member text (member own d ms) ≡ None
+    → (bytes_eq text own ≡ false) × (get_member text ms ≡ None)
+other_text text own d ms none = by (bytes_eq text own) refl (sym (get_first text own d ms) ∙ none)
+  where
+    by : (b : Bool) → bytes_eq text own ≡ b → cond b (Some d) (get_member text ms) ≡ None
+        → (bytes_eq text own ≡ false) × (get_member text ms ≡ None)
+    by true e h = absurd (none-some d (sym h))
+    by false e h = (e, h)
+
+-- no key is unknown for want of `paths`
+stream_unknown : (ms : Members) → get_member (key_text key.Paths) ms ≡ None
+    → has_unknown (keys_of Three Stream) ms ≡ has_unknown (keys_of Two Stream) ms
+stream_unknown no_members none = refl
+stream_unknown (member text d ms) none =
+    let there = other_text (key_text key.Paths) text d ms none in
+    ap (λ (b : Bool). not (known b) || has_unknown (keys_of Three Stream) ms) (flipped text there.0)
+    ∙ ap (λ (b : Bool). not (known false) || b) (stream_unknown ms there.1)
+  where
+    flipped : (text : List ℕ) → bytes_eq (key_text key.Paths) text ≡ false → bytes_eq text (key_text key.Paths) ≡ false
+    flipped text h = by (bytes_eq text (key_text key.Paths)) refl
+      where
+        by : (b : Bool) → bytes_eq text (key_text key.Paths) ≡ b → bytes_eq text (key_text key.Paths) ≡ false
+        by false e = e
+        by true e =
+            let same : text ≡ key_text key.Paths = bytes_eq-true text (key_text key.Paths) e in
+            absurd (true≢false (sym (ap (bytes_eq (key_text key.Paths)) same) ∙ h))
+
+    known : Bool → Bool
+    known paths =
+        bytes_eq text (key_text key.Name)
+        || (bytes_eq text (key_text key.Path) || (paths || is_known keys_behind_routes text))
+
+stream_formed : (n : ℕ) (ms : Members) → get_member (key_text key.Paths) ms ≡ None
+    → formed (entry_of Three Stream n ms) ≡ formed (entry_of Two Stream n ms)
+stream_formed n ms none =
+    let two : Entry = entry_of Two Stream n ms in
+    let three : Entry = entry_of Three Stream n ms in
+    let gone : has three key.Paths ≡ false = ap (λ (o : Option Data). is_some o) none in
+    let missing : missing_key three ≡ missing_key two =
+    ap (λ (b : Bool). cond (not (has two key.Name)) (Some key.Name)
+    (cond (not (has two key.From || has two key.To || b) && not (has two key.Path)) (Some key.Path)
+    (find (is_missing two) keys_behind_routes))) gone in
+    ap (λ (o : Option Key). none_missing two o
+    >>= λ complete. ok_where (not (has_unknown (keys_of Three Stream) ms)) (Unknown Stream n) complete) missing
+    ∙ ap (λ (b : Bool). none_missing two (missing_key two)
+    >>= λ complete. ok_where (not b) (Unknown Stream n) complete) (stream_unknown ms none)
+
+-- what stands with `to` is read as one name
+listeners_same : (n : ℕ) (ms : Members) → SaysNothingNew ms
+    → listeners_at (entry_of Three Stream n ms) ≡ listeners_at (entry_of Two Stream n ms)
+listeners_same n ms new =
+    ap (or_fault (WrongKind Stream n key.To)) (by (get_member (key_text key.To) ms) new.to)
+  where
+    by : (o : Option Data) → ((d : Data) → o ≡ Some d → as_array d ≡ None)
+        → option_and_then (one_or_more true) o ≡ option_and_then (one_or_more false) o
+    by None no_array = refl
+    by (Some d) no_array =
+        ap (λ (items : Option Items). option_or (option_map (λ name. name ∷ []) (name_in d))
+        (option_and_then (λ names. some_where (nat_le 1 (length names)) names)
+        (option_and_then (all_in name_in) items))) (no_array d refl)
+
+routes_same : (n : ℕ) (ms : Members) → SaysNothingNew ms
+    → routes_at (entry_of Three Stream n ms) ≡ routes_at (entry_of Two Stream n ms)
+routes_same n ms new =
+    let two : Entry = entry_of Two Stream n ms in
+    let three : Entry = entry_of Three Stream n ms in
+    let gone : has_paths three ≡ false = ap (λ (o : Option Data). is_some o) new.paths in
+    ap (λ (b : Bool). cond (has two key.Path) (path_at two >>= λ names. Ok (file.path names ∷ []))
+    (cond b (paths_at two >>= λ paths. Ok (map file.path paths))
+    (name_at two key.From >>= λ from. listeners_at three >>= λ to. Ok (map (file.ends from) to)))) gone
+    ∙ ap (λ (r : Result (List (List ℕ)) DocumentFault). cond (has two key.Path)
+    (path_at two >>= λ names. Ok (file.path names ∷ []))
+    (name_at two key.From >>= λ from. r >>= λ to. Ok (map (file.ends from) to))) (listeners_same n ms new)
+
+-- what is read with two steps that are the same
+parts_same : {N F : Type 0} (f g : Result (Unit {0}) F) (name : Result (List ℕ) F)
+    (r s : Result (List file.DeclaredRoute) F) (classes : Result (List ℕ) F) (numbers : Result N F)
+    (identity : Result (Option (ℕ × ℕ)) F)
+    (last : List ℕ → List file.DeclaredRoute → List ℕ → N → Option (ℕ × ℕ) → Result file.DeclaredStream F) → f ≡ g
+    → r ≡ s
+    → (f >>= λ u. name >>= λ n. r >>= λ routes. classes >>= λ cs. numbers >>= λ m. identity
+    >>= λ o. last n routes cs m o)
+    ≡ (g >>= λ u. name >>= λ n. s >>= λ routes. classes >>= λ cs. numbers >>= λ m. identity
+    >>= λ o. last n routes cs m o)
+parts_same {N} {F} f g name r s classes numbers identity last e h =
+    ap (λ (x : Result (Unit {0}) F). x >>= λ u. name >>= λ n. r >>= λ routes. classes >>= λ cs. numbers
+    >>= λ m. identity >>= λ o. last n routes cs m o) e
+    ∙ ap (λ (x : Result (List file.DeclaredRoute) F). g >>= λ u. name >>= λ n. x >>= λ routes. classes
+    >>= λ cs. numbers >>= λ m. identity >>= λ o. last n routes cs m o) h
+
+stream_same : (ms : Members) → SaysNothingNew ms → AreSame stream_in Stream ms
+stream_same ms new n =
+    let two : Entry = entry_of Two Stream n ms in
+    let three : Entry = entry_of Three Stream n ms in
+    parts_same (formed three) (formed two) (name_at two key.Name) (routes_at three) (routes_at two) (classes_at two)
+    (numbers_in two) (identity_at two) (λ name routes classes numbers identity. Ok (record {
+      name = name;
+      routes = routes;
+      classes = classes;
+      rate_bps = numbers.rate_bps;
+      burst_bits = numbers.burst_bits;
+      min_octets = numbers.min_octets;
+      max_octets = numbers.max_octets;
+      deadline_ns = numbers.deadline_ns;
+      identity = identity;
+    })) (stream_formed n ms new.paths) (routes_same n ms new)
+
+streams_same : (tables : List Members) → All SaysNothingNew tables → All (AreSame stream_in Stream) tables
+streams_same [] new = All-nil (AreSame stream_in Stream)
+streams_same (ms ∷ tables) new =
+    All-cons (AreSame stream_in Stream) ms tables (stream_same ms (All-head SaysNothingNew ms tables new))
+    (streams_same tables (All-tail SaysNothingNew ms tables new))
+
+-- The arrays one after another.
+
+both_same : {A B F : Type 0} (r s : Result A F) (k l : A → Result B F) → r ≡ s → ((x : A) → k x ≡ l x)
+    → (r >>= k) ≡ (s >>= l)
+both_same {A} {B} {F} r s k l same onward =
+    ap (λ (t : Result A F). t >>= k) same ∙ by s
+  where
+    by : (t : Result A F) → (t >>= k) ≡ (t >>= l)
+    by (Err e) = refl
+    by (Ok x) = onward x
+
+abbrev arrays_with : Format → List Members → List Members → List Members → List Members → List Members
+    → Result file.DeclaredDocument DocumentFault
+arrays_with f stations bridges links streams flows = arrays_read (record {
+  format = f;
+  stations = stations;
+  bridges = bridges;
+  links = links;
+  streams = streams;
+  flows = flows;
+})
+
+arrays_same : (stations bridges links streams flows : List Members) → All SaysNothingNew streams
+    → arrays_with Three stations bridges links streams flows ≡ arrays_with Two stations bridges links streams flows
+arrays_same stations bridges links streams flows new =
+    both_same (entries_in station_in Three Station 1024 stations) (entries_in station_in Two Station 1024 stations) _ _
+    (array_same station_in Station 1024 stations
+    (all_same (AreSame station_in Station) (λ ms n. refl) stations))
+    (λ a. both_same (entries_in bridge_in Three Bridge (1024 - length a) bridges)
+    (entries_in bridge_in Two Bridge (1024 - length a) bridges) _ _
+    (array_same bridge_in Bridge (1024 - length a) bridges
+    (all_same (AreSame bridge_in Bridge) (λ ms n. refl) bridges))
+    (λ b. both_same (entries_in link_in Three Link 2048 links) (entries_in link_in Two Link 2048 links) _ _
+    (array_same link_in Link 2048 links (all_same (AreSame link_in Link) (λ ms n. refl) links))
+    (λ c. both_same (entries_in stream_in Three Stream 4096 streams)
+    (entries_in stream_in Two Stream 4096 streams) _ _
+    (array_same stream_in Stream 4096 streams (streams_same streams new))
+    (λ d. both_same (entries_in flow_in Three Flow 1024 flows) (entries_in flow_in Two Flow 1024 flows) _ _
+    (array_same flow_in Flow 1024 flows (all_same (AreSame flow_in Flow) (λ ms n. refl) flows)) (λ e. refl)))))
+
+-- what is read of the top table and then of its arrays
+abbrev Tables : Type 0
+Tables = Result (List Members) DocumentFault
+
+abbrev by_parts : Result (Unit {0}) DocumentFault → Result Format DocumentFault → Tables → Tables → Tables → Tables
+    → Tables → Result file.DeclaredDocument DocumentFault
+by_parts well format stations bridges links streams flows =
+    (well >>= λ u. format >>= λ f. stations >>= λ a. bridges >>= λ b. links >>= λ c. streams >>= λ d. flows >>= λ e.
+    Ok (record { format = f; stations = a; bridges = b; links = c; streams = d; flows = e }))
+    >>= arrays_read
+
+formats_same : (well : Result (Unit {0}) DocumentFault) (stations bridges links streams flows : Tables)
+    → ((tables : List Members) → streams ≡ Ok tables → All SaysNothingNew tables)
+    → by_parts well (Ok Three) stations bridges links streams flows
+    ≡ by_parts well (Ok Two) stations bridges links streams flows
+formats_same (Err e) stations bridges links streams flows new = refl
+formats_same (Ok u) (Err e) bridges links streams flows new = refl
+formats_same (Ok u) (Ok a) (Err e) links streams flows new = refl
+formats_same (Ok u) (Ok a) (Ok b) (Err e) streams flows new = refl
+formats_same (Ok u) (Ok a) (Ok b) (Ok c) (Err e) flows new = refl
+formats_same (Ok u) (Ok a) (Ok b) (Ok c) (Ok d) (Err e) new = refl
+formats_same (Ok u) (Ok a) (Ok b) (Ok c) (Ok d) (Ok e) new = arrays_same a b c d e (new d refl)
+
+-- the streams that are read are those that are told
+told_new : (tree : Members) → All SaysNothingNew (tables_told (top_of tree) key.Stream) → (tables : List Members)
+    → tables_at (top_of tree) key.Stream ≡ Ok tables → All SaysNothingNew tables
+told_new tree new tables read = by (get_member (key_text key.Stream) tree) new read
+  where
+    found : (o : Option (List Members)) → All SaysNothingNew (unwrap_or o [])
+        → or_fault (WrongKind Top 0 key.Stream) o ≡ Ok tables → All SaysNothingNew tables
+    found None all h = cc h
+    found (Some xs) all h = let same : xs ≡ tables = cc h in subst (All SaysNothingNew) same all
+
+    by : (o : Option Data) → All SaysNothingNew (unwrap_or (option_and_then tables_in o) [])
+        → (let r : Tables = cond (is_some o) (or_fault (WrongKind Top 0 key.Stream) (option_and_then tables_in o))
+        (Ok []) in r) ≡ Ok tables → All SaysNothingNew tables
+    by None all h = let same : [] ≡ tables = cc h in subst (All SaysNothingNew) same (All-nil SaysNothingNew)
+    by (Some d) all h = found (tables_in d) all h
+
+document_same : (tree : Members) → get_member (key_text key.Format) tree ≡ Some (integer (pos 3))
+    → All SaysNothingNew (tables_told (top_of tree) key.Stream)
+    → document_in tree ≡ document_in (with_format 2 tree)
+document_same tree format new =
+    let three : Entry = top_of tree in
+    let two : Entry = top_of (with_format 2 tree) in
+    let is : IsTop tree = is_top tree format in
+    let well : formed two ≡ formed three = formed_same tree is in
+    let read : Option Data → Result Format DocumentFault =
+    λ o. or_fault (WrongKind Top 0 key.Format) (option_and_then (whole_in 1 3) o) >>= λ n. Ok (format_of n) in
+    let in_three : format_at three ≡ Ok Three = ap read format in
+    let in_two : format_at two ≡ Ok Two = ap read (get_format 2 (integer (pos 3)) tree format) in
+    let stations = tables_same tree key.Station (is.others key.Station refl) in
+    let bridges = tables_same tree key.Bridge (is.others key.Bridge refl) in
+    let links = tables_same tree key.Link (is.others key.Link refl) in
+    let streams = tables_same tree key.Stream (is.others key.Stream refl) in
+    let flows = tables_same tree key.Flow (is.others key.Flow refl) in
+    ap (λ (f : Result Format DocumentFault). by_parts (formed three) f (tables_at three key.Station)
+    (tables_at three key.Bridge) (tables_at three key.Link) (tables_at three key.Stream) (tables_at three key.Flow))
+    in_three
+    ∙ formats_same (formed three) (tables_at three key.Station) (tables_at three key.Bridge) (tables_at three key.Link)
+    (tables_at three key.Stream) (tables_at three key.Flow) (told_new tree new)
+    ∙ rw (well, in_two, stations, bridges, links, streams, flows) refl
+
+pub format_three_is_format_two : FormatThreeIsFormatTwo
+format_three_is_format_two three two m =
+    ap (λ (o : Option Members). or_fault NotToml o >>= document_in) m.in_three
+    ∙ document_same m.tree m.format m.nothing_new
+    ∙ sym (ap (λ (o : Option Members). or_fault NotToml o >>= document_in) m.in_two)
