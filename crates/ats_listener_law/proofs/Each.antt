@@ -9,7 +9,7 @@ use Rattle.ats_streams.specs.declared.branch.Branch.{Branch}
 use Rattle.ats_streams.proofs.BranchLemmas.{routes-length}
 use Rattle.ats_network.specs.Sender.{Sender, stream_sender}
 use Rattle.ats_soundness_law.specs.Sound.{IsContainedOn, IsServedOn}
-use Rattle.ats_soundness_law.proofs.Leads.{leads-many}
+use Rattle.ats_route_law.proofs.Leads.{leads-many}
 use Rattle.ats_trace.specs.Journey.{AreCopies, Leg, Travel, legs_in, no_leg}
 use Rattle.ats_trace.specs.Ways.{listener_count, records_in, route_to, routes_by, way_to}
 use Rattle.ats_trace.specs.declared.journey.HopRecord.{HopRecord}

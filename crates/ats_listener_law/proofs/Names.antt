@@ -26,53 +26,10 @@ use Rattle.ats_network.proofs.SenderLemmas.{each_is_sender}
 use Rattle.ats_network.proofs.ValidRoutes.{trunk_some}
 use Rattle.ats_tally.proofs.ListenerLemmas.{listener-is, listeners-length, name_by}
 use Rattle.ats_trace.proofs.Legs.{concat-legs_of, place_is, place_of, place_within}
+use Rattle.ats_route_law.proofs.Ends.{last_of, leg_some, route_ends}
 use Rattle.ats_route_law.proofs.Places.{IsAt, at_one}
 use Rattle.ats_listener_law.specs.Listeners.{NamesOfListenersDiffer}
 use Rattle.ats_listener_law.proofs.Ends.{path_ends, station_is_at_the_end}
-
--- the leg of a branch has a port
-branch_some : (at : ℕ) (ports : List ℕ) (branches : List Branch) (n : ℕ) → Ascend at branches (length ports)
-    → n < length branches → 0 < length (leg_at (legs_from at ports branches) (suc n))
-branch_some at ports [] n ascend within = absurd (omega arith)
-branch_some at ports (b ∷ []) zero ascend within = omega (arith, length-drop b.first ports, ascend.1)
-branch_some at ports (b ∷ c ∷ branches) zero ascend within = omega (
-  arith,
-  length-take (c.first - b.first) (drop b.first ports),
-  length-drop b.first ports,
-  ascend.1,
-  ascend.2.0,
-  ascend.2.1,
-)
-branch_some at ports (b ∷ branches) (suc n) ascend within =
-    branch_some b.first ports branches n ascend.2 (omega arith)
-
-leg_some : (topology : DeclaredTopology) (s : Sender) (n : ℕ) → IsSender topology s → n ≤ length s.branches
-    → 0 < length (leg_at (legs_of s.ports s.branches) n)
-leg_some topology s zero is within =
-    trunk_some topology.ports is.tree.trunk.talker is.tree.trunk.listener (leg_at (legs_of s.ports s.branches) 0)
-    is.tree.trunk.walk is.tree.trunk.differ
-leg_some topology s (suc n) is within = branch_some 0 s.ports s.branches n is.branches.places (omega (arith, within))
-
--- the last port of a leg
-abbrev last_of : Sender → ℕ → ℕ
-last_of s n =
-    get_or (leg_at (legs_of s.ports s.branches) n) (length (leg_at (legs_of s.ports s.branches) n) - 1) 0
-
--- joined lists end as the second
-last_same : (xs ys : List ℕ) → 0 < length ys
-    → get_or (xs ++ ys) (length (xs ++ ys) - 1) 0 ≡ get_or ys (length ys - 1) 0
-last_same xs ys some =
-    let place : length (xs ++ ys) - 1 ≡ length xs + (length ys - 1) = omega (arith, some, length-append xs ys) in
-    ap (λ (k : ℕ). get_or (xs ++ ys) k 0) place ∙ get_or-append-add xs ys (length ys - 1) 0
-
--- a route ends where the last port of its leg leads
-route_ends : (topology : DeclaredTopology) (s : Sender) (n : ℕ) → IsSender topology s → n ≤ length s.branches
-    → end_of topology.ports (leg_at (routes_of s.ports s.branches) n) ≡ (port_at topology.ports (last_of s n)).to
-route_ends topology s n is within =
-    let lead : List ℕ = leg_at (leads_of s.ports s.branches) n in
-    let leg : List ℕ = leg_at (legs_of s.ports s.branches) n in
-    ap (end_of topology.ports) (route-at s.ports s.branches n [] within)
-    ∙ ap (λ (p : ℕ). (port_at topology.ports p).to) (last_same lead leg (leg_some topology s n is within))
 
 -- numbers that have different images are at one place where their images are the same
 one_place : (f : ℕ → ℕ) (xs : List ℕ) (i j : ℕ) → AllPairs (λ a b. a ≢ b) (map f xs) → i < length xs → j < length xs

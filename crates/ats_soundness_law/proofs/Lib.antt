@@ -6,7 +6,6 @@ pub mod Bridge
 pub mod EachRule
 pub mod Journeys
 pub mod Known
-pub mod Leads
 pub mod Lifts
 pub mod Offered
 pub mod OneListener

@@ -22,7 +22,7 @@ use Rattle.ats_trace.specs.declared.journey.HopRecord.{HopRecord}
 use Rattle.ats_trace.specs.declared.journey.Ending.{Ending}
 use Rattle.ats_trace.proofs.OneVerdict.{copies_many}
 use Rattle.ats_soundness_law.proofs.Along.{no_hops, none_handed}
-use Rattle.ats_soundness_law.proofs.Leads.{copy_at, joined_at, lead_first, lead_next, leads-many, records_at}
+use Rattle.ats_route_law.proofs.Leads.{copy_at, joined_at, lead_first, lead_next, leads-many, records_at}
 use Rattle.ats_soundness_law.proofs.Over.{over, crossings_on, handed_on_leg, hops_on}
 use Rattle.ats_soundness_law.proofs.Over.{over_first, over_one_more, over_some}
 use Rattle.ats_soundness_law.proofs.Parts.{IsPart, part_append, part_of_part, part_same}

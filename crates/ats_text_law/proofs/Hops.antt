@@ -1,6 +1,6 @@
 -- The lines of a frame's hops tell the hops.
 use Rattle.std.proofs.Common.{◌≡◌, ◌∙◌, ℕ, List, [], ◌∷◌, ◌++◌, get_or, Option, Some, None, refl, sym}
-use Rattle.std.proofs.Common.{ap, arith, append_assoc, subst}
+use Rattle.std.proofs.Common.{ap, arith, append_assoc, inl, inr, subst, ◌⊎◌}
 use Rattle.std.specs.Prelude.{codes, decimal, All}
 use Rattle.std.specs.List.{flat_map, zip}
 use Rattle.std.proofs.lemmas.List.{append_cancel_left}
@@ -10,12 +10,12 @@ use Rattle.ats_topology.specs.Topology.{DeclaredTopology}
 use Rattle.ats_port_names.specs.PortName.{port_name}
 use Rattle.ats_group.specs.declared.verdict.Verdict.{Verdict}
 use Rattle.ats_group.specs.declared.verdict.Verdict.TheVariants.{Eligible, Late, Size}
-use Rattle.ats_trace.specs.Journey.{IsSentOrEnds, IsWay}
+use Rattle.ats_trace.specs.Journey.{IsSentOrEnds, IsWay, Leg}
 use Rattle.ats_trace.specs.declared.journey.HopRecord.{HopRecord}
 use Rattle.ats_trace.specs.declared.journey.Ending.{Ending}
 use Rattle.ats_trace.specs.declared.journey.Ending.TheVariants.{Sink, Discard}
-use Rattle.ats_replay.specs.Departures.{ending_line, hop_line, sent_text, verdict_text}
-use Rattle.ats_text_law.specs.Short.{IsShortEnding, IsShortHop, IsShortSent, IsShortVerdict}
+use Rattle.ats_replay.specs.Departures.{ending_line, hop_line, leg_lines, sent_text, verdict_text}
+use Rattle.ats_text_law.specs.Short.{IsShortEnding, IsShortHop, IsShortLeg, IsShortSent, IsShortVerdict}
 use Rattle.ats_text_law.proofs.Words.{IsBehind, cut_numbers}
 
 -- the second code of a text
@@ -166,7 +166,7 @@ zip_none [] = refl
 zip_none (p ∷ path) = refl
 
 -- two ways that both end here
-both_end : (topology : DeclaredTopology) (path : List ℕ) (hops others : List HopRecord) (ending fin : Ending)
+pub both_end : (topology : DeclaredTopology) (path : List ℕ) (hops others : List HopRecord) (ending fin : Ending)
     (b y : List ℕ) → (hops ≡ []) × (ending ≡ Discard) → (others ≡ []) × (fin ≡ Discard)
     → way_lines topology path hops ending ++ b ≡ way_lines topology path others fin ++ y
     → AreWays hops others ending fin b y
@@ -233,3 +233,42 @@ cut_ways topology (p ∷ path) (hop ∷ hops) (other ∷ others) ending fin b y 
     (behind_hop topology path hop.verdict hop.sent hops others ending fin b y
     (λ goes on. cut_ways topology path hops others ending fin b y goes on (All-tail IsShortHop hop hops short)
     (All-tail IsShortHop other others brief) ends closes lines.rest) one alike lines.rest)
+
+-- the lines of a way begin with another letter than that of a discard
+no_discard : (topology : DeclaredTopology) (path : List ℕ) (hops : List HopRecord) (ending : Ending) (b y : List ℕ)
+    → IsWay path hops ending → way_lines topology path hops ending ++ b ≡ codes "discard\n" ++ y → ⊥
+no_discard topology [] [] (Sink at) b y way same = omega (arith, ap first same)
+no_discard topology [] [] Discard b y way same = way
+no_discard topology [] (hop ∷ hops) (Sink at) b y way same = way
+no_discard topology [] (hop ∷ hops) Discard b y way same = way
+no_discard topology (p ∷ path) [] ending b y way same = way
+no_discard topology (p ∷ path) (hop ∷ hops) ending b y way same =
+    let text = way_parts topology p path hop hops ending b
+    ∙ hop_parts topology p hop (way_lines topology path hops ending ++ b) in
+    omega (arith, ap first (sym text ∙ same))
+
+-- a frame that never came to a leg, or its way along it
+abbrev pub IsLegOver : List ℕ → Leg → Type 0
+IsLegOver path leg = ((leg.hops ≡ []) × (leg.ending ≡ Discard)) ⊎ IsWay path leg.hops leg.ending
+
+-- no line of a hop, and that of a discard
+none_lines : (topology : DeclaredTopology) (path : List ℕ) (leg : Leg) (b : List ℕ)
+    → (leg.hops ≡ []) × (leg.ending ≡ Discard) → leg_lines topology path leg ++ b ≡ codes "discard\n" ++ b
+none_lines topology path leg b none = rw (none.0, none.1, zip_none path) refl
+
+-- where the lines along two such legs, with something behind them, are one text, the legs are the same
+pub cut_legs : (topology : DeclaredTopology) (path : List ℕ) (leg other : Leg) (b y : List ℕ) → IsLegOver path leg
+    → IsLegOver path other → IsShortLeg leg → IsShortLeg other
+    → leg_lines topology path leg ++ b ≡ leg_lines topology path other ++ y
+    → AreWays leg.hops other.hops leg.ending other.ending b y
+cut_legs topology path leg other b y (inl none) (inl nothing) short brief same =
+    both_end topology path leg.hops other.hops leg.ending other.ending b y none nothing same
+cut_legs topology path leg other b y (inl none) (inr way) short brief same =
+    absurd (no_discard topology path other.hops other.ending y b way
+    (sym same ∙ none_lines topology path leg b none))
+cut_legs topology path leg other b y (inr way) (inl nothing) short brief same =
+    absurd (no_discard topology path leg.hops leg.ending b y way
+    (same ∙ none_lines topology path other y nothing))
+cut_legs topology path leg other b y (inr way) (inr onward) short brief same =
+    cut_ways topology path leg.hops other.hops leg.ending other.ending b y way onward short.hops brief.hops
+    short.ending brief.ending same

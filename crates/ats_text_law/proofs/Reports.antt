@@ -1,25 +1,27 @@
 -- The report on a run tells what came of each sender's frames, and its bound.
-use Rattle.std.proofs.Common.{◌≡◌, ◌∙◌, ℕ, zero, suc, ◌+◌, ◌<◌, Bool, List, [], ◌∷◌, ◌++◌, length, Option, Some}
-use Rattle.std.proofs.Common.{None, refl, sym, ap, arith, append_assoc, subst, cond, true, false}
+use Rattle.std.proofs.Common.{◌≡◌, ◌∙◌, ℕ, zero, suc, ◌+◌, ◌<◌, ◌≤◌, Bool, List, [], ◌∷◌, ◌++◌, length, Option, Some}
+use Rattle.std.proofs.Common.{None, refl, sym, ap, arith, append_assoc, subst, cond, true, false, inl, inr}
 use Rattle.std.specs.Prelude.{codes, decimal, All, nat_lt, slice_get}
-use Rattle.std.specs.List.{enumerate_from, flat_map}
+use Rattle.std.specs.List.{flat_map, range_with_len}
 use Rattle.std.specs.Int.{IsInRange}
 use Rattle.std.specs.Str.Parse.{AllDigits}
 use Rattle.std.proofs.lemmas.Fmt.{decimal_is_IsNumeral_wide}
 use Rattle.std.proofs.lemmas.Str.Parse.{digit_from_value}
 use Rattle.std.proofs.lemmas.List.{append_cancel_left}
 use Rattle.std.proofs.lemmas.List.Elements.{All-head, All-tail}
-use Rattle.std.proofs.lemmas.List.FromFn.{length-map-range_with_len}
+use Rattle.std.proofs.lemmas.Bool.{cases_lt}
 use Rattle.ats_network.specs.Network.{DeclaredNetwork, senders_of}
 use Rattle.ats_network.specs.Senders.{sender_at}
 use Rattle.ats_trace.specs.Journey.{Travel}
-use Rattle.ats_replay.specs.Report.{bound_of, bound_text, kind_text, report_text, sender_line}
-use Rattle.ats_replay.specs.Summary.{summaries_of, summary_of, frames_of}
+use Rattle.ats_trace.specs.Ways.{listener_count}
+use Rattle.ats_replay.specs.Report.{bound_of, bound_text, listener_line, report_text, sender_lines, summary_text}
+use Rattle.ats_replay.specs.Report.{title_text}
+use Rattle.ats_replay.specs.Summary.{place_of, summary_for}
 use Rattle.ats_replay.specs.Totals.{counts_text, totals_line, totals_of}
 use Rattle.ats_replay.specs.declared.summary.Summary.{Summary}
 use Rattle.ats_replay.specs.declared.totals.Totals.{Totals}
 use Rattle.ats_text_law.specs.Short.{AreShort, AreShortCounts, HasShortNumbers, IsShort}
-use Rattle.ats_text_law.specs.Laws.{ReportTellsAll}
+use Rattle.ats_text_law.specs.Laws.{IsReportable, ReportTellsAll, SaysTheSame}
 use Rattle.ats_text_law.proofs.Words.{IsBehind, IsWord, cut, cut_numbers, decimal_tells, decimal_word}
 
 -- counts and what stands behind them
@@ -90,38 +92,47 @@ same_bound None (Some two) short brief same = absurd (no_dash two brief same)
 same_bound (Some one) None short brief same = absurd (no_dash one short (sym same))
 same_bound (Some one) (Some two) short brief same = ap (λ n. Some n) (decimal_tells one two short brief same)
 
-module _ (network : DeclaredNetwork) (sums others : Option (List ℕ)) where
-  short_bounds : (given : Option (List ℕ)) → AreShort given → (sender : ℕ)
-      → IsShortBound (bound_of network given sender)
-  short_bounds None short sender = tt
-  short_bounds (Some given) short sender = by (nat_lt sender (length network.streams))
+module _ (network : DeclaredNetwork) (run other : List Travel) (sums others : Option (List ℕ)) where
+  short_bounds : (given : Option (List ℕ)) → AreShort given → (sender listener : ℕ)
+      → IsShortBound (bound_of network given sender listener)
+  short_bounds None short sender listener = tt
+  short_bounds (Some given) short sender listener = by (nat_lt sender (length network.streams))
     where
       found : (list : List ℕ) → All IsShort list → (i : ℕ) → IsShortBound (slice_get list i)
       found [] all i = tt
       found (n ∷ list) all zero = All-head IsShort n list all
       found (n ∷ list) all (suc i) = found list (All-tail IsShort n list all) i
 
-      by : (is_stream : Bool) → IsShortBound (cond is_stream (slice_get given sender) None)
-      by true = found given short sender
+      by : (is_stream : Bool)
+          → IsShortBound (cond is_stream (slice_get given (place_of network sender listener)) None)
+      by true = found given short (place_of network sender listener)
       by false = tt
 
-  bound_then : Option (List ℕ) → ℕ → List ℕ → List ℕ
-  bound_then given n b = codes " bound " ++ (bound_text (bound_of network given n) ++ 10 ∷ b)
+  bound_then : Option (List ℕ) → ℕ → ℕ → List ℕ → List ℕ
+  bound_then given n l b = codes " bound " ++ (bound_text (bound_of network given n l) ++ 10 ∷ b)
 
-  worst_then : Option (List ℕ) → ℕ → Summary → List ℕ → List ℕ
-  worst_then given n summary b = codes " worst " ++ (decimal summary.worst.0 ++ bound_then given n b)
+  worst_then : Option (List ℕ) → ℕ → ℕ → Summary → List ℕ → List ℕ
+  worst_then given n l summary b = codes " worst " ++ (decimal summary.worst.0 ++ bound_then given n l b)
 
-  line_parts : (given : Option (List ℕ)) (n : ℕ) (summary : Summary) (b : List ℕ)
-      → sender_line network given (n, summary) ++ b
-      ≡ (kind_text network n ++ (sender_at network n).name ++ codes " ")
-      ++ (counts_text summary.totals ++ worst_then given n summary b)
-  unfolding sender_line worst_then bound_then
-  line_parts given n summary b = simp append_assoc refl
+  -- what came of frames, by the numbers of a sender and a listener
+  abbrev Summaries : Type 0
+  Summaries = ℕ → ℕ → Summary
 
-  -- two lines of a sender and what stands behind them
-  record AreLines (n : ℕ) (one two : Summary) (b y : List ℕ) : Type 0 where
-    summary_is : one ≡ two
-    bound_is : bound_of network sums n ≡ bound_of network others n
+  line_parts : (given : Option (List ℕ)) (of : Summaries) (n l : ℕ) (b : List ℕ)
+      → listener_line network of given n l ++ b
+      ≡ (title_text network n l ++ codes " ") ++ (counts_text (of n l).totals ++ worst_then given n l (of n l) b)
+  unfolding summary_text worst_then bound_then
+  line_parts given of n l b =
+      joined (title_text network n l) (codes " ") (counts_text (of n l).totals) (codes " worst ")
+      (decimal (of n l).worst.0) (codes " bound ") (bound_text (bound_of network given n l)) (codes "\n") b
+    where
+      joined : (t a c d e f g h b : List ℕ) → (t ++ (a ++ c ++ d ++ e ++ f ++ g ++ h)) ++ b
+          ≡ (t ++ a) ++ (c ++ (d ++ (e ++ (f ++ (g ++ (h ++ b))))))
+      joined t a c d e f g h b = simp append_assoc
+
+  -- two lines of a listener and what stands behind them
+  record AreLines (n l : ℕ) (b y : List ℕ) : Type 0 where
+    told : SaysTheSame network run other sums others n l
     rest : b ≡ y
 
   same_summary : (one two : Summary) → one.totals ≡ two.totals → one.worst.0 ≡ two.worst.0 → one ≡ two
@@ -129,91 +140,102 @@ module _ (network : DeclaredNetwork) (sums others : Option (List ℕ)) where
       ap (λ (x : Totals). record { totals = x; worst = one.worst }) t
       ∙ ap (λ n. record { totals = two.totals; worst = record { 0 = n } }) w
 
-  cut_lines : (n : ℕ) (one two : Summary) (b y : List ℕ) → HasShortNumbers one → HasShortNumbers two
-      → AreShort sums → AreShort others
-      → sender_line network sums (n, one) ++ b ≡ sender_line network others (n, two) ++ y → AreLines n one two b y
+  cut_lines : (n l : ℕ) (b y : List ℕ) → HasShortNumbers (summary_for network run n l)
+      → HasShortNumbers (summary_for network other n l) → AreShort sums → AreShort others
+      → listener_line network (summary_for network run) sums n l ++ b
+      ≡ listener_line network (summary_for network other) others n l ++ y → AreLines n l b y
   unfolding worst_then bound_then
-  cut_lines n one two b y short brief few less same =
-      let counts = cut_counts one.totals two.totals (worst_then sums n one b) (worst_then others n two y) short.totals
-      brief.totals refl refl
-      (append_cancel_left (kind_text network n ++ (sender_at network n).name ++ codes " ") _ _
-      (sym (line_parts sums n one b) ∙ same ∙ line_parts others n two y)) in
-      let worst = cut_numbers one.worst.0 two.worst.0 (bound_then sums n b) (bound_then others n y) short.worst
+  cut_lines n l b y short brief few less same =
+      let one : Summary = summary_for network run n l in
+      let two : Summary = summary_for network other n l in
+      let counts = cut_counts one.totals two.totals (worst_then sums n l one b) (worst_then others n l two y)
+      short.totals brief.totals refl refl
+      (append_cancel_left (title_text network n l ++ codes " ") _ _
+      (sym (line_parts sums (summary_for network run) n l b) ∙ same
+      ∙ line_parts others (summary_for network other) n l y)) in
+      let worst = cut_numbers one.worst.0 two.worst.0 (bound_then sums n l b) (bound_then others n l y) short.worst
       brief.worst refl refl (append_cancel_left (codes " worst ") _ _ counts.rest) in
-      let bounds = cut (bound_text (bound_of network sums n)) (bound_text (bound_of network others n)) (10 ∷ b) (10 ∷ y)
-      (bound_word (bound_of network sums n) (short_bounds sums few n))
-      (bound_word (bound_of network others n) (short_bounds others less n)) refl refl
+      let bounds = cut (bound_text (bound_of network sums n l)) (bound_text (bound_of network others n l)) (10 ∷ b)
+      (10 ∷ y) (bound_word (bound_of network sums n l) (short_bounds sums few n l))
+      (bound_word (bound_of network others n l) (short_bounds others less n l)) refl refl
       (append_cancel_left (codes " bound ") _ _ worst.rest) in
       record {
-        summary_is = same_summary one two counts.counts worst.number;
-        bound_is = same_bound (bound_of network sums n) (bound_of network others n) (short_bounds sums few n)
-            (short_bounds others less n) bounds.word;
+        told = record {
+          summary = same_summary one two counts.counts worst.number;
+          bound = same_bound (bound_of network sums n l) (bound_of network others n l) (short_bounds sums few n l)
+              (short_bounds others less n l) bounds.word;
+        };
         rest = cc bounds.rest;
       }
 
-  more_parts : (given : Option (List ℕ)) (n : ℕ) (one : Summary) (list : List Summary) (b : List ℕ)
-      → flat_map (sender_line network given) (enumerate_from n (one ∷ list)) ++ b
-      ≡ sender_line network given (n, one)
-      ++ (flat_map (sender_line network given) (enumerate_from (n + 1) list) ++ b)
-  more_parts given n one list b = simp append_assoc refl
+  more_parts : (f : ℕ → List ℕ) (from n : ℕ) (b : List ℕ)
+      → flat_map f (range_with_len from (suc n)) ++ b ≡ f from ++ (flat_map f (range_with_len (from + 1) n) ++ b)
+  more_parts f from n b = append_assoc (f from) (flat_map f (range_with_len (from + 1) n)) b
 
-  -- two lists of as many lines, from sender n on
-  record AllLines (n : ℕ) (list other : List Summary) : Type 0 where
-    summaries_are : list ≡ other
-    bounds_are : (i : ℕ) → i < length list → bound_of network sums (n + i) ≡ bound_of network others (n + i)
+  -- where texts of so many numbers, from one on, with something behind them, are the same, each tells its own
+  record AllTold (Told : ℕ → Type 0) (from n : ℕ) (b y : List ℕ) : Type 0 where
+    each : (k : ℕ) → from ≤ k → k < from + n → Told k
+    rest : b ≡ y
 
-  cut_all : (n : ℕ) (list other : List Summary) (b y : List ℕ) → length list ≡ length other
-      → All HasShortNumbers list → All HasShortNumbers other → AreShort sums → AreShort others
-      → flat_map (sender_line network sums) (enumerate_from n list) ++ b
-      ≡ flat_map (sender_line network others) (enumerate_from n other) ++ y → AllLines n list other
-  cut_all n [] [] b y long short brief few less same =
-      record { summaries_are = refl; bounds_are = λ i inside. absurd (omega (arith, inside)) }
-  cut_all n [] (two ∷ other) b y long short brief few less same = absurd (omega (arith, long))
-  cut_all n (one ∷ list) [] b y long short brief few less same = absurd (omega (arith, long))
-  cut_all n (one ∷ list) (two ∷ other) b y long short brief few less same =
-      let line = cut_lines n one two (flat_map (sender_line network sums) (enumerate_from (n + 1) list) ++ b)
-      (flat_map (sender_line network others) (enumerate_from (n + 1) other) ++ y)
-      (All-head HasShortNumbers one list short) (All-head HasShortNumbers two other brief) few less
-      (sym (more_parts sums n one list b) ∙ same ∙ more_parts others n two other y) in
-      let more = cut_all (n + 1) list other b y (omega (arith, long)) (All-tail HasShortNumbers one list short)
-      (All-tail HasShortNumbers two other brief) few less line.rest in
-      record {
-        summaries_are = rw (line.summary_is, more.summaries_are) refl;
-        bounds_are = bounds line.bound_is more.bounds_are;
-      }
+  cut_all : (Told : ℕ → Type 0) (f g : ℕ → List ℕ) (from n : ℕ)
+      → ((k : ℕ) (b y : List ℕ) → from ≤ k → k < from + n → f k ++ b ≡ g k ++ y → Told k × (b ≡ y)) → (b y : List ℕ)
+      → flat_map f (range_with_len from n) ++ b ≡ flat_map g (range_with_len from n) ++ y → AllTold Told from n b y
+  cut_all Told f g from zero one b y same =
+      record { each = λ k above below. absurd (omega (arith, above, below)); rest = same }
+  cut_all Told f g from (suc n) one b y same =
+      let here : Told from
+      × (flat_map f (range_with_len (from + 1) n) ++ b ≡ flat_map g (range_with_len (from + 1) n) ++ y) =
+      one from (flat_map f (range_with_len (from + 1) n) ++ b) (flat_map g (range_with_len (from + 1) n) ++ y)
+      (omega arith) (omega arith) (sym (more_parts f from n b) ∙ same ∙ more_parts g from n y) in
+      let more = cut_all Told f g (from + 1) n
+      (λ k c z above below. one k c z (omega (arith, above)) (omega (arith, below))) b y here.1 in
+      record { each = by here.0 more.each; rest = more.rest }
     where
-      bounds : bound_of network sums n ≡ bound_of network others n
-          → ((i : ℕ) → i < length list → bound_of network sums (n + 1 + i) ≡ bound_of network others (n + 1 + i))
-          → (i : ℕ) → i < suc (length list) → bound_of network sums (n + i) ≡ bound_of network others (n + i)
-      bounds here there zero inside =
-          let none : n + zero ≡ n = omega arith in rw none here
-      bounds here there (suc i) inside =
-          let next : n + suc i ≡ n + 1 + i = omega arith in rw next (there i (omega (arith, inside)))
+      first_is : (k : ℕ) → from ≤ k → k ≤ from → from ≡ k
+      first_is k above same = omega (arith, above, same)
 
-  -- each sender has one summary
-  one_each : (run : List Travel) → length (summaries_of (length (senders_of network)) run) ≡ length (senders_of network)
-  one_each run =
-      length-map-range_with_len (λ sender. summary_of (frames_of run sender)) 0 (length (senders_of network))
+      by : Told from → ((k : ℕ) → from + 1 ≤ k → k < from + 1 + n → Told k) → (k : ℕ) → from ≤ k
+          → k < from + suc n → Told k
+      by first further k above below = elim (cases_lt from k) [
+        | inl behind ↦ further k (omega (arith, behind)) (omega (arith, below))
+        | inr same ↦ subst Told (first_is k above same) first
+      ]
 
-  report_parts : (given : Option (List ℕ)) (run : List Travel) → report_text network run given
-      ≡ flat_map (sender_line network given) (enumerate_from 0 (summaries_of (length (senders_of network)) run))
-      ++ totals_line (totals_of run)
+  -- the lines of a sender tell all of its listeners
+  abbrev TellsSender : ℕ → Type 0
+  TellsSender sender = (listener : ℕ) → listener < listener_count (sender_at network sender)
+      → SaysTheSame network run other sums others sender listener
+
+  cut_sender : (sender : ℕ) (b y : List ℕ) → sender < length (senders_of network) → IsReportable network run sums
+      → IsReportable network other others
+      → sender_lines network (summary_for network run) sums sender ++ b
+      ≡ sender_lines network (summary_for network other) others sender ++ y → TellsSender sender × (b ≡ y)
+  cut_sender sender b y within first second same =
+      let all = cut_all (SaysTheSame network run other sums others sender)
+      (listener_line network (summary_for network run) sums sender)
+      (listener_line network (summary_for network other) others sender) 0
+      (listener_count (sender_at network sender))
+      (λ l c z above below.
+      let listed : l < listener_count (sender_at network sender) = omega (arith, below) in
+      let line = cut_lines sender l c z (first.summaries sender l within listed)
+      (second.summaries sender l within listed) first.bounds second.bounds in
+      λ texts. ((line texts).told, (line texts).rest)) b y same in
+      (λ l listed. all.each l (omega arith) (omega (arith, listed)), all.rest)
+
+  report_parts : (given : Option (List ℕ)) (runs : List Travel) → report_text network runs given
+      ≡ flat_map (sender_lines network (summary_for network runs) given)
+      (range_with_len 0 (length (senders_of network)))
+      ++ totals_line (totals_of network runs)
   unfolding report_text
-  report_parts given run = refl
+  report_parts given runs = refl
 
 pub report_tells_all : ReportTellsAll
 report_tells_all network run other sums others first second same =
-    let count = length (senders_of network) in
-    let long : length (summaries_of count run) ≡ length (summaries_of count other) =
-    one_each network sums others run ∙ sym (one_each network sums others other) in
-    let all = cut_all network sums others 0 (summaries_of count run) (summaries_of count other)
-    (totals_line (totals_of run)) (totals_line (totals_of other)) long first.summaries second.summaries first.bounds
-    second.bounds (sym (report_parts network sums others sums run) ∙ same
-    ∙ report_parts network sums others others other) in
-    record {
-      summaries = all.summaries_are;
-      bounds = λ sender inside.
-          let none : 0 + sender ≡ sender = omega arith in
-          subst (λ n. bound_of network sums n ≡ bound_of network others n) none
-          (all.bounds_are sender (omega (arith, one_each network sums others run)));
-    }
+    let all = cut_all network run other sums others (TellsSender network run other sums others)
+    (sender_lines network (summary_for network run) sums) (sender_lines network (summary_for network other) others) 0
+    (length (senders_of network))
+    (λ sender b y above below. cut_sender network run other sums others sender b y (omega (arith, below)) first second)
+    (totals_line (totals_of network run)) (totals_line (totals_of network other))
+    (sym (report_parts network run other sums others sums run) ∙ same
+    ∙ report_parts network run other sums others others other) in
+    λ sender listener within listed. all.each sender (omega arith) (omega (arith, within)) listener listed

@@ -4,7 +4,7 @@ use Rattle.ats_num.specs.Name.{is_name}
 use Rattle.ats_network.specs.Network.{DeclaredNetwork, senders_of}
 use Rattle.ats_group.specs.declared.verdict.Verdict.{Verdict}
 use Rattle.ats_group.specs.declared.verdict.Verdict.TheVariants.{Eligible, Late, Size}
-use Rattle.ats_trace.specs.Journey.{Travel}
+use Rattle.ats_trace.specs.Journey.{Leg, Travel, legs_in}
 use Rattle.ats_trace.specs.declared.journey.HopRecord.{HopRecord}
 use Rattle.ats_trace.specs.declared.journey.Ending.{Ending}
 use Rattle.ats_trace.specs.declared.journey.Ending.TheVariants.{Sink, Discard}
@@ -43,11 +43,15 @@ abbrev pub IsShortEnding : Ending → Type 0
 IsShortEnding (Sink at) = IsShort at.0
 IsShortEnding Discard = Unit {0}
 
+-- each time along a leg
+pub record IsShortLeg (leg : Leg) : Type 0 where
+  pub hops : All IsShortHop leg.hops
+  pub ending : IsShortEnding leg.ending
+
 -- each time of a journey has at most 64 digits
 pub record HasShortTimes (journey : Travel) : Type 0 where
   pub release : IsShort journey.release.at.0
-  pub hops : All IsShortHop journey.hops
-  pub ending : IsShortEnding journey.ending
+  pub legs : All IsShortLeg (legs_in journey)
 
 -- the senders of a network have names
 abbrev pub HasNames : DeclaredNetwork → Type 0
@@ -60,7 +64,7 @@ pub record AreShortCounts (totals : Totals) : Type 0 where
   pub all_late : IsShort totals.late
   pub all_size : IsShort totals.size
 
--- each number of what came of a sender's frames
+-- each number of what came of a sender's frames for a listener
 pub record HasShortNumbers (summary : Summary) : Type 0 where
   pub totals : AreShortCounts summary.totals
   pub worst : IsShort summary.worst.0

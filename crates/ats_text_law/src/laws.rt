@@ -4,14 +4,14 @@ ghost use Rattle.ats_text_law.specs.Answers.{AnswersTellAll};
 ghost use Rattle.ats_text_law.specs.Explained.{ExplainTellsAll};
 ghost use Rattle.ats_text_law.specs.Laws.{AcceptedTellsAll, DeparturesTellAll, ReportTellsAll};
 
-/// A law: over one network whose streams have one listener each, the texts that `replay` prints of two runs are the
-/// same only where the runs are, record for record, whatever stands behind the texts.
+/// A law: over one network, the texts that `replay` prints of two runs are the same only where the runs are, record for
+/// record along each leg of each frame, whatever stands behind the texts.
 pub fn departures_tell_all()
     ensures { DeparturesTellAll }
 {}
 
 /// A law: over one network, the reports of `generate` on two runs are the same only where each sender has
-/// the same counts, the same longest time and the same bound in both.
+/// for each of its listeners the same counts, the same longest time and the same bound in both.
 pub fn report_tells_all()
     ensures { ReportTellsAll }
 {}

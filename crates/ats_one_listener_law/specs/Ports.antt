@@ -1,0 +1,11 @@
+use Rattle.std.specs.Prelude.{List}
+use Rattle.ats_network.specs.Network.{DeclaredNetwork, HasOneListener, IsNetwork}
+use Rattle.ats_trace.specs.Releases.{AreReleases, HaveFewPorts}
+use Rattle.ats_trace.specs.declared.journey.Release.{Release}
+
+-- Where no stream has a branch, no run has too many ports.
+
+-- releases that may be run on a network by themselves have few enough ports together
+abbrev pub OneListenerHasFewPorts : Type 0
+OneListenerHasFewPorts = (network : DeclaredNetwork) (releases : List Release) → IsNetwork network
+    → HasOneListener network → AreReleases network releases → HaveFewPorts network releases
