@@ -6,3 +6,6 @@ pub mod FaultLines
 pub mod Ordered
 pub mod Promised
 pub mod Waiting
+pub mod Refused
+pub mod Meant
+pub mod JustOne

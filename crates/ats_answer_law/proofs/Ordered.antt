@@ -8,7 +8,7 @@ runs_keep_their_order = record {
   buffers = λ order h text run peaks is. is.is_run.by_order;
   record_order = λ order network port releases file run is. is.is_run.by_order;
   generate = λ network releases text run is. is.is_run.by_order;
-  witness = λ network stream port delay found. found.of_burst.by;
+  witness = λ network stream listener port delay found. found.of_burst.by;
 }
 
 pub peaks_are_held : PeaksAreHeld

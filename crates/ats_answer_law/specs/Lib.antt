@@ -4,3 +4,6 @@ pub mod Faults
 pub mod Runs
 pub mod Accepted
 pub mod Reached
+pub mod NoneMade
+pub mod Meant
+pub mod JustOne

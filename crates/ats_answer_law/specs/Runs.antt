@@ -38,7 +38,8 @@ pub record RunsKeepTheirOrder : Type 0 where
       (run : List Travel) → IsRecordedRun order network port releases file run → KeepsOrder order network run
   pub generate : (network : DeclaredNetwork) (releases : List Release) (text : List ℕ) (run : List Travel)
       → IsReport network releases text run → KeepsOrder Early network run
-  pub witness : (network : DeclaredNetwork) (stream port delay : ℕ) (found : IsFoundAt network stream port delay)
+  pub witness : (network : DeclaredNetwork) (stream listener port delay : ℕ)
+      (found : IsFoundAt network stream listener port delay)
       → IsRunBy (last_key stream) greatest_wait network found.run
 
 -- a peak is held at some time, and more at none

@@ -7,6 +7,9 @@ ghost use Rattle.ats_answer_law.specs.Due.{BuffersAreDue, LrqBoundIsDue, LrqChec
 ghost use Rattle.ats_answer_law.specs.Due.{FitIsDue, RecordIsDue, ReleasesAreDue, SettingsAreDue, WitnessIsDue};
 ghost use Rattle.ats_answer_law.specs.Due.{WordsAreDue};
 ghost use Rattle.ats_answer_law.specs.Faults.{FaultsAreTold};
+ghost use Rattle.ats_answer_law.specs.JustOne.{JustOneIsLeft};
+ghost use Rattle.ats_answer_law.specs.Meant.{NothingLessIsMeant};
+ghost use Rattle.ats_answer_law.specs.NoneMade.{NoneAreMadeForFaults};
 ghost use Rattle.ats_answer_law.specs.Reached.{LaterFilesWait};
 ghost use Rattle.ats_answer_law.specs.Runs.{PeaksAreHeld, RunsKeepTheirOrder};
 
@@ -199,4 +202,24 @@ pub fn promises_are_sound()
 /// no fault.
 pub fn later_files_wait()
     ensures { LaterFilesWait }
+{}
+
+/// Where `generate` makes no releases, its fault says why: the network has no stream; or one of the releases that would
+/// be made is later than those of a run may be, or their frames have more ports together than those of a run may have.
+pub fn none_are_made_for_faults()
+    ensures { NoneAreMadeForFaults }
+{}
+
+/// What the words come to in which the laws of `ats_command_law` say what follows: of delays, each frame is served and
+/// in time whose own talker keeps its buckets, and so for all, for the least bounds, and for each worst delay; of
+/// bridges, how much room there is, and what those judge alike that are set alike. And a fault came at a file that the
+/// words of the command name.
+pub fn nothing_less_is_meant()
+    ensures { NothingLessIsMeant }
+{}
+
+/// Of which commands `one_answer_is_due` speaks: of all but six whatever is told, and of these where they come to
+/// nothing of which there may be several texts. An answer is due, and each that is due is this one.
+pub fn just_one_is_left()
+    ensures { JustOneIsLeft }
 {}

@@ -2,7 +2,6 @@
 
 ghost use Rattle.std.specs.Prelude.{◌≡◌, None, IfOk, IsErrOf};
 ghost use Rattle.ats_io.specs.Outside.{IfTold};
-ghost use Rattle.ats_network.specs.Network.{HasOneListener};
 ghost use Rattle.ats_certificate.specs.Certificate.{Holds};
 ghost use Rattle.ats_checker.specs.Ports.{RowsInside};
 ghost use Rattle.ats_buffer.specs.Buffer.{buffers_of};
@@ -43,7 +42,6 @@ fn buffers_in<F: Files>(
     certificate: &str,
     files: &mut F,
 ) -> Result<Vec<u8>, Stop>
-    requires one_listener { HasOneListener network.now }
     ensures due { IfTold (F.told files.old certificate.now) (λ bytes.
         Gives (λ text. text.items) result (rows_judged network.now certificate.now bytes)) }
     ensures reads { ReadsFile F.told F.faults F.reads certificate.now files.old files.new result }
@@ -58,7 +56,6 @@ fn judgement_of(
     network: &Network,
     certificate: &Certificate,
 ) -> Result<Vec<u8>, Stop>
-    requires one_listener { HasOneListener network.now }
     requires inside { RowsInside network.now.topology certificate.now }
     ensures due { Gives (λ text. text.items) result (buffers_judged network.now certificate.now) }
     ensures was_read { ¬ IsErrOf result Stop.ReadFailed }
@@ -73,7 +70,6 @@ fn text_of(
     network: &Network,
     certificate: &Certificate,
 ) -> Result<Vec<u8>, AllocError>
-    requires one_listener { HasOneListener network.now }
     requires inside { RowsInside network.now.topology certificate.now }
     requires holds { Holds network.now certificate.now }
     ensures { IfOk result (λ text. text.items ≡ buffers_text network.now.topology certificate.now

@@ -3,10 +3,9 @@
 
 ghost use Rattle.std.specs.Prelude.{IfOk, IsErrOf};
 ghost use Rattle.ats_io.specs.Outside.{IfTold};
-ghost use Rattle.ats_network.specs.Network.{HasOneListener};
 ghost use Rattle.ats_certificate.specs.Certificate.{Holds};
 ghost use Rattle.ats_checker.specs.Ports.{RowsInside};
-ghost use Rattle.ats_trace.specs.Releases.{AreReleases};
+ghost use Rattle.ats_trace.specs.Releases.{AreReleases, HaveFewPorts};
 ghost use Rattle.ats_command_input.specs.Command as table;
 ghost use Rattle.ats_command_input.specs.Outcome.{ReadsFile};
 ghost use Rattle.ats_command_due.specs.Calls.{Answers, ReadsFiles};
@@ -54,7 +53,6 @@ fn peaks_in<F: Files>(
     order: Order,
     files: &mut F,
 ) -> Result<Vec<u8>, Stop>
-    requires one_listener { HasOneListener network.now }
     requires inside { RowsInside network.now.topology certificate.now }
     ensures due { IfTold (F.told files.old schedule.now) (λ bytes.
         GivesOne (IsHeldText order) result (held_judged network.now certificate.now schedule.now bytes)) }
@@ -72,9 +70,9 @@ fn judgement_of(
     releases: &[Release],
     order: Order,
 ) -> Result<Vec<u8>, Stop>
-    requires one_listener { HasOneListener network.now }
     requires inside { RowsInside network.now.topology certificate.now }
     requires releases { AreReleases network.now releases.now }
+    requires few_ports { HaveFewPorts network.now releases.now }
     ensures due { GivesOne (IsHeldText order) result
         (unless_refused network.now certificate.now (held network.now certificate.now releases.now)) }
     ensures was_read { ¬ IsErrOf result Stop.ReadFailed }
@@ -91,10 +89,10 @@ fn text_of(
     releases: &[Release],
     order: Order,
 ) -> Result<Vec<u8>, AllocError>
-    requires one_listener { HasOneListener network.now }
     requires inside { RowsInside network.now.topology certificate.now }
     requires holds { Holds network.now certificate.now }
     requires releases { AreReleases network.now releases.now }
+    requires few_ports { HaveFewPorts network.now releases.now }
     ensures { IfOk result (λ text.
         IsHeldText order (held network.now certificate.now releases.now) text.items) }
 {

@@ -1,6 +1,6 @@
-use Rattle.std.specs.Prelude.{◌≡◌, ℕ, List, codes, map, Option, Some, None, Result, Ok, Err}
+use Rattle.std.specs.Prelude.{◌≡◌, ℕ, List, codes, Option, Some, None, Result, Ok, Err}
 use Rattle.ats_network.specs.Network.{DeclaredNetwork}
-use Rattle.ats_certificate.specs.Certificate.{bound_along}
+use Rattle.ats_tally.specs.Delays.{sums_for}
 use Rattle.ats_tally.specs.declared.reason.Reason.{Reason}
 use Rattle.ats_bound.specs.Least.{least_certificate}
 use Rattle.ats_bound.specs.Reason.{reason_of}
@@ -18,16 +18,17 @@ use Rattle.ats_command_input.specs.declared.order.Order.TheVariants.{Early}
 use Rattle.ats_command_input.specs.declared.status.Status.TheVariants.{Refused}
 use Rattle.ats_command_due.specs.Replayed.{IsRunIn}
 
--- for each stream the sum of its least bounds to its first listener, unless there is a reason why no certificate holds
+-- for each listener, stream by stream, the sum of the least bounds along the route there, unless there is a reason why
+-- no certificate holds
 abbrev pub sums_unless : DeclaredNetwork → Option Reason → Option (List ℕ)
-sums_unless network None = Some (map (bound_along (least_certificate network)) network.streams)
+sums_unless network None = Some (sums_for network (least_certificate network))
 sums_unless network (Some reason) = None
 
 abbrev pub least_sums : DeclaredNetwork → Option (List ℕ)
 least_sums network = sums_unless network (reason_of network)
 
--- a run in the order `early` with exactly these releases, and a text that says what came of each sender's frames, with
--- the sums of the least bounds
+-- a run in the order `early` with exactly these releases, and a text that says what came of each sender's frames for
+-- each listener, with the sums of the least bounds
 pub record IsReport (network : DeclaredNetwork) (releases : List Release) (text : List ℕ) (run : List Travel) : Type 0
   where
     pub is_run : IsRunIn Early network releases run

@@ -14,7 +14,8 @@ use Rattle.ats_command_due.specs.Due.{IsTold, told_bytes}
 use Rattle.ats_command_input.specs.Input.{network_in, rows_in}
 
 -- a text gives the bounds of rows and their sums; the bounds are sound, where groups judge so and talkers keep this
--- rule, and by them each frame of a talker that keeps it arrives within the sum and within the deadline
+-- rule, and by them each frame of a talker that keeps it arrives at each listener within the sum for the listener and
+-- within the deadline
 pub record IsSoundTextBy (judge : Judge) (rule : Declared → List Frame → Type 0) (network : DeclaredNetwork)
     (rows : List Row) (text : List ℕ) : Type 0 where
   pub sound : IsSoundBy judge rule network rows

@@ -1,12 +1,14 @@
 use Rattle.std.specs.Prelude.{◌≡◌, ℕ, List, Result, slice_index_or}
+use Rattle.std.specs.List.{AllZip, range_with_len}
 use Rattle.std.specs.Option.{option_map}
 use Rattle.ats_network.specs.Edits.{no_stream}
 use Rattle.ats_network.specs.Network.{DeclaredNetwork}
-use Rattle.ats_certificate.specs.Certificate.{bound_along}
+use Rattle.ats_network.specs.Senders.{sender_at}
 use Rattle.ats_bound.specs.Least.{least_certificate}
 use Rattle.ats_bound.specs.Reason.{reason_of}
+use Rattle.ats_trace.specs.Ways.{listener_count}
 use Rattle.ats_verdict_text.specs.Text.{reason_text}
-use Rattle.ats_witness.specs.Found.{AreFound, FoundDelays}
+use Rattle.ats_witness.specs.Found.{AreFound, FoundDelays, bound_for}
 use Rattle.ats_witness_text.specs.Text.{witness_text}
 use Rattle.ats_num.specs.Failure.{◌>>=◌}
 use Rattle.ats_command_input.specs.Answer.{Answer}
@@ -14,19 +16,26 @@ use Rattle.ats_command_input.specs.Input.{network_in}
 use Rattle.ats_command_input.specs.Stream.{stream_in}
 use Rattle.ats_command_due.specs.Judged.{judged}
 
--- the sum of the least bounds of the stream with a number
-abbrev pub least_sum : DeclaredNetwork → ℕ → ℕ
-least_sum network stream =
-    bound_along (least_certificate network) (slice_index_or network.streams stream no_stream)
+-- the sum of the least bounds of a stream along the route to one of its listeners, both by their numbers
+abbrev pub least_sum : DeclaredNetwork → ℕ → ℕ → ℕ
+least_sum network stream listener =
+    bound_for (least_certificate network) (slice_index_or network.streams stream no_stream) listener
 
--- delays that are found of a stream, and a text that writes them beside the sum of the stream's least bounds
-pub record IsWitnessOf (network : DeclaredNetwork) (stream : ℕ) (text : List ℕ) (found : FoundDelays) : Type 0 where
-  pub are_found : AreFound network stream found
-  pub written : text ≡ witness_text network stream found (least_sum network stream)
+-- what is found of a stream for each of its listeners, one by one
+abbrev pub AreFoundForEach : DeclaredNetwork → ℕ → List FoundDelays → Type 0
+AreFoundForEach network stream founds =
+    AllZip (AreFound network stream) (range_with_len 0 (listener_count (sender_at network stream))) founds
+
+-- delays that are found of a stream for each of its listeners, and a text that writes them, beside the sum of the
+-- stream's least bounds along the route to each
+pub record IsWitnessOf (network : DeclaredNetwork) (stream : ℕ) (text : List ℕ) (founds : List FoundDelays) : Type 0
+  where
+    pub are_found : AreFoundForEach network stream founds
+    pub written : text ≡ witness_text network stream founds (least_sum network stream)
 
 -- a text is that of some such delays
 abbrev pub IsWitnessText : DeclaredNetwork → ℕ → List ℕ → Type 0
-IsWitnessText network stream text = (found : FoundDelays) × IsWitnessOf network stream text found
+IsWitnessText network stream text = (founds : List FoundDelays) × IsWitnessOf network stream text founds
 
 -- a network, and the number of one of its streams
 pub record Witnessed : Type 0 where

@@ -5,7 +5,6 @@ ghost use Rattle.std.specs.Prelude.{vec_len};
 ghost use Rattle.std.specs.Global.{Vec};
 ghost use Rattle.ats_io.specs.declared.files.TheConstants.{MAX_PLACE};
 ghost use Rattle.ats_io.specs.Outside.{IfTold};
-ghost use Rattle.ats_network.specs.Network.{HasOneListener};
 ghost use Rattle.ats_command_input.specs.Answer.{input_text};
 ghost use Rattle.ats_command_input.specs.Input.{bytes_in, shape_in, network_in, records_in, releases_in, rows_in};
 ghost use Rattle.ats_command_input.specs.Input.{requests_in, traffic_in};
@@ -13,7 +12,7 @@ ghost use Rattle.ats_capture.specs.Reading.{IsLongEnough};
 ghost use Rattle.ats_capture.specs.Seen.{seen};
 ghost use Rattle.ats_command_input.specs.Outcome.{Gives, PassesOn, ReadsFile};
 ghost use Rattle.ats_requests.specs.Requests.{MayAsk};
-ghost use Rattle.ats_trace.specs.Releases.{AreReleases};
+ghost use Rattle.ats_trace.specs.Releases.{AreReleases, HaveFewPorts};
 
 use crate::outcome::Stop;
 use ats_capture::{RecordsFault, StationTraffic, capture_records, captured};
@@ -50,12 +49,11 @@ pub fn shape_in<F: Files>(alloc: Global, file: &str, files: &mut F) -> Result<Sh
     declared(alloc, file, read_shape(alloc, &bytes))
 }
 
-/// The network that a file declares, in which each stream has one listener. `Input` exactly where the file is too long
-/// or has a fault, and `ReadFailed` only where a fault came at it.
+/// The network that a file declares. `Input` exactly where the file is too long or has a fault, and
+/// `ReadFailed` only where a fault came at it.
 pub fn network_in<F: Files>(alloc: Global, file: &str, files: &mut F) -> Result<Network, Stop>
     ensures due { IfTold (F.told files.old file.now)
         (λ bytes. Gives (λ network. network) result (network_in file.now bytes)) }
-    ensures one_listener { IfOk result HasOneListener }
     ensures reads { ReadsFile F.told F.faults F.reads file.now files.old files.new result }
 {
     let bytes = bytes_in(alloc, file, MAX_BYTES, files)?;
@@ -81,7 +79,8 @@ pub fn certificate_in<F: Files>(
 }
 
 /// The releases that a schedule's file declares for the senders of a network, in the order of its records; they may be
-/// run on it. `Input` exactly where the file is too long or has a fault, `ReadFailed` only where a fault came at it.
+/// run on it, and the ports of their frames are together at most 3,200,000. `Input` exactly where the file is too long
+/// or has a fault, `ReadFailed` only where a fault came at it.
 pub fn schedule_in<F: Files>(
     alloc: Global,
     file: &str,
@@ -91,6 +90,7 @@ pub fn schedule_in<F: Files>(
     ensures due { IfTold (F.told files.old file.now)
         (λ bytes. Gives (λ releases. releases.items) result (releases_in network.now file.now bytes)) }
     ensures releases { IfOk result (λ releases. AreReleases network.now releases.items) }
+    ensures few_ports { IfOk result (λ releases. HaveFewPorts network.now releases.items) }
     ensures reads { ReadsFile F.told F.faults F.reads file.now files.old files.new result }
 {
     let bytes = bytes_in(alloc, file, MAX_SCHEDULE_BYTES, files)?;
@@ -114,7 +114,8 @@ pub fn requests_in<F: Files>(
     declared(alloc, file, read_requests(alloc, &bytes, network))
 }
 
-/// What a station sent, as the capture in a file tells of it; its releases may be run on the network.
+/// What a station sent, as the capture in a file tells of it; its releases may be run on the network,
+/// and the ports of their frames are together at most 3,200,000.
 /// `Input` exactly where the file is too long or has a fault, or its records are over a limit, and
 /// `ReadFailed` only where a fault came at it.
 pub fn traffic_in<F: Files>(
@@ -127,6 +128,7 @@ pub fn traffic_in<F: Files>(
     ensures due { IfTold (F.told files.old file.now)
         (λ bytes. Gives seen result (traffic_in network.now station file.now bytes)) }
     ensures releases { IfOk result (λ traffic. AreReleases network.now traffic.releases.items) }
+    ensures few_ports { IfOk result (λ traffic. HaveFewPorts network.now traffic.releases.items) }
     ensures reads { ReadsFile F.told F.faults F.reads file.now files.old files.new result }
 {
     let records = records_in(alloc, file, files)?;

@@ -31,7 +31,7 @@ use Rattle.ats_command_input.proofs.Requested.{requests_may}
 use Rattle.ats_command_law.specs.AdmitMeaning.{AdmitMeans, AdmitSays, IsSoundlyBounded, network_after}
 use Rattle.ats_command_due.specs.Due as due
 use Rattle.ats_command_due.specs.Judged.{admission_judged, judged}
-use Rattle.ats_command_law.proofs.Meanings.{IsInput, declared_alone, file_gives, network_gives, none_declared}
+use Rattle.ats_command_law.proofs.Meanings.{IsInput, file_gives, network_gives, none_declared}
 use Rattle.ats_command_law.proofs.Answered.{AreAsked, are_answers}
 use Rattle.ats_command_law.proofs.OneClass.{requests_one}
 
@@ -78,8 +78,7 @@ judged_admission net requests net_bytes requests_bytes network asked None declar
     network_declared = declared;
     requests_made = made;
     sound = sound_after network asked (record { rules = rules; free = is }) are.may;
-    answered = are_answers network asked (record { rules = rules; free = is })
-        (declared_alone net net_bytes network declared) are;
+    answered = are_answers network asked (record { rules = rules; free = is }) are;
     written = refl;
   },
 )

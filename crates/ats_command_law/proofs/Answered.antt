@@ -1,10 +1,10 @@
 -- What each answer to a request says of the network before it and of the one after it.
 use Rattle.std.proofs.Common.{◌≡◌, ℕ, zero, suc, ◌+◌, Bool, true, false, cond, List, [], ◌∷◌, length, get_or}
-use Rattle.std.proofs.Common.{Option, Some, None, Result, Ok, Err, refl, sym, ap, subst, ◌∙◌, arith}
-use Rattle.std.specs.Prelude.{is_some, nat_le, slice_get}
+use Rattle.std.proofs.Common.{Option, Some, None, Result, Ok, Err, refl, sym, ap, subst, ◌∙◌, inl, inr, arith}
+use Rattle.std.specs.Prelude.{◌≤◌, ◌<◌, ◌⊎◌, ◌||◌, is_some, nat_le, nat_lt, slice_get}
 use Rattle.std.specs.List.{All}
 use Rattle.std.specs.Option.{option_map, option_or}
-use Rattle.std.proofs.lemmas.Bool.{leb-true}
+use Rattle.std.proofs.lemmas.Bool.{leb-true, ltb-true}
 use Rattle.std.proofs.lemmas.List.{get_or_default, get_or-map, length-map}
 use Rattle.std.proofs.lemmas.List.Elements.{All-head, All-tail}
 use Rattle.std.proofs.lemmas.Option.{none-some, same_Some}
@@ -13,15 +13,13 @@ use Rattle.ats_num.specs.Failure.{unless}
 use Rattle.ats_num.specs.Places.{place_of}
 use Rattle.ats_topology.specs.Topology.{DeclaredTopology}
 use Rattle.ats_topology.proofs.Known.{name_there}
-use Rattle.ats_streams.proofs.OneListener.{alone_path}
 use Rattle.ats_streams.specs.Stream.{DeclaredStream, with_class}
 use Rattle.ats_network.specs.Edits.{less_at, no_stream, without_named}
-use Rattle.ats_network.specs.Network.{DeclaredNetwork, HasOneListener, IsNetwork, names_of, senders_of}
+use Rattle.ats_network.specs.Network.{DeclaredNetwork, IsNetwork, names_of, ports_together, senders_of}
 use Rattle.ats_network.specs.Pushes.{is_full, is_name_taken, with_stream}
 use Rattle.ats_network.specs.Tables.{stream_names}
-use Rattle.ats_network.specs.declared.network.TheConstants.{MAX_STREAMS}
+use Rattle.ats_network.specs.declared.network.TheConstants.{MAX_PORTS_TOGETHER, MAX_STREAMS}
 use Rattle.ats_network.proofs.NameLemmas.{absent_differs}
-use Rattle.ats_network.proofs.Together.{full_by_streams}
 use Rattle.ats_certificate.specs.Certificate.{bound_along}
 use Rattle.ats_tally.specs.declared.reason.Reason.{Reason}
 use Rattle.ats_bound.specs.Least.{least_certificate}
@@ -46,7 +44,6 @@ use Rattle.ats_command_law.specs.Answered.{AdmitDenied, AdmitTells, AreFirstReas
 use Rattle.ats_command_law.specs.Answered.{IsFull, IsNameFree, IsNameTaken, LowestDenied, LowestTells, AnswerTells}
 use Rattle.ats_command_law.specs.Answered.{WithdrawTells}
 use Rattle.ats_command_law.proofs.OneClass.{AsksOneClass, IsOfOneClass}
-use Rattle.ats_command_law.proofs.StayAlone.{request_alone}
 
 -- a name that is found is that of a sender, and one that is not is free
 name_taken : (network : DeclaredNetwork) (name : List ℕ) → is_name_taken network name ≡ true
@@ -66,26 +63,34 @@ name_free network name free =
     let names : List (List ℕ) = names_of (senders_of network) in
     absent_differs name names (is_some-false (place_of name names) free)
 
--- what stands against an entry is a taken name, or that the network is full: with one listener each, streams never have
--- more ports together than they may
-entry_denies : (P : Denied → Type 0) (network : DeclaredNetwork) (stream : DeclaredStream) → IsNetwork network
-    → HasOneListener network → MayEnter network.topology stream → (IsNameTaken network stream.name → P NameTaken)
-    → (IsFull network stream.name → P Limit) → (denied : Denied) → entry_fault network stream ≡ Some denied → P denied
-entry_denies P network stream is alone may taken full denied h =
+-- a network without room for one more stream is full
+no_room : (network : DeclaredNetwork) (stream : DeclaredStream) → is_name_taken network stream.name ≡ false
+    → is_full network.streams stream.ports ≡ true → IsFull network stream
+no_room network stream free full = record {
+  free = name_free network stream.name free;
+  full = by (nat_le MAX_STREAMS (length network.streams)) refl full;
+}
+  where
+    together : ℕ
+    together = ports_together network.streams + length stream.ports
+
+    by : (many : Bool) → nat_le MAX_STREAMS (length network.streams) ≡ many
+        → (many || nat_lt MAX_PORTS_TOGETHER together) ≡ true
+        → (MAX_STREAMS ≤ length network.streams) ⊎ (MAX_PORTS_TOGETHER < together)
+    by true e h = inl (leb-true MAX_STREAMS (length network.streams) e)
+    by false e h = inr (ltb-true MAX_PORTS_TOGETHER together h)
+
+-- what stands against an entry is a taken name, or that the network is full
+entry_denies : (P : Denied → Type 0) (network : DeclaredNetwork) (stream : DeclaredStream)
+    → (IsNameTaken network stream.name → P NameTaken) → (IsFull network stream → P Limit)
+    → (denied : Denied) → entry_fault network stream ≡ Some denied → P denied
+entry_denies P network stream taken full denied h =
     by (is_name_taken network stream.name) refl (is_full network.streams stream.ports) refl h
   where
-    by_streams : is_full network.streams stream.ports ≡ nat_le MAX_STREAMS (length network.streams)
-    by_streams = full_by_streams network stream.ports is alone
-        (alone_path stream.ports stream.branches may.one_listener may.rules.routes)
-
     by : (a : Bool) → is_name_taken network stream.name ≡ a → (b : Bool) → is_full network.streams stream.ports ≡ b
         → cond a (Some NameTaken) (cond b (Some Limit) None) ≡ Some denied → P denied
     by true e b f h = subst P (same_Some NameTaken denied h) (taken (name_taken network stream.name e))
-    by false e true f h =
-        subst P (same_Some Limit denied h) (full (record {
-          free = name_free network stream.name e;
-          full = leb-true MAX_STREAMS (length network.streams) (sym by_streams ∙ f);
-        }))
+    by false e true f h = subst P (same_Some Limit denied h) (full (no_room network stream e f))
     by false e false f h = absurd (none-some denied h)
 
 -- where nothing stands against the entry of a stream, the reason that is found against the network with it is the first
@@ -97,15 +102,15 @@ reason_is_first network stream reason is may none found =
     record { rules = rules; first = (each_reason_is_the_first (with_stream network stream) reason rules).0 found }
 
 admit_denies : (network : DeclaredNetwork) (stream : DeclaredStream) (denied : Denied) → IsNetwork network
-    → HasOneListener network → MayEnter network.topology stream → admit_fault network stream ≡ Some denied
+    → MayEnter network.topology stream → admit_fault network stream ≡ Some denied
     → AdmitDenied network stream denied
-admit_denies network stream denied is alone may h =
+admit_denies network stream denied is may h =
     by (entry_fault network stream) refl (reason_with network stream) refl h
   where
     by : (o : Option Denied) → entry_fault network stream ≡ o → (r : Option Reason) → reason_with network stream ≡ r
         → option_or o (option_map Because r) ≡ Some denied → AdmitDenied network stream denied
     by (Some d) e r f h =
-        entry_denies (AdmitDenied network stream) network stream is alone may (λ t. t) (λ t. t) denied (e ∙ h)
+        entry_denies (AdmitDenied network stream) network stream (λ t. t) (λ t. t) denied (e ∙ h)
     by None e (Some reason) f h =
         subst (AdmitDenied network stream) (same_Some (Because reason) denied h)
         (reason_is_first network stream reason is may e f)
@@ -113,9 +118,9 @@ admit_denies network stream denied is alone may h =
 
 -- so it is where a stream is refused for a reason
 refused_first : (network : DeclaredNetwork) (stream : DeclaredStream) (reason : Reason) → IsNetwork network
-    → HasOneListener network → MayEnter network.topology stream → admit network stream ≡ Err (Because reason)
+    → MayEnter network.topology stream → admit network stream ≡ Err (Because reason)
     → HasFirstReason (with_stream network stream) reason
-refused_first network stream reason is alone may h = by (admit_fault network stream) refl h
+refused_first network stream reason is may h = by (admit_fault network stream) refl h
   where
     by : (o : Option Denied) → admit_fault network stream ≡ o
         → unless (λ (d : Denied). d) o (sum_with network stream) ≡ Err (Because reason)
@@ -123,13 +128,13 @@ refused_first network stream reason is alone may h = by (admit_fault network str
     by None e h = absurd (let no : Ok (sum_with network stream) ≡ Err (Because reason) = h in cc)
     by (Some d) e h =
         let same : d ≡ Because reason = cc h in
-        admit_denies network stream (Because reason) is alone may (e ∙ ap Some same)
+        admit_denies network stream (Because reason) is may (e ∙ ap Some same)
 
 -- the answer to a stream with its class
-admit_tells : (network : DeclaredNetwork) (stream : DeclaredStream) → IsNetwork network → HasOneListener network
+admit_tells : (network : DeclaredNetwork) (stream : DeclaredStream) → IsNetwork network
     → MayEnter network.topology stream → IsOfOneClass stream
     → AdmitTells network (after network (Admit stream)) stream (answer network (Admit stream))
-admit_tells network stream is alone may one = by (admit_fault network stream) refl
+admit_tells network stream is may one = by (admit_fault network stream) refl
   where
     by : (o : Option Denied) → admit_fault network stream ≡ o
         → AdmitTells network (cond (is_some o) network (with_stream network stream)) stream
@@ -141,13 +146,13 @@ admit_tells network stream is alone may one = by (admit_fault network stream) re
         sum_is = ap (bound_along (least_certificate (with_stream network stream))) one;
       };
     }
-    by (Some denied) e = record { same = refl; cause = admit_denies network stream denied is alone may e }
+    by (Some denied) e = record { same = refl; cause = admit_denies network stream denied is may e }
 
 -- why a stream gets no class
 lowest_denies : (network : DeclaredNetwork) (stream : DeclaredStream) (denied : Denied) → IsNetwork network
-    → HasOneListener network → MayEnter network.topology stream → lowest_class network stream ≡ Err denied
+    → MayEnter network.topology stream → lowest_class network stream ≡ Err denied
     → LowestDenied network stream denied
-lowest_denies network stream denied is alone may h =
+lowest_denies network stream denied is may h =
     by (entry_fault network stream) refl (lowest_of network stream stream_classes) h
   where
     none : (reasons : List Reason) → lowest_class network stream ≡ Err (NoClass reasons)
@@ -157,7 +162,7 @@ lowest_denies network stream denied is alone may h =
         no_class_has_reasons network stream reasons (ap (sum_given network stream) found) in
         record {
           seven = are.seven;
-          each = λ n d below. refused_first network (with_class stream (n + 1)) (get_or reasons n d) is alone
+          each = λ n d below. refused_first network (with_class stream (n + 1)) (get_or reasons n d) is
               (enters_with network.topology stream (n + 1) may
               (record { least = omega arith; most = omega (arith, below) })) (are.each n d below);
         }
@@ -166,7 +171,7 @@ lowest_denies network stream denied is alone may h =
         → class_given o r ≡ Err denied → LowestDenied network stream denied
     by (Some d) e r g =
         let same : d ≡ denied = cc g in
-        entry_denies (LowestDenied network stream) network stream is alone may (λ t. t) (λ t. t) denied
+        entry_denies (LowestDenied network stream) network stream (λ t. t) (λ t. t) denied
         (e ∙ ap Some same)
     by None e (Ok class) g = absurd (let no : Ok class ≡ Err denied = g in cc)
     by None e (Err reasons) g =
@@ -174,10 +179,10 @@ lowest_denies network stream denied is alone may h =
         subst (LowestDenied network stream) same (none reasons (h ∙ ap Err (sym same)))
 
 -- the answer to a stream with the lowest class
-lowest_tells : (network : DeclaredNetwork) (stream : DeclaredStream) → IsNetwork network → HasOneListener network
+lowest_tells : (network : DeclaredNetwork) (stream : DeclaredStream) → IsNetwork network
     → MayEnter network.topology stream
     → LowestTells network (after network (Lowest stream)) stream (answer network (Lowest stream))
-lowest_tells network stream is alone may = by (lowest_class network stream) refl
+lowest_tells network stream is may = by (lowest_class network stream) refl
   where
     by : (given : Result ℕ Denied) → lowest_class network stream ≡ given
         → LowestTells network (added_given network stream given) stream
@@ -192,12 +197,12 @@ lowest_tells network stream is alone may = by (lowest_class network stream) refl
           lower = λ c least less. (
               let refused = first.lower c least less in (
                 refused.reason,
-                refused_first network (with_class stream c) refused.reason is alone
+                refused_first network (with_class stream c) refused.reason is
                     (enters_with network.topology stream c may
                     (record { least = least; most = omega (arith, less, first.is_class.most) })) refused.refused,
               ));
         }
-    by (Err denied) e = record { same = refl; cause = lowest_denies network stream denied is alone may e }
+    by (Err denied) e = record { same = refl; cause = lowest_denies network stream denied is may e }
 
 -- the answer to a stream that is to be taken out
 withdraw_tells : (network : DeclaredNetwork) (name : List ℕ)
@@ -221,12 +226,12 @@ withdraw_tells network name = by (place_of name (stream_names network.streams)) 
           less = taken_out network name n e;
         }
 
-tells : (network : DeclaredNetwork) (request : Request) → IsNetwork network → HasOneListener network
+tells : (network : DeclaredNetwork) (request : Request) → IsNetwork network
     → MayAsk network.topology request → AsksOneClass request
     → AnswerTells network (after network request) request (answer network request)
-tells network (Admit stream) is alone may one = admit_tells network stream is alone may one
-tells network (Lowest stream) is alone may one = lowest_tells network stream is alone may
-tells network (Withdraw name) is alone may one = withdraw_tells network name
+tells network (Admit stream) is may one = admit_tells network stream is may one
+tells network (Lowest stream) is may one = lowest_tells network stream is may
+tells network (Withdraw name) is may one = withdraw_tells network name
 
 -- requests that may be asked over a topology, each for a stream with one class
 pub record AreAsked (topology : DeclaredTopology) (asked : List Request) : Type 0 where
@@ -253,9 +258,9 @@ answers_from network request asked first later =
         (let e : suc (k + 1) ≡ suc k + 1 = omega arith in e) (later.each k r a asks gives)
 
 pub are_answers : (network : DeclaredNetwork) (asked : List Request) → IsCertified network
-    → HasOneListener network → AreAsked network.topology asked → AreAnswers network asked
-are_answers network [] is alone are = record { as_many = refl; each = λ k r a asks gives. absurd (none-some r asks) }
-are_answers network (request ∷ asked) is alone are =
+    → AreAsked network.topology asked → AreAnswers network asked
+are_answers network [] is are = record { as_many = refl; each = λ k r a asks gives. absurd (none-some r asks) }
+are_answers network (request ∷ asked) is are =
     let next : DeclaredNetwork = after network request in
     let may : MayAsk network.topology request = All-head (MayAsk network.topology) request asked are.may in
     let keeps = request_keeps network request is may in
@@ -263,8 +268,8 @@ are_answers network (request ∷ asked) is alone are =
     subst (λ (t : DeclaredTopology). All (MayAsk t) asked) (sym keeps.topology)
     (All-tail (MayAsk network.topology) request asked are.may) in
     answers_from network request asked
-    (tells network request is.rules alone may (All-head AsksOneClass request asked are.one))
-    (are_answers next asked keeps.certified (request_alone network request alone may) (record {
+    (tells network request is.rules may (All-head AsksOneClass request asked are.one))
+    (are_answers next asked keeps.certified (record {
       may = rest;
       one = All-tail AsksOneClass request asked are.one;
     }))

@@ -4,7 +4,7 @@ use Rattle.std.proofs.Common.{inl, inr, ◌∙◌}
 use Rattle.std.specs.Prelude.{IsOk, MatchResult, AllPairs, slice_index}
 use Rattle.std.specs.Option.{option_map}
 use Rattle.std.proofs.lemmas.List.{get_or-map, length-map}
-use Rattle.ats_network.specs.Network.{DeclaredNetwork, HasOneListener, IsNetwork}
+use Rattle.ats_network.specs.Network.{DeclaredNetwork, IsNetwork}
 use Rattle.ats_certificate.specs.Certificate.{Holds, IsBefore}
 use Rattle.ats_certificate.specs.declared.row.Row.{Row}
 use Rattle.ats_checker.specs.Refusal.{refusal_of}
@@ -26,20 +26,18 @@ use Rattle.ats_command_due.specs.Held.{IsHeldText, held, held_in, held_judged}
 use Rattle.ats_command_due.specs.Judged.{buffers_judged, judged, unless_refused}
 use Rattle.ats_command_due.specs.Replayed.{IsOneOf}
 use Rattle.ats_command_law.specs.BufferMeaning.{AreBuffers, BuffersMean, BuffersSay, IsRoomAt, PeaksMean, PeaksSay}
-use Rattle.ats_command_law.proofs.Meanings.{IsInput, declared_alone, is_refused, judged_check, network_gives}
-use Rattle.ats_command_law.proofs.Meanings.{none_declared, rows_give}
+use Rattle.ats_command_law.proofs.Meanings.{IsInput, is_refused, judged_check, network_gives, none_declared, rows_give}
 use Rattle.ats_command_law.proofs.ReplayMeanings.{releases_give}
 
 -- the buffers of rows that hold
-room : (network : DeclaredNetwork) (rows : List Row) → IsNetwork network → HasOneListener network
-    → Holds network rows → (port class : ℕ) → 1 ≤ class
-    → IsRoomAt network port class (buffer_at network rows port class)
-room network rows is alone holds port class some run legal keep =
-    buffers_hold network rows run port class is alone holds legal some keep
+room : (network : DeclaredNetwork) (rows : List Row) → IsNetwork network → Holds network rows → (port class : ℕ)
+    → 1 ≤ class → IsRoomAt network port class (buffer_at network rows port class)
+room network rows is holds port class some run legal keep =
+    buffers_hold network rows run port class is holds legal some keep
 
-are_buffers : (network : DeclaredNetwork) (rows : List Row) → IsNetwork network → HasOneListener network
-    → Holds network rows → AreBuffers network rows (buffers_of network rows)
-are_buffers network rows is alone holds =
+are_buffers : (network : DeclaredNetwork) (rows : List Row) → IsNetwork network → Holds network rows
+    → AreBuffers network rows (buffers_of network rows)
+are_buffers network rows is holds =
     let at : Row → ℕ = λ (row : Row). buffer_at network rows row.port row.class in
     let each : (n : ℕ) → n < length rows → slice_index (buffers_of network rows) n ≡ at (row_at rows n) =
     λ n h. get_or-map at rows n no_row 0 h in
@@ -48,9 +46,9 @@ are_buffers network rows is alone holds =
       count = length-map rows at;
       each = each;
       printed = λ n h. subst (IsRoomAt network (row_at rows n).port (row_at rows n).class) (sym (each n h))
-          (room network rows is alone holds (row_at rows n).port (row_at rows n).class
+          (room network rows is holds (row_at rows n).port (row_at rows n).class
           (used_place network (row_at rows n).port (row_at rows n).class is (holds.rows_of.used n no_row h)).ranked);
-      everywhere = room network rows is alone holds;
+      everywhere = room network rows is holds;
     }
 
 -- of the first form, where both files declare what they should
@@ -68,8 +66,7 @@ judged_buffers net certificate net_bytes certificate_bytes network rows None net
     network_declared = network_is;
     rows_declared = rows_are;
     rules = rules;
-    buffers = are_buffers network rows rules (declared_alone net net_bytes network network_is)
-        ((refused_unless_holding network rows rules ordered).0 is);
+    buffers = are_buffers network rows rules ((refused_unless_holding network rows rules ordered).0 is);
     written = refl;
   },
 )
@@ -133,7 +130,6 @@ judged_peaks : (net certificate schedule net_bytes certificate_bytes schedule_by
 judged_peaks net certificate schedule net_bytes certificate_bytes schedule_bytes order network rows releases None answer
     network_is rows_are releases_are rules ordered is one =
     let holds = (refused_unless_holding network rows rules ordered).0 is in
-    let alone : HasOneListener network = declared_alone net net_bytes network network_is in
     subst (PeaksSay net certificate schedule net_bytes certificate_bytes schedule_bytes order answer.text) (sym one.0) (
       network,
       rows,
@@ -145,10 +141,9 @@ judged_peaks net certificate schedule net_bytes certificate_bytes schedule_bytes
         rows_declared = rows_are;
         releases_declared = releases_are;
         rules = rules;
-        buffers = are_buffers network rows rules alone holds;
+        buffers = are_buffers network rows rules holds;
         held_run = one.1.2;
-        fit = peaks_fit network rows one.1.0 one.1.1 rules alone holds one.1.2.is_run.by_order.legal
-            one.1.2.are_peaks;
+        fit = peaks_fit network rows one.1.0 one.1.1 rules holds one.1.2.is_run.by_order.legal one.1.2.are_peaks;
       },
     )
 judged_peaks net certificate schedule net_bytes certificate_bytes schedule_bytes order network rows releases

@@ -8,7 +8,6 @@ pub mod ReplayMeanings
 pub mod ConformBounds
 pub mod PrintedBounds
 pub mod OneClass
-pub mod StayAlone
 pub mod Answered
 pub mod AdmitMeanings
 pub mod Surely

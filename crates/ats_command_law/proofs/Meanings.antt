@@ -4,10 +4,10 @@ use Rattle.std.proofs.Common.{sym, subst, inl, inr, ◌∙◌}
 use Rattle.std.specs.Prelude.{nat_lt, codes, IsErr, MatchResult, AllPairs}
 use Rattle.std.specs.Option.{option_map}
 use Rattle.ats_topology.specs.Topology.{DeclaredTopology}
-use Rattle.ats_network.specs.Network.{DeclaredNetwork, HasOneListener, IsNetwork}
+use Rattle.ats_network.specs.Network.{DeclaredNetwork, IsNetwork}
 use Rattle.ats_network_file.specs.Reading.{network_of}
 use Rattle.ats_network_file.specs.FaultText as network
-use Rattle.ats_network_file.proofs.Networks.{declared_has_one_listener, declared_is_network}
+use Rattle.ats_network_file.proofs.Networks.{declared_is_network}
 use Rattle.ats_certificate.specs.Certificate.{IsBefore}
 use Rattle.ats_certificate.specs.declared.row.Row.{Row}
 use Rattle.ats_certificate_file.specs.Reading.{rows_of}
@@ -59,14 +59,6 @@ file_gives {A} {F} most file bytes words reading P h = choose (nat_lt most (leng
 pub network_gives : (net bytes : List ℕ) → MatchResult (network_in net bytes) IsNetwork IsInput
 unfolding network_in
 network_gives net bytes = file_gives 16777216 net bytes network.fault_text network_of IsNetwork declared_is_network
-
--- in a network that a file declares each stream has one listener
-pub declared_alone : (net bytes : List ℕ) (declared : DeclaredNetwork) → network_in net bytes ≡ Ok declared
-    → HasOneListener declared
-unfolding network_in
-declared_alone net bytes declared is =
-    subst (λ (r : Result DeclaredNetwork Answer). MatchResult r HasOneListener IsInput) is
-    (file_gives 16777216 net bytes network.fault_text network_of HasOneListener declared_has_one_listener)
 
 pub rows_give : (topology : DeclaredTopology) (file bytes : List ℕ)
     → MatchResult (rows_in topology file bytes) (AllPairs IsBefore) IsInput

@@ -15,7 +15,7 @@ use Rattle.ats_network_file.specs.FaultText as network
 use Rattle.ats_network_file.specs.Reading.{network_of}
 use Rattle.ats_network_file_law.proofs.Named.{each_sender_is_named}
 use Rattle.ats_csv.specs.Plain.{record_text, text_of}
-use Rattle.ats_trace.specs.Releases.{AreReleases, IsRelease}
+use Rattle.ats_trace.specs.Releases.{AreReleases, HaveFewPorts, IsRelease}
 use Rattle.ats_trace.specs.declared.journey.Release.{Release}
 use Rattle.ats_schedule.specs.FaultText as schedule_file
 use Rattle.ats_schedule.specs.Laws.{AreNamed}
@@ -29,7 +29,7 @@ use Rattle.ats_capture.specs.Traffic.{Traffic, traffic_of}
 use Rattle.ats_capture.specs.declared.fault.JoinFault.TheVariants.{Limit}
 use Rattle.ats_capture_law.specs.Counted.{counted}
 use Rattle.ats_capture_law.proofs.Counting.{traffic_is_counted}
-use Rattle.ats_capture_law.proofs.Runnable.{traffic_may_be_run}
+use Rattle.ats_capture_law.proofs.Runnable.{traffic_has_few_ports, traffic_may_be_run}
 use Rattle.ats_command_input.specs.Answer.{Answer, input_answer, settled}
 use Rattle.ats_command_input.specs.Input.{declared_in, network_in, records_in, releases_in, traffic_in}
 use Rattle.ats_command_input.specs.Station.{station_in}
@@ -99,16 +99,16 @@ schedule_short network releases named may =
 
 -- so as that of a file it declares them
 schedule_declares : (network : DeclaredNetwork) (releases : List Release) (file : List ℕ) → IsNetwork network
-    → AreNamed (senders_of network) → AreReleases network releases
+    → AreNamed (senders_of network) → AreReleases network releases → HaveFewPorts network releases
     → releases_in network file (schedule_text network releases) ≡ Ok releases
 unfolding releases_in
-schedule_declares network releases file rules named may =
+schedule_declares network releases file rules named may few =
     let text : List ℕ = schedule_text network releases in
     ap (λ (long : Bool). (let bytes : Result (List ℕ) Answer =
     cond long (Err (input_answer file (codes "too-long"))) (Ok text) in bytes)
     >>= λ bytes. declared_in file schedule_file.fault_text (releases_of network bytes))
     (le-ltb 33554432 (length text) (schedule_short network releases named may))
-    ∙ ap (declared_in file schedule_file.fault_text) (schedule_reads_back network rules named releases may)
+    ∙ ap (declared_in file schedule_file.fault_text) (schedule_reads_back network rules named releases may few)
 
 -- the senders of a network that a file declares have names
 names_given : (net bytes : List ℕ)
@@ -156,7 +156,10 @@ traffic_says : (net station file net_bytes file_bytes : List ℕ) (network : Dec
     ReleasesSay net station file net_bytes file_bytes answer.text answer.status)
 traffic_says net station file net_bytes file_bytes network place (Ok traffic) declared rules names named is input =
     let all = traffic_counted network place file file_bytes traffic is in
-    let may = traffic_runs file file_bytes network place traffic all.0 all.1 in (
+    let may = traffic_runs file file_bytes network place traffic all.0 all.1 in
+    let few : HaveFewPorts network traffic.releases =
+    traffic_has_few_ports network place all.0 traffic
+    (traffic_joined file file_bytes network place traffic all.0 all.1) in (
       network,
       place,
       all.0,
@@ -167,8 +170,9 @@ traffic_says net station file net_bytes file_bytes network place (Ok traffic) de
         captured = all.1;
         rules = rules;
         may_be_run = may;
+        few_ports = few;
         written = refl;
-        reads_back = λ schedule. schedule_declares network traffic.releases schedule rules names may;
+        reads_back = λ schedule. schedule_declares network traffic.releases schedule rules names may few;
       },
     )
 traffic_says net station file net_bytes file_bytes network place (Err due) declared rules names named is input =

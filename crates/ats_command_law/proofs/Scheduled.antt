@@ -15,14 +15,14 @@ use Rattle.ats_network.specs.Network.{DeclaredNetwork, names_of, senders_of}
 use Rattle.ats_network.specs.Sender.{Sender}
 use Rattle.ats_trace.specs.Releases.{AreReleases}
 use Rattle.ats_trace.specs.declared.journey.Release.{Release}
-use Rattle.ats_trace.specs.declared.run.TheConstants.{MAX_FRAMES, MAX_RELEASE_PS}
+use Rattle.ats_trace.specs.declared.run.TheConstants.{MAX_FRAMES, MAX_HOPS, MAX_RELEASE_PS}
 use Rattle.ats_schedule.specs.Reading.{sender_in, in_size, in_order, within_limits, release_after, releases_from}
 use Rattle.ats_schedule.specs.Reading.{header, number_in, record_after, releases_under, releases_of}
 use Rattle.ats_schedule.specs.FaultText.{fault_text}
 use Rattle.ats_schedule.specs.declared.fault.ScheduleFault.{ScheduleFault}
 use Rattle.ats_schedule.specs.declared.fault.ScheduleFault.TheVariants.{BadRow, UnknownName, BadSize, TimeBack, Limit}
 use Rattle.ats_csv.specs.Reading.{field_of, records_of, same_fields}
-use Rattle.ats_schedule.specs.Releases.{Follows, last_time}
+use Rattle.ats_schedule.specs.Releases.{Follows, last_time, ports_with}
 use Rattle.ats_schedule.proofs.Releases.{no_release, one_more}
 use Rattle.ats_command_input.specs.Input.{bytes_in, declared_in, network_in, releases_in}
 use Rattle.ats_command_due.specs.Replayed.{Scheduled, scheduled_in}
@@ -85,47 +85,55 @@ order_is : (last at : ℕ) → nat_le last at ≡ true → last ≤ at
 order_is last at h = grind arith
 
 -- within the limits, and behind what came before
-pub record IsTimed (releases : List Release) (at : ℕ) : Type 0 where
+pub record IsTimed (network : DeclaredNetwork) (releases : List Release) (sender at : ℕ) : Type 0 where
   pub later : last_time releases ≤ at
   pub most : at ≤ MAX_RELEASE_PS
   pub room : length releases < MAX_FRAMES
+  pub ports : ports_with network releases sender ≤ MAX_HOPS
 
-timed_is : (releases : List Release) (at : ℕ) → last_time releases ≤ at
-    → (nat_le at MAX_RELEASE_PS && nat_lt (length releases) MAX_FRAMES) ≡ true → IsTimed releases at
-timed_is releases at later h = record { later = later; most = grind arith; room = grind arith }
+timed_is : (network : DeclaredNetwork) (releases : List Release) (sender at : ℕ) → last_time releases ≤ at
+    → (nat_le at MAX_RELEASE_PS && nat_lt (length releases) MAX_FRAMES
+    && nat_le (ports_with network releases sender) MAX_HOPS) ≡ true → IsTimed network releases sender at
+timed_is network releases sender at later h =
+    record { later = later; most = grind arith; room = grind arith; ports = grind arith }
 
 -- the steps by which three fields give a release behind those before it, from the last one on
 abbrev released : ℕ → ℕ → ℕ → Release
 released sender size time = record { at = record { 0 = time }; sender = sender; octets = size }
 
-abbrev by_time : List Release → ℕ → ℕ → ℕ → Result Release ScheduleFault
-by_time releases sender size later =
-    within_limits (record_after releases) (length releases) later >>= λ time. Ok (released sender size time)
+abbrev by_time : DeclaredNetwork → List Release → ℕ → ℕ → ℕ → Result Release ScheduleFault
+by_time network releases sender size later =
+    within_limits (record_after releases) (length releases) (ports_with network releases sender) later
+    >>= λ time. Ok (released sender size time)
 
-abbrev by_order : List Release → ℕ → ℕ → ℕ → Result Release ScheduleFault
-by_order releases sender at size =
-    in_order (record_after releases) (last_time releases) at >>= λ later. by_time releases sender size later
+abbrev by_order : DeclaredNetwork → List Release → ℕ → ℕ → ℕ → Result Release ScheduleFault
+by_order network releases sender at size =
+    in_order (record_after releases) (last_time releases) at >>= λ later. by_time network releases sender size later
 
-abbrev by_size : List Release → ℕ → ℕ → ℕ → Result Release ScheduleFault
-by_size releases sender at octets =
-    in_size (record_after releases) octets >>= λ size. by_order releases sender at size
+abbrev by_size : DeclaredNetwork → List Release → ℕ → ℕ → ℕ → Result Release ScheduleFault
+by_size network releases sender at octets =
+    in_size (record_after releases) octets >>= λ size. by_order network releases sender at size
 
-abbrev by_numbers : List Release → List (List ℕ) → ℕ → Result Release ScheduleFault
-by_numbers releases fields sender =
+abbrev by_numbers : DeclaredNetwork → List Release → List (List ℕ) → ℕ → Result Release ScheduleFault
+by_numbers network releases fields sender =
     number_in (record_after releases) (field_of fields 0)
     >>= λ at. number_in (record_after releases) (field_of fields 2)
-    >>= λ octets. by_size releases sender at octets
+    >>= λ octets. by_size network releases sender at octets
 
 time_follows : (network : DeclaredNetwork) (releases : List Release) (sender size later : ℕ)
     → sender < length (names_of (senders_of network)) → IsFrameSize size → last_time releases ≤ later
-    → IfOk (by_time releases sender size later) (Follows network releases)
+    → IfOk (by_time network releases sender size later) (Follows network releases)
 time_follows network releases sender size later known sized ordered =
-    goes (IsTimed releases) (Follows network releases)
-    (within_limits (record_after releases) (length releases) later) (λ (time : ℕ). Ok (released sender size time))
-    (where_keeps (IsTimed releases) (nat_le later MAX_RELEASE_PS && nat_lt (length releases) MAX_FRAMES)
-    (Limit (record_after releases)) later (timed_is releases later ordered))
+    let Timed : ℕ → Type 0 = IsTimed network releases sender in
+    goes Timed (Follows network releases)
+    (within_limits (record_after releases) (length releases) (ports_with network releases sender) later)
+    (λ (time : ℕ). Ok (released sender size time))
+    (where_keeps Timed (nat_le later MAX_RELEASE_PS && nat_lt (length releases) MAX_FRAMES
+    && nat_le (ports_with network releases sender) MAX_HOPS)
+    (Limit (record_after releases)) later (timed_is network releases sender later ordered))
     (λ time timed. record {
       room = timed.room;
+      ports = timed.ports;
       later = timed.later;
       is = record {
         time = timed.most;
@@ -136,34 +144,35 @@ time_follows network releases sender size later known sized ordered =
 
 order_follows : (network : DeclaredNetwork) (releases : List Release) (sender at size : ℕ)
     → sender < length (names_of (senders_of network)) → IsFrameSize size
-    → IfOk (by_order releases sender at size) (Follows network releases)
+    → IfOk (by_order network releases sender at size) (Follows network releases)
 order_follows network releases sender at size known sized =
     goes (λ (t : ℕ). last_time releases ≤ t) (Follows network releases)
-    (in_order (record_after releases) (last_time releases) at) (λ (later : ℕ). by_time releases sender size later)
+    (in_order (record_after releases) (last_time releases) at)
+    (λ (later : ℕ). by_time network releases sender size later)
     (where_keeps (λ (t : ℕ). last_time releases ≤ t) (nat_le (last_time releases) at)
     (TimeBack (record_after releases)) at (order_is (last_time releases) at))
     (λ later ordered. time_follows network releases sender size later known sized ordered)
 
 size_follows : (network : DeclaredNetwork) (releases : List Release) (sender at octets : ℕ)
     → sender < length (names_of (senders_of network))
-    → IfOk (by_size releases sender at octets) (Follows network releases)
+    → IfOk (by_size network releases sender at octets) (Follows network releases)
 size_follows network releases sender at octets known =
     goes IsFrameSize (Follows network releases) (in_size (record_after releases) octets)
-    (λ (size : ℕ). by_order releases sender at size)
+    (λ (size : ℕ). by_order network releases sender at size)
     (where_keeps IsFrameSize (nat_le MIN_OCTETS octets && nat_le octets MAX_OCTETS)
     (BadSize (record_after releases)) octets (size_is octets))
     (λ size sized. order_follows network releases sender at size known sized)
 
 numbers_follow : (network : DeclaredNetwork) (releases : List Release) (fields : List (List ℕ)) (sender : ℕ)
     → sender < length (names_of (senders_of network))
-    → IfOk (by_numbers releases fields sender) (Follows network releases)
+    → IfOk (by_numbers network releases fields sender) (Follows network releases)
 numbers_follow network releases fields sender known =
     goes (λ (at : ℕ). Unit {0}) (Follows network releases) (number_in (record_after releases) (field_of fields 0))
     (λ (at : ℕ). number_in (record_after releases) (field_of fields 2)
-    >>= λ octets. by_size releases sender at octets)
+    >>= λ octets. by_size network releases sender at octets)
     (any (number_in (record_after releases) (field_of fields 0)))
     (λ at read. goes (λ (octets : ℕ). Unit {0}) (Follows network releases)
-    (number_in (record_after releases) (field_of fields 2)) (λ (octets : ℕ). by_size releases sender at octets)
+    (number_in (record_after releases) (field_of fields 2)) (λ (octets : ℕ). by_size network releases sender at octets)
     (any (number_in (record_after releases) (field_of fields 2)))
     (λ octets read. size_follows network releases sender at octets known))
 
@@ -173,7 +182,7 @@ follows : (network : DeclaredNetwork) (releases : List Release) (fields : List (
 unfolding release_after
 follows network releases fields =
     goes (λ (s : ℕ). s < length (names_of (senders_of network))) (Follows network releases)
-    (sender_in network (record_after releases) (field_of fields 1)) (by_numbers releases fields)
+    (sender_in network (record_after releases) (field_of fields 1)) (by_numbers network releases fields)
     (sender_within network (record_after releases) (field_of fields 1))
     (λ sender known. numbers_follow network releases fields sender known)
 

@@ -2,7 +2,7 @@
 use Rattle.std.proofs.Common.{◌≡◌, ℕ, zero, suc, ◌+◌, ◌<◌, List, [], ◌∷◌, length, Option, Some, None, Result, Ok, Err}
 use Rattle.std.proofs.Common.{refl, sym, ap, subst, inl, inr, ◌∙◌, arith}
 use Rattle.std.specs.Prelude.{MatchResult, All, slice_index_or}
-use Rattle.std.specs.List.{AllZip}
+use Rattle.std.specs.List.{AllZip, range_with_len}
 use Rattle.std.specs.Option.{option_map}
 use Rattle.std.specs.Str.{bytes_eq}
 use Rattle.std.proofs.lemmas.Option.{slice_get-get_or}
@@ -12,6 +12,7 @@ use Rattle.ats_network.specs.Class.{class_at}
 use Rattle.ats_network.specs.Edits.{no_stream}
 use Rattle.ats_network.specs.Network.{DeclaredNetwork, IsNetwork}
 use Rattle.ats_network.specs.Senders.{sender_at}
+use Rattle.ats_certificate.specs.Certificate.{Holds}
 use Rattle.ats_bound.specs.Least.{least_certificate}
 use Rattle.ats_bound.specs.Reason.{reason_of}
 use Rattle.ats_bound.proofs.FirstReason.{each_reason_is_the_first}
@@ -19,8 +20,9 @@ use Rattle.ats_bound.proofs.LeastHolds.{least_certificate_holds}
 use Rattle.ats_bound.proofs.NoneHolds.{reason_leaves_none}
 use Rattle.ats_tally.specs.declared.reason.Reason.{Reason}
 use Rattle.ats_verdict_text.specs.Text.{reason_text}
-use Rattle.ats_witness.specs.Burst.{port_of_hop}
-use Rattle.ats_witness.specs.Found.{FoundDelays, IsFoundAt, IsWithinBound}
+use Rattle.ats_trace.specs.Ways.{listener_count, route_to}
+use Rattle.ats_witness.specs.Burst.{port_on_route}
+use Rattle.ats_witness.specs.Found.{AreFound, FoundDelays, IsFoundAt, IsWithinBound}
 use Rattle.ats_witness_law.specs.Laws.{CanHappen}
 use Rattle.ats_witness_law.proofs.FoundLaws.{burst_keeps_buckets, found_delays_happen, found_is_within}
 use Rattle.ats_num.specs.Failure.{◌>>=◌, or_fault}
@@ -31,7 +33,7 @@ use Rattle.ats_command_due.specs.Judged.{judged}
 use Rattle.ats_command_due.specs.Replayed.{IsOneOf}
 use Rattle.ats_command_due.specs.Witnessed.{IsWitnessOf, IsWitnessed, witness_judged, witnessed, witnessed_in}
 use Rattle.ats_command_law.proofs.Meanings.{IsInput, network_gives, none_declared}
-use Rattle.ats_command_law.specs.WitnessMeaning.{WitnessMeans, WitnessSays}
+use Rattle.ats_command_law.specs.WitnessMeaning.{IsShownFor, WitnessMeans, WitnessSays}
 
 -- what each element of a list has with its fellow in another, the fellows have
 fellows : {A B : Type 0} (R : A → B → Type 0) (P : B → Type 0) (xs : List A) (ys : List B)
@@ -42,6 +44,32 @@ fellows R P (x ∷ xs) [] each zipped k d within = absurd zipped
 fellows R P (x ∷ xs) (y ∷ ys) each zipped zero d within = each x y zipped.0
 fellows R P (x ∷ xs) (y ∷ ys) each zipped (suc k) d within =
     fellows R P xs ys each zipped.1 k d (omega (arith, within))
+
+-- what holds of two elements in place of another relation of them
+each_pair : {A B : Type 0} (R S : A → B → Type 0) (xs : List A) (ys : List B) → ((x : A) (y : B) → R x y → S x y)
+    → AllZip R xs ys → AllZip S xs ys
+each_pair R S [] [] each zipped = tt
+each_pair R S [] (y ∷ ys) each zipped = absurd zipped
+each_pair R S (x ∷ xs) [] each zipped = absurd zipped
+each_pair R S (x ∷ xs) (y ∷ ys) each zipped = (each x y zipped.0, each_pair R S xs ys each zipped.1)
+
+-- what is found of a stream for a listener, by the laws of found delays
+shown_for : (network : DeclaredNetwork) (stream listener : ℕ) (found : FoundDelays) → IsNetwork network
+    → Holds network (least_certificate network) → stream < length network.streams
+    → AreFound network stream listener found → IsShownFor network stream listener found
+shown_for network stream listener found rules holds there are =
+    let own : DeclaredStream = slice_index_or network.streams stream no_stream in
+    let route : List ℕ = route_to (sender_at network stream) listener in
+    let port : ℕ = port_on_route network stream listener found.hop in
+    record {
+      happen = fellows (IsFoundAt network stream listener) (CanHappen network stream listener) route found.delays
+          (λ at delay is. found_delays_happen network stream listener at delay rules is) are.each;
+      within = fellows (IsFoundAt network stream listener) (IsWithinBound network stream listener) route found.delays
+          (λ at delay is. found_is_within network (least_certificate network) stream listener at delay own rules holds
+          (slice_get-get_or network.streams stream no_stream there) is) are.each;
+      keeps = λ station. burst_keeps_buckets network port (class_at (sender_at network stream) port) found.releases
+          station rules are.burst;
+    }
 
 -- a word that is the name of no stream is answered so; another one names one that is there
 abbrev IsNoStream : List ℕ → Answer → Type 0
@@ -69,29 +97,22 @@ reason_says : (net name bytes : List ℕ) (network : DeclaredNetwork) (stream : 
     → WitnessSays net name bytes answer.text answer.status
 reason_says net name bytes network stream None answer declared rules named there is one =
     let holds = (least_certificate_holds network rules is).holds in
-    let found : FoundDelays = one.1.0 in
-    let of_stream : IsWitnessOf network stream answer.text found = one.1.1 in
-    let own : DeclaredStream = slice_index_or network.streams stream no_stream in
-    let port : ℕ = port_of_hop network stream found.hop in
+    let founds : List FoundDelays = one.1.0 in
+    let of_stream : IsWitnessOf network stream answer.text founds = one.1.1 in
     subst (WitnessSays net name bytes answer.text) (sym one.0) (
       network,
       stream,
-      found,
+      founds,
       record {
         declared = declared;
         named = named;
         rules = rules;
         holds = holds;
         of_stream = of_stream;
-        happen = fellows (IsFoundAt network stream) (CanHappen network stream) (sender_at network stream).ports
-            found.delays (λ port delay at. found_delays_happen network stream port delay rules at)
-            of_stream.are_found.each;
-        within = fellows (IsFoundAt network stream) (IsWithinBound network stream) (sender_at network stream).ports
-            found.delays
-            (λ port delay at. found_is_within network (least_certificate network) stream port delay own rules holds
-            (slice_get-get_or network.streams stream no_stream there) at) of_stream.are_found.each;
-        keeps = λ station. burst_keeps_buckets network port (class_at (sender_at network stream) port) found.releases
-            station rules of_stream.are_found.burst;
+        for_each = each_pair (AreFound network stream) (IsShownFor network stream)
+            (range_with_len 0 (listener_count (sender_at network stream))) founds
+            (λ listener found are. shown_for network stream listener found rules holds there are)
+            of_stream.are_found;
       },
     )
 reason_says net name bytes network stream (Some reason) answer declared rules named there is one =

@@ -1,17 +1,18 @@
-use Rattle.std.specs.Prelude.{◌≡◌, ℕ, ◌≤◌, List, length, Some, Ok, IsErr, slice_get}
-use Rattle.ats_network.specs.Network.{DeclaredNetwork, IsNetwork, senders_of}
+use Rattle.std.specs.Prelude.{◌≡◌, ℕ, ◌<◌, ◌≤◌, List, Some, Ok, IsErr}
+use Rattle.ats_network.specs.Network.{DeclaredNetwork, IsNetwork}
+use Rattle.ats_network.specs.Senders.{sender_at}
 use Rattle.ats_certificate.specs.Certificate.{Holds}
 use Rattle.ats_certificate.specs.declared.row.Row.{Row}
 use Rattle.ats_bound.specs.Least.{least_certificate}
 use Rattle.ats_trace.specs.Journey.{Travel}
 use Rattle.ats_trace.specs.Run.{IsLegal, releases_of}
+use Rattle.ats_trace.specs.Ways.{listener_count}
 use Rattle.ats_trace.specs.declared.journey.Release.{Release}
 use Rattle.ats_conform.specs.Releases.{AllKeepBuckets}
 use Rattle.ats_gen.specs.Made.{AreMade, gen_fault}
 use Rattle.ats_gen.specs.declared.fault.GenFault.{GenFault}
 use Rattle.ats_replay.specs.Report.{bound_of}
-use Rattle.ats_replay.specs.Summary.{summaries_of}
-use Rattle.ats_replay.specs.declared.summary.Summary.{Summary}
+use Rattle.ats_replay.specs.Summary.{summary_for}
 use Rattle.ats_verdict_text.specs.Text.{refused_text}
 use Rattle.ats_command_input.specs.Answer.{Answer}
 use Rattle.ats_command_input.specs.Input.{network_in}
@@ -21,16 +22,18 @@ use Rattle.ats_command_due.specs.Generated.{IsReport, gen_fault_text, least_sums
 use Rattle.ats_command_input.specs.declared.status.Status.{Status}
 use Rattle.ats_command_input.specs.declared.status.Status.TheVariants.{Done, Input, Refused}
 
--- where some certificate of the network holds, each frame of each stream is within the least bounds
+-- where some certificate of the network holds, each frame of each stream is within the least bounds, at each listener
 abbrev pub AreWithinLeast : DeclaredNetwork → List Travel → Type 0
 AreWithinLeast network run = ((rows : List Row) × Holds network rows)
     → AllDelaysAreWithin network (least_certificate network) run
 
--- of each sender the worst delay that `report_text` writes is at most the bound that it writes, where it writes one
+-- of each sender and each of its listeners the worst delay that `report_text` writes is at most the bound that it
+-- writes beside it, where it writes one
 abbrev pub EachWorstIsWithin : DeclaredNetwork → List Travel → Type 0
-EachWorstIsWithin network run = (i : ℕ) (summary : Summary) (bound : ℕ)
-    → slice_get (summaries_of (length (senders_of network)) run) i ≡ Some summary
-    → bound_of network (least_sums network) i ≡ Some bound → summary.worst.0 ≤ bound
+EachWorstIsWithin network run = (sender listener bound : ℕ)
+    → listener < listener_count (sender_at network sender)
+    → bound_of network (least_sums network) sender listener ≡ Some bound
+    → (summary_for network run sender listener).worst.0 ≤ bound
 
 -- so it is of each legal run with releases by which every station keeps its buckets
 abbrev pub PrintedWorstIsWithin : Type 0
@@ -38,8 +41,8 @@ PrintedWorstIsWithin = (network : DeclaredNetwork) (run : List Travel) → IsNet
     → AllKeepBuckets network (releases_of run) → EachWorstIsWithin network run
 
 -- a file of these bytes declares this network; these are the releases of so many frames that are made for it from the
--- seed, by which every station keeps its buckets; and the text sums up this run of them, in which each printed worst
--- delay is within the bound beside it
+-- seed, by which every station keeps its buckets; and the text sums up this run of them, in which the printed
+-- worst delay for each listener is within the bound beside it
 pub record IsMadeRun (net bytes : List ℕ) (seed count : ℕ) (text : List ℕ) (network : DeclaredNetwork)
     (releases : List Release) (run : List Travel) : Type 0 where
   pub declared : network_in net bytes ≡ Ok network

@@ -1,6 +1,6 @@
 use Rattle.std.specs.Prelude.{◌≡◌, ℕ, ◌⊎◌, List, Ok, IsErr}
 use Rattle.ats_network.specs.Network.{DeclaredNetwork, IsNetwork}
-use Rattle.ats_trace.specs.Releases.{AreReleases}
+use Rattle.ats_trace.specs.Releases.{AreReleases, HaveFewPorts}
 use Rattle.ats_pcap.specs.declared.record.Record.{Record}
 use Rattle.ats_capture.specs.Traffic.{Traffic}
 use Rattle.ats_schedule.specs.Text.{schedule_text}
@@ -12,8 +12,8 @@ use Rattle.ats_command_input.specs.declared.status.Status.{Status}
 use Rattle.ats_command_input.specs.declared.status.Status.TheVariants.{Done, Input, Refused}
 
 -- two files of these bytes declare this network and these records, captured at the station with this name, which come
--- to this traffic. Its releases may be run on the network; the text is their schedule, and as that of a file under any
--- name it declares just these over the network
+-- to this traffic. Its releases may be run on the network, and their frames have few ports; the text is their schedule,
+-- and as that of a file under any name it declares just these over the network
 pub record AreReleased (net station file net_bytes file_bytes text : List ℕ) (network : DeclaredNetwork) (place : ℕ)
     (records : List Record) (traffic : Traffic) : Type 0 where
   pub network_declared : network_in net net_bytes ≡ Ok network
@@ -21,6 +21,7 @@ pub record AreReleased (net station file net_bytes file_bytes text : List ℕ) (
   pub captured : IsCounted file file_bytes network place traffic records
   pub rules : IsNetwork network
   pub may_be_run : AreReleases network traffic.releases
+  pub few_ports : HaveFewPorts network traffic.releases
   pub written : text ≡ schedule_text network traffic.releases
   pub reads_back : (schedule : List ℕ) → releases_in network schedule text ≡ Ok traffic.releases
 

@@ -48,14 +48,15 @@ ReplayMeans = (net schedule net_bytes schedule_bytes : List ℕ) (order : Order)
     → IsOneOf (IsReplayed order) (scheduled_in net schedule net_bytes schedule_bytes) answer
     → ReplaySays net schedule net_bytes schedule_bytes order answer.text answer.status
 
--- a frame is never discarded, is eligible at each next hop within the bound of the hop before, and arrives within the
--- sum of the bounds; so it does within its stream's sum and deadline
+-- on its way to each listener a frame is never discarded, is eligible at each next hop within the bound of the hop
+-- before, and arrives within the sum of the bounds; so it does within its stream's sum for the listener and deadline
 pub record IsWithinBounds (network : DeclaredNetwork) (rows : List Row) (stream : DeclaredStream) (journey : Travel)
     : Type 0 where
   pub served : IsServed rows (sender_at network journey.release.sender) journey
   pub in_time : ArrivesInTime rows stream journey
 
--- each frame of a stream whose talker keeps its buckets in these releases is within the bounds of these rows
+-- each frame of a stream whose talker keeps its buckets in these releases is, at each listener, within the bounds of
+-- these rows
 abbrev pub DelaysAreWithin : DeclaredNetwork → List Row → List Release → List Travel → Type 0
 DelaysAreWithin network rows releases run = (journey : Travel) → Contains run journey → (stream : DeclaredStream)
     → slice_get network.streams journey.release.sender ≡ Some stream

@@ -1,9 +1,12 @@
 use Rattle.std.specs.Prelude.{◌≡◌, ℕ, ◌⊎◌, List, ◌++◌, codes, All, Ok, IsErr}
+use Rattle.std.specs.List.{AllZip, range_with_len}
 use Rattle.ats_network.specs.Network.{DeclaredNetwork, IsNetwork}
+use Rattle.ats_network.specs.Senders.{sender_at}
 use Rattle.ats_certificate.specs.Certificate.{Holds}
 use Rattle.ats_conform.specs.Releases.{AllKeepBuckets}
 use Rattle.ats_bound.specs.Least.{least_certificate}
 use Rattle.ats_tally.specs.declared.reason.Reason.{Reason}
+use Rattle.ats_trace.specs.Ways.{listener_count}
 use Rattle.ats_witness.specs.Found.{FoundDelays, IsWithinBound}
 use Rattle.ats_witness_law.specs.Laws.{CanHappen}
 use Rattle.ats_command_input.specs.Answer.{Answer}
@@ -15,19 +18,25 @@ use Rattle.ats_command_law.specs.Meaning.{HasNone}
 use Rattle.ats_command_input.specs.declared.status.Status.{Status}
 use Rattle.ats_command_input.specs.declared.status.Status.TheVariants.{Done, Input, Refused}
 
+-- what is found of a stream for a listener can happen: each delay can, and none is above the sum of the least bounds
+-- along the route there; and by the releases every station keeps its buckets
+pub record IsShownFor (network : DeclaredNetwork) (stream listener : ℕ) (found : FoundDelays) : Type 0 where
+  pub happen : All (CanHappen network stream listener) found.delays
+  pub within : All (IsWithinBound network stream listener) found.delays
+  pub keeps : AllKeepBuckets network found.releases
+
 -- a file of these bytes declares this network, in which this stream has this name, and whose least certificate holds.
--- The text gives what is found of the stream, and the sum of its least bounds; each delay can happen, and none is above
--- the sum; and by the releases that it gives every station keeps its buckets
-pub record IsShown (net name bytes text : List ℕ) (network : DeclaredNetwork) (stream : ℕ) (found : FoundDelays)
+-- The text gives what is found of the stream for each of its listeners, and the sum of its least bounds along the route
+-- to each; and what is found can happen
+pub record IsShown (net name bytes text : List ℕ) (network : DeclaredNetwork) (stream : ℕ) (founds : List FoundDelays)
     : Type 0 where
   pub declared : network_in net bytes ≡ Ok network
   pub named : stream_in network.streams name ≡ Ok stream
   pub rules : IsNetwork network
   pub holds : Holds network (least_certificate network)
-  pub of_stream : IsWitnessOf network stream text found
-  pub happen : All (CanHappen network stream) found.delays
-  pub within : All (IsWithinBound network stream) found.delays
-  pub keeps : AllKeepBuckets network found.releases
+  pub of_stream : IsWitnessOf network stream text founds
+  pub for_each : AllZip (IsShownFor network stream) (range_with_len 0 (listener_count (sender_at network stream)))
+      founds
 
 -- it declares this network, in which no stream has this name, and the text says so
 pub record HasNoStream (net name bytes text : List ℕ) (network : DeclaredNetwork) : Type 0 where
@@ -45,8 +54,8 @@ pub record HasStreamAlone (net name bytes text : List ℕ) (network : DeclaredNe
 -- what an answer to `witness NET NAME` says of the bytes of the file, by its text and status; four statuses never come
 abbrev pub WitnessSays : List ℕ → List ℕ → List ℕ → List ℕ → Status → Type 0
 WitnessSays net name bytes text Done =
-    (network : DeclaredNetwork) × (stream : ℕ) × (found : FoundDelays)
-    × IsShown net name bytes text network stream found
+    (network : DeclaredNetwork) × (stream : ℕ) × (founds : List FoundDelays)
+    × IsShown net name bytes text network stream founds
 WitnessSays net name bytes text Refused =
     ((network : DeclaredNetwork) × HasNoStream net name bytes text network)
     ⊎ ((network : DeclaredNetwork) × (stream : ℕ) × (reason : Reason)

@@ -41,9 +41,10 @@ pub fn one_status_is_due()
 {}
 
 /// What each answer to `bound` means, by its status. `Done`: the file declares a network, and the text writes its least
-/// certificate, which holds and is sound, and by which each frame of a talker that keeps its buckets arrives within its
-/// stream's sum and deadline. `Refused`: it declares a network for which no certificate holds, and the text gives the
-/// first reason against it. `Input`: it declares none. No other status comes.
+/// certificate, which holds and is sound, and by which each frame of a talker that keeps its buckets arrives at each of
+/// its stream's listeners within the sum for the listener and the deadline. `Refused`: it declares a network for which
+/// no certificate holds, and the text gives the first reason against it. `Input`: it declares none. No other status
+/// comes.
 pub fn what_bound_answers()
     ensures { BoundMeans }
 {}
@@ -61,10 +62,10 @@ pub fn what_explain_answers()
 }
 
 /// What each answer to `check` means, by its status. `Done`: the files declare a network and rows that hold for it and
-/// are sound, by which each frame of a talker that keeps its buckets arrives within its stream's sum and deadline, and
-/// the text gives the bounds and sums of these rows. `Refused`: they declare a network and rows that do not hold for
-/// it, and the text gives the first refusal of these rows. `Input`: one of them does not declare what it should. No
-/// other status comes.
+/// are sound, by which each frame of a talker that keeps its buckets arrives at each of its stream's listeners within
+/// the sum for the listener and the deadline, and the text gives the bounds and sums of these rows. `Refused`: they
+/// declare a network and rows that do not hold for it, and the text gives the first refusal of these rows. `Input`: one
+/// of them does not declare what it should. No other status comes.
 pub fn what_check_answers()
     ensures { CheckMeans }
 {}
@@ -108,14 +109,14 @@ pub fn what_conform_answers()
 
 /// What each answer to `admit` means, by its status. `Done`: the files declare a network and make requests; for the
 /// network as it is, and after each request, the least certificate holds and is sound, and by it each frame of a talker
-/// that keeps its buckets arrives within its stream's sum and deadline; and the text gives the answers, one to each
-/// request, and the number of streams at the end. A stream that is admitted is the one asked for, in the printed class
-/// at each of its ports, beside all that was there; the printed sum is that of its least bounds. Where the lowest
-/// class was asked for, there is a first reason against the network with it in each lower class. A stream that is
-/// withdrawn is gone, and it alone. A denial changes nothing, and its cause holds: a printed reason is the first
-/// against the network with the stream, for `no-class` in each class. `Refused`: they declare a network, for which no
-/// certificate holds, and make requests, and the text gives the first reason against the network. `Input`: one of them
-/// does not declare what it should. No other status comes.
+/// that keeps its buckets arrives at each of its stream's listeners within the sum for the listener and the deadline;
+/// and the text gives the answers, one to each request, and the number of streams at the end. A stream that is admitted
+/// is the one asked for, in the printed class at each of its ports, beside all that was there; the printed sum is that
+/// of its least bounds. Where the lowest class was asked for, there is a first reason against the network with it in
+/// each lower class. A stream that is withdrawn is gone, and it alone. A denial changes nothing, and its cause holds: a
+/// printed reason is the first against the network with the stream, for `no-class` in each class. `Refused`: they
+/// declare a network, for which no certificate holds, and make requests, and the text gives the first reason against
+/// the network. `Input`: one of them does not declare what it should. No other status comes.
 pub fn what_admit_answers()
     ensures { AdmitMeans }
 {}
@@ -153,9 +154,9 @@ pub fn released_is_scheduled()
 
 /// Where `Done` is due to `releases`, to `conform` of its text, to `check` of a certificate, and to `capture` of the
 /// same capture or to `replay` of that text, for one network: by the releases every station keeps its buckets, and each
-/// frame of each stream is, in the run that the last prints, never discarded, eligible at each next hop within the
-/// bound that `check` prints for the hop before, and arrives within the printed sum of its stream and within its
-/// deadline.
+/// frame of each stream is, in the run that the last prints and on its way to each listener, never discarded, eligible
+/// at each next hop within the bound that `check` prints for the hop before, and arrives there within the sum that is
+/// printed for the listener and within the stream's deadline.
 pub fn releases_keep_bounds()
     ensures { ReleasesKeepBounds }
 {}
@@ -190,38 +191,40 @@ pub fn what_record_answers()
 {}
 
 /// What each answer to `witness` means, by its status. `Done`: the file declares a network, in which a stream has this
-/// name, and for which the least certificate holds. The text gives a delay for each port of the stream's path, the
-/// greatest of a run of the burst there, and the burst of the first port with a greatest one. Each of the delays can
-/// happen: in a legal run in which every station keeps its buckets a frame of the stream takes just so long. None is
-/// above the sum of the stream's least bounds, which the text gives too. `Refused`: it declares a network, in which no
-/// stream has this name, or for which no certificate holds, and the text says which, with the first reason. `Input`: it
-/// declares none. No other status comes.
+/// name, and for which the least certificate holds. The text gives for each listener of the stream a delay for each
+/// port of the route there, the greatest for this listener in a run of the burst at the port, and the burst of the
+/// first port with a greatest one. Each of the delays can happen: in a legal run in which every station keeps its
+/// buckets a frame of the stream takes just so long to this listener. None is above the sum of the stream's least
+/// bounds along the route, which the text gives too. `Refused`: it declares a network, in which no stream has this
+/// name, or for which no certificate holds, and the text says which, with the first reason. `Input`: it declares none.
+/// No other status comes.
 pub fn what_witness_answers()
     ensures { WitnessMeans }
 {}
 
 /// What each answer to `generate` means, by its status. `Done`: the file declares a network, and the text sums up a
 /// legal run, in the order `early`, with exactly the releases that are made from the seed, by which every station keeps
-/// its buckets; where some certificate of the network holds, each delay of a stream in this run is within the least
-/// bounds, whose sums the text gives, and so is each printed worst delay within the bound beside it. `Refused`: it
-/// declares a network for which no releases are made, and the text says why. `Input`: it declares none. No other status
-/// comes.
+/// its buckets; where some certificate of the network holds, each delay of a stream to each of its listeners in this
+/// run is within the least bounds, whose sums the text gives, and so is each printed worst delay within the bound
+/// beside it. `Refused`: it declares a network for which no releases are made, and the text says why. `Input`: it
+/// declares none. No other status comes.
 pub fn what_generate_answers()
     ensures { GenerateMeans }
 {}
 
 /// Where `Done` is due to `check` of a certificate and to `replay` of a schedule for one network: each frame of a
-/// stream whose talker keeps its buckets in this schedule is, in the run that `replay` prints, never discarded,
-/// eligible at each next hop within the bound that `check` prints for the hop before, and arrives within the printed
-/// sum of its stream and within its deadline.
+/// stream whose talker keeps its buckets in this schedule is, in the run that `replay` prints and on its way to each
+/// listener, never discarded, eligible at each next hop within the bound that `check` prints for the hop before, and
+/// arrives there within the sum that is printed for the listener and within the stream's deadline.
 pub fn replay_keeps_bounds()
     ensures { ReplayKeepsBounds }
 {}
 
 /// Where `Done` is due to `conform` of a schedule, to `check` of a certificate and to `replay` of the schedule for one
 /// network: by the schedule every station keeps its buckets, and each frame of each stream is, in the run that `replay`
-/// prints, never discarded, eligible at each next hop within the bound that `check` prints for the hop before, and
-/// arrives within the printed sum of its stream and within its deadline.
+/// prints and on its way to each listener, never discarded, eligible at each next hop within the bound that `check`
+/// prints for the hop before, and arrives there within the sum that is printed for the listener and within the stream's
+/// deadline.
 pub fn conform_keeps_bounds()
     ensures { ConformKeepsBounds }
 {}
@@ -239,15 +242,15 @@ pub fn accepted_text_is_sound()
 {}
 
 /// Let `Done` be due to `check` of a certificate and to `capture` at a station, for one network. Take the run that
-/// `capture` prints, and a frame of a stream whose talker keeps its buckets in the releases of the capture. It is never
-/// discarded, is eligible at each next hop within the bound that `check` prints for the hop before, and arrives within
-/// its stream's printed sum and deadline.
+/// `capture` prints, and a frame of a stream whose talker keeps its buckets in the releases of the capture. On its way
+/// to each listener it is never discarded, is eligible at each next hop within the bound that `check` prints for the
+/// hop before, and arrives there within the sum that is printed for the listener and the deadline.
 pub fn capture_keeps_bounds()
     ensures { CaptureKeepsBounds }
 {}
 
-/// In each legal run with releases by which every station keeps its buckets, what `generate` prints of a sender as its
-/// worst delay is at most what it prints as its bound, where it prints one.
+/// In each legal run with releases by which every station keeps its buckets, what `generate` prints of a listener of a
+/// sender as its worst delay is at most what it prints as its bound, where it prints one.
 pub fn printed_worst_is_within()
     ensures { PrintedWorstIsWithin }
 {}
@@ -262,20 +265,20 @@ pub fn what_lrq_shape_answers()
 
 /// What each answer to `lrq bound` means, by its status. `Done`: the file declares a network, and the text writes the
 /// least certificate of the network with narrowed bursts, which holds for that. It is sound for length-rate-quotient
-/// regulators and spaced talkers, and by it each frame of a spaced talker arrives within its stream's sum and deadline,
-/// in each legal run of the network as it is declared. `Refused`: it declares a network for which no certificate holds
-/// with narrowed bursts, and the text gives the first reason against that. `Input`: it declares none. No other status
-/// comes.
+/// regulators and spaced talkers, and by it each frame of a spaced talker arrives at each of its stream's listeners
+/// within the sum for the listener and the deadline, in each legal run of the network as it is declared. `Refused`: it
+/// declares a network for which no certificate holds with narrowed bursts, and the text gives the first reason against
+/// that. `Input`: it declares none. No other status comes.
 pub fn what_lrq_bound_answers()
     ensures { LrqBoundMeans }
 {}
 
 /// What each answer to `lrq check` means, by its status. `Done`: the files declare a network and rows that hold with
 /// narrowed bursts. These are sound for length-rate-quotient regulators and spaced talkers, and by them each frame of a
-/// spaced talker arrives within its stream's sum and deadline, in each legal run of the network as it is declared; the
-/// text gives their bounds and sums. `Refused`: they declare a network and rows that do not hold with narrowed bursts,
-/// and the text gives the first refusal of these rows. `Input`: one of them does not declare what it should. No other
-/// status comes.
+/// spaced talker arrives at each of its stream's listeners within the sum for the listener and the deadline, in each
+/// legal run of the network as it is declared; the text gives their bounds and sums. `Refused`: they declare a network
+/// and rows that do not hold with narrowed bursts, and the text gives the first refusal of these rows. `Input`: one of
+/// them does not declare what it should. No other status comes.
 pub fn what_lrq_check_answers()
     ensures { LrqCheckMeans }
 {}

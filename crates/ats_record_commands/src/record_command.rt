@@ -2,8 +2,7 @@
 
 ghost use Rattle.std.specs.Prelude.{IfOk};
 ghost use Rattle.ats_io.specs.Outside.{IfTold};
-ghost use Rattle.ats_network.specs.Network.{HasOneListener};
-ghost use Rattle.ats_trace.specs.Releases.{AreReleases};
+ghost use Rattle.ats_trace.specs.Releases.{AreReleases, HaveFewPorts};
 ghost use Rattle.ats_command_input.specs.Command as table;
 ghost use Rattle.ats_command_input.specs.Input.{releases_in};
 ghost use Rattle.ats_command_input.specs.Outcome.{ReadsFile};
@@ -48,7 +47,6 @@ fn record_of<F: Files>(
     order: Order,
     files: &mut F,
 ) -> Result<Vec<u8>, Stop>
-    requires one_listener { HasOneListener network.now }
     ensures due { IfTold (F.told files.old schedule.now) (λ bytes.
         GivesOne (IsRecordedFile order network.now port) result (releases_in network.now schedule.now bytes)) }
     ensures reads { ReadsFile F.told F.faults F.reads schedule.now files.old files.new result }
@@ -65,8 +63,8 @@ fn file_of(
     releases: &[Release],
     order: Order,
 ) -> Result<Vec<u8>, AllocError>
-    requires one_listener { HasOneListener network.now }
     requires releases { AreReleases network.now releases.now }
+    requires few_ports { HaveFewPorts network.now releases.now }
     ensures { IfOk result (λ file. IsRecordedFile order network.now port releases.now file.items) }
 {
     let run = run_in(alloc, network, releases, order)?;

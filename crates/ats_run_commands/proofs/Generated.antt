@@ -1,8 +1,7 @@
 -- What stands in place of a summary, that one is due, and which sums it has.
 use Rattle.std.proofs.Common.{◌≡◌, ℕ, List, Option, Some, None, Result, Ok, Err, sym, ap, ◌∙◌}
-use Rattle.ats_network.specs.Network.{DeclaredNetwork, HasOneListener}
+use Rattle.ats_network.specs.Network.{DeclaredNetwork}
 use Rattle.ats_tally.specs.Delays.{NetworkRows, rows_for, sums_for}
-use Rattle.ats_tally.proofs.OneSums.{one_sum_for_each}
 use Rattle.ats_bound.specs.Least.{least_certificate}
 use Rattle.ats_bound.specs.Reason.{reason_of}
 use Rattle.ats_gen.specs.Made.{gen_fault}
@@ -30,12 +29,10 @@ unfolding made_for refused_with
 made_refused network seed count fault text why written =
     ap (λ (o : Option GenFault). network_unless network o) why ∙ ap refused_with (sym written)
 
--- where each stream has one listener and there is no reason against the network, the least sums are those of the delays
--- by the least certificate
-pub least_sums_are : (network : DeclaredNetwork) (delays : NetworkRows) (sums : List ℕ) → HasOneListener network
-    → reason_of network ≡ None → delays ≡ rows_for network (least_certificate network)
-    → sums ≡ sums_for delays.network delays.rows → least_sums network ≡ Some sums
-least_sums_are network delays sums alone none same summed =
+-- where there is no reason against the network, the least sums are those of the delays by the least certificate
+pub least_sums_are : (network : DeclaredNetwork) (delays : NetworkRows) (sums : List ℕ) → reason_of network ≡ None
+    → delays ≡ rows_for network (least_certificate network) → sums ≡ sums_for delays.network delays.rows
+    → least_sums network ≡ Some sums
+least_sums_are network delays sums none same summed =
     ap (sums_unless network) none
-    ∙ ap Some (sym (summed ∙ ap (λ (d : NetworkRows). sums_for d.network d.rows) same
-    ∙ one_sum_for_each network (least_certificate network) alone))
+    ∙ ap Some (sym (summed ∙ ap (λ (d : NetworkRows). sums_for d.network d.rows) same))

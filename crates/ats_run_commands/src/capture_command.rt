@@ -2,9 +2,8 @@
 
 ghost use Rattle.std.specs.Prelude.{IfOk};
 ghost use Rattle.ats_io.specs.Outside.{IfTold};
-ghost use Rattle.ats_network.specs.Network.{HasOneListener};
 ghost use Rattle.ats_capture.specs.Seen.{seen};
-ghost use Rattle.ats_trace.specs.Releases.{AreReleases};
+ghost use Rattle.ats_trace.specs.Releases.{AreReleases, HaveFewPorts};
 ghost use Rattle.ats_command_input.specs.Command as table;
 ghost use Rattle.ats_command_input.specs.Input.{traffic_in};
 ghost use Rattle.ats_command_input.specs.Outcome.{ReadsFile};
@@ -50,7 +49,6 @@ fn capture_of<F: Files>(
     order: Order,
     files: &mut F,
 ) -> Result<Vec<u8>, Stop>
-    requires one_listener { HasOneListener network.now }
     ensures due { IfTold (F.told files.old file.now) (λ bytes.
         GivesOne (IsCaptureText order network.now) result (traffic_in network.now station file.now bytes)) }
     ensures reads { ReadsFile F.told F.faults F.reads file.now files.old files.new result }
@@ -66,8 +64,8 @@ fn text_of(
     traffic: &StationTraffic,
     order: Order,
 ) -> Result<Vec<u8>, AllocError>
-    requires one_listener { HasOneListener network.now }
     requires releases { AreReleases network.now traffic.now.releases.items }
+    requires few_ports { HaveFewPorts network.now traffic.now.releases.items }
     ensures { IfOk result (λ text. IsCaptureText order network.now (seen traffic.now) text.items) }
 {
     let run = run_in(alloc, network, &traffic.releases, order)?;

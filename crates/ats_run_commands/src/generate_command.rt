@@ -1,9 +1,8 @@
 //! `generate NET SEED COUNT`: makes releases by which all talkers keep their buckets, runs them, and gives a summary.
 
 ghost use Rattle.std.specs.Prelude.{◌≡◌, ◌≤◌, All, IfOk, IsErrOf};
-ghost use Rattle.ats_network.specs.Network.{HasOneListener};
 ghost use Rattle.ats_trace.specs.Journey.{IsJourney};
-ghost use Rattle.ats_trace.specs.Releases.{AreReleases};
+ghost use Rattle.ats_trace.specs.Releases.{AreReleases, HaveFewPorts};
 ghost use Rattle.ats_trace.specs.declared.run.TheConstants.{MAX_FRAMES};
 ghost use Rattle.ats_replay.specs.Report.{report_text};
 ghost use Rattle.ats_verdict_text.specs.Text.{refused_text};
@@ -24,10 +23,11 @@ use ats_tally::Delays;
 use ats_trace::{Release, Run};
 use std::alloc::{AllocError, Global};
 
-/// The text of `generate NET SEED COUNT`: for each stream and flow what came of its frames in a run of the network with
-/// exactly the releases that are made from the seed, by the tie and the pace of the order `early`, beside the sum of
-/// the stream's least bounds. It stops where the network's file has a fault or can't be read, and where no stream is
-/// declared or a release would be past the limit.
+/// The text of `generate NET SEED COUNT`: for each listener of each stream and flow what came of its frames in a run of
+/// the network with exactly the releases that are made from the seed, by the tie and the pace of the order `early`,
+/// beside the sum of the stream's least bounds along the route there. It stops where the network's file has a fault or
+/// can't be read, and where no stream is declared or a release, or the ports of the frames together, would be past a
+/// limit.
 pub fn generate<F: Files>(
     alloc: Global,
     net: &str,
@@ -45,7 +45,6 @@ pub fn generate<F: Files>(
 
 // What is printed of the releases that are made for a network, or why none are.
 fn summary_of(alloc: Global, network: &Network, seed: u64, count: u32) -> Result<Vec<u8>, Stop>
-    requires one_listener { HasOneListener network.now }
     requires count { count ≤ MAX_FRAMES }
     ensures due { GivesOne (IsGenerated seed count) result (made_for seed count network.now) }
     ensures was_read { ¬ IsErrOf result Stop.ReadFailed }
@@ -59,17 +58,16 @@ fn summary_of(alloc: Global, network: &Network, seed: u64, count: u32) -> Result
 
 // What is printed of a run with these releases.
 fn text_of(alloc: Global, network: &Network, releases: &[Release]) -> Result<Vec<u8>, AllocError>
-    requires one_listener { HasOneListener network.now }
     requires releases { AreReleases network.now releases.now }
+    requires few_ports { HaveFewPorts network.now releases.now }
     ensures { IfOk result (λ text. IsReportText network.now releases.now text.items) }
 {
     let run = run_in(alloc, network, releases, Order::Early)?;
     report_of(alloc, network, &run)
 }
 
-// What came of each sender's frames in a run, with the sums of the least bounds.
+// What came of each sender's frames for each listener in a run, with the sums of the least bounds.
 fn report_of(alloc: Global, network: &Network, run: &Run) -> Result<Vec<u8>, AllocError>
-    requires one_listener { HasOneListener network.now }
     requires journeys { All (IsJourney network.now) run.now }
     ensures { IfOk result (λ text. text.items ≡ report_text network.now run.now (least_sums network.now)) }
 {

@@ -2,8 +2,7 @@
 
 ghost use Rattle.std.specs.Prelude.{IfOk};
 ghost use Rattle.ats_io.specs.Outside.{IfTold};
-ghost use Rattle.ats_network.specs.Network.{HasOneListener};
-ghost use Rattle.ats_trace.specs.Releases.{AreReleases};
+ghost use Rattle.ats_trace.specs.Releases.{AreReleases, HaveFewPorts};
 ghost use Rattle.ats_trace.specs.Run.{HasReleases, IsRunBy};
 ghost use Rattle.ats_command_input.specs.Command as table;
 ghost use Rattle.ats_command_input.specs.Input.{releases_in};
@@ -47,7 +46,6 @@ fn replay_of<F: Files>(
     order: Order,
     files: &mut F,
 ) -> Result<Vec<u8>, Stop>
-    requires one_listener { HasOneListener network.now }
     ensures due { IfTold (F.told files.old schedule.now) (λ bytes.
         GivesOne (IsReplayText order network.now) result (releases_in network.now schedule.now bytes)) }
     ensures reads { ReadsFile F.told F.faults F.reads schedule.now files.old files.new result }
@@ -63,24 +61,24 @@ fn text_of(
     releases: &[Release],
     order: Order,
 ) -> Result<Vec<u8>, AllocError>
-    requires one_listener { HasOneListener network.now }
     requires releases { AreReleases network.now releases.now }
+    requires few_ports { HaveFewPorts network.now releases.now }
     ensures { IfOk result (λ text. IsReplayText order network.now releases.now text.items) }
 {
     let run = run_in(alloc, network, releases, order)?;
     departures(alloc, network, &run)
 }
 
-/// A run of a network, in which each stream has one listener, with exactly these releases, by the tie and the pace of
-/// the order. `AllocError` where there is no memory for it.
+/// A run of a network with exactly these releases, by the tie and the pace of the order. The ports of their frames are
+/// together at most 3,200,000. `AllocError` where there is no memory for it.
 pub fn run_in(
     alloc: Global,
     network: &Network,
     releases: &[Release],
     order: Order,
 ) -> Result<Run, AllocError>
-    requires one_listener { HasOneListener network.now }
     requires releases { AreReleases network.now releases.now }
+    requires few_ports { HaveFewPorts network.now releases.now }
     ensures { IfOk result (λ run. IsRunIn order network.now releases.now run) }
 {
     match order {
@@ -99,8 +97,8 @@ fn run_by<T: Tie, O: TimeOrder, P: Pace>(
     order: O,
     pace: P,
 ) -> Result<Run, AllocError>
-    requires one_listener { HasOneListener network.now }
     requires releases { AreReleases network.now releases.now }
+    requires few_ports { HaveFewPorts network.now releases.now }
     ensures by { IfOk result (λ run. IsRunBy (T.key tie) (P.wait pace) network.now run) }
     ensures releases { IfOk result (λ run. HasReleases releases.now run) }
 {

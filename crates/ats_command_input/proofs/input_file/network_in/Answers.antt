@@ -1,11 +1,11 @@
 use Rattle.std.proofs.Common.{Result, refl, sym, subst}
 use Rattle.ats_network_file.specs.Reading.{network_of}
 use Rattle.ats_network_file.specs.FaultText.{fault_text}
-use Rattle.ats_network.specs.Network.{DeclaredNetwork, HasOneListener}
+use Rattle.ats_network.specs.Network.{DeclaredNetwork}
 use Rattle.ats_command_input.specs.Input.{bytes_in, declared_in, network_in}
 use Rattle.ats_command_input.specs.Outcome.{Gives}
 use Rattle.ats_command_input.specs.declared.outcome.Stop.{Stop}
-use Rattle.ats_command_input.proofs.Steps.{reads_stopped, stops_all, err_is, declares, read_keeps}
+use Rattle.ats_command_input.proofs.Steps.{reads_stopped, stops_all, err_is, declares}
 use Rattle.ats_command_input.proofs.input_file.network_in.Goals as goal
 
 pub returns-in_err-bytes-clause-due : goal.returns-in_err-bytes-clause-due
@@ -24,11 +24,6 @@ returns-clause-due g c = λ bytes told.
     c.declared.result 16777216 c.args.file.now bytes c.in_ok-bytes.bytes.items c.deref.result.now fault_text network_of
     (c.in_ok-bytes.ensures.due bytes told) c.deref.ensures.value
     (c.declared.ensures.due fault_text (network_of c.deref.result.now) (λ fault. refl) c.read_network.ensures.value)
-
-pub returns-clause-one_listener : goal.returns-clause-one_listener
-returns-clause-one_listener g c =
-    read_keeps HasOneListener c.read_network.result c.declared.result c.declared.ensures.same
-    c.read_network.ensures.one_listener
 
 pub returns-in_err-bytes-clause-reads : goal.returns-in_err-bytes-clause-reads
 returns-in_err-bytes-clause-reads g c =

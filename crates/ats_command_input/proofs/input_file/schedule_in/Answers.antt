@@ -1,6 +1,6 @@
 use Rattle.std.proofs.Common.{Result, refl, sym, subst}
 use Rattle.std.specs.Global.{Vec}
-use Rattle.ats_trace.specs.Releases.{AreReleases}
+use Rattle.ats_trace.specs.Releases.{AreReleases, HaveFewPorts}
 use Rattle.ats_trace.specs.declared.journey.Release.{Release}
 use Rattle.ats_schedule.specs.Reading.{releases_of}
 use Rattle.ats_schedule.specs.FaultText.{fault_text}
@@ -34,6 +34,11 @@ pub returns-clause-releases : goal.returns-clause-releases
 returns-clause-releases g c =
     read_keeps (λ (releases : Vec Release). AreReleases c.args.network.now releases.items) c.read_schedule.result
     c.declared.result c.declared.ensures.same c.read_schedule.ensures.releases
+
+pub returns-clause-few_ports : goal.returns-clause-few_ports
+returns-clause-few_ports g c =
+    read_keeps (λ (releases : Vec Release). HaveFewPorts c.args.network.now releases.items) c.read_schedule.result
+    c.declared.result c.declared.ensures.same c.read_schedule.ensures.few_ports
 
 pub returns-in_err-bytes-clause-reads : goal.returns-in_err-bytes-clause-reads
 returns-in_err-bytes-clause-reads g c =

@@ -6,7 +6,7 @@ use Rattle.ats_capture.specs.Reading.{IsLongEnough}
 use Rattle.ats_capture.specs.Seen.{seen}
 use Rattle.ats_capture.specs.Traffic.{traffic_of}
 use Rattle.ats_capture.specs.declared.traffic.StationTraffic.{StationTraffic}
-use Rattle.ats_trace.specs.Releases.{AreReleases}
+use Rattle.ats_trace.specs.Releases.{AreReleases, HaveFewPorts}
 use Rattle.ats_command_input.specs.Input.{declared_in, records_in, traffic_in}
 use Rattle.ats_command_input.specs.Outcome.{Gives}
 use Rattle.ats_command_input.specs.declared.outcome.Stop.{Stop}
@@ -41,6 +41,11 @@ returns-clause-releases g c =
     read_keeps (λ (traffic : StationTraffic). AreReleases c.args.network.now traffic.releases.items) c.captured.result
     c.declared.result c.declared.ensures.same
     (c.captured.ensures.releases (subst (All IsLongEnough) (sym c.deref.ensures.value) c.in_ok-records.ensures.octets))
+
+pub returns-clause-few_ports : goal.returns-clause-few_ports
+returns-clause-few_ports g c =
+    read_keeps (λ (traffic : StationTraffic). HaveFewPorts c.args.network.now traffic.releases.items) c.captured.result
+    c.declared.result c.declared.ensures.same c.captured.ensures.few_ports
 
 pub returns-in_err-records-clause-reads : goal.returns-in_err-records-clause-reads
 returns-in_err-records-clause-reads g c =

@@ -10,6 +10,6 @@ pub returns-in_ok-delays-in-Ok : goal.returns-in_ok-delays-in-Ok
 returns-in_ok-delays-in-Ok c =
     subst (λ (sums : Option (List ℕ)). IfOk c.report.result
     (λ (text : Vec ℕ). text.items ≡ report_text c.args.network.now c.args.run.now sums))
-    (sym (least_sums_are c.args.network.now c.in_ok-delays-in-Ok.delays c.sums.result.now c.requires.one_listener
+    (sym (least_sums_are c.args.network.now c.in_ok-delays-in-Ok.delays c.sums.result.now
     c.in-Ok.ensures.sound (c.in_ok-delays-in-Ok.ensures ∙ ap (rows_for c.args.network.now) c.in-Ok.ensures.value)
     c.sums.ensures)) c.report.ensures
