@@ -1,5 +1,6 @@
 pub mod CommandProofs
 pub mod FaultProofs
+pub mod LinkProofs
 pub mod NumberProofs
 pub mod OnlyProofs
 pub mod OrderProofs

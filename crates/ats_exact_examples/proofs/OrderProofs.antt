@@ -41,6 +41,8 @@ all_take_turns : AllTakeTurns
 all_take_turns = record {
   three = refl;
   five = refl;
+  of_both = refl;
+  made_of_both = refl;
   made = refl;
 }
 

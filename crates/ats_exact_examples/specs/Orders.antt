@@ -7,6 +7,7 @@ use Rattle.ats_witness.specs.Last.{last_key}
 use Rattle.ats_command_input.specs.Order.{key_of, wait_of}
 use Rattle.ats_command_input.specs.declared.order.Order.TheVariants.{Late, Mixed}
 use Rattle.ats_examples.specs.Networks.{line, stream}
+use Rattle.ats_tree_examples.specs.Networks.{split_and_stream}
 
 -- Keys, waits and turns beyond a few senders, streams and frames.
 
@@ -43,10 +44,13 @@ crowd = declared_network line.topology
 abbrev pub crowd_of_five : DeclaredNetwork
 crowd_of_five = declared_network line.topology (replicate 5 (stream (codes "a") (0 ∷ 2 ∷ []))) []
 
--- all streams take turns. Refuses turns of the first two alone
+-- all streams take turns, each once, however many listeners it has: of two streams, the first of which has two
+-- listeners, each has every second frame. Refuses turns of the first two streams alone, and turns of listeners
 pub record AllTakeTurns : Type 0 where
   pub three : map (stream_of crowd) (0 ∷ 1 ∷ 2 ∷ 3 ∷ 4 ∷ 5 ∷ []) ≡ 0 ∷ 1 ∷ 2 ∷ 0 ∷ 1 ∷ 2 ∷ []
   pub five : map (stream_of crowd_of_five) (0 ∷ 1 ∷ 2 ∷ 3 ∷ 4 ∷ 5 ∷ []) ≡ 0 ∷ 1 ∷ 2 ∷ 3 ∷ 4 ∷ 0 ∷ []
+  pub of_both : map (stream_of split_and_stream) (0 ∷ 1 ∷ 2 ∷ 3 ∷ []) ≡ 0 ∷ 1 ∷ 0 ∷ 1 ∷ []
+  pub made_of_both : map (λ (r : Release). r.sender) (made split_and_stream 7 4) ≡ 0 ∷ 1 ∷ 0 ∷ 1 ∷ []
   pub made : map (λ (r : Release). r.sender) (made crowd 7 4) ≡ 0 ∷ 1 ∷ 2 ∷ 0 ∷ []
 
 pub record OrdersAreExact : Type 0 where

@@ -4,6 +4,7 @@ ghost use Rattle.ats_exact_examples.specs.Waits.{WaitsMayGrow};
 ghost use Rattle.ats_exact_examples.specs.Records.{FirstFaultsAreNamed};
 ghost use Rattle.ats_exact_examples.specs.Faults.{FaultsAreFirst};
 ghost use Rattle.ats_exact_examples.specs.Ports.{GroupsCrossPorts};
+ghost use Rattle.ats_exact_examples.specs.Links.{LatenciesMayDiffer};
 ghost use Rattle.ats_exact_examples.specs.Orders.{OrdersAreExact};
 ghost use Rattle.ats_exact_examples.specs.Only.{NothingElseIsRead};
 
@@ -28,7 +29,14 @@ pub fn groups_cross_ports()
     ensures { GroupsCrossPorts }
 {}
 
-/// Keys of any two senders, the wait of one frame with a great number, and turns of three and five streams.
+/// Where each port has one latency, two ports may have different ones; the legal runs of the line, which has two, are
+/// those in which each frame arrives when its port's latency is over.
+pub fn latencies_may_differ()
+    ensures { LatenciesMayDiffer }
+{}
+
+/// Keys of any two senders, the wait of one frame with a great number, and turns of three and five streams, and of two
+/// with three listeners.
 pub fn orders_are_exact()
     ensures { OrdersAreExact }
 {}

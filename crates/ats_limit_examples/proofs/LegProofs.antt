@@ -1,5 +1,5 @@
 use Rattle.std.proofs.Common.{refl}
-use Rattle.ats_limit_examples.specs.Legs.{LegsAreLimited, PortsAreCounted, RoutesAreLimited}
+use Rattle.ats_limit_examples.specs.Legs.{FramesPortsAreCounted, LegsAreLimited, PortsAreCounted, RoutesAreLimited}
 
 -- Limits by computation.
 
@@ -27,8 +27,16 @@ ports_are_counted = record {
   past = refl;
 }
 
+frames_ports_are_counted : FramesPortsAreCounted
+frames_ports_are_counted = record {
+  of_stream = refl;
+  of_flow = refl;
+  together = refl;
+}
+
 pub legs_are_limited : LegsAreLimited
 legs_are_limited = record {
   routes = routes_are_limited;
   ports = ports_are_counted;
+  frames = frames_ports_are_counted;
 }

@@ -4,8 +4,11 @@ use Rattle.ats_streams.specs.Stream.{DeclaredStream, branching_stream, stream_fa
 use Rattle.ats_streams.specs.declared.fault.StreamFault.TheVariants.{BadClass, Limit}
 use Rattle.ats_network.specs.Network.{ports_together}
 use Rattle.ats_network.specs.Pushes.{is_full}
+use Rattle.ats_trace.specs.Releases.{ports_of_frames}
+use Rattle.ats_trace.specs.declared.journey.Release.{Release}
+use Rattle.ats_tree_examples.specs.Networks.{tree_and_flow}
 
--- How many ports a stream with branches may have on a route, and streams together.
+-- How many ports a stream with branches may have on a route, and streams together; and how the ports of frames count.
 
 -- a stream with so many ports, the last of which are those of a branch that begins behind its trunk of this length, at
 -- a hop
@@ -42,6 +45,18 @@ pub record PortsAreCounted : Type 0 where
   pub last : is_full (streams_of 4095 1) (0 ∷ []) ≡ false
   pub past : is_full (streams_of 4096 1) (0 ∷ []) ≡ true
 
+-- a release of a sender's frame of 64 octets
+abbrev pub released : ℕ → Release
+released sender = record { at = record { 0 = 0 }; sender = sender; octets = 64 }
+
+-- a frame has all ports of its sender, each once: the stream's seven, of eight nodes and of thirteen ports of routes,
+-- and the flow's three, of four nodes. Refuses that nodes count, or each route's ports
+pub record FramesPortsAreCounted : Type 0 where
+  pub of_stream : ports_of_frames tree_and_flow (released 0 ∷ []) ≡ 7
+  pub of_flow : ports_of_frames tree_and_flow (released 1 ∷ []) ≡ 3
+  pub together : ports_of_frames tree_and_flow (released 0 ∷ released 1 ∷ released 0 ∷ []) ≡ 17
+
 pub record LegsAreLimited : Type 0 where
   pub routes : RoutesAreLimited
   pub ports : PortsAreCounted
+  pub frames : FramesPortsAreCounted

@@ -10,7 +10,8 @@ pub fn long_paths_are_found()
 {}
 
 /// Each route of a stream has at most 16 ports, however many its legs have together, and the ports of all legs of all
-/// streams are at most 65,536.
+/// streams are at most 65,536. Of the ports of frames, of which a run may have so many, each frame has all of its
+/// sender's.
 pub fn legs_are_limited()
     ensures { LegsAreLimited }
 {}

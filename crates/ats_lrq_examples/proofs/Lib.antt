@@ -1,2 +1,4 @@
+pub mod GroupProofs
 pub mod LegalByLrq
 pub mod MetProofs
+pub mod NarrowedProofs

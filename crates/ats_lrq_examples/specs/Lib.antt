@@ -1,2 +1,4 @@
 pub mod Runs
 pub mod Met
+pub mod Narrowed
+pub mod Groups

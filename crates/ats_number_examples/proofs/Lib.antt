@@ -1,2 +1,4 @@
 pub mod CountedProofs
 pub mod ToldProofs
+pub mod ShortTest
+pub mod PremiseProofs

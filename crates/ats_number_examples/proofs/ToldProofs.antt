@@ -1,6 +1,6 @@
 use Rattle.std.proofs.Common.{refl}
 use Rattle.std.specs.Fmt.{digits}
-use Rattle.ats_replay.specs.Report.{report_text, sender_line}
+use Rattle.ats_replay.specs.Report.{report_text, summary_text}
 use Rattle.ats_replay.specs.Totals.{counts_text, totals_line}
 use Rattle.ats_network_text.specs.Text.{port_line}
 use Rattle.ats_number_examples.specs.Told.{EachIsTold, NumbersAreTold, SpreadIsTold}
@@ -8,7 +8,7 @@ use Rattle.ats_number_examples.specs.Told.{EachIsTold, NumbersAreTold, SpreadIsT
 -- Texts by computation.
 
 each_is_told : EachIsTold
-unfolding digits report_text sender_line counts_text totals_line
+unfolding digits report_text summary_text counts_text totals_line
 each_is_told = record {
   two = refl;
   totals = refl;

@@ -1,3 +1,4 @@
 pub mod Networks
 pub mod Counted
 pub mod Told
+pub mod Premises

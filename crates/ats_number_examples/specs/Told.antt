@@ -34,10 +34,10 @@ many =
     ∷ ends 0 (Late (record { 0 = 90 })) ∷ ends 1 Size ∷ arrives 1 25 ∷ ends 0 Size ∷ arrives 0 25 ∷ ends 1 Size
     ∷ ends 0 Size ∷ []
 
--- each frame counts, of its sender and in all
+-- each frame counts, of its sender and in all, where each has one listener
 pub record EachIsTold : Type 0 where
-  pub two : totals_of first_goes_first ≡ record { frames = 2; sunk = 2; late = 0; size = 0 }
-  pub totals : totals_of many ≡ record { frames = 13; sunk = 5; late = 2; size = 6 }
+  pub two : totals_of line_and_flow first_goes_first ≡ record { frames = 2; sunk = 2; late = 0; size = 0 }
+  pub totals : totals_of line_and_flow many ≡ record { frames = 13; sunk = 5; late = 2; size = 6 }
   pub report : report_text line_and_flow many (Some (77 ∷ []))
       ≡ codes "stream a frames 9 sunk 3 late 2 size 4 worst 32 bound 77\n"
       ++ codes "flow f frames 4 sunk 2 late 0 size 2 worst 85 bound -\n"

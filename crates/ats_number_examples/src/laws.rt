@@ -1,6 +1,7 @@
 //! More than one late stream, hop, frame, or admission, on closed examples.
 
 ghost use Rattle.ats_number_examples.specs.Counted.{NumbersAreCounted};
+ghost use Rattle.ats_number_examples.specs.Premises.{PremisesAreMet};
 ghost use Rattle.ats_number_examples.specs.Told.{NumbersAreTold};
 
 /// Each late stream and each hop at which a frame may have to stay too long counts; flows stay where a stream is
@@ -12,4 +13,10 @@ pub fn numbers_are_counted()
 /// Each frame of a run is told of, and a spread by its earliest latency, also where that is 0.
 pub fn numbers_are_told()
     ensures { NumbersAreTold }
+{}
+
+/// What the laws on printed texts ask is met: by the greatest number of 64 digits, by runs, by two networks that are
+/// alike and not the same, and by answers.
+pub fn premises_are_met()
+    ensures { PremisesAreMet }
 {}

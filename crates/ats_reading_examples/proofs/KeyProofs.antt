@@ -13,6 +13,7 @@ nearly_are_unknown = record {
   stream_route = refl;
   stream_numbers = refl;
   stream_others = refl;
+  stream_paths = refl;
   top = refl;
 }
 
@@ -24,6 +25,7 @@ others_are_unknown = record {
   link = refl;
   flow = refl;
   stream = refl;
+  stream_of_three = refl;
   top = refl;
 }
 

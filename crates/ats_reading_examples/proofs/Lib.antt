@@ -1,3 +1,7 @@
 pub mod KeyProofs
 pub mod ByteProofs
 pub mod LineProofs
+pub mod Steps
+pub mod PathProofs
+pub mod FieldProofs
+pub mod ReadProofs

@@ -1,10 +1,11 @@
-use Rattle.std.specs.Prelude.{◌≡◌, ℕ, ◌-◌, List, [], ◌∷◌, ◌++◌, length, take, map, replicate, codes, pos, Result, Err}
+use Rattle.std.specs.Prelude.{◌≡◌, ℕ, ◌-◌, List, [], ◌∷◌, ◌++◌, length, take, drop, map, replicate, codes, pos, Result}
+use Rattle.std.specs.Prelude.{Err}
 use Rattle.std.specs.List.{flat_map}
 use Rattle.toml.specs.Data.{Data, Members, string, integer, array, no_items, item, no_members, member}
 use Rattle.ats_network_table.specs.Walk.{Entry}
 use Rattle.ats_network_table.specs.Words.{key_text}
 use Rattle.ats_network_table.specs.declared.format.Format.{Format}
-use Rattle.ats_network_table.specs.declared.format.Format.TheVariants.{One, Two}
+use Rattle.ats_network_table.specs.declared.format.Format.TheVariants.{One, Two, Three}
 use Rattle.ats_network_table.specs.declared.fault.DocumentFault.{DocumentFault}
 use Rattle.ats_network_table.specs.declared.fault.DocumentFault.TheVariants.{Unknown}
 use Rattle.ats_network_table.specs.declared.key.Key.{Key}
@@ -92,6 +93,10 @@ flow_with text = flow_in (with_key Two table.Flow of_flow text)
 abbrev pub stream_with : List ℕ → Result DeclaredStream DocumentFault
 stream_with text = stream_in (with_key Two table.Stream of_stream text)
 
+-- the same in format 3, whose streams may have several paths
+abbrev pub stream_of_three : List ℕ → Result DeclaredStream DocumentFault
+stream_of_three text = stream_in (with_key Three table.Stream of_stream text)
+
 abbrev pub top_with : List ℕ → Result DeclaredDocument DocumentFault
 top_with text = document_in (member text a_number of_top)
 
@@ -99,7 +104,7 @@ top_with text = document_in (member text a_number of_top)
 abbrev pub unknown : {A : Type 0} → Table → ℕ → List (Result A DocumentFault)
 unknown t count = replicate count (Err (Unknown t 3))
 
--- of each key of a table five that are nearly that one are unknown
+-- of each key of a table five that are nearly that one are unknown; of several paths four, the fifth being a path
 pub record NearlyAreUnknown : Type 0 where
   pub station : map station_with (nearly key.Name) ≡ unknown table.Station 5
   pub bridge : map bridge_with
@@ -119,6 +124,7 @@ pub record NearlyAreUnknown : Type 0 where
       ≡ unknown table.Stream 20
   pub stream_others : map stream_with (flat_map nearly (key.DeadlineNs ∷ key.Address ∷ key.Vlan ∷ []))
       ≡ unknown table.Stream 15
+  pub stream_paths : map stream_of_three (drop 1 (nearly key.Paths)) ≡ unknown table.Stream 4
   pub top : map top_with
       (flat_map nearly (key.Format ∷ key.Station ∷ key.Bridge ∷ key.Link ∷ key.Stream ∷ key.Flow ∷ []))
       ≡ replicate 30 (Err (Unknown table.Top 0))
@@ -130,7 +136,7 @@ of_streams =
 
 -- and of flows too, of links, of bridges in both formats, and of the top
 abbrev pub of_senders : List Key
-of_senders = key.Path ∷ key.From ∷ key.To ∷ key.MaxOctets ∷ of_streams
+of_senders = key.Path ∷ key.Paths ∷ key.From ∷ key.To ∷ key.MaxOctets ∷ of_streams
 
 abbrev pub of_links : List Key
 of_links = key.A ∷ key.B ∷ key.Mbps ∷ key.PropagationNs ∷ []
@@ -144,20 +150,22 @@ of_the_top = key.Format ∷ key.Station ∷ key.Bridge ∷ key.Link ∷ key.Stre
 -- each key of the other tables is unknown to a table
 pub record OthersAreUnknown : Type 0 where
   pub station : map (λ k. station_with (key_text k)) (of_senders ++ of_links ++ of_bridges ++ of_the_top)
-      ≡ unknown table.Station 26
+      ≡ unknown table.Station 27
   pub bridge : map (λ k. bridge_with (key_text k)) (key.ProcessingNs ∷ of_senders ++ of_links ++ of_the_top)
-      ≡ unknown table.Bridge 23
+      ≡ unknown table.Bridge 24
   pub plain_bridge : map (λ k. plain_bridge_with (key_text k))
       (key.ProcessingMinNs ∷ key.ProcessingMaxNs ∷ of_senders ++ of_links ++ of_the_top)
-      ≡ unknown table.Bridge 24
+      ≡ unknown table.Bridge 25
   pub link : map (λ k. link_with (key_text k)) (key.Name ∷ of_senders ++ of_bridges ++ of_the_top)
-      ≡ unknown table.Link 23
-  pub flow : map (λ k. flow_with (key_text k)) (of_streams ++ of_links ++ of_bridges ++ of_the_top)
-      ≡ unknown table.Flow 22
-  pub stream : map (λ k. stream_with (key_text k)) (of_links ++ of_bridges ++ of_the_top)
+      ≡ unknown table.Link 24
+  pub flow : map (λ k. flow_with (key_text k)) (key.Paths ∷ of_streams ++ of_links ++ of_bridges ++ of_the_top)
+      ≡ unknown table.Flow 23
+  pub stream : map (λ k. stream_with (key_text k)) (key.Paths ∷ of_links ++ of_bridges ++ of_the_top)
+      ≡ unknown table.Stream 15
+  pub stream_of_three : map (λ k. stream_of_three (key_text k)) (of_links ++ of_bridges ++ of_the_top)
       ≡ unknown table.Stream 14
   pub top : map (λ k. top_with (key_text k)) (key.Name ∷ of_senders ++ of_links ++ of_bridges)
-      ≡ replicate 21 (Err (Unknown table.Top 0))
+      ≡ replicate 22 (Err (Unknown table.Top 0))
 
 pub record KeysAreExact : Type 0 where
   pub nearly : NearlyAreUnknown

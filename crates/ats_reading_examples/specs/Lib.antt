@@ -1,3 +1,6 @@
 pub mod Keys
 pub mod Bytes
 pub mod Lines
+pub mod Paths
+pub mod Fields
+pub mod Reads

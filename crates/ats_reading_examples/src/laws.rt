@@ -1,8 +1,11 @@
 //! How exactly files are read, on closed examples.
 
 ghost use Rattle.ats_reading_examples.specs.Bytes.{CapturesHaveAllBits};
+ghost use Rattle.ats_reading_examples.specs.Fields.{FieldsAreExact};
 ghost use Rattle.ats_reading_examples.specs.Keys.{KeysAreExact};
 ghost use Rattle.ats_reading_examples.specs.Lines.{LinesAreRead};
+ghost use Rattle.ats_reading_examples.specs.Paths.{RequestsGoLeastWays};
+ghost use Rattle.ats_reading_examples.specs.Reads.{ReadsAreListed};
 
 /// A key that is nearly one of a table of a network file is unknown there, and so is each key of the other tables.
 pub fn keys_are_exact()
@@ -17,4 +20,21 @@ pub fn captures_have_all_bits()
 /// A comment needs nothing behind its sign, nothing but a space parts words, and numbers may have up to 36 digits.
 pub fn lines_are_read()
     ensures { LinesAreRead }
+{}
+
+/// Of all topologies and texts: a stream that is asked for has the path that is the walk of fewest ports between the
+/// two different stations that its line names, and a line has a path just where there is one.
+pub fn requests_go_least_ways()
+    ensures { RequestsGoLeastWays }
+{}
+
+/// Headers of tables of values that are nearly right are none; what is read as a number of a record or a line is the
+/// number that it writes, with no needless 0 in front and never of no bytes.
+pub fn fields_are_exact()
+    ensures { FieldsAreExact }
+{}
+
+/// A file is read from its front and with no gap, and each read is listed, one that gives nothing or fails too.
+pub fn reads_are_listed()
+    ensures { ReadsAreListed }
 {}

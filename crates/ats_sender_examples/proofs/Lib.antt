@@ -1,2 +1,3 @@
 mod CapturedProofs
 mod MeasuredProofs
+mod CopiedProofs

@@ -15,10 +15,10 @@ use Rattle.ats_sender_examples.specs.Senders.{three_senders}
 use Rattle.ats_sender_examples.specs.Measured.{SendersAreMeasured, flow_is_silent, silent_text, spoken_text}
 use Rattle.ats_sender_examples.specs.Measured.{stream_is_silent}
 
-abbrev sizes : ℕ → ℕ → Sizes
+abbrev pub sizes : ℕ → ℕ → Sizes
 sizes least greatest = record { least = least; greatest = greatest }
 
-abbrev measured : ℕ → Option Sizes → Option ℕ → Measured
+abbrev pub measured : ℕ → Option Sizes → Option ℕ → Measured
 measured frames sizes burst = record { frames = frames; sizes = sizes; burst_bits = burst }
 
 -- what is measured of each of the three is what is measured of all

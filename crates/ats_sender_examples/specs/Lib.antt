@@ -1,3 +1,4 @@
 pub mod Senders
 pub mod Captured
 pub mod Measured
+pub mod Copied

@@ -1,6 +1,7 @@
 //! What is told of each of several senders.
 
 ghost use Rattle.ats_sender_examples.specs.Captured.{SendersAreCaptured};
+ghost use Rattle.ats_sender_examples.specs.Copied.{CopiesCountOnce};
 ghost use Rattle.ats_sender_examples.specs.Measured.{SendersAreMeasured};
 
 /// The capture of a port that sent frames of two streams with addresses of their own and of a flow, each of other
@@ -13,4 +14,9 @@ pub fn senders_are_captured()
 /// what is printed of it; also where a stream or the flow has no frame.
 pub fn senders_are_measured()
     ensures { SendersAreMeasured }
+{}
+
+/// What is measured of releases of a stream with two listeners: each frame counts once.
+pub fn copies_count_once()
+    ensures { CopiesCountOnce }
 {}
