@@ -18,7 +18,7 @@ use Rattle.ats_command_input.specs.Input.{declared_in, network_in}
 use Rattle.ats_examples.proofs.NetworkTest.{valid_from_by}
 use Rattle.ats_examples.specs.Networks.{line_links, line_nodes}
 use Rattle.ats_file_examples.proofs.Parsing.{parsed}
-use Rattle.ats_file_examples.proofs.Steps.{document_is, network_is, one_more, path_is, stream_is}
+use Rattle.ats_file_examples.proofs.Steps.{document_is, legs_is, network_is, one_leg, one_more, stream_is}
 use Rattle.ats_answer_examples.specs.Regulated.{bursts, late_bursts}
 
 -- What the network files of the calls declare: their tables by computation, and then their stream.
@@ -32,7 +32,7 @@ line_until deadline = declared_network (topology_of line_nodes line_links)
 abbrev entry_until : ℕ → file.DeclaredStream
 entry_until deadline = record {
   name = codes "a";
-  route = ends (codes "s1") (codes "s2");
+  routes = ends (codes "s1") (codes "s2") ∷ [];
   classes = 6 ∷ [];
   rate_bps = 100000000;
   burst_bits = 24672;
@@ -60,7 +60,7 @@ empty = declared_network (topology_of line_nodes line_links) [] []
 -- the network with the stream of such an entry, where it is added
 abbrev with_entry : ℕ → Result DeclaredNetwork NetFault
 with_entry deadline =
-    stream_made 1 (entry_until deadline) (stream_over (0 ∷ 2 ∷ []) (entry_until deadline))
+    stream_made 1 (entry_until deadline) (stream_over (one_leg (0 ∷ 2 ∷ [])) (entry_until deadline))
     >>= λ stream. unless (refusal_of Stream 1) (stream_push_fault empty stream) (with_stream empty stream)
 
 text_is : (text : List ℕ) (deadline : ℕ) → document_of text ≡ Ok (document_until deadline)
@@ -69,8 +69,8 @@ text_is text deadline tables made =
     network_is text (document_until deadline) (Ok (line_until deadline)) tables
     (ap (λ (s : Result DeclaredNetwork NetFault). s >>= λ streamed. all_added flow_added streamed 1 [])
     (one_more stream_added empty (line_until deadline) 1 (entry_until deadline) []
-    (stream_is empty 1 (entry_until deadline) (0 ∷ 2 ∷ []) (Ok (line_until deadline))
-    (path_is empty.topology Stream 1 (ends (codes "s1") (codes "s2")) (0 ∷ 2 ∷ []) refl
+    (stream_is empty 1 (entry_until deadline) (one_leg (0 ∷ 2 ∷ [])) (Ok (line_until deadline))
+    (legs_is empty.topology 1 (ends (codes "s1") (codes "s2") ∷ []) (0 ∷ 2 ∷ []) refl
     (valid_from_by empty.topology 0 (0 ∷ 2 ∷ []) refl)) made)))
 
 -- the files of both networks

@@ -5,14 +5,13 @@ use Rattle.ats_network.specs.Network.{DeclaredNetwork, declared_network}
 use Rattle.ats_network_file.specs.Reading.{network_of}
 use Rattle.ats_network_file.specs.Senders.{all_added, flow_added, stream_added}
 use Rattle.ats_network_file.specs.declared.fault.NetFault.{NetFault}
-use Rattle.ats_network_file.specs.declared.senders.SenderTable.TheVariants.{Stream}
 use Rattle.ats_network_toml.specs.Document as file
 use Rattle.ats_network_toml.specs.Document.{ends}
 use Rattle.ats_command_input.specs.Input.{network_in}
 use Rattle.ats_examples.proofs.NetworkTest.{valid_from_by}
 use Rattle.ats_examples.specs.Networks.{fork, stream}
 use Rattle.ats_file_examples.proofs.Parsing.{parsed}
-use Rattle.ats_file_examples.proofs.Steps.{document_is, network_is, one_more, path_is, stream_is}
+use Rattle.ats_file_examples.proofs.Steps.{document_is, legs_is, network_is, one_leg, one_more, stream_is}
 use Rattle.ats_call_examples.specs.Files.{fork_text}
 use Rattle.ats_call_examples.proofs.Line.{taken}
 
@@ -22,7 +21,7 @@ use Rattle.ats_call_examples.proofs.Line.{taken}
 abbrev entry : List ℕ → List ℕ → file.DeclaredStream
 entry name from = record {
   name = name;
-  route = ends from (codes "s2");
+  routes = ends from (codes "s2") ∷ [];
   classes = 6 ∷ [];
   rate_bps = 100000000;
   burst_bits = 12336;
@@ -52,13 +51,13 @@ abbrev with_first : DeclaredNetwork
 with_first = declared_network fork.topology (stream (codes "a") (0 ∷ 2 ∷ []) ∷ []) []
 
 first_added : stream_added no_streams 1 (entry (codes "a") (codes "s1")) ≡ Ok with_first
-first_added = stream_is no_streams 1 (entry (codes "a") (codes "s1")) (0 ∷ 2 ∷ []) (Ok with_first)
-    (path_is fork.topology Stream 1 (ends (codes "s1") (codes "s2")) (0 ∷ 2 ∷ []) refl
+first_added = stream_is no_streams 1 (entry (codes "a") (codes "s1")) (one_leg (0 ∷ 2 ∷ [])) (Ok with_first)
+    (legs_is fork.topology 1 (ends (codes "s1") (codes "s2") ∷ []) (0 ∷ 2 ∷ []) refl
     (valid_from_by fork.topology 0 (0 ∷ 2 ∷ []) refl)) refl
 
 second_added : stream_added with_first 2 (entry (codes "z") (codes "s3")) ≡ Ok fork
-second_added = stream_is with_first 2 (entry (codes "z") (codes "s3")) (4 ∷ 2 ∷ []) (Ok fork)
-    (path_is fork.topology Stream 2 (ends (codes "s3") (codes "s2")) (4 ∷ 2 ∷ []) refl
+second_added = stream_is with_first 2 (entry (codes "z") (codes "s3")) (one_leg (4 ∷ 2 ∷ [])) (Ok fork)
+    (legs_is fork.topology 2 (ends (codes "s3") (codes "s2") ∷ []) (4 ∷ 2 ∷ []) refl
     (valid_from_by fork.topology 2 (4 ∷ 2 ∷ []) refl)) refl
 
 streams_added : all_added stream_added no_streams 1 document.streams ≡ Ok fork

@@ -23,7 +23,7 @@ use Rattle.ats_examples.proofs.NetworkTest.{valid_from_by}
 use Rattle.ats_examples.specs.Networks.{line_links, line_nodes}
 use Rattle.ats_examples.specs.Runs.{hop, sunk}
 use Rattle.ats_file_examples.proofs.Parsing.{parsed}
-use Rattle.ats_file_examples.proofs.Steps.{document_is, network_is, one_more, path_is, stream_is}
+use Rattle.ats_file_examples.proofs.Steps.{document_is, legs_is, network_is, one_leg, one_more, stream_is}
 use Rattle.ats_call_examples.specs.Files.{faulty_with, late, network, no_text, overloaded}
 use Rattle.ats_call_examples.specs.Run.{still}
 
@@ -41,7 +41,7 @@ line = line_with 100000000 26672
 abbrev entry_with : ℕ → ℕ → file.DeclaredStream
 entry_with rate deadline = record {
   name = codes "a";
-  route = ends (codes "s1") (codes "s2");
+  routes = ends (codes "s1") (codes "s2") ∷ [];
   classes = 6 ∷ [];
   rate_bps = rate;
   burst_bits = 12336;
@@ -69,7 +69,7 @@ empty = declared_network line.topology [] []
 -- the network with the stream of such an entry, where it is added
 abbrev with_entry : ℕ → ℕ → Result DeclaredNetwork NetFault
 with_entry rate deadline =
-    stream_made 1 (entry_with rate deadline) (stream_over (0 ∷ 2 ∷ []) (entry_with rate deadline))
+    stream_made 1 (entry_with rate deadline) (stream_over (one_leg (0 ∷ 2 ∷ [])) (entry_with rate deadline))
     >>= λ stream. unless (refusal_of Stream 1) (stream_push_fault empty stream) (with_stream empty stream)
 
 text_is : (text : List ℕ) (rate deadline : ℕ) → document_of text ≡ Ok (document_with rate deadline)
@@ -78,8 +78,8 @@ text_is text rate deadline tables made =
     network_is text (document_with rate deadline) (Ok (line_with rate deadline)) tables
     (ap (λ (s : Result DeclaredNetwork NetFault). s >>= λ streamed. all_added flow_added streamed 1 [])
     (one_more stream_added empty (line_with rate deadline) 1 (entry_with rate deadline) []
-    (stream_is empty 1 (entry_with rate deadline) (0 ∷ 2 ∷ []) (Ok (line_with rate deadline))
-    (path_is line.topology Stream 1 (ends (codes "s1") (codes "s2")) (0 ∷ 2 ∷ []) refl
+    (stream_is empty 1 (entry_with rate deadline) (one_leg (0 ∷ 2 ∷ [])) (Ok (line_with rate deadline))
+    (legs_is line.topology 1 (ends (codes "s1") (codes "s2") ∷ []) (0 ∷ 2 ∷ []) refl
     (valid_from_by line.topology 0 (0 ∷ 2 ∷ []) refl)) made)))
 
 -- the files of the three networks

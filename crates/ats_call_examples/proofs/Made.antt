@@ -7,7 +7,7 @@ use Rattle.ats_num.specs.Failure.{◌>>=◌}
 use Rattle.ats_gen.specs.Made.{AreMade}
 use Rattle.ats_network.specs.Network.{DeclaredNetwork}
 use Rattle.ats_trace.specs.declared.journey.Release.{Release}
-use Rattle.ats_replay.specs.Report.{report_text, sender_line}
+use Rattle.ats_replay.specs.Report.{report_text, summary_text}
 use Rattle.ats_replay.specs.Totals.{counts_text, totals_line}
 use Rattle.ats_command_input.specs.Answer.{Answer}
 use Rattle.ats_command_input.specs.Input.{network_in}
@@ -51,7 +51,7 @@ report =
     ++ codes "total frames 1 sunk 1 late 0 size 0\n"
 
 report_is : report ≡ report_text line (one_journey 1374 11152000) (least_sums line)
-unfolding digits report_text sender_line counts_text totals_line
+unfolding digits report_text summary_text counts_text totals_line
 report_is = refl
 
 -- by what the network's file declares

@@ -6,7 +6,7 @@ use Rattle.ats_network.specs.Network.{DeclaredNetwork}
 use Rattle.ats_witness.specs.Found.{AreFound, FoundDelays, found_delays}
 use Rattle.ats_witness_law.proofs.WorkedBursts.{found_delays_are_met}
 use Rattle.ats_witness_law.specs.Worked.{release}
-use Rattle.ats_witness_text.specs.Text.{hop_line, release_line, witness_line, witness_text}
+use Rattle.ats_witness_text.specs.Text.{found_text, hop_line, release_line, title_line, witness_line, witness_text}
 use Rattle.ats_examples.specs.Networks.{fork}
 use Rattle.ats_command_input.specs.Answer.{Answer}
 use Rattle.ats_command_input.specs.Input.{network_in}
@@ -56,21 +56,21 @@ none_declared = witnessed_by (codes "a") no_text (Err (faulty_with (codes "input
 abbrev found : FoundDelays
 found = found_delays (26672000 ∷ 39008000 ∷ []) 1 (release 1 0 ∷ release 1 1 ∷ [])
 
-are_found : AreFound fork 0 found
+are_found : AreFound fork 0 0 found
 are_found = record {
   each = (found_delays_are_met.fork_alone, (found_delays_are_met.fork_together, tt));
   first = found_delays_are_met.fork_greatest;
   burst = found_delays_are_met.fork_second;
 }
 
-written : witnessed ≡ witness_text fork 0 found (least_sum fork 0)
-unfolding digits witness_text hop_line release_line witness_line
+written : witnessed ≡ witness_text fork 0 (found ∷ []) (least_sum fork 0)
+unfolding digits witness_text found_text title_line hop_line release_line witness_line
 written = refl
 
 has_delays : IsWitnessAnswer (codes "n") (codes "a") fork_text (done_with witnessed)
 has_delays = of_declared (IsOneOf IsWitnessed) (witnessed_in (codes "n") (codes "a") fork_text)
     (Ok (due.witnessed fork 0)) (done_with witnessed) stream_is
-    (refl, (found, record { are_found = are_found; written = written }))
+    (refl, (found ∷ [], record { are_found = (are_found, tt); written = written }))
 
 has_no_stream : IsWitnessAnswer (codes "n") (codes "q") fork_text (refused_with (codes "refused stream q\n"))
 has_no_stream = of_declared (IsOneOf IsWitnessed) (witnessed_in (codes "n") (codes "q") fork_text)

@@ -4,8 +4,7 @@ use Rattle.ats_streams.specs.Stream.{DeclaredStream, declared_stream}
 use Rattle.ats_streams.specs.declared.traffic.Declared.{Declared}
 use Rattle.ats_network.specs.Network.{DeclaredNetwork, declared_network}
 use Rattle.ats_network.specs.Path.{IsValidPath}
-use Rattle.ats_network_file.specs.Senders.{path_in}
-use Rattle.ats_network_file.specs.declared.senders.SenderTable.TheVariants.{Stream, Flow}
+use Rattle.ats_network_file.specs.Senders.{legs_in, path_in}
 use Rattle.ats_network_toml.specs.Document.{path}
 use Rattle.ats_group.specs.Group.{Offer}
 use Rattle.ats_group.specs.declared.verdict.Verdict.TheVariants.{Eligible, Late, Size}
@@ -20,7 +19,7 @@ use Rattle.ats_checker.specs.InTime.{ArrivesInTime}
 use Rattle.ats_gen.specs.Made.{gen_fault}
 use Rattle.ats_gen.specs.declared.fault.GenFault.TheVariants.{Limit}
 use Rattle.ats_replay.specs.Totals.{totals_of}
-use Rattle.ats_examples.specs.Networks.{fork, line_links, line_nodes, link, station}
+use Rattle.ats_examples.specs.Networks.{fork, line_links, line_nodes, link, over_two, station}
 use Rattle.ats_examples.specs.Rows.{line_rows}
 use Rattle.ats_examples.specs.Runs.{first_goes_first, hop, sunk}
 
@@ -81,10 +80,10 @@ ends_third last =
 
 -- why a frame ended is told by its last verdict
 pub record LastVerdictCounts : Type 0 where
-  pub late : totals_of (ends_third
+  pub late : totals_of over_two (ends_third
       (record { arrival = record { 0 = 27672000 }; verdict = Late (record { 0 = 90000000 }); sent = None }))
       ≡ record { frames = 1; sunk = 0; late = 1; size = 0 }
-  pub size : totals_of (ends_third (record { arrival = record { 0 = 27672000 }; verdict = Size; sent = None }))
+  pub size : totals_of over_two (ends_third (record { arrival = record { 0 = 27672000 }; verdict = Size; sent = None }))
       ≡ record { frames = 1; sunk = 0; late = 0; size = 1 }
 
 -- a stream of 50 Mb/s with 64 to 900 octets, and frames of it
@@ -109,8 +108,9 @@ pair = topology_of (station (codes "a") ∷ station (codes "b") ∷ []) (link (c
 -- a path may be one port
 pub record PathsAreShort : Type 0 where
   pub valid : IsValidPath pair (0 ∷ [])
-  pub stream : path_in pair Stream 1 (path (codes "a" ∷ codes "b" ∷ [])) ≡ Ok (0 ∷ [])
-  pub flow : path_in pair Flow 1 (path (codes "b" ∷ codes "a" ∷ [])) ≡ Ok (1 ∷ [])
+  pub stream : legs_in pair 1 (path (codes "a" ∷ codes "b" ∷ []) ∷ [])
+      ≡ Ok (record { ports = 0 ∷ []; branches = [] })
+  pub flow : path_in pair 1 (path (codes "b" ∷ codes "a" ∷ [])) ≡ Ok (1 ∷ [])
 
 -- a stream of 1 bit per second over the line, whose frames of 10,000 bits take 10^16 ps each
 abbrev pub slow : DeclaredNetwork

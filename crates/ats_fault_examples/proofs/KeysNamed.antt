@@ -35,6 +35,7 @@ topology_keys_are_named = record {
 sender_keys_are_named : SenderKeysAreNamed
 sender_keys_are_named = record {
   path = refl;
+  paths = refl;
   from = refl;
   to = refl;
   class = refl;

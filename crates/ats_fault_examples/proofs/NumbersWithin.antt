@@ -47,7 +47,7 @@ making_is_named = record {
 }
 
 release_limits : ReleaseLimits
-release_limits = record { last = refl; more = refl; past = refl }
+release_limits = record { last = refl; more = refl; wider = refl; past = refl }
 
 shape_limits : ShapeLimits
 shape_limits = record { last_stream = refl; stream_over = refl; last_frame = refl; frame_over = refl }

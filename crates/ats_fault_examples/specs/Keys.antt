@@ -34,6 +34,7 @@ pub record TopologyKeysAreNamed : Type 0 where
 -- the further keys of streams and flows
 pub record SenderKeysAreNamed : Type 0 where
   pub path : key_text key.Path ≡ codes "path"
+  pub paths : key_text key.Paths ≡ codes "paths"
   pub from : key_text key.From ≡ codes "from"
   pub to : key_text key.To ≡ codes "to"
   pub class : key_text key.Class ≡ codes "class"

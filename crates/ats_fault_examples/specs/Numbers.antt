@@ -58,11 +58,13 @@ pub record MakingIsNamed : Type 0 where
   pub count_over : count_named (codes "200001") ≡ None
   pub count_none : count_named (codes "1 ") ≡ None
 
--- the last release that a schedule may have, by its time and by the number of those before it
+-- the last release that a schedule may have, by its time, by the number of those before it, and by the ports of their
+-- frames and its own
 pub record ReleaseLimits : Type 0 where
-  pub last : within_limits 9 199999 100000000000000000 ≡ Ok 100000000000000000
-  pub more : within_limits 9 200000 0 ≡ Err (schedule.Limit 9)
-  pub past : within_limits 9 0 100000000000000001 ≡ Err (schedule.Limit 9)
+  pub last : within_limits 9 199999 3200000 100000000000000000 ≡ Ok 100000000000000000
+  pub more : within_limits 9 200000 0 0 ≡ Err (schedule.Limit 9)
+  pub wider : within_limits 9 0 3200001 0 ≡ Err (schedule.Limit 9)
+  pub past : within_limits 9 0 0 100000000000000001 ≡ Err (schedule.Limit 9)
 
 -- so many streams and so many frames that a shape file declares
 abbrev pub draft_with : ℕ → ℕ → DraftShape

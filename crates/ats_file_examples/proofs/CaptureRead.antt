@@ -9,4 +9,12 @@ use Rattle.ats_file_examples.specs.Captured.{CaptureIsCounted}
 
 pub capture_is_counted : CaptureIsCounted
 unfolding form_of of_header is_whole order_of position_of of_record record_of address_of identity_of number16 number32
-capture_is_counted = record { read = refl; cut = refl; long = refl; no_bytes = refl; no_magic = refl }
+capture_is_counted = record {
+  read = refl;
+  no_snap = refl;
+  short_snap = refl;
+  cut = refl;
+  long = refl;
+  no_bytes = refl;
+  no_magic = refl;
+}

@@ -16,7 +16,7 @@ use Rattle.ats_file_examples.specs.NetworkText.{links_text, network_text, nodes_
 use Rattle.ats_file_examples.proofs.NetworkRead.{behind_flows, behind_streams}
 use Rattle.ats_file_examples.proofs.Parsing.{parsed}
 use Rattle.ats_file_examples.proofs.Senders.{crowd_to}
-use Rattle.ats_file_examples.proofs.Steps.{document_is, network_is, none_more, path_is, stream_is}
+use Rattle.ats_file_examples.proofs.Steps.{document_is, legs_is, network_is, none_more, one_leg, stream_is}
 
 -- Tables that do not fit to many others: their document by computation, and then their senders step by step.
 
@@ -59,7 +59,7 @@ link_is = network_is link_text with_link (Err (fault.Topology (LinkTwice 7)))
 abbrev fifth : file.DeclaredStream
 fifth = record {
   name = codes "t";
-  route = ends (codes "s1") (codes "s2");
+  routes = ends (codes "s1") (codes "s2") ∷ [];
   classes = 1 ∷ [];
   rate_bps = 1;
   burst_bits = 672;
@@ -72,7 +72,7 @@ fifth = record {
 abbrev identified : file.DeclaredStream
 identified = record {
   name = codes "w";
-  route = ends (codes "s1") (codes "s2");
+  routes = ends (codes "s1") (codes "s2") ∷ [];
   classes = 1 ∷ [];
   rate_bps = 1;
   burst_bits = 672;
@@ -104,13 +104,13 @@ not_added entry why is =
     (none_more stream_added (crowd_to 4 0) 5 entry [] why is)
 
 fifth_not_added : stream_added (crowd_to 4 0) 5 fifth ≡ Err (fault.SenderTwice Stream 5)
-fifth_not_added = stream_is (crowd_to 4 0) 5 fifth (0 ∷ 6 ∷ 3 ∷ []) (Err (fault.SenderTwice Stream 5))
-    (path_is crowd.topology Stream 5 fifth.route (0 ∷ 6 ∷ 3 ∷ []) refl
+fifth_not_added = stream_is (crowd_to 4 0) 5 fifth (one_leg (0 ∷ 6 ∷ 3 ∷ [])) (Err (fault.SenderTwice Stream 5))
+    (legs_is crowd.topology 5 fifth.routes (0 ∷ 6 ∷ 3 ∷ []) refl
     (valid_from_by crowd.topology 0 (0 ∷ 6 ∷ 3 ∷ []) refl)) refl
 
 identified_not_added : stream_added (crowd_to 4 0) 5 identified ≡ Err (fault.IdentityTwice 5)
-identified_not_added = stream_is (crowd_to 4 0) 5 identified (0 ∷ 6 ∷ 3 ∷ []) (Err (fault.IdentityTwice 5))
-    (path_is crowd.topology Stream 5 identified.route (0 ∷ 6 ∷ 3 ∷ []) refl
+identified_not_added = stream_is (crowd_to 4 0) 5 identified (one_leg (0 ∷ 6 ∷ 3 ∷ [])) (Err (fault.IdentityTwice 5))
+    (legs_is crowd.topology 5 identified.routes (0 ∷ 6 ∷ 3 ∷ []) refl
     (valid_from_by crowd.topology 0 (0 ∷ 6 ∷ 3 ∷ []) refl)) refl
 
 stream_not_read : network_of fifth_text ≡ Err (fault.SenderTwice Stream 5)

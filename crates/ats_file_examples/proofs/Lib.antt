@@ -2,6 +2,7 @@ pub mod Parsing
 pub mod Steps
 pub mod Senders
 pub mod NetworkRead
+pub mod ForkRead
 pub mod FormCounted
 pub mod KeysTogether
 pub mod FaultsCounted
@@ -11,3 +12,4 @@ pub mod CaptureRead
 pub mod CrowdWritten
 pub mod FlowsWritten
 pub mod WaitsWritten
+pub mod PremisesMet

@@ -1,7 +1,8 @@
 use Rattle.std.proofs.Common.{◌≡◌, ℕ, zero, suc, ◌+◌, ◌<◌, ◌⊎◌, inl, inr, Bool, true, List, [], ◌∷◌}
-use Rattle.std.proofs.Common.{Option, Some, Result, Ok, Err, refl, ap, ◌∙◌, arith}
-use Rattle.std.specs.Prelude.{nat_lt}
+use Rattle.std.proofs.Common.{cond, Option, Some, None, Result, Ok, Err, refl, ap, ◌∙◌, arith}
+use Rattle.std.specs.Prelude.{nat_lt, option_and_then}
 use Rattle.std.specs.List.{list_all}
+use Rattle.std.proofs.lemmas.List.Elements.{All-cons, All-nil}
 use Rattle.std.specs.Str.{IsAscii}
 use Rattle.std.proofs.lemmas.Bool.{and_parts}
 use Rattle.std.proofs.lemmas.Str.{IsUtf8-from_ascii}
@@ -14,18 +15,22 @@ use Rattle.ats_network.specs.Path.{IsValidPath}
 use Rattle.ats_network.specs.Pushes.{flow_push_fault, stream_push_fault, with_flow, with_stream}
 use Rattle.ats_network.proofs.PathTests.{valid_or_not}
 use Rattle.ats_network_table.specs.declared.fault.DocumentFault.{DocumentFault}
+use Rattle.ats_network_table.specs.declared.format.Format.{Format}
+use Rattle.ats_network_table.specs.declared.format.Format.TheVariants.{One}
+use Rattle.ats_network_table.specs.declared.table.Table.TheVariants.{Top}
 use Rattle.ats_network_table.specs.declared.fault.DocumentFault.TheVariants.{NotToml}
 use Rattle.ats_network_toml.specs.Document as file
-use Rattle.ats_network_toml.specs.Reading.{document_in, document_of}
+use Rattle.ats_network_toml.specs.Reading.{arrays_in, document_in, document_of, format_in, tree_of}
 use Rattle.ats_network_toml.proofs.Trees.{utf8_tree}
 use Rattle.ats_network_file.specs.Reading.{network_in, network_of, tables_of}
-use Rattle.ats_network_file.specs.Routes.{holds, is_valid, ports_of}
-use Rattle.ats_network_file.specs.Senders.{all_added, flow_added, flow_made, flow_over, path_in, refusal_of}
+use Rattle.ats_network_file.specs.Routes.{holds, is_valid, path_of, ports_of, ports_of_each}
+use Rattle.ats_network_file.specs.Senders.{all_added, flow_added, flow_made, flow_over, legs_in, path_in, refusal_of}
 use Rattle.ats_network_file.specs.Senders.{stream_added, stream_made, stream_over}
 use Rattle.ats_network_file.specs.declared.fault.NetFault.{NetFault}
 use Rattle.ats_network_file.specs.declared.fault.NetFault.TheVariants.{BadPath}
-use Rattle.ats_network_file.specs.declared.senders.SenderTable.{SenderTable}
 use Rattle.ats_network_file.specs.declared.senders.SenderTable.TheVariants.{Flow, Stream}
+use Rattle.ats_network_file.proofs.LegsFound.{legs_are}
+use Rattle.ats_route_tree.specs.Legs.{DeclaredLegs}
 
 -- How a text of TOML and the tables in it are read, step by step, where that does not compute.
 
@@ -50,6 +55,21 @@ pub document_is : (text : List ℕ) (due : Result file.DeclaredDocument Document
 document_is text due ascii is =
     ap declared_by (utf8_tree text (IsUtf8-from_ascii text (ascii_by text ascii))) ∙ is
 
+-- the tables of a text, and its format, where `toml` reads it
+pub tree_is : (text : List ℕ) (due : Option Members) → is_ascii text ≡ true → parse_document text ≡ due
+    → tree_of text ≡ due
+tree_is text due ascii is = utf8_tree text (IsUtf8-from_ascii text (ascii_by text ascii)) ∙ is
+
+abbrev pub format_by : Option Members → Result Format DocumentFault
+format_by tree =
+    or_fault NotToml tree
+    >>= λ tree. arrays_in (record { format = One; table = Top; number = 0; members = tree })
+    >>= λ arrays. Ok arrays.format
+
+pub format_is : (text : List ℕ) (due : Result Format DocumentFault) → is_ascii text ≡ true
+    → format_by (parse_document text) ≡ due → format_in text ≡ due
+format_is text due ascii is = ap format_by (utf8_tree text (IsUtf8-from_ascii text (ascii_by text ascii))) ∙ is
+
 -- and the network that they make
 pub network_is : (text : List ℕ) (document : file.DeclaredDocument) (due : Result DeclaredNetwork NetFault)
     → document_of text ≡ Ok document → network_in document ≡ due → network_of text ≡ due
@@ -64,12 +84,30 @@ valid_is topology path valid = either (valid_or_not topology path)
     either (inl is) = refl
     either (inr never) = absurd (never valid)
 
-pub path_is : (topology : DeclaredTopology) (table : SenderTable) (n : ℕ) (route : file.DeclaredRoute) (path : List ℕ)
-    → ports_of topology route ≡ Some path → IsValidPath topology path → path_in topology table n route ≡ Ok path
-path_is topology table n route path ports valid =
-    ap (λ (o : Option (List ℕ)). or_fault (BadPath table n) o
-    >>= λ found. ok_where (is_valid topology found) (BadPath table n) found) ports
-    ∙ ap (λ (passes : Bool). ok_where {F = NetFault} passes (BadPath table n) path) (valid_is topology path valid)
+pub path_is : (topology : DeclaredTopology) (n : ℕ) (route : file.DeclaredRoute) (path : List ℕ)
+    → ports_of topology route ≡ Some path → IsValidPath topology path → path_in topology n route ≡ Ok path
+path_is topology n route path ports valid =
+    ap (λ (o : Option (List ℕ)). or_fault (BadPath Flow n) o
+    >>= λ found. ok_where (is_valid topology found) (BadPath Flow n) found) ports
+    ∙ ap (λ (passes : Bool). ok_where {F = NetFault} passes (BadPath Flow n) path) (valid_is topology path valid)
+
+pub path_of_is : (topology : DeclaredTopology) (route : file.DeclaredRoute) (path : List ℕ)
+    → ports_of topology route ≡ Some path → IsValidPath topology path → path_of topology route ≡ Some path
+path_of_is topology route path ports valid =
+    let chosen : Bool → List ℕ → Option (List ℕ) = λ passes found. cond passes (Some found) None in
+    ap (λ (o : Option (List ℕ)). option_and_then (λ found. chosen (is_valid topology found) found) o) ports
+    ∙ ap (λ (passes : Bool). chosen passes path) (valid_is topology path valid)
+
+-- the legs of one route are its path
+abbrev pub one_leg : List ℕ → DeclaredLegs
+one_leg path = record { ports = path; branches = [] }
+
+pub legs_is : (topology : DeclaredTopology) (n : ℕ) (routes : List file.DeclaredRoute) (path : List ℕ)
+    → ports_of_each topology routes ≡ Some (path ∷ []) → IsValidPath topology path
+    → legs_in topology n routes ≡ Ok (one_leg path)
+legs_is topology n routes path ports valid =
+    legs_are topology n routes (path ∷ []) (one_leg path) ports
+    (All-cons (IsValidPath topology) path [] valid (All-nil (IsValidPath topology))) refl
 
 -- one sender more
 pub one_more : {E : Type 0} (added : DeclaredNetwork → ℕ → E → Result DeclaredNetwork NetFault)
@@ -78,19 +116,19 @@ pub one_more : {E : Type 0} (added : DeclaredNetwork → ℕ → E → Result De
 one_more added network next n entry entries is =
     ap (λ (due : Result DeclaredNetwork NetFault). due >>= λ more. all_added added more (n + 1) entries) is
 
--- a stream and a flow over a path
-pub stream_is : (network : DeclaredNetwork) (n : ℕ) (entry : file.DeclaredStream) (path : List ℕ)
-    (due : Result DeclaredNetwork NetFault) → path_in network.topology Stream n entry.route ≡ Ok path
-    → (stream_made n entry (stream_over path entry)
+-- a stream over legs, and a flow over a path
+pub stream_is : (network : DeclaredNetwork) (n : ℕ) (entry : file.DeclaredStream) (legs : DeclaredLegs)
+    (due : Result DeclaredNetwork NetFault) → legs_in network.topology n entry.routes ≡ Ok legs
+    → (stream_made n entry (stream_over legs entry)
     >>= λ stream. unless (refusal_of Stream n) (stream_push_fault network stream) (with_stream network stream)) ≡ due
     → stream_added network n entry ≡ due
-stream_is network n entry path due found made =
-    ap (λ (r : Result (List ℕ) NetFault). r >>= λ found. stream_made n entry (stream_over found entry)
+stream_is network n entry legs due found made =
+    ap (λ (r : Result DeclaredLegs NetFault). r >>= λ found. stream_made n entry (stream_over found entry)
     >>= λ stream. unless (refusal_of Stream n) (stream_push_fault network stream) (with_stream network stream)) found
     ∙ made
 
 pub flow_is : (network : DeclaredNetwork) (n : ℕ) (entry : file.DeclaredFlow) (path : List ℕ)
-    (due : Result DeclaredNetwork NetFault) → path_in network.topology Flow n entry.route ≡ Ok path
+    (due : Result DeclaredNetwork NetFault) → path_in network.topology n entry.route ≡ Ok path
     → (flow_made n (flow_over path entry)
     >>= λ flow. unless (refusal_of Flow n) (flow_push_fault network flow) (with_flow network flow)) ≡ due
     → flow_added network n entry ≡ due

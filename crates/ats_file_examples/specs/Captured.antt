@@ -30,9 +30,18 @@ four_read =
     ∷ record { nanos = 3000051000; octets = 134; identity = Some (0x414243444546, 0x00A) }
     ∷ record { nanos = 4000068000; octets = 1518; identity = None } ∷ []
 
+-- the header where the three fields without a meaning are 0, and where the snap length is 1: no record's bytes are
+-- measured by it
+abbrev pub header_with_snap : ℕ → List ℕ
+header_with_snap length =
+    0xD4 ∷ 0xC3 ∷ 0xB2 ∷ 0xA1 ∷ 2 ∷ 0 ∷ 4 ∷ 0 ∷ 0 ∷ 0 ∷ 0 ∷ 0
+    ∷ 0 ∷ 0 ∷ 0 ∷ 0 ∷ length ∷ 0 ∷ 0 ∷ 0 ∷ 1 ∷ 0 ∷ 0 ∷ 0 ∷ []
+
 -- they are read so. Of a fifth record that is cut short or too long the number is told
 pub record CaptureIsCounted : Type 0 where
   pub read : records_of (low_header ++ four_records) ≡ Ok four_read
+  pub no_snap : records_of (header_with_snap 0 ++ four_records) ≡ Ok four_read
+  pub short_snap : records_of (header_with_snap 1 ++ four_records) ≡ Ok four_read
   pub cut : records_of (low_header ++ four_records ++ 5 ∷ []) ≡ Err (CutShort 5)
   pub long : records_of (low_header ++ four_records
       ++ 5 ∷ 0 ∷ 0 ∷ 0 ∷ 0 ∷ 0 ∷ 0 ∷ 0 ∷ 1 ∷ 0 ∷ 4 ∷ 0 ∷ 1 ∷ 0 ∷ 4 ∷ 0 ∷ []) ≡ Err (RecordTooLong 5)

@@ -7,3 +7,5 @@ pub mod Captured
 pub mod Shown
 pub mod Alone
 pub mod Waiting
+pub mod Forked
+pub mod Premises

@@ -33,7 +33,7 @@ link a b mbps propagation = record { a = a; b = b; mbps = mbps; propagation_ns =
 abbrev pub p : DeclaredStream
 p = record {
   name = codes "p";
-  route = path (codes "s1" ∷ codes "b1" ∷ codes "b2" ∷ codes "b3" ∷ codes "s3" ∷ []);
+  routes = path (codes "s1" ∷ codes "b1" ∷ codes "b2" ∷ codes "b3" ∷ codes "s3" ∷ []) ∷ [];
   classes = 6 ∷ 5 ∷ 4 ∷ 3 ∷ [];
   rate_bps = 5000001;
   burst_bits = 20001;
@@ -46,7 +46,7 @@ p = record {
 abbrev pub q : DeclaredStream
 q = record {
   name = codes "q";
-  route = ends (codes "s2") (codes "s4");
+  routes = ends (codes "s2") (codes "s4") ∷ [];
   classes = 5 ∷ [];
   rate_bps = 5000002;
   burst_bits = 20002;
@@ -59,7 +59,7 @@ q = record {
 abbrev pub r : DeclaredStream
 r = record {
   name = codes "r";
-  route = path (codes "s3" ∷ codes "b3" ∷ codes "b2" ∷ codes "s2" ∷ []);
+  routes = path (codes "s3" ∷ codes "b3" ∷ codes "b2" ∷ codes "s2" ∷ []) ∷ [];
   classes = 3 ∷ [];
   rate_bps = 5000003;
   burst_bits = 20003;
@@ -72,7 +72,7 @@ r = record {
 abbrev pub t : DeclaredStream
 t = record {
   name = codes "t";
-  route = ends (codes "s4") (codes "s3");
+  routes = ends (codes "s4") (codes "s3") ∷ [];
   classes = 2 ∷ 4 ∷ 6 ∷ 7 ∷ [];
   rate_bps = 5000004;
   burst_bits = 20004;

@@ -35,7 +35,7 @@ identified vlan = record {
   streams =
       record {
         name = codes "w";
-        route = ends (codes "s1") (codes "s2");
+        routes = ends (codes "s1") (codes "s2") ∷ [];
         classes = 1 ∷ [];
         rate_bps = 1;
         burst_bits = 672;

@@ -2,8 +2,10 @@
 
 ghost use Rattle.ats_file_examples.specs.Alone.{FlowsAreWritten};
 ghost use Rattle.ats_file_examples.specs.Captured.{CaptureIsCounted};
+ghost use Rattle.ats_file_examples.specs.Forked.{ForkIsRead};
 ghost use Rattle.ats_file_examples.specs.Lines.{RequestsAreCounted, ShapeIsCounted};
 ghost use Rattle.ats_file_examples.specs.Network.{FaultsAreCounted, FormIsCounted, NetworkIsRead};
+ghost use Rattle.ats_file_examples.specs.Premises.{PremisesAreMet};
 ghost use Rattle.ats_file_examples.specs.Records.{ReleasesAreRead, RowsAreRead};
 ghost use Rattle.ats_file_examples.specs.Shown.{CrowdIsWritten};
 ghost use Rattle.ats_file_examples.specs.Together.{KeysGoTogether};
@@ -13,6 +15,12 @@ ghost use Rattle.ats_file_examples.specs.Waiting.{WaitsAreWritten};
 /// declares.
 pub fn network_is_read()
     ensures { NetworkIsRead }
+{}
+
+/// The text of a network file of format 3 whose stream has two listeners, by its ends and by its paths, and the network
+/// that it declares.
+pub fn fork_is_read()
+    ensures { ForkIsRead }
 {}
 
 /// A further table of each array that lacks a key, has one too many or one of the wrong kind is told by its number.
@@ -73,4 +81,11 @@ pub fn flows_are_written()
 /// longer: another stream's frame waits for the first, and not for the second.
 pub fn waits_are_written()
     ensures { WaitsAreWritten }
+{}
+
+/// What laws of formats and of names of ports ask for, of worked files: texts of formats 3 and 2 that say the same,
+/// streams written by their ends and by their paths, texts before format 3, and sound names, of up to 32 bytes, with
+/// rows of their ports.
+pub fn premises_are_met()
+    ensures { PremisesAreMet }
 {}

@@ -5,7 +5,9 @@ ghost use Rattle.std.specs.Prelude.{◌≤◌, length};
 use crate::captures::LOW;
 use ats_capture::{JoinFault, RecordsFault, StationTraffic, capture_records, captured};
 use ats_fixtures::lines::line;
+use ats_fixtures::trees::{fork, hub};
 use ats_io::MemFiles;
+use ats_network::Network;
 use ats_num::{Failure, Ps};
 use ats_pcap::{CaptureFault, Record};
 use ats_trace::Release;
@@ -119,15 +121,16 @@ fn each_front_of_a_capture(rt: HostRuntime) {
     }
 }
 
-// What these records come to at a station of the line.
+// What these records come to at a station of a network.
 fn judged(
     rt: &(impl Abort + AllocGlobal),
+    network: Option<Network>,
     station: u32,
     records: &[Record],
 ) -> Result<StationTraffic, JoinFault>
     requires { length records.now ≤ 1_000_000 }
 {
-    let Some(network) = line(rt.alloc()) else {
+    let Some(network) = network else {
         panic!(rt; "no network");
     };
     match captured(rt.alloc(), &network, station, records) {
@@ -146,18 +149,22 @@ fn at(nanos: u64, octets: u64, identity: Option<(u64, u16)>) -> Record {
     }
 }
 
-#[test]
-fn releases_of_a_station(rt: HostRuntime) {
-    let records = [
+// Records of frames of stream `a`, one of them too long, and of frames of no stream.
+fn records() -> [Record; 6] {
+    [
         at(7_000, 64, OTHER),
         at(7_005, 64, A),
         at(7_003, 2000, A),
         at(7_010, 2001, A),
         at(6_000, 100, A),
         at(7_020, 64, None),
-    ];
+    ]
+}
+
+// Stops where they come to other releases of station s1 in a network.
+fn are_released(rt: &(impl Abort + AllocGlobal), network: Option<Network>) {
     let due = [(5_000, 64), (5_000, 2000), (10_000, 100)];
-    match judged(&rt, 0, &records) {
+    match judged(rt, network, 0, &records()) {
         Ok(traffic) => {
             assert!(rt; traffic.releases.len() == 3);
             for (place, (time, octets)) in due.iter().enumerate() {
@@ -174,7 +181,13 @@ fn releases_of_a_station(rt: HostRuntime) {
         }
         Err(_) => panic!(rt; "a limit"),
     }
-    match judged(&rt, 1, &records) {
+}
+
+#[test]
+fn releases_of_a_station(rt: HostRuntime) {
+    are_released(&rt, line(rt.alloc()));
+    are_released(&rt, fork(rt.alloc()));
+    match judged(&rt, line(rt.alloc()), 1, &records()) {
         Ok(traffic) => assert!(rt; traffic.releases.is_empty() && traffic.unidentified == 6),
         Err(_) => panic!(rt; "a limit"),
     }
@@ -183,11 +196,20 @@ fn releases_of_a_station(rt: HostRuntime) {
 #[test]
 fn limits_of_releases(rt: HostRuntime) {
     let last = [at(3, 64, OTHER), at(100_000_000_000_003, 64, A)];
-    assert!(rt; judged(&rt, 0, &last).is_ok());
+    assert!(rt; judged(&rt, line(rt.alloc()), 0, &last).is_ok());
     let late = [at(3, 64, OTHER), at(100_000_000_000_004, 64, A)];
-    assert!(rt; judged(&rt, 0, &late).err() == Some(JoinFault::Limit(2)));
+    assert!(rt; judged(&rt, line(rt.alloc()), 0, &late).err() == Some(JoinFault::Limit(2)));
     let most = vec![in rt.alloc(); at(0, 64, A); 200_000].expect(&rt, "room");
-    assert!(rt; judged(&rt, 0, &most).is_ok());
+    assert!(rt; judged(&rt, line(rt.alloc()), 0, &most).is_ok());
     let more = vec![in rt.alloc(); at(0, 64, A); 200_001].expect(&rt, "room");
-    assert!(rt; judged(&rt, 0, &more).err() == Some(JoinFault::Limit(200_001)));
+    assert!(rt; judged(&rt, line(rt.alloc()), 0, &more).err() == Some(JoinFault::Limit(200_001)));
+}
+
+// Each frame of the hub has 1023 ports.
+#[test]
+fn limits_of_ports(rt: HostRuntime) {
+    let most = vec![in rt.alloc(); at(0, 64, A); 3128].expect(&rt, "room");
+    assert!(rt; judged(&rt, hub(rt.alloc(), 1022), 0, &most).is_ok());
+    let more = vec![in rt.alloc(); at(0, 64, A); 3129].expect(&rt, "room");
+    assert!(rt; judged(&rt, hub(rt.alloc(), 1022), 0, &more).err() == Some(JoinFault::Limit(3129)));
 }

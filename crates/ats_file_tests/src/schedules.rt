@@ -2,6 +2,7 @@
 //! texts that are written back.
 
 use ats_fixtures::lines::line;
+use ats_fixtures::trees::{fork, hub};
 use ats_network::Network;
 use ats_num::Failure;
 use ats_schedule::{read_schedule, write_schedule};
@@ -128,4 +129,28 @@ fn takes_as_many_releases_as_a_run_may_have(rt: HostRuntime) {
     assert!(rt; answer(&rt, &network, &file) == file);
     file.extend_from_slice(b"7,a,64\n").expect(&rt, "room");
     assert!(rt; answer(&rt, &network, &file).as_slice() == b"limit 200002".as_slice());
+}
+
+#[test]
+fn reads_releases_of_a_stream_with_two_listeners(rt: HostRuntime) {
+    let Some(network) = fork(rt.alloc()) else {
+        panic!(rt; "no network");
+    };
+    let file = b"at_ps,sender,octets\n5,a,64\n5,f,2000\n";
+    assert!(rt; answer(&rt, &network, file).as_slice() == file.as_slice());
+}
+
+// Each frame of the hub has 1023 ports.
+#[test]
+fn takes_as_many_ports_as_a_run_may_have(rt: HostRuntime) {
+    let Some(network) = hub(rt.alloc(), 1022) else {
+        panic!(rt; "no network");
+    };
+    let mut file = Vec::from_slice(rt.alloc(), b"at_ps,sender,octets\n").expect(&rt, "room");
+    for _ in 0..3128 {
+        file.extend_from_slice(b"7,a,64\n").expect(&rt, "room");
+    }
+    assert!(rt; answer(&rt, &network, &file) == file);
+    file.extend_from_slice(b"7,a,64\n").expect(&rt, "room");
+    assert!(rt; answer(&rt, &network, &file).as_slice() == b"limit 3130".as_slice());
 }

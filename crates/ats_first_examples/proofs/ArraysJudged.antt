@@ -1,5 +1,6 @@
 use Rattle.std.proofs.Common.{refl}
-use Rattle.ats_first_examples.specs.Arrays.{ArraysAreFirst, ArraysAreJudged, ArraysHaveLimits, TopIsFirst}
+use Rattle.ats_first_examples.specs.Arrays.{ArraysAreFirst, ArraysAreJudged, ArraysHaveLimits, EmptyAreTaken}
+use Rattle.ats_first_examples.specs.Arrays.{TopIsFirst}
 
 -- Arrays by computation.
 
@@ -48,9 +49,13 @@ arrays_have_limits = record {
   flows = refl;
 }
 
+empty_are_taken : EmptyAreTaken
+empty_are_taken = record { tables = refl; each = refl; declared = refl }
+
 pub arrays_are_judged : ArraysAreJudged
 arrays_are_judged = record {
   top = top_is_first;
   first = arrays_are_first;
   limits = arrays_have_limits;
+  empty = empty_are_taken;
 }

@@ -53,6 +53,7 @@ unfolding form_of of_header is_whole order_of position_of of_record record_of ad
 releases_are_first = record {
   last = refl;
   past = refl;
+  wider = refl;
   late = refl;
   longest = refl;
   late_longest = refl;

@@ -1,6 +1,10 @@
-use Rattle.std.proofs.Common.{refl}
+use Rattle.std.proofs.Common.{ℕ, List, refl, ap}
+use Rattle.std.specs.Prelude.{ℤ, Option, option_and_then}
+use Rattle.toml.specs.Data.{Items}
+use Rattle.ats_num.specs.Name.{name_of}
+use Rattle.ats_network_table.specs.Kinds.{address_of, all_in, name_in, ranged}
 use Rattle.ats_first_examples.specs.Kinds.{AbsentAreRead, AddressesAreRead, KindsAreRead, ListsAreRead}
-use Rattle.ats_first_examples.specs.Kinds.{ShortsAreRanged, WholesAreRanged}
+use Rattle.ats_first_examples.specs.Kinds.{OthersAreNone, ShortsAreRanged, WholesAreRanged}
 
 -- The values that a network file may have, by computation.
 
@@ -68,6 +72,17 @@ absent_are_read = record {
   vlan_below = refl;
 }
 
+others_are_none : OthersAreNone
+others_are_none = record {
+  float_is_no_number = λ x. refl;
+  float_is_no_class = λ x least most. refl;
+  float_is_no_name = λ x. refl;
+  number = λ d h least most. ap (λ (o : Option ℤ). option_and_then (ranged least most) o) h;
+  name = λ d h. ap (λ (o : Option (List ℕ)). option_and_then name_of o) h;
+  address = λ d h. ap (λ (o : Option (List ℕ)). option_and_then address_of o) h;
+  list = λ d h. ap (λ (o : Option Items). option_and_then (all_in name_in) o) h;
+}
+
 pub kinds_are_read : KindsAreRead
 kinds_are_read = record {
   wholes = wholes_are_ranged;
@@ -75,4 +90,5 @@ kinds_are_read = record {
   addresses = addresses_are_read;
   lists = lists_are_read;
   absent = absent_are_read;
+  others = others_are_none;
 }

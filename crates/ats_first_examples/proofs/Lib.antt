@@ -9,3 +9,5 @@ pub mod RecordsFirst
 pub mod ShapesFirst
 pub mod RequestsFirst
 pub mod CapturesFirst
+pub mod SeveralRead
+pub mod TreesFound

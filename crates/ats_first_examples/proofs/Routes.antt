@@ -1,21 +1,20 @@
-use Rattle.std.proofs.Common.{◌≡◌, ℕ, Bool, true, false, ◌&&◌, ◌⊎◌, inl, inr, List}
-use Rattle.std.proofs.Common.{length, Option, Some, None, Err, refl, sym}
-use Rattle.std.proofs.Common.{ap, subst, ◌∙◌}
-use Rattle.std.specs.Prelude.{nat_lt, not}
+use Rattle.std.proofs.Common.{◌≡◌, ℕ, Bool, true, false, ◌&&◌, List, [], ◌∷◌, length, Option, Some, None, Err, sym, ap}
+use Rattle.std.proofs.Common.{subst, ◌∙◌}
+use Rattle.std.specs.Prelude.{nat_lt, not, option_and_then}
+use Rattle.std.specs.Option.{option_map}
 use Rattle.std.proofs.lemmas.Bool.{and_from, false≢true, lt-ltb}
-use Rattle.ats_num.specs.Failure.{◌>>=◌, ok_where, or_fault}
+use Rattle.std.proofs.lemmas.List.Elements.{All-head}
 use Rattle.ats_topology.specs.Node.{is_station}
 use Rattle.ats_topology.specs.Topology.{DeclaredTopology, IsStationAt, node_at}
 use Rattle.ats_network.specs.Path.{IsValidPath}
 use Rattle.ats_network.specs.PathSteps.{comes_to, ends_of, part_ways}
 use Rattle.ats_network.proofs.PathLemmas.{listener_is, no_ends, talker_is, valid_never_back, valid_parts}
-use Rattle.ats_network.proofs.PathTests.{valid_or_not}
 use Rattle.ats_network_toml.specs.Document as file
-use Rattle.ats_network_file.specs.Routes.{holds, is_valid, ports_of}
-use Rattle.ats_network_file.specs.Senders.{path_in}
-use Rattle.ats_network_file.specs.declared.fault.NetFault.{NetFault}
+use Rattle.ats_network_file.specs.Routes.{ports_of, ports_of_each}
+use Rattle.ats_network_file.specs.Senders.{legs_in}
 use Rattle.ats_network_file.specs.declared.fault.NetFault.TheVariants.{BadPath}
-use Rattle.ats_network_file.specs.declared.senders.SenderTable.{SenderTable}
+use Rattle.ats_network_file.specs.declared.senders.SenderTable.TheVariants.{Stream}
+use Rattle.ats_network_file.proofs.LegsFound.{not_all_valid}
 use Rattle.ats_examples.proofs.NetworkTest.{is_station_at}
 
 -- Routes whose ports make no valid path, by a test of them, which computes.
@@ -32,7 +31,7 @@ at_station topology node is =
     (lt-ltb node (length topology.nodes) is.within) is.station
 
 -- one that does not is none
-invalid_by : (topology : DeclaredTopology) (path : List ℕ) (a b : ℕ) → ends_of topology.ports path ≡ Some (a, b)
+pub invalid_by : (topology : DeclaredTopology) (path : List ℕ) (a b : ℕ) → ends_of topology.ports path ≡ Some (a, b)
     → passes topology path a b ≡ false → ¬ IsValidPath topology path
 invalid_by topology path a b walk fails valid =
     let first = at_station topology a
@@ -47,32 +46,25 @@ invalid_by topology path a b walk fails valid =
     (and_from (not (comes_to topology.ports a path)) (part_ways topology.ports path) (ap not back)
     (valid_parts topology path valid))))
 
-not_valid : (topology : DeclaredTopology) (path : List ℕ) → ¬ IsValidPath topology path
-    → is_valid topology path ≡ false
-not_valid topology path never = either (valid_or_not topology path)
-  where
-    either : (decided : IsValidPath topology path ⊎ ¬ IsValidPath topology path) → holds decided ≡ false
-    either (inl is) = absurd (never is)
-    either (inr never) = refl
-
-not_in : (topology : DeclaredTopology) (table : SenderTable) (n : ℕ) (route : file.DeclaredRoute) (path : List ℕ)
+-- a stream with one route, which is not valid
+lost : (topology : DeclaredTopology) (n : ℕ) (route : file.DeclaredRoute) (path : List ℕ)
     → ports_of topology route ≡ Some path → ¬ IsValidPath topology path
-    → path_in topology table n route ≡ Err (BadPath table n)
-not_in topology table n route path ports never =
-    ap (λ (o : Option (List ℕ)). or_fault (BadPath table n) o
-    >>= λ found. ok_where (is_valid topology found) (BadPath table n) found) ports
-    ∙ ap (λ (passes : Bool). ok_where {F = NetFault} passes (BadPath table n) path) (not_valid topology path never)
+    → legs_in topology n (route ∷ []) ≡ Err (BadPath Stream n)
+lost topology n route path ports never =
+    not_all_valid topology n (route ∷ []) (path ∷ [])
+    (ap (λ (o : Option (List ℕ)). option_and_then (λ ps. option_map (λ more. ps ∷ more)
+    (ports_of_each topology [])) o) ports)
+    (λ all. never (All-head (IsValidPath topology) path [] all))
 
 -- a route over links, which fails the test
-pub no_path : (topology : DeclaredTopology) (table : SenderTable) (n : ℕ) (route : file.DeclaredRoute) (path : List ℕ)
-    (a b : ℕ) → ports_of topology route ≡ Some path → ends_of topology.ports path ≡ Some (a, b)
-    → passes topology path a b ≡ false → path_in topology table n route ≡ Err (BadPath table n)
-no_path topology table n route path a b ports walk fails =
-    not_in topology table n route path ports (invalid_by topology path a b walk fails)
+pub no_path : (topology : DeclaredTopology) (n : ℕ) (route : file.DeclaredRoute) (path : List ℕ) (a b : ℕ)
+    → ports_of topology route ≡ Some path → ends_of topology.ports path ≡ Some (a, b)
+    → passes topology path a b ≡ false → legs_in topology n (route ∷ []) ≡ Err (BadPath Stream n)
+no_path topology n route path a b ports walk fails =
+    lost topology n route path ports (invalid_by topology path a b walk fails)
 
 -- and one of no link
-pub no_port : (topology : DeclaredTopology) (table : SenderTable) (n : ℕ) (route : file.DeclaredRoute)
-    (path : List ℕ) → ports_of topology route ≡ Some path → ends_of topology.ports path ≡ None
-    → path_in topology table n route ≡ Err (BadPath table n)
-no_port topology table n route path ports none =
-    not_in topology table n route path ports (no_ends topology path none)
+pub no_port : (topology : DeclaredTopology) (n : ℕ) (route : file.DeclaredRoute) (path : List ℕ)
+    → ports_of topology route ≡ Some path → ends_of topology.ports path ≡ None
+    → legs_in topology n (route ∷ []) ≡ Err (BadPath Stream n)
+no_port topology n route path ports none = lost topology n route path ports (no_ends topology path none)

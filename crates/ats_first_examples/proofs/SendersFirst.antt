@@ -7,13 +7,13 @@ use Rattle.ats_streams.specs.declared.fault.StreamFault.TheVariants as rule
 use Rattle.ats_network.specs.Network.{DeclaredNetwork, declared_network}
 use Rattle.ats_network_toml.specs.Document as file
 use Rattle.ats_network_file.specs.Reading.{links_of, nodes_of}
-use Rattle.ats_network_file.specs.Senders.{all_added, flow_added, path_in, stream_added}
+use Rattle.ats_network_file.specs.Senders.{all_added, flow_added, legs_in, path_in, stream_added}
 use Rattle.ats_network_file.specs.declared.fault.NetFault.{NetFault}
 use Rattle.ats_network_file.specs.declared.fault.NetFault.TheVariants as fault
-use Rattle.ats_network_file.specs.declared.senders.SenderTable.{SenderTable}
 use Rattle.ats_network_file.specs.declared.senders.SenderTable.TheVariants.{Flow, Stream}
 use Rattle.ats_examples.proofs.NetworkTest.{valid_from_by}
-use Rattle.ats_file_examples.proofs.Steps.{flow_is, none_more, one_more, path_is, stream_is}
+use Rattle.ats_file_examples.proofs.Steps.{flow_is, legs_is, none_more, one_leg, one_more, path_is}
+use Rattle.ats_file_examples.proofs.Steps.{stream_is}
 use Rattle.ats_text_examples.specs.Worked.{way}
 use Rattle.ats_first_examples.specs.Senders.{EntriesAreFirst, EntriesAreTold, FlowsAreFirst, RoutesAreJudged}
 use Rattle.ats_first_examples.specs.Senders.{SendersAreFirst, StreamsAreFirst, along, between, file_with, first, flow}
@@ -24,28 +24,28 @@ use Rattle.ats_first_examples.proofs.Routes.{no_path, no_port}
 
 routes_are_judged : RoutesAreJudged
 routes_are_judged = record {
-  right = path_is way.topology Stream 5 (along (codes "s1" ∷ codes "b1" ∷ codes "b2" ∷ codes "s2" ∷ []))
+  right = legs_is way.topology 5 (along (codes "s1" ∷ codes "b1" ∷ codes "b2" ∷ codes "s2" ∷ []) ∷ [])
       (0 ∷ 2 ∷ 4 ∷ []) refl (valid_from_by way.topology 0 (0 ∷ 2 ∷ 4 ∷ []) refl);
-  back = path_is way.topology Stream 5 (along (codes "s2" ∷ codes "b2" ∷ codes "b1" ∷ codes "s1" ∷ [])) (5 ∷ 3 ∷ 1 ∷ [])
-      refl (valid_from_by way.topology 1 (5 ∷ 3 ∷ 1 ∷ []) refl);
-  shortest = path_is way.topology Stream 5 (between (codes "s1") (codes "s2")) (0 ∷ 2 ∷ 4 ∷ []) refl
+  back = legs_is way.topology 5 (along (codes "s2" ∷ codes "b2" ∷ codes "b1" ∷ codes "s1" ∷ []) ∷ [])
+      (5 ∷ 3 ∷ 1 ∷ []) refl (valid_from_by way.topology 1 (5 ∷ 3 ∷ 1 ∷ []) refl);
+  shortest = legs_is way.topology 5 (between (codes "s1") (codes "s2") ∷ []) (0 ∷ 2 ∷ 4 ∷ []) refl
       (valid_from_by way.topology 0 (0 ∷ 2 ∷ 4 ∷ []) refl);
   no_node = refl;
   no_first = refl;
   no_link = refl;
-  from_bridge = no_path way.topology Stream 5 (along (codes "b1" ∷ codes "b2" ∷ codes "s2" ∷ [])) (2 ∷ 4 ∷ []) 2 1
+  from_bridge = no_path way.topology 5 (along (codes "b1" ∷ codes "b2" ∷ codes "s2" ∷ [])) (2 ∷ 4 ∷ []) 2 1
       refl refl refl;
-  to_bridge = no_path way.topology Stream 5 (along (codes "s1" ∷ codes "b1" ∷ codes "b2" ∷ [])) (0 ∷ 2 ∷ []) 0 3 refl
+  to_bridge = no_path way.topology 5 (along (codes "s1" ∷ codes "b1" ∷ codes "b2" ∷ [])) (0 ∷ 2 ∷ []) 0 3 refl
       refl refl;
-  and_back = no_path way.topology Stream 5 (along (codes "s1" ∷ codes "b1" ∷ codes "s1" ∷ [])) (0 ∷ 1 ∷ []) 0 0 refl
+  and_back = no_path way.topology 5 (along (codes "s1" ∷ codes "b1" ∷ codes "s1" ∷ [])) (0 ∷ 1 ∷ []) 0 0 refl
       refl refl;
-  twice = no_path way.topology Stream 5
+  twice = no_path way.topology 5
       (along (codes "s1" ∷ codes "b1" ∷ codes "b2" ∷ codes "b1" ∷ codes "b2" ∷ codes "s2" ∷ []))
       (0 ∷ 2 ∷ 3 ∷ 2 ∷ 4 ∷ []) 0 1 refl refl refl;
-  one_node = no_port way.topology Stream 5 (along (codes "s1" ∷ [])) [] refl refl;
-  one_end = no_port way.topology Stream 5 (between (codes "s1") (codes "s1")) [] refl refl;
-  end_at_bridge = no_path way.topology Stream 5 (between (codes "s1") (codes "b2")) (0 ∷ 2 ∷ []) 0 3 refl refl refl;
-  begin_at_bridge = no_path way.topology Stream 5 (between (codes "b1") (codes "s2")) (2 ∷ 4 ∷ []) 2 1 refl refl refl;
+  one_node = no_port way.topology 5 (along (codes "s1" ∷ [])) [] refl refl;
+  one_end = no_port way.topology 5 (between (codes "s1") (codes "s1")) [] refl refl;
+  end_at_bridge = no_path way.topology 5 (between (codes "s1") (codes "b2")) (0 ∷ 2 ∷ []) 0 3 refl refl refl;
+  begin_at_bridge = no_path way.topology 5 (between (codes "b1") (codes "s2")) (2 ∷ 4 ∷ []) 2 1 refl refl refl;
   no_from = refl;
   no_to = refl;
 }
@@ -61,12 +61,15 @@ abbrev one_yet : DeclaredNetwork
 one_yet = declared_network line
     (declared_stream (codes "a") (0 ∷ 2 ∷ []) (1 ∷ 1 ∷ []) 1 672 64 64 1 (Some (0xA1, 7)) ∷ []) []
 
-found_there : (table : SenderTable) (n : ℕ) → path_in line table n there ≡ Ok (0 ∷ 2 ∷ [])
-found_there table n =
-    path_is line table n there (0 ∷ 2 ∷ []) refl (valid_from_by line 0 (0 ∷ 2 ∷ []) refl)
+found_there : (n : ℕ) → path_in line n there ≡ Ok (0 ∷ 2 ∷ [])
+found_there n = path_is line n there (0 ∷ 2 ∷ []) refl (valid_from_by line 0 (0 ∷ 2 ∷ []) refl)
+
+-- as a flow's path, and as the legs of a stream
+legs_there : (n : ℕ) → legs_in line n (there ∷ []) ≡ Ok (one_leg (0 ∷ 2 ∷ []))
+legs_there n = legs_is line n (there ∷ []) (0 ∷ 2 ∷ []) refl (valid_from_by line 0 (0 ∷ 2 ∷ []) refl)
 
 first_added : stream_added none_yet 1 first ≡ Ok one_yet
-first_added = stream_is none_yet 1 first (0 ∷ 2 ∷ []) (Ok one_yet) (found_there Stream 1) refl
+first_added = stream_is none_yet 1 first (one_leg (0 ∷ 2 ∷ [])) (Ok one_yet) (legs_there 1) refl
 
 -- behind the first stream
 behind_first : (streams : List file.DeclaredStream) (flows : List file.DeclaredFlow)
@@ -89,31 +92,31 @@ flow_fails entry flows why is =
     behind_first [] (entry ∷ flows) (Ok one_yet) refl ∙ none_more flow_added one_yet 1 entry flows why is
 
 identity_twice : stream_added one_yet 2 (stream (codes "b") there 1 (Some (0xA1, 7))) ≡ Err (fault.IdentityTwice 2)
-identity_twice = stream_is one_yet 2 (stream (codes "b") there 1 (Some (0xA1, 7))) (0 ∷ 2 ∷ [])
-    (Err (fault.IdentityTwice 2)) (found_there Stream 2) refl
+identity_twice = stream_is one_yet 2 (stream (codes "b") there 1 (Some (0xA1, 7))) (one_leg (0 ∷ 2 ∷ []))
+    (Err (fault.IdentityTwice 2)) (legs_there 2) refl
 
 streams_are_first : StreamsAreFirst
 streams_are_first = record {
   path = second_fails (stream (codes "a") nowhere 0 (Some (0xA1, 7))) [] [] (fault.BadPath Stream 2) refl;
   class = second_fails (stream (codes "a") there 0 (Some (0xA1, 7))) [] [] (fault.Sender Stream 2 rule.BadClass)
-      (stream_is one_yet 2 (stream (codes "a") there 0 (Some (0xA1, 7))) (0 ∷ 2 ∷ [])
-      (Err (fault.Sender Stream 2 rule.BadClass)) (found_there Stream 2) refl);
+      (stream_is one_yet 2 (stream (codes "a") there 0 (Some (0xA1, 7))) (one_leg (0 ∷ 2 ∷ []))
+      (Err (fault.Sender Stream 2 rule.BadClass)) (legs_there 2) refl);
   name = second_fails (stream (codes "a") there 1 (Some (0xA1, 7))) [] [] (fault.SenderTwice Stream 2)
-      (stream_is one_yet 2 (stream (codes "a") there 1 (Some (0xA1, 7))) (0 ∷ 2 ∷ [])
-      (Err (fault.SenderTwice Stream 2)) (found_there Stream 2) refl);
+      (stream_is one_yet 2 (stream (codes "a") there 1 (Some (0xA1, 7))) (one_leg (0 ∷ 2 ∷ []))
+      (Err (fault.SenderTwice Stream 2)) (legs_there 2) refl);
   identity = second_fails (stream (codes "b") there 1 (Some (0xA1, 7))) [] [] (fault.IdentityTwice 2) identity_twice;
 }
 
 named_twice : flow_added one_yet 1 (flow (codes "a") there 64) ≡ Err (fault.SenderTwice Flow 1)
 named_twice = flow_is one_yet 1 (flow (codes "a") there 64) (0 ∷ 2 ∷ []) (Err (fault.SenderTwice Flow 1))
-    (found_there Flow 1) refl
+    (found_there 1) refl
 
 flows_are_first : FlowsAreFirst
 flows_are_first = record {
   path = flow_fails (flow (codes "a") nowhere 63) [] (fault.BadPath Flow 1) refl;
   size = flow_fails (flow (codes "a") there 63) [] (fault.Sender Flow 1 rule.BadSizes)
       (flow_is one_yet 1 (flow (codes "a") there 63) (0 ∷ 2 ∷ []) (Err (fault.Sender Flow 1 rule.BadSizes))
-      (found_there Flow 1) refl);
+      (found_there 1) refl);
   name = flow_fails (flow (codes "a") there 64) [] (fault.SenderTwice Flow 1) named_twice;
 }
 

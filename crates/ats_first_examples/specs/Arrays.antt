@@ -1,4 +1,5 @@
-use Rattle.std.specs.Prelude.{◌≡◌, ℕ, List, [], ◌∷◌, ◌++◌, take, drop, replicate, pos, Result, Err}
+use Rattle.std.specs.Prelude.{◌≡◌, ℕ, List, [], ◌∷◌, ◌++◌, take, drop, map, replicate, pos, Result, Ok}
+use Rattle.std.specs.Prelude.{Some, Err}
 use Rattle.toml.specs.Data.{Data, Members, integer, array, table, no_items, item, no_members}
 use Rattle.ats_network_table.specs.declared.format.Format.TheVariants.{Two}
 use Rattle.ats_network_table.specs.declared.fault.DocumentFault.{DocumentFault}
@@ -6,7 +7,7 @@ use Rattle.ats_network_table.specs.declared.fault.DocumentFault.TheVariants.{Lim
 use Rattle.ats_network_table.specs.declared.key.Key.TheVariants as key
 use Rattle.ats_network_table.specs.declared.table.Table.TheVariants.{Bridge, Flow, Link, Station, Stream, Top}
 use Rattle.ats_network_toml.specs.Document.{DeclaredDocument}
-use Rattle.ats_network_toml.specs.Reading.{arrays_read, document_in}
+use Rattle.ats_network_toml.specs.Reading.{arrays_read, document_in, tables_in}
 use Rattle.ats_first_examples.specs.Tables.{Values, a_name, a_number, link_right, members_of, stream_right}
 use Rattle.ats_first_examples.specs.Tables.{with_unknown}
 
@@ -31,7 +32,7 @@ top_right =
 abbrev pub top_with : ℕ → Members
 top_with k = members_of (take k top_right ++ drop k top_wrong)
 
--- the top is judged before any table of an array, its keys in this order; a format is 1 or 2, and an array holds tables
+-- the top is judged before any table of an array, its keys in this order; a format is 1 to 3, and an array holds tables
 -- alone
 pub record TopIsFirst : Type 0 where
   pub no_format : document_in (with_unknown (drop 1 top_wrong)) ≡ Err (Missing Top 0 key.Format)
@@ -39,7 +40,7 @@ pub record TopIsFirst : Type 0 where
   pub format : document_in (top_with 0) ≡ Err (WrongKind Top 0 key.Format)
   pub format_below : document_in (members_of ((key.Format, integer (pos 0)) ∷ drop 1 top_wrong))
       ≡ Err (WrongKind Top 0 key.Format)
-  pub format_over : document_in (members_of ((key.Format, integer (pos 3)) ∷ drop 1 top_wrong))
+  pub format_over : document_in (members_of ((key.Format, integer (pos 4)) ∷ drop 1 top_wrong))
       ≡ Err (WrongKind Top 0 key.Format)
   pub station : document_in (top_with 1) ≡ Err (WrongKind Top 0 key.Station)
   pub bridge : document_in (top_with 2) ≡ Err (WrongKind Top 0 key.Bridge)
@@ -116,7 +117,16 @@ pub record ArraysHaveLimits : Type 0 where
   pub most_flows : file_of [] [] [] [] (empty 1024) ≡ Err (Missing Flow 1 key.Name)
   pub flows : file_of [] [] [] [] (empty 1025) ≡ Err (Limit Flow)
 
+-- an array without tables is as good as none
+pub record EmptyAreTaken : Type 0 where
+  pub tables : tables_in (array no_items) ≡ Some []
+  pub each : map (λ k. document_in (members_of ((key.Format, integer (pos 2)) ∷ (k, array no_items) ∷ [])))
+      (key.Station ∷ key.Bridge ∷ key.Link ∷ key.Stream ∷ key.Flow ∷ []) ≡ replicate 5 (file_of [] [] [] [] [])
+  pub declared : file_of [] [] [] [] []
+      ≡ Ok (record { stations = []; bridges = []; links = []; streams = []; flows = [] })
+
 pub record ArraysAreJudged : Type 0 where
   pub top : TopIsFirst
   pub first : ArraysAreFirst
   pub limits : ArraysHaveLimits
+  pub empty : EmptyAreTaken

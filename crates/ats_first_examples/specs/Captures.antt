@@ -10,6 +10,7 @@ use Rattle.ats_capture.specs.Traffic.{no_traffic, release_at, with_stream}
 use Rattle.ats_capture.specs.declared.fault.JoinFault.TheVariants.{Limit}
 use Rattle.ats_text_examples.specs.Captured.{header_of, high_header, low_header}
 use Rattle.ats_text_examples.specs.Runs.{release}
+use Rattle.ats_text_examples.specs.Worked.{way}
 
 -- Bytes of captures with several faults at once, and which of them is named.
 
@@ -91,17 +92,19 @@ pub record RecordsAreFirst : Type 0 where
   pub end : behind 1000000 0 [] ≡ None
 
 -- a record of a stream with the octets of a frame makes a release, where one more may be run: the 200,000th may, and
--- neither the one behind it nor one later than 100,000 s. One that is longer, or of no stream, makes none, however late
+-- neither the one behind it, nor one with which the frames have more than 3,200,000 ports, nor one later than 100,000
+-- s. One that is longer, or of no stream, makes none, however late
 pub record ReleasesAreFirst : Type 0 where
-  pub last : release_at 9 199999 100000000000000 3 64 ≡ Ok (release 100000000000000000 3 64)
-  pub past : release_at 9 200000 0 3 64 ≡ Err (Limit 9)
-  pub late : release_at 9 0 100000000000001 3 64 ≡ Err (Limit 9)
-  pub longest : with_stream 5 no_traffic 2000 (Some 3)
-      ≡ Ok (record { releases = release 5000 3 2000 ∷ []; records = 1; unidentified = 0; oversize = 0 })
-  pub late_longest : with_stream 100000000000001 no_traffic 2000 (Some 3) ≡ Err (Limit 1)
-  pub oversize : with_stream 100000000000001 no_traffic 2001 (Some 3)
+  pub last : release_at 9 199999 3200000 100000000000000 3 64 ≡ Ok (release 100000000000000000 3 64)
+  pub past : release_at 9 200000 0 0 3 64 ≡ Err (Limit 9)
+  pub wider : release_at 9 0 3200001 0 3 64 ≡ Err (Limit 9)
+  pub late : release_at 9 0 0 100000000000001 3 64 ≡ Err (Limit 9)
+  pub longest : with_stream way 5 no_traffic 2000 (Some 1)
+      ≡ Ok (record { releases = release 5000 1 2000 ∷ []; records = 1; unidentified = 0; oversize = 0 })
+  pub late_longest : with_stream way 100000000000001 no_traffic 2000 (Some 1) ≡ Err (Limit 1)
+  pub oversize : with_stream way 100000000000001 no_traffic 2001 (Some 1)
       ≡ Ok (record { releases = []; records = 1; unidentified = 0; oversize = 1 })
-  pub unidentified : with_stream 100000000000001 no_traffic 2001 None
+  pub unidentified : with_stream way 100000000000001 no_traffic 2001 None
       ≡ Ok (record { releases = []; records = 1; unidentified = 1; oversize = 0 })
 
 pub record CapturesAreFirst : Type 0 where

@@ -1,5 +1,6 @@
-use Rattle.std.specs.Prelude.{◌≡◌, [], ◌∷◌, codes, pos, negsuc, true, Some, None, Ok, Err}
-use Rattle.toml.specs.Data.{array, boolean, integer, item, no_items, no_members, string, table}
+use Rattle.std.specs.Prelude.{◌≡◌, ℕ, [], ◌∷◌, codes, pos, negsuc, true, Float, Some, None, Ok, Err}
+use Rattle.toml.specs.Data.{Data, array, as_array, as_integer, as_str, boolean, float, integer, item, no_items}
+use Rattle.toml.specs.Data.{no_members, string, table}
 use Rattle.ats_network_table.specs.Kinds.{address_in, address_of, list_in, long_in, name_in, whole_in}
 use Rattle.ats_network_table.specs.Walk.{Entry, classes_at, deadline_at, identity_at, path_at, short_at}
 use Rattle.ats_network_table.specs.declared.format.Format.TheVariants.{Two}
@@ -89,9 +90,21 @@ pub record AbsentAreRead : Type 0 where
       ((key.Address, string (codes "00:00:00:00:00:0a")) ∷ (key.Vlan, integer (pos 0)) ∷ []))
       ≡ Err (WrongKind Stream 3 key.Vlan)
 
+-- what is of no such kind of TOML: a number with a fraction or a time is no whole number, even where the fraction is 0,
+-- and no name, and so is all else
+pub record OthersAreNone : Type 0 where
+  pub float_is_no_number : (x : Float) → long_in (float x) ≡ None
+  pub float_is_no_class : (x : Float) (least most : ℕ) → whole_in least most (float x) ≡ None
+  pub float_is_no_name : (x : Float) → name_in (float x) ≡ None
+  pub number : (d : Data) → as_integer d ≡ None → (least most : ℕ) → whole_in least most d ≡ None
+  pub name : (d : Data) → as_str d ≡ None → name_in d ≡ None
+  pub address : (d : Data) → as_str d ≡ None → address_in d ≡ None
+  pub list : (d : Data) → as_array d ≡ None → list_in name_in d ≡ None
+
 pub record KindsAreRead : Type 0 where
   pub wholes : WholesAreRanged
   pub shorts : ShortsAreRanged
   pub addresses : AddressesAreRead
   pub lists : ListsAreRead
   pub absent : AbsentAreRead
+  pub others : OthersAreNone

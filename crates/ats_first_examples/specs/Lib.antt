@@ -8,3 +8,5 @@ pub mod Records
 pub mod Shapes
 pub mod Asked
 pub mod Captures
+pub mod Several
+pub mod Trees

@@ -3,12 +3,13 @@ use Rattle.ats_topology.specs.declared.fault.TopologyFault.TheVariants.{SelfLink
 use Rattle.ats_streams.specs.declared.fault.StreamFault.TheVariants as rule
 use Rattle.ats_network.specs.Network.{DeclaredNetwork}
 use Rattle.ats_network.specs.declared.fault.PushFault.TheVariants as push
+use Rattle.ats_route_tree.specs.Legs.{DeclaredLegs}
 use Rattle.ats_network_table.specs.declared.fault.DocumentFault.TheVariants.{Limit}
 use Rattle.ats_network_table.specs.declared.table.Table.TheVariants as table
 use Rattle.ats_network_toml.specs.Document as file
 use Rattle.ats_network_toml.specs.declared.entries.LinkEntry.{LinkEntry}
 use Rattle.ats_network_file.specs.Reading.{network_in}
-use Rattle.ats_network_file.specs.Senders.{path_in, refusal_of}
+use Rattle.ats_network_file.specs.Senders.{legs_in, refusal_of}
 use Rattle.ats_network_file.specs.declared.fault.NetFault.{NetFault}
 use Rattle.ats_network_file.specs.declared.fault.NetFault.TheVariants as fault
 use Rattle.ats_network_file.specs.declared.senders.SenderTable.TheVariants.{Flow, Stream}
@@ -24,14 +25,18 @@ abbrev pub between : List ℕ → List ℕ → file.DeclaredRoute
 between from to = file.ends from to
 
 -- what is found over the worked network for a route: s1 and s2 are its stations, and b1 and b2 its bridges between them
-abbrev pub found : file.DeclaredRoute → Result (List ℕ) NetFault
-found route = path_in way.topology Stream 5 route
+abbrev pub found : file.DeclaredRoute → Result DeclaredLegs NetFault
+found route = legs_in way.topology 5 (route ∷ [])
+
+-- the legs of one route
+abbrev pub leg : List ℕ → DeclaredLegs
+leg path = record { ports = path; branches = [] }
 
 -- a route leads from a station to another one, over links, and comes to no node twice
 pub record RoutesAreJudged : Type 0 where
-  pub right : found (along (codes "s1" ∷ codes "b1" ∷ codes "b2" ∷ codes "s2" ∷ [])) ≡ Ok (0 ∷ 2 ∷ 4 ∷ [])
-  pub back : found (along (codes "s2" ∷ codes "b2" ∷ codes "b1" ∷ codes "s1" ∷ [])) ≡ Ok (5 ∷ 3 ∷ 1 ∷ [])
-  pub shortest : found (between (codes "s1") (codes "s2")) ≡ Ok (0 ∷ 2 ∷ 4 ∷ [])
+  pub right : found (along (codes "s1" ∷ codes "b1" ∷ codes "b2" ∷ codes "s2" ∷ [])) ≡ Ok (leg (0 ∷ 2 ∷ 4 ∷ []))
+  pub back : found (along (codes "s2" ∷ codes "b2" ∷ codes "b1" ∷ codes "s1" ∷ [])) ≡ Ok (leg (5 ∷ 3 ∷ 1 ∷ []))
+  pub shortest : found (between (codes "s1") (codes "s2")) ≡ Ok (leg (0 ∷ 2 ∷ 4 ∷ []))
   pub no_node : found (along (codes "s1" ∷ codes "x" ∷ codes "s2" ∷ [])) ≡ Err (fault.BadPath Stream 5)
   pub no_first : found (along (codes "x" ∷ codes "b2" ∷ codes "s2" ∷ [])) ≡ Err (fault.BadPath Stream 5)
   pub no_link : found (along (codes "s1" ∷ codes "b2" ∷ codes "s2" ∷ [])) ≡ Err (fault.BadPath Stream 5)
@@ -51,7 +56,7 @@ pub record RoutesAreJudged : Type 0 where
 abbrev pub stream : List ℕ → file.DeclaredRoute → ℕ → Option (ℕ × ℕ) → file.DeclaredStream
 stream name route class identity = record {
   name = name;
-  route = route;
+  routes = route ∷ [];
   classes = class ∷ [];
   rate_bps = 1;
   burst_bits = 672;

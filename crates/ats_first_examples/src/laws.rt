@@ -7,9 +7,11 @@ ghost use Rattle.ats_first_examples.specs.Kinds.{KindsAreRead};
 ghost use Rattle.ats_first_examples.specs.Records.{RecordsAreFirst};
 ghost use Rattle.ats_first_examples.specs.Rules.{RulesAreFirst};
 ghost use Rattle.ats_first_examples.specs.Senders.{SendersAreFirst};
+ghost use Rattle.ats_first_examples.specs.Several.{SeveralAreRead};
 ghost use Rattle.ats_first_examples.specs.Shapes.{ShapesAreFirst};
 ghost use Rattle.ats_first_examples.specs.Tables.{TablesAreFirst};
 ghost use Rattle.ats_first_examples.specs.Topologies.{TopologyFaultsAreFirst};
+ghost use Rattle.ats_first_examples.specs.Trees.{TreesAreFound};
 
 /// Nodes and links: of the eight kinds of fault the first in their order, wherever its entry stands, and of one kind
 /// the first entry.
@@ -33,6 +35,12 @@ pub fn kinds_are_read()
     ensures { KindsAreRead }
 {}
 
+/// The routes of a stream of format 3, which may have several listeners: by paths and by an array of ends, and of their
+/// keys the first that is missing or wrong.
+pub fn several_are_read()
+    ensures { SeveralAreRead }
+{}
+
 /// The top of a network file and its arrays in their order, and the most tables that each may have.
 pub fn arrays_are_judged()
     ensures { ArraysAreJudged }
@@ -42,6 +50,12 @@ pub fn arrays_are_judged()
 /// first.
 pub fn senders_are_first()
     ensures { SendersAreFirst }
+{}
+
+/// The routes of a stream with several listeners: the legs of the tree that has them, or none where one of them is no
+/// path, a listener is there twice, or there is another talker.
+pub fn trees_are_found()
+    ensures { TreesAreFound }
 {}
 
 /// Records of certificates and schedules.

@@ -1,4 +1,4 @@
-//! What is told of what is found of a later stream.
+//! What is told of what is found of a later stream, and for a later listener.
 #![tactic(auto)]
 
 pub mod laws;

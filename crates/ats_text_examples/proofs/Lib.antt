@@ -16,6 +16,7 @@ pub mod CallsNamed
 pub mod Rates
 pub mod CutShorts
 pub mod Taking
+pub mod SumPlaces
 pub mod Measured
 pub mod SetWritten
 pub mod OuterTold

@@ -2,16 +2,15 @@ use Rattle.std.proofs.Common.{◌≡◌, ℕ, ◌+◌, ◌<◌, ◌≤◌, ◌�
 use Rattle.std.proofs.Common.{map, fold, length, Option, Some, None, refl, sym, ap, subst, ◌∙◌, arith, eqb}
 use Rattle.std.specs.Prelude.{max, slice_get}
 use Rattle.std.specs.List.{All, Contains, find, list_all}
-use Rattle.std.specs.Option.{option_map}
 use Rattle.std.proofs.lemmas.Bool.{cases_lt, eq-eqb, eqb-true, false≢true, lt-ltb}
 use Rattle.std.proofs.lemmas.Bool.Decides.{nat_tests}
 use Rattle.std.proofs.lemmas.List.Elements.{All-contains, All-contains_itself, All-filter, All-head, All-nil, All-tail}
 use Rattle.std.proofs.lemmas.List.Elements.{All-cons, filter_passes}
 use Rattle.std.proofs.lemmas.List.Folds.{list_all-map}
-use Rattle.std.proofs.lemmas.List.FromFn.{get_or-map-range_with_len}
 use Rattle.std.proofs.lemmas.List.Sums.{AllPass-from_list_all}
-use Rattle.std.proofs.lemmas.Option.{get_or_from_slice_get, none-some, same_Some, slice_get_within, slice_get-map}
-use Rattle.ats_certificate.specs.Certificate.{bound_along}
+use Rattle.std.proofs.lemmas.Option.{get_or_from_slice_get, none-some, same_Some, slice_get-get_or, slice_get_within}
+use Rattle.ats_network.specs.Edits.{no_stream}
+use Rattle.ats_tally.specs.Delays.{sums_for}
 use Rattle.ats_tally.specs.declared.reason.Reason.{Reason}
 use Rattle.ats_tally.proofs.Lists.{Contains-found}
 use Rattle.ats_bound.specs.Least.{least_certificate}
@@ -19,14 +18,15 @@ use Rattle.ats_bound.proofs.NoneHolds.{no_reason_held}
 use Rattle.ats_explain.specs.Margins.{StreamListener, all_listeners, is_no_slacker, is_tightest, margin_of, margins_of}
 use Rattle.ats_explain.specs.declared.margin.Margin.{Margin}
 use Rattle.ats_trace.specs.Journey.{Travel}
+use Rattle.ats_trace.specs.Stored.{leg_in}
 use Rattle.ats_trace.specs.declared.journey.Ending.{Ending}
 use Rattle.ats_trace.specs.declared.journey.Ending.TheVariants.{Sink, Discard}
 use Rattle.ats_replay.specs.Report.{bound_of}
-use Rattle.ats_replay.specs.Summary.{delay_of, delay_to, frames_of, summaries_of, summary_of, worst_of}
-use Rattle.ats_replay.specs.declared.summary.Summary.{Summary}
+use Rattle.ats_replay.specs.Summary.{delay_to, frames_of, place_of}
 use Rattle.ats_command_due.specs.Generated.{sums_unless}
 use Rattle.ats_text_examples.specs.Measures.{ArrivedAfter, BoundIsLeastSum, IsWorst, MeasuresAreMeant}
 use Rattle.ats_text_examples.specs.Measures.{SummaryHasWorst, SumsAreWorked, TightestIsTightest, TightestIsWorked}
+use Rattle.ats_text_examples.proofs.SumPlaces.{place_within, sum_at_place}
 
 -- What the tightest listener, the worst delay and a printed bound are.
 
@@ -68,36 +68,37 @@ max_one a b = elim (cases_lt a b) [
 ]
 
 -- the longest of some delays is no shorter than the one that it begins with
-fold_least : (so_far : ℕ) (run : List Travel) → so_far ≤ fold max so_far (map delay_of run)
-fold_least so_far [] = omega arith
-fold_least so_far (j ∷ run) =
-    let later : max so_far (delay_of j) ≤ fold max (max so_far (delay_of j)) (map delay_of run) =
-    fold_least (max so_far (delay_of j)) run in
+fold_least : (delay : Travel → ℕ) (so_far : ℕ) (run : List Travel) → so_far ≤ fold max so_far (map delay run)
+fold_least delay so_far [] = omega arith
+fold_least delay so_far (j ∷ run) =
+    let later : max so_far (delay j) ≤ fold max (max so_far (delay j)) (map delay run) =
+    fold_least delay (max so_far (delay j)) run in
     omega (arith, later)
 
 -- nor than each of them
-fold_each : (so_far : ℕ) (run : List Travel) → All (λ j. delay_of j ≤ fold max so_far (map delay_of run)) run
-fold_each so_far [] = All-nil (λ (j : Travel). delay_of j ≤ so_far)
-fold_each so_far (j ∷ run) =
-    let later : max so_far (delay_of j) ≤ fold max (max so_far (delay_of j)) (map delay_of run) =
-    fold_least (max so_far (delay_of j)) run in
-    All-cons (λ (i : Travel). delay_of i ≤ fold max (max so_far (delay_of j)) (map delay_of run)) j run
-    (omega (arith, later)) (fold_each (max so_far (delay_of j)) run)
+fold_each : (delay : Travel → ℕ) (so_far : ℕ) (run : List Travel)
+    → All (λ j. delay j ≤ fold max so_far (map delay run)) run
+fold_each delay so_far [] = All-nil (λ (j : Travel). delay j ≤ so_far)
+fold_each delay so_far (j ∷ run) =
+    let later : max so_far (delay j) ≤ fold max (max so_far (delay j)) (map delay run) =
+    fold_least delay (max so_far (delay j)) run in
+    All-cons (λ (i : Travel). delay i ≤ fold max (max so_far (delay j)) (map delay run)) j run
+    (omega (arith, later)) (fold_each delay (max so_far (delay j)) run)
 
 -- and it is that of one of them, of which holds what holds of all, or the one that it begins with
-fold_one : (P : Travel → Type 0) (so_far : ℕ) (run : List Travel) → All P run
-    → (fold max so_far (map delay_of run) ≡ so_far)
-    ⊎ ((j : Travel) × P j × (fold max so_far (map delay_of run) ≡ delay_of j))
-fold_one P so_far [] all = inl refl
-fold_one P so_far (j ∷ run) all =
-    by (fold_one P (max so_far (delay_of j)) run (All-tail P j run all)) (max_one so_far (delay_of j))
+fold_one : (delay : Travel → ℕ) (P : Travel → Type 0) (so_far : ℕ) (run : List Travel) → All P run
+    → (fold max so_far (map delay run) ≡ so_far)
+    ⊎ ((j : Travel) × P j × (fold max so_far (map delay run) ≡ delay j))
+fold_one delay P so_far [] all = inl refl
+fold_one delay P so_far (j ∷ run) all =
+    by (fold_one delay P (max so_far (delay j)) run (All-tail P j run all)) (max_one so_far (delay j))
   where
     longest : ℕ
-    longest = fold max (max so_far (delay_of j)) (map delay_of run)
+    longest = fold max (max so_far (delay j)) (map delay run)
 
-    by : (longest ≡ max so_far (delay_of j)) ⊎ ((i : Travel) × P i × (longest ≡ delay_of i))
-        → (max so_far (delay_of j) ≡ so_far) ⊎ (max so_far (delay_of j) ≡ delay_of j)
-        → (longest ≡ so_far) ⊎ ((i : Travel) × P i × (longest ≡ delay_of i))
+    by : (longest ≡ max so_far (delay j)) ⊎ ((i : Travel) × P i × (longest ≡ delay i))
+        → (max so_far (delay j) ≡ so_far) ⊎ (max so_far (delay j) ≡ delay j)
+        → (longest ≡ so_far) ⊎ ((i : Travel) × P i × (longest ≡ delay i))
     by (inr later) which = inr later
     by (inl same) (inl before) = inl (same ∙ before)
     by (inl same) (inr this) = inr (j, All-head P j run all, same ∙ this)
@@ -117,17 +118,25 @@ all_own run sender k d within = record {
       (filter_passes (own sender) run k d within);
 }
 
+-- how long a frame took to a listener
+abbrev delay_at : ℕ → Travel → ℕ
+delay_at listener j = delay_to j.release.at.0 (leg_in j listener).ending
+
+-- the longest delay of a sender's frames
+abbrev longest_at : List Travel → ℕ → ℕ → ℕ
+longest_at run sender listener = fold max 0 (map (delay_at listener) (frames_of run sender))
+
 -- each frame of a sender takes no longer than the longest of the sender's frames
-kept_each : (sender most : ℕ) (run : List Travel) → All (λ j. delay_of j ≤ most) (frames_of run sender)
-    → All (λ j. j.release.sender ≡ sender → delay_of j ≤ most) run
-kept_each sender most [] all = All-nil (λ (j : Travel). j.release.sender ≡ sender → delay_of j ≤ most)
-kept_each sender most (j ∷ run) all = by (own sender j) refl all (kept_each sender most run)
+kept_each : (delay : Travel → ℕ) (sender most : ℕ) (run : List Travel)
+    → All (λ j. delay j ≤ most) (frames_of run sender) → All (λ j. j.release.sender ≡ sender → delay j ≤ most) run
+kept_each delay sender most [] all = All-nil (λ (j : Travel). j.release.sender ≡ sender → delay j ≤ most)
+kept_each delay sender most (j ∷ run) all = by (own sender j) refl all (kept_each delay sender most run)
   where
     Short : Travel → Type 0
-    Short i = delay_of i ≤ most
+    Short i = delay i ≤ most
 
     Kept : Travel → Type 0
-    Kept i = i.release.sender ≡ sender → delay_of i ≤ most
+    Kept i = i.release.sender ≡ sender → delay i ≤ most
 
     by : (b : Bool) → own sender j ≡ b → All Short (cond b (j ∷ frames_of run sender) (frames_of run sender))
         → (All Short (frames_of run sender) → All Kept run) → All Kept (j ∷ run)
@@ -136,58 +145,56 @@ kept_each sender most (j ∷ run) all = by (own sender j) refl all (kept_each se
     by false e h kept = All-cons Kept j run
         (λ same. absurd (false≢true (sym e ∙ eq-eqb j.release.sender sender same))) (kept h)
 
--- what is summed up of a sender is what came of its frames
-summary_is : (senders i : ℕ) (run : List Travel) (summary : Summary) → i < senders
-    → slice_get (summaries_of senders run) i ≡ Some summary → summary_of (frames_of run i) ≡ summary
-summary_is senders i run summary within at =
-    let each : ℕ → Summary = λ sender. summary_of (frames_of run sender) in
-    sym (get_or-map-range_with_len each 0 senders i i (each 0) within (let e : 0 + i ≡ i = omega arith in e))
-    ∙ get_or_from_slice_get (summaries_of senders run) i summary (each 0) at
-
 -- one frame has the longest delay, or it is 0
-one_of : (run : List Travel) (sender : ℕ)
-    → (worst_of (frames_of run sender) ≡ 0)
-    ⊎ ((j : Travel) × IsOwn run sender j × (worst_of (frames_of run sender) ≡ delay_of j))
-    → (worst_of (frames_of run sender) ≡ 0)
-    ⊎ ((j : Travel) × ArrivedAfter run sender (worst_of (frames_of run sender)) j)
-one_of run sender (inl none) = inl none
-one_of run sender (inr one) = by one.0.ending refl one.2
+one_of : (run : List Travel) (sender listener : ℕ)
+    → (longest_at run sender listener ≡ 0)
+    ⊎ ((j : Travel) × IsOwn run sender j × (longest_at run sender listener ≡ delay_at listener j))
+    → (longest_at run sender listener ≡ 0)
+    ⊎ ((j : Travel) × ArrivedAfter run sender listener (longest_at run sender listener) j)
+one_of run sender listener (inl none) = inl none
+one_of run sender listener (inr one) = by (leg_in one.0 listener).ending refl one.2
   where
     worst : ℕ
-    worst = worst_of (frames_of run sender)
+    worst = longest_at run sender listener
 
-    by : (ending : Ending) → one.0.ending ≡ ending → worst ≡ delay_to one.0.release.at.0 ending
-        → (worst ≡ 0) ⊎ ((j : Travel) × ArrivedAfter run sender worst j)
+    by : (ending : Ending) → (leg_in one.0 listener).ending ≡ ending
+        → worst ≡ delay_to one.0.release.at.0 ending
+        → (worst ≡ 0) ⊎ ((j : Travel) × ArrivedAfter run sender listener worst j)
     by Discard e h = inl h
     by (Sink at) e h =
         inr (one.0, record { there = one.1.there; sent = one.1.sent; at = at; arrived = e; after = h })
 
-worst_is : (run : List Travel) (sender : ℕ) → IsWorst run sender (worst_of (frames_of run sender))
-worst_is run sender = record {
+worst_is : (run : List Travel) (sender listener : ℕ) → IsWorst run sender listener (longest_at run sender listener)
+worst_is run sender listener = record {
   none_longer = λ journey took arrived.
-      (let kept : journey.release.sender ≡ sender → delay_of journey ≤ worst_of (frames_of run sender) =
-      All-contains (λ (j : Travel). j.release.sender ≡ sender → delay_of j ≤ worst_of (frames_of run sender)) run
-      journey (kept_each sender (worst_of (frames_of run sender)) run (fold_each 0 (frames_of run sender)))
-      arrived.there in
-      let same : delay_of journey ≡ took =
+      (let kept : journey.release.sender ≡ sender → delay_at listener journey ≤ longest_at run sender listener =
+      All-contains (λ (j : Travel). j.release.sender ≡ sender
+      → delay_at listener j ≤ longest_at run sender listener) run journey
+      (kept_each (delay_at listener) sender (longest_at run sender listener) run
+      (fold_each (delay_at listener) 0 (frames_of run sender))) arrived.there in
+      let same : delay_at listener journey ≡ took =
       ap (λ (ending : Ending). delay_to journey.release.at.0 ending) arrived.arrived ∙ sym arrived.after in
-      subst (λ (n : ℕ). n ≤ worst_of (frames_of run sender)) same (kept arrived.sent));
-  one = one_of run sender (fold_one (IsOwn run sender) 0 (frames_of run sender) (all_own run sender));
+      subst (λ (n : ℕ). n ≤ longest_at run sender listener) same (kept arrived.sent));
+  one = one_of run sender listener
+      (fold_one (delay_at listener) (IsOwn run sender) 0 (frames_of run sender) (all_own run sender));
 }
 
 summary_has_worst : SummaryHasWorst
-summary_has_worst run senders sender summary within at =
-    subst (λ (s : Summary). IsWorst run sender s.worst.0) (summary_is senders sender run summary within at)
-    (worst_is run sender)
+summary_has_worst network run sender listener = worst_is run sender listener
 
 bound_is_least_sum : BoundIsLeastSum
-bound_is_least_sum network rows place stream rules holds named =
-    ap (λ (reason : Option Reason). bound_of network (sums_unless network reason) place)
+bound_is_least_sum network rows place listener stream rules holds named listed =
+    let sums : List ℕ = sums_for network (least_certificate network) in
+    let inside : place < length network.streams = slice_get_within network.streams place stream named in
+    let is : get_or network.streams place no_stream ≡ stream =
+    get_or_from_slice_get network.streams place stream no_stream named in
+    ap (λ (reason : Option Reason). bound_of network (sums_unless network reason) place listener)
     (no_reason_held network rows rules holds)
-    ∙ ap (λ (b : Bool). cond b (slice_get (map (bound_along (least_certificate network)) network.streams) place) None)
-    (lt-ltb place (length network.streams) (slice_get_within network.streams place stream named))
-    ∙ slice_get-map (bound_along (least_certificate network)) network.streams place
-    ∙ ap (option_map (bound_along (least_certificate network))) named
+    ∙ ap (λ (b : Bool). cond b (slice_get sums (place_of network place listener)) None)
+    (lt-ltb place (length network.streams) inside)
+    ∙ slice_get-get_or sums (place_of network place listener) 0
+    (place_within network (least_certificate network) place listener stream inside named listed)
+    ∙ ap Some (sum_at_place network (least_certificate network) place listener stream inside is listed)
 
 tightest_is_worked : TightestIsWorked
 tightest_is_worked = record {

@@ -1,6 +1,6 @@
 use Rattle.std.proofs.Common.{◌≡◌, [], ◌∷◌, Some, None, refl}
 use Rattle.std.specs.Fmt.{digits}
-use Rattle.ats_replay.specs.Report.{report_text, sender_line}
+use Rattle.ats_replay.specs.Report.{report_text, summary_text}
 use Rattle.ats_replay.specs.Totals.{counts_text, totals_line}
 use Rattle.ats_text_examples.specs.Worked.{way}
 use Rattle.ats_text_examples.specs.Runs.{journeys, summed, summed_unbounded, RunsAreWritten, TextsAreOfRuns}
@@ -9,11 +9,11 @@ use Rattle.ats_text_examples.proofs.DeparturesWritten.{departures_are}
 -- What `generate` prints, by computation.
 
 report_is : report_text way journeys (Some (20002 ∷ 30003 ∷ [])) ≡ summed
-unfolding digits report_text sender_line counts_text totals_line
+unfolding digits report_text summary_text counts_text totals_line
 report_is = refl
 
 unbounded_is : report_text way journeys None ≡ summed_unbounded
-unfolding digits report_text sender_line counts_text totals_line
+unfolding digits report_text summary_text counts_text totals_line
 unbounded_is = refl
 
 texts_are : TextsAreOfRuns

@@ -20,6 +20,7 @@ found_text =
 
 -- to `witness`, beside a bound; and the law of its answers speaks of such a text
 pub record DelaysAreWritten : Type 0 where
-  pub witness : witness_text way 0 found 3003 ≡ found_text
-  pub text : (network : DeclaredNetwork) (stream : ℕ) (text : List ℕ) (f : FoundDelays)
-      → IsWitnessOf network stream text f → text ≡ witness_text network stream f (least_sum network stream)
+  pub witness : witness_text way 0 (found ∷ []) (λ listener. 3003) ≡ found_text
+  pub text : (network : DeclaredNetwork) (stream : ℕ) (text : List ℕ) (founds : List FoundDelays)
+      → IsWitnessOf network stream text founds
+      → text ≡ witness_text network stream founds (least_sum network stream)

@@ -5,16 +5,18 @@ use Rattle.ats_num.specs.declared.time.Ps.{Ps}
 use Rattle.ats_num.specs.declared.time.TheConstants.{PS_PER_NS}
 use Rattle.ats_streams.specs.Stream.{DeclaredStream, declared_stream, with_burst}
 use Rattle.ats_network.specs.Network.{DeclaredNetwork, IsNetwork, declared_network}
+use Rattle.ats_network.specs.Sender.{stream_sender}
 use Rattle.ats_lrq.specs.Narrow.{narrowed}
-use Rattle.ats_certificate.specs.Certificate.{Holds, bound_along, bound_on}
+use Rattle.ats_certificate.specs.Certificate.{Holds, bound_on}
 use Rattle.ats_certificate.specs.declared.row.Row.{Row}
 use Rattle.ats_bound.specs.Least.{least_certificate}
 use Rattle.ats_explain.specs.Margins.{StreamListener, all_listeners, tightest_listener}
 use Rattle.ats_trace.specs.Journey.{Travel}
+use Rattle.ats_trace.specs.Stored.{leg_in}
+use Rattle.ats_trace.specs.Ways.{listener_count, route_to}
 use Rattle.ats_trace.specs.declared.journey.Ending.TheVariants.{Sink}
 use Rattle.ats_replay.specs.Report.{bound_of}
-use Rattle.ats_replay.specs.Summary.{summaries_of}
-use Rattle.ats_replay.specs.declared.summary.Summary.{Summary}
+use Rattle.ats_replay.specs.Summary.{summary_for}
 use Rattle.ats_command_due.specs.Generated.{least_sums}
 use Rattle.ats_text_examples.specs.Worked.{u, v, way, wide, way_with}
 
@@ -60,28 +62,32 @@ pub record TightestIsWorked : Type 0 where
   pub second_twin : tightest_stream (with_streams (twin ∷ v 300000 ∷ [])) ≡ Some twin
   pub no_stream : tightest_stream (with_streams []) ≡ None
 
--- a frame of a sender arrived so long after its release
-pub record ArrivedAfter (run : List Travel) (sender took : ℕ) (journey : Travel) : Type 0 where
+-- a frame of a sender arrived at the listener with this number so long after its release
+pub record ArrivedAfter (run : List Travel) (sender listener took : ℕ) (journey : Travel) : Type 0 where
   pub there : Contains run journey
   pub sent : journey.release.sender ≡ sender
   pub at : Ps
-  pub arrived : journey.ending ≡ Sink at
+  pub arrived : (leg_in journey listener).ending ≡ Sink at
   pub after : took ≡ at.0 - journey.release.at.0
 
--- a sender's worst delay: none of its frames that arrived took longer, and one took as long, or it is 0
-pub record IsWorst (run : List Travel) (sender worst : ℕ) : Type 0 where
-  pub none_longer : (journey : Travel) (took : ℕ) → ArrivedAfter run sender took journey → took ≤ worst
-  pub one : (worst ≡ 0) ⊎ ((journey : Travel) × ArrivedAfter run sender worst journey)
+-- a sender's worst delay to a listener: none of its frames that arrived there took longer, and one took as long, or it
+-- is 0
+pub record IsWorst (run : List Travel) (sender listener worst : ℕ) : Type 0 where
+  pub none_longer : (journey : Travel) (took : ℕ) → ArrivedAfter run sender listener took journey → took ≤ worst
+  pub one : (worst ≡ 0) ⊎ ((journey : Travel) × ArrivedAfter run sender listener worst journey)
 
 abbrev pub SummaryHasWorst : Type 0
-SummaryHasWorst = (run : List Travel) (senders sender : ℕ) (summary : Summary) → sender < senders
-    → slice_get (summaries_of senders run) sender ≡ Some summary → IsWorst run sender summary.worst.0
+SummaryHasWorst = (network : DeclaredNetwork) (run : List Travel) (sender listener : ℕ)
+    → IsWorst run sender listener (summary_for network run sender listener).worst.0
 
--- where a certificate holds, the bound that is printed of a stream is the sum of its least bounds
+-- where a certificate holds, the bound that is printed of a stream for a listener is the sum of its least bounds along
+-- the route there
 abbrev pub BoundIsLeastSum : Type 0
-BoundIsLeastSum = (network : DeclaredNetwork) (rows : List Row) (place : ℕ) (stream : DeclaredStream)
+BoundIsLeastSum = (network : DeclaredNetwork) (rows : List Row) (place listener : ℕ) (stream : DeclaredStream)
     → IsNetwork network → Holds network rows → slice_get network.streams place ≡ Some stream
-    → bound_of network (least_sums network) place ≡ Some (bound_along (least_certificate network) stream)
+    → listener < listener_count (stream_sender stream)
+    → bound_of network (least_sums network) place listener
+    ≡ Some (bound_on (least_certificate network) stream (route_to (stream_sender stream) listener))
 
 -- the sums of both streams, which are told of neither where one is late; and both bursts narrowed to a longest frame
 pub record SumsAreWorked : Type 0 where

@@ -105,7 +105,7 @@ document_with first second = record {
   streams =
       record {
         name = codes "u";
-        route = path (codes "s1" ∷ codes "b1" ∷ codes "s2" ∷ []);
+        routes = path (codes "s1" ∷ codes "b1" ∷ codes "s2" ∷ []) ∷ [];
         classes = 6 ∷ 5 ∷ [];
         rate_bps = 5000005;
         burst_bits = 20001;
@@ -116,7 +116,7 @@ document_with first second = record {
       }
       ∷ record {
         name = codes "v";
-        route = ends (codes "s2") (codes "s1");
+        routes = ends (codes "s2") (codes "s1") ∷ [];
         classes = 3 ∷ [];
         rate_bps = 5000015;
         burst_bits = 20011;

@@ -104,9 +104,10 @@ pub fn calls_are_named()
     ensures { CallsAreNamed }
 {}
 
-/// The tightest stream is one of the least slack, and the first of these in the worked network; a sender's worst delay
-/// is the longest of its frames that arrived, 0 where none did; and where a certificate holds, a printed bound is the
-/// sum of a stream's least bounds. No sum is told where one stream is late; each burst is narrowed to a longest frame.
+/// The tightest listener is one of the least slack, and the first of these in the worked network; a sender's worst
+/// delay to a listener is the longest of its frames that arrived there, 0 where none did; where a certificate holds, a
+/// printed bound is the sum of a stream's least bounds along the route there. No sum is told where one stream is late;
+/// each burst is narrowed to a longest frame.
 pub fn measures_are_meant()
     ensures { MeasuresAreMeant }
 {}

@@ -41,7 +41,7 @@ told (Some (Network (Deadline stream (Some station) sum))) = slice_index_or stat
 told refusal = 0
 
 -- there is one first refusal, so another one is not it
-refused : (network : DeclaredNetwork) (rows : List Row) (refusal other : Refusal) → IsNetwork network
+pub refused : (network : DeclaredNetwork) (rows : List Row) (refusal other : Refusal) → IsNetwork network
     → pairs_pass is_before rows ≡ true → refusal_of network rows ≡ Some refusal
     → not (told (Some refusal) == told (Some other)) ≡ true
     → AreRefused network rows refusal other

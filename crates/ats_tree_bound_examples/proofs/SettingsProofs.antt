@@ -23,14 +23,14 @@ places_total : IsTotalOrder place_cmp
 places_total = then_total (then_total (on_total (λ (t : ℕ × ℕ × ℕ). t.0) nat_cmp_total)
     (on_total (λ (t : ℕ × ℕ × ℕ). t.1) nat_cmp_total)) (on_total (λ (t : ℕ × ℕ × ℕ). t.2) nat_cmp_total)
 
-abbrev before : Setting → Setting → Bool
+abbrev pub before : Setting → Setting → Bool
 before s t = is_lt (place_cmp (place_of s) (place_of t))
 
-ranks : IsStrictWeakOrder before
+pub ranks : IsStrictWeakOrder before
 ranks = ranks_by places_total place_of
 
 -- a network has no other settings than those in order
-only : (network : DeclaredNetwork) (told : List Setting) → in_order before ranks (hop_settings network) ≡ told
+pub only : (network : DeclaredNetwork) (told : List Setting) → in_order before ranks (hop_settings network) ≡ told
     → AreOnlySettings network told
 only network told is =
     let are : AreSettings network told = subst (AreSettings network) is (record {

@@ -1,4 +1,9 @@
 pub mod InTime
+pub mod Promised
 pub mod Refusals
+pub mod Explained
 pub mod Settings
+pub mod SetAlike
 pub mod Texts
+pub mod OrderTexts
+pub mod RunTexts

@@ -1,7 +1,11 @@
 //! Deadlines, refusals and texts of streams with several listeners, worked out.
 
 ghost use Rattle.ats_tree_bound_examples.specs.InTime.{DeadlinesAreForEach};
+ghost use Rattle.ats_tree_bound_examples.specs.Explained.{TotalsAreOfEach};
+ghost use Rattle.ats_tree_bound_examples.specs.Promised.{FramesAreForEach, SoundIsForEach};
+ghost use Rattle.ats_tree_bound_examples.specs.RunTexts.{RunsAreWritten};
 ghost use Rattle.ats_tree_bound_examples.specs.Refusals.{RefusalsNameListeners};
+ghost use Rattle.ats_tree_bound_examples.specs.SetAlike.{SetAlikeIsMet};
 ghost use Rattle.ats_tree_bound_examples.specs.Settings.{BridgesAreTold};
 ghost use Rattle.ats_tree_bound_examples.specs.Texts.{BoundsAreWritten, ExplanationIsWritten, LegsAreShown};
 ghost use Rattle.ats_tree_bound_examples.specs.Texts.{ReasonsAreWritten};
@@ -12,10 +16,27 @@ pub fn deadlines_are_for_each()
     ensures { DeadlinesAreForEach }
 {}
 
+/// That all frames are in time says so of each listener of a frame, by any rows.
+pub fn frames_are_for_each()
+    ensures { FramesAreForEach }
+{}
+
+/// That rows are sound says of each frame whose own station keeps its buckets that it is served, and of each that it is
+/// contained, on its way to each listener.
+pub fn sound_is_for_each()
+    ensures { SoundIsForEach }
+{}
+
 /// Rows are refused that count a stream for each of its listeners, that leave out the port of one, or by which a stream
 /// is late for one; and this is named as the first of its stream.
 pub fn refusals_name_listeners()
     ensures { RefusalsNameListeners }
+{}
+
+/// A hop of a branch counts once in the totals, and not for each listener behind it; the tightest listener and the
+/// first that is late may be a further one of its stream, before the first one of the next.
+pub fn totals_are_of_each()
+    ensures { TotalsAreOfEach }
 {}
 
 /// How reasons and refusals name a listener.
@@ -41,4 +62,15 @@ pub fn explanation_is_written()
 /// What bridges are told: a setting for each port by which frames go on, with one scheduler for all of a bridge.
 pub fn bridges_are_told()
     ensures { BridgesAreTold }
+{}
+
+/// What the laws of settings ask can be met by two networks that differ, with frames that are longer than is declared,
+/// and at ports of branches.
+pub fn set_alike_is_met()
+    ensures { SetAlikeIsMet }
+{}
+
+/// What `replay` and `generate` print of runs: the lines of each copy, and for each listener its own counts.
+pub fn runs_are_written()
+    ensures { RunsAreWritten }
 {}

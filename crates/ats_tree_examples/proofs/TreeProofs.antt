@@ -16,6 +16,7 @@ use Rattle.ats_network.proofs.LeastTrees.{least_walks_make_a_tree}
 use Rattle.ats_network.proofs.RouteLemmas.{shortest_least}
 use Rattle.ats_tree_examples.specs.Networks.{branch, split, split_nodes, split_links, split_topology, split_and_flow}
 use Rattle.ats_tree_examples.specs.Networks.{split_and_stream, split_by_class, split_ranged, split_ranged_nodes}
+use Rattle.ats_tree_examples.specs.Networks.{split_and_slower, branch_ranged, branch_ranged_nodes, branch_ranged_links}
 use Rattle.ats_tree_examples.specs.Networks.{by_two_streams, crossed, crossed_links, tree, tree_nodes, tree_links}
 use Rattle.ats_tree_examples.specs.Networks.{tree_and_flow, tree_branches, tree_ports, ring_links, ring_topology}
 use Rattle.ats_tree_examples.specs.Networks.{round, turned}
@@ -62,6 +63,12 @@ by_class_is = network_by (split_nodes 100000) split_links split_by_class.streams
 ranged_is : IsNetwork split_ranged
 ranged_is = network_by split_ranged_nodes split_links split.streams [] refl refl
 
+slower_is : IsNetwork split_and_slower
+slower_is = network_by (split_nodes 1000000) split_links split_and_slower.streams [] refl refl
+
+branch_ranged_is : IsNetwork branch_ranged
+branch_ranged_is = network_by branch_ranged_nodes branch_ranged_links branch_ranged.streams [] refl refl
+
 -- the stream of the split has a branch
 not_one : ¬ HasOneListener split
 not_one one =
@@ -80,6 +87,8 @@ trees_are_networks = record {
   beside_stream = split_and_stream_is;
   of_classes = by_class_is;
   of_ranges = ranged_is;
+  beside_slower = slower_is;
+  ranged_for_copies = branch_ranged_is;
   several = not_one;
   one_each = one_each_by by_two_streams refl;
 }

@@ -1,23 +1,25 @@
-use Rattle.std.specs.Prelude.{◌≡◌, List, [], ◌∷◌, map, Some, None}
+use Rattle.std.specs.Prelude.{◌≡◌, ℕ, ◌<◌, List, [], ◌∷◌, length, map, Some, None}
 use Rattle.std.specs.Option.{option_map}
 use Rattle.ats_num.specs.Pace.{drawn_wait}
 use Rattle.ats_num.specs.Tie.{late_key, mixed_key}
 use Rattle.ats_network.specs.Senders.{sender_at}
+use Rattle.ats_port_rule.specs.PortRule.{KeepsTie}
 use Rattle.ats_group.specs.declared.verdict.Verdict.TheVariants.{Eligible, Late}
 use Rattle.ats_trace.specs.Journey.{Travel}
 use Rattle.ats_trace.specs.OneVerdict.{HasOneVerdict, OneVerdictIn, judged_as, record_of}
+use Rattle.ats_trace.specs.Projections.{sent_by}
 use Rattle.ats_trace.specs.Run.{IsLegal, IsRunBy}
 use Rattle.ats_trace.specs.Stored.{travel_at}
 use Rattle.ats_trace.specs.Ways.{listener_count, route_to, way_to}
 use Rattle.ats_examples.specs.LegalRuns.{frame_key, least_wait, greatest_wait}
 use Rattle.ats_examples.specs.Runs.{hop}
 use Rattle.ats_tree_examples.specs.Networks.{split, split_and_flow, split_and_stream, split_by_class, split_ranged}
-use Rattle.ats_tree_examples.specs.Networks.{crossed, tree, tree_and_flow}
+use Rattle.ats_tree_examples.specs.Networks.{split_and_slower, branch_ranged, crossed, tree, tree_and_flow}
 use Rattle.ats_tree_examples.specs.Trees.{tree_routes}
 use Rattle.ats_tree_examples.specs.Runs.{copy, dropped, late_by, one_split, one_with, long_with, long_split}
 use Rattle.ats_tree_examples.specs.Runs.{behind_flow}
 use Rattle.ats_tree_examples.specs.Runs.{within_burst, held_by_group, tied_first, tied_last, coming, crossed_babbler}
-use Rattle.ats_tree_examples.specs.Runs.{over_tree, late_in_tree}
+use Rattle.ats_tree_examples.specs.Runs.{copies_in_order, copies_out_of_order, copy_coming, over_tree, late_in_tree}
 
 -- What the definitions of runs say of frames and their copies.
 
@@ -43,6 +45,19 @@ pub record CopiesGoByOrder : Type 0 where
   pub turned : IsRunBy (mixed_key 0) (drawn_wait 0) split_and_stream tied_last
   pub not_by_frame : ¬ IsRunBy frame_key least_wait split_and_stream tied_last
   pub paced : IsRunBy (mixed_key 7) (drawn_wait 7) split_ranged (coming 13036007 13036007)
+
+-- at a port that no trunk has two copies of one stream that tie go by the key of their frames as well, and a copy comes
+-- to the bridge behind it by its frame's pace. A legal run may send them in the other order than the trunk's port sends
+-- their frames, and then no one key breaks the ties of both ports; and its copies may come by another pace
+pub record BranchesGoByOrder : Type 0 where
+  pub in_order : IsRunBy frame_key least_wait split_and_slower copies_in_order
+  pub out_of_order : IsLegal split_and_slower copies_out_of_order
+  pub not_by_frame : ¬ IsRunBy frame_key least_wait split_and_slower copies_out_of_order
+  pub by_no_one_key : (key : ℕ → ℕ → ℕ) → ¬ ((port : ℕ) → port < length split_and_slower.topology.ports
+      → KeepsTie key (sent_by split_and_slower copies_out_of_order port))
+  pub least : IsRunBy frame_key least_wait branch_ranged (copy_coming 26872000)
+  pub greatest : IsRunBy late_key greatest_wait branch_ranged (copy_coming 27672000)
+  pub not_greatest : ¬ IsRunBy late_key greatest_wait branch_ranged (copy_coming 26872000)
 
 -- the third frame of the run in which one is late
 abbrev pub late_one : Travel

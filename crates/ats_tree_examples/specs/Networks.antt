@@ -57,6 +57,14 @@ beside_stream_within deadline_ns = declared_network split_topology
 abbrev pub split_and_stream : DeclaredNetwork
 split_and_stream = beside_stream_within 1000000
 
+-- and with a stream of 50 Mb/s from s1 to s2, which has number 1: no trunk has port 4
+abbrev pub split_and_slower : DeclaredNetwork
+split_and_slower = declared_network split_topology
+    (split_stream (6 ∷ []) 1000000
+    ∷ branching_stream (codes "z") (0 ∷ 2 ∷ []) [] (6 ∷ 6 ∷ []) 50000000 12336 64 1522 1000000 None
+    ∷ [])
+    []
+
 -- where the copies leave the bridge in class 5, as do the frames of another stream from s1 to s3, of 50 Mb/s, which has
 -- number 1; at s1 both have class 6. Frames may stay 100000 ns
 abbrev pub split_by_class : DeclaredNetwork
@@ -73,6 +81,20 @@ split_ranged_nodes =
 
 abbrev pub split_ranged : DeclaredNetwork
 split_ranged = declared_network (topology_of split_ranged_nodes split_links) split.streams []
+
+-- where port 4 leads from b1 to b2, which takes 200 to 1000 ns to process a frame, and port 6 from there to s3: the
+-- copies alone go over b2
+abbrev pub branch_ranged_nodes : List Node
+branch_ranged_nodes = split_nodes 1000000 ++ ranged_bridge (codes "b2") 1000000 ∷ []
+
+abbrev pub branch_ranged_links : List Link
+branch_ranged_links =
+    link (codes "s1") (codes "b1") ∷ link (codes "b1") (codes "s2") ∷ link (codes "b1") (codes "b2")
+    ∷ link (codes "b2") (codes "s3") ∷ []
+
+abbrev pub branch_ranged : DeclaredNetwork
+branch_ranged = declared_network (topology_of branch_ranged_nodes branch_ranged_links)
+    (stream (codes "a") (0 ∷ 2 ∷ 4 ∷ 6 ∷ []) (branch 2 0 1 ∷ []) ∷ []) []
 
 -- the same listeners by two streams with one listener each, which both use port 0
 abbrev pub by_two_streams : DeclaredNetwork

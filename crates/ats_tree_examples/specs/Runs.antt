@@ -134,6 +134,34 @@ coming at other =
     (copy (hop other at at (at + 12336000) ∷ []) (at + 12836000) ∷ [])
     ∷ []
 
+-- two frames of the slower stream at once, of which the bridge holds back the small one, and two small ones of the
+-- split's stream behind them, which wait for it and are eligible with it. On the trunk they are sent in the order of
+-- their numbers; their copies, beside which no other frame goes, are sent from these times on
+abbrev pub copies_from : ℕ → ℕ → List Travel
+copies_from first second =
+    sunk 0 1 1522 (hop 0 0 0 12336000 ∷ hop 13836000 13836000 13836000 26172000 ∷ []) 26672000
+    ∷ sunk 0 1 64 (hop 0 0 12336000 13008000 ∷ hop 14508000 27276000 27276000 27948000 ∷ []) 28448000
+    ∷ copied (sunk 0 0 64 (hop 0 0 13008000 13680000 ∷ hop 15180000 27276000 27948000 28620000 ∷ []) 29120000)
+    (copy (hop 15180000 27276000 first (first + 672000) ∷ []) (first + 1172000) ∷ [])
+    ∷ copied (sunk 0 0 64 (hop 0 0 13680000 14352000 ∷ hop 15852000 27276000 28620000 29292000 ∷ []) 29792000)
+    (copy (hop 15852000 27276000 second (second + 672000) ∷ []) (second + 1172000) ∷ [])
+    ∷ []
+
+-- in that order too
+abbrev pub copies_in_order : List Travel
+copies_in_order = copies_from 27276000 27948000
+
+-- and the later frame's first
+abbrev pub copies_out_of_order : List Travel
+copies_out_of_order = copies_from 27948000 27276000
+
+-- one frame whose copy comes at this time to the bridge that copies alone go over, and is sent on at once. It may come
+-- from 26872000 to 27672000
+abbrev pub copy_coming : ℕ → List Travel
+copy_coming at =
+    one_with
+    (copy (hop 13836000 13836000 13836000 26172000 ∷ hop at at at (at + 12336000) ∷ []) (at + 12836000) ∷ [])
+
 -- frame k of a babbler whose frames go to the other station too, where no other frame goes: its copy is sent when it is
 -- eligible
 abbrev pub babbled : ℕ → ℕ → ℕ → Travel

@@ -15,7 +15,8 @@ use Rattle.ats_network.specs.Sender.{Sender, stream_sender}
 use Rattle.ats_network.specs.Senders.{sender_at}
 use Rattle.ats_network.specs.Shortest.{shortest_of}
 use Rattle.ats_tree_examples.specs.Networks.{branch, stream_of, split, split_and_flow, split_topology, by_two_streams}
-use Rattle.ats_tree_examples.specs.Networks.{split_and_stream, split_by_class, split_ranged}
+use Rattle.ats_tree_examples.specs.Networks.{split_and_stream, split_and_slower, split_by_class, split_ranged}
+use Rattle.ats_tree_examples.specs.Networks.{branch_ranged}
 use Rattle.ats_tree_examples.specs.Networks.{crossed, tree, tree_and_flow, tree_branches, tree_ports, ring_topology}
 use Rattle.ats_tree_examples.specs.Networks.{turned, turned_branches, turned_ports, round}
 
@@ -33,6 +34,8 @@ pub record TreesAreNetworks : Type 0 where
   pub beside_stream : IsNetwork split_and_stream
   pub of_classes : IsNetwork split_by_class
   pub of_ranges : IsNetwork split_ranged
+  pub beside_slower : IsNetwork split_and_slower
+  pub ranged_for_copies : IsNetwork branch_ranged
   pub several : ¬ HasOneListener split
   pub one_each : HasOneListener by_two_streams
 

@@ -2,7 +2,8 @@
 
 ghost use Rattle.ats_tree_examples.specs.Breaks.{CopiesHaveTheFramesTimes, CopiesKeepTheRules, DiscardsAreForAll};
 ghost use Rattle.ats_tree_examples.specs.Breaks.{EachHasOneCopy};
-ghost use Rattle.ats_tree_examples.specs.Copies.{CopiesAreLegal, CopiesGoByOrder, VerdictsAreOne, WaysAreWorked};
+ghost use Rattle.ats_tree_examples.specs.Copies.{BranchesGoByOrder, CopiesAreLegal, CopiesGoByOrder, VerdictsAreOne};
+ghost use Rattle.ats_tree_examples.specs.Copies.{WaysAreWorked};
 
 /// A frame and its copies over one bridge and over three; a copy that goes on while the frame waits, and one that waits
 /// with it for their group; a frame that counts once against its burst, and frames that are discarded for all listeners
@@ -14,6 +15,12 @@ pub fn copies_are_legal()
 /// By an order a copy goes by the key of its frame at its port, and comes to a bridge by the frame's pace.
 pub fn copies_go_by_order()
     ensures { CopiesGoByOrder }
+{}
+
+/// At a port that no trunk has, copies go by an order as well. A legal run may send two copies of one stream that tie
+/// there in the other order than the trunk's port sends their frames.
+pub fn branches_go_by_order()
+    ensures { BranchesGoByOrder }
 {}
 
 /// The way of a frame to each of four listeners, and that of a frame that is discarded between two branches.

@@ -12,8 +12,9 @@ use Rattle.ats_witness.specs.Burst.{ComesBefore, IsBurstFor, burst_of, releases_
 use Rattle.ats_witness_law.specs.Worked.{release}
 use Rattle.ats_examples.specs.Networks.{line_lowered, line_of_classes, ranged_line}
 use Rattle.ats_text_examples.specs.Worked.{way}
-use Rattle.ats_witness_examples.specs.Networks.{joined, line_of_three}
-use Rattle.ats_witness_examples.specs.Bursts.{BurstsAreWorked, BurstsOfWay, FramesAreWorked, TravelsAreWorked, sent}
+use Rattle.ats_witness_examples.specs.Networks.{joined, joined_trees, line_of_three}
+use Rattle.ats_witness_examples.specs.Bursts.{BurstsAreWorked, BurstsOfTrees, BurstsOfWay, FramesAreWorked}
+use Rattle.ats_witness_examples.specs.Bursts.{TravelsAreWorked, sent}
 
 -- Bursts, their frames and travels by computation.
 
@@ -208,6 +209,53 @@ of_way = record {
     both_in_order = three (sent 0 2 1400) (sent 1600001 1 1200) (sent 3200001 0 1000) (inl (lit< tt)) (inl (lit< tt))
         (inl (lit< tt))
 
+-- the bursts of two trees
+abbrev meeting : List Release
+meeting = release 1 0 ∷ release 13836000 2 ∷ release 13836001 1 ∷ []
+
+meeting_each : Each joined_trees 8 6 meeting
+meeting_each zero = refl
+meeting_each (suc zero) = refl
+meeting_each (suc (suc zero)) = refl
+meeting_each (suc (suc (suc i))) = past 3 (suc (suc (suc i))) meeting refl (omega arith)
+
+meeting_in_order : AllPairs ComesBefore meeting
+meeting_in_order = three (release 1 0) (release 13836000 2) (release 13836001 1) (inl (lit< tt)) (inl (lit< tt))
+    (inl (lit< tt))
+
+behind_each : Each joined_trees 10 6 apart
+behind_each zero = refl
+behind_each (suc zero) = refl
+behind_each (suc (suc zero)) = refl
+behind_each (suc (suc (suc i))) = past 2 (suc (suc (suc i))) apart refl (omega arith)
+
+abbrev beside_flow : List Release
+beside_flow = release 1 0 ∷ release 13836000 2 ∷ []
+
+turned_off_each : Each joined_trees 12 6 beside_flow
+turned_off_each zero = refl
+turned_off_each (suc zero) = refl
+turned_off_each (suc (suc zero)) = refl
+turned_off_each (suc (suc (suc i))) = past 3 (suc (suc (suc i))) beside_flow refl (omega arith)
+
+alone_each : Each joined_trees 6 6 (release 1 0 ∷ [])
+alone_each zero = refl
+alone_each (suc zero) = refl
+alone_each (suc (suc zero)) = refl
+alone_each (suc (suc (suc i))) = past 1 (suc (suc (suc i))) (release 1 0 ∷ []) refl (omega arith)
+
+of_trees : BurstsOfTrees
+of_trees = record {
+  meeting = record { of_each = meeting_each; in_order = meeting_in_order };
+  of_other = record { of_each = meeting_each; in_order = meeting_in_order };
+  behind = record { of_each = behind_each; in_order = two (release 1 0) (release 13836001 1) (inl (lit< tt)) };
+  turned_off = record {
+    of_each = turned_off_each;
+    in_order = two (release 1 0) (release 13836000 2) (inl (lit< tt));
+  };
+  alone = record { of_each = alone_each; in_order = one (release 1 0) };
+}
+
 pub bursts_are_worked : BurstsAreWorked
 bursts_are_worked = record {
   below = record { of_each = below_each; in_order = together_in_order };
@@ -223,6 +271,7 @@ bursts_are_worked = record {
     in_order = two (release 1 0) (release 13836001 1) (inl (lit< tt));
   };
   of_way = of_way;
+  of_trees = of_trees;
 }
 
 pub frames_are_worked : FramesAreWorked
@@ -246,6 +295,17 @@ travels_are_worked = record {
   to_last = refl;
   of_second = refl;
   of_flow = refl;
+  over_trees = record {
+    to_trunk = refl;
+    to_first_branch = refl;
+    to_second_branch = refl;
+    along_it = refl;
+    to_last_branch = refl;
+    turned = refl;
+    of_other = refl;
+    of_flow = refl;
+    greatest = refl;
+  };
   none = refl;
   greatest = refl;
 }

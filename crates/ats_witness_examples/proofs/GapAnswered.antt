@@ -6,13 +6,12 @@ use Rattle.ats_network.specs.Network.{DeclaredNetwork, declared_network}
 use Rattle.ats_network_file.specs.Reading.{network_of}
 use Rattle.ats_network_file.specs.Senders.{all_added, flow_added, stream_added}
 use Rattle.ats_network_file.specs.declared.fault.NetFault.{NetFault}
-use Rattle.ats_network_file.specs.declared.senders.SenderTable.TheVariants.{Flow, Stream}
 use Rattle.ats_network_toml.specs.Document as file
 use Rattle.ats_network_toml.specs.Document.{ends}
 use Rattle.ats_witness.specs.Found.{AreFound, FoundDelays, found_delays}
 use Rattle.ats_witness_law.proofs.WorkedBursts.{found_delays_are_met}
 use Rattle.ats_witness_law.specs.Worked.{release}
-use Rattle.ats_witness_text.specs.Text.{hop_line, release_line, witness_line, witness_text}
+use Rattle.ats_witness_text.specs.Text.{found_text, hop_line, release_line, title_line, witness_line, witness_text}
 use Rattle.ats_command_input.specs.Answer.{Answer}
 use Rattle.ats_command_input.specs.Input.{network_in}
 use Rattle.ats_command_input.specs.Stream.{stream_in}
@@ -23,7 +22,8 @@ use Rattle.ats_command_due.specs.Witnessed.{IsWitnessed, Witnessed, least_sum, w
 use Rattle.ats_examples.proofs.NetworkTest.{valid_from_by}
 use Rattle.ats_examples.specs.Networks.{line, line_and_flow}
 use Rattle.ats_file_examples.proofs.Parsing.{parsed}
-use Rattle.ats_file_examples.proofs.Steps.{document_is, flow_is, network_is, one_more, path_is, stream_is}
+use Rattle.ats_file_examples.proofs.Steps.{document_is, flow_is, legs_is, network_is, one_leg, one_more, path_is}
+use Rattle.ats_file_examples.proofs.Steps.{stream_is}
 use Rattle.ats_call_examples.specs.Files.{done_with, refused_with, told}
 use Rattle.ats_call_examples.proofs.Line.{answered, taken}
 use Rattle.ats_call_examples.proofs.Telling.{of_declared, one_told}
@@ -35,7 +35,7 @@ use Rattle.ats_witness_examples.specs.Gap.{GapIsAnswered, flow_text, gap_text}
 abbrev entry : file.DeclaredStream
 entry = record {
   name = codes "a";
-  route = ends (codes "s1") (codes "s2");
+  routes = ends (codes "s1") (codes "s2") ∷ [];
   classes = 6 ∷ [];
   rate_bps = 100000000;
   burst_bits = 12336;
@@ -65,14 +65,14 @@ no_senders = declared_network line.topology [] []
 
 streams_added : all_added stream_added no_senders 1 document.streams ≡ Ok line
 streams_added = one_more stream_added no_senders line 1 entry []
-    (stream_is no_senders 1 entry (0 ∷ 2 ∷ []) (Ok line)
-    (path_is line.topology Stream 1 (ends (codes "s1") (codes "s2")) (0 ∷ 2 ∷ []) refl
+    (stream_is no_senders 1 entry (one_leg (0 ∷ 2 ∷ [])) (Ok line)
+    (legs_is line.topology 1 (ends (codes "s1") (codes "s2") ∷ []) (0 ∷ 2 ∷ []) refl
     (valid_from_by line.topology 0 (0 ∷ 2 ∷ []) refl)) refl)
 
 flows_added : all_added flow_added line 1 document.flows ≡ Ok line_and_flow
 flows_added = one_more flow_added line line_and_flow 1 flow_entry []
     (flow_is line 1 flow_entry (0 ∷ 2 ∷ []) (Ok line_and_flow)
-    (path_is line.topology Flow 1 (ends (codes "s1") (codes "s2")) (0 ∷ 2 ∷ []) refl
+    (path_is line.topology 1 (ends (codes "s1") (codes "s2")) (0 ∷ 2 ∷ []) refl
     (valid_from_by line.topology 0 (0 ∷ 2 ∷ []) refl)) refl)
 
 flow_text_is : network_of flow_text ≡ Ok line_and_flow
@@ -108,21 +108,21 @@ no_stream = witnessed_by (codes "f") (Err (refused_with (codes "refused stream f
 abbrev found : FoundDelays
 found = found_delays (39007999 ∷ 39007999 ∷ []) 0 (release 0 1 ∷ release 1 0 ∷ [])
 
-are_found : AreFound line_and_flow 0 found
+are_found : AreFound line_and_flow 0 0 found
 are_found = record {
   each = (found_delays_are_met.line_behind, (found_delays_are_met.line_also, tt));
   first = found_delays_are_met.line_greatest;
   burst = found_delays_are_met.line_first;
 }
 
-written : gap_text ≡ witness_text line_and_flow 0 found (least_sum line_and_flow 0)
-unfolding digits witness_text hop_line release_line witness_line
+written : gap_text ≡ witness_text line_and_flow 0 (found ∷ []) (least_sum line_and_flow 0)
+unfolding digits witness_text found_text title_line hop_line release_line witness_line
 written = refl
 
 has_gap : IsWitnessAnswer (codes "n") (codes "a") flow_text (done_with gap_text)
 has_gap = of_declared (IsOneOf IsWitnessed) (witnessed_in (codes "n") (codes "a") flow_text)
     (Ok (due.witnessed line_and_flow 0)) (done_with gap_text) stream_found
-    (refl, (found, record { are_found = are_found; written = written }))
+    (refl, (found ∷ [], record { are_found = (are_found, tt); written = written }))
 
 has_no_stream : IsWitnessAnswer (codes "n") (codes "f") flow_text (refused_with (codes "refused stream f\n"))
 has_no_stream = of_declared (IsOneOf IsWitnessed) (witnessed_in (codes "n") (codes "f") flow_text)

@@ -7,5 +7,11 @@ pub sums_are_own : SumsAreOwn
 sums_are_own = record {
   first = refl;
   second = refl;
-  of_bound = λ network stream. record { is_within = λ delay most. most; at_most = λ delay most. most };
+  to_first = refl;
+  to_second = refl;
+  to_third = refl;
+  of_bound = λ network stream listener. record {
+    is_within = λ delay most. most;
+    at_most = λ delay most. most;
+  };
 }

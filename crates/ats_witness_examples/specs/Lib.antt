@@ -3,3 +3,4 @@ pub mod Delays
 pub mod Bursts
 pub mod Sums
 pub mod Gap
+pub mod Both

@@ -5,7 +5,9 @@ use Rattle.ats_topology.specs.declared.link.Link.{Link}
 use Rattle.ats_streams.specs.Stream.{DeclaredStream, declared_stream}
 use Rattle.ats_network.specs.Sender.{Sender}
 use Rattle.ats_network.specs.Network.{DeclaredNetwork, declared_network}
-use Rattle.ats_examples.specs.Networks.{bridge, line_with, link, station, stream}
+use Rattle.ats_examples.specs.Networks.{bridge, flow, line_with, link, station, stream}
+use Rattle.ats_tree_examples.specs.Networks as trees
+use Rattle.ats_tree_examples.specs.Networks.{branch, tree, tree_branches, tree_ports}
 
 -- two bridges and three stations: port 0 leads from s1 to b1, port 2 from b1 to b2, port 4 from b2 to s2, and port 6
 -- from s3 to b2
@@ -23,6 +25,15 @@ joined_links =
 abbrev pub joined : DeclaredNetwork
 joined = declared_network (topology_of joined_nodes joined_links)
     (stream (codes "a") (0 ∷ 2 ∷ 4 ∷ []) ∷ stream (codes "z") (6 ∷ 4 ∷ []) ∷ []) []
+
+-- the tree of three bridges and five stations with its stream to four listeners, which has number 0, with a stream from
+-- s2 to s1 and to s4, which has number 1 and whose copies leave the second bridge by port 8, and with a flow from s2 to
+-- s5, which has number 2
+abbrev pub joined_trees : DeclaredNetwork
+joined_trees = declared_network tree.topology
+    (trees.stream (codes "a") tree_ports tree_branches
+    ∷ trees.stream (codes "z") (5 ∷ 3 ∷ 1 ∷ 8 ∷ 10 ∷ []) (branch 3 0 1 ∷ []) ∷ [])
+    (flow (codes "f") (5 ∷ 8 ∷ 12 ∷ []) ∷ [])
 
 -- frames of 1522 octets, whose burst is this many bits
 abbrev pub bursting : List ℕ → ℕ → ℕ → DeclaredStream

@@ -1,7 +1,8 @@
 //! Worked delays, bursts and sums of what `witness` finds, with numbers that differ.
 
+ghost use Rattle.ats_witness_examples.specs.Both.{BothAreAnswered};
 ghost use Rattle.ats_witness_examples.specs.Bursts.{BurstsAreWorked, FramesAreWorked, TravelsAreWorked};
-ghost use Rattle.ats_witness_examples.specs.Delays.{GreatestIsWorked, WaitIsWorked};
+ghost use Rattle.ats_witness_examples.specs.Delays.{GreatestIsWorked, ListenersAreWorked, WaitIsWorked};
 ghost use Rattle.ats_witness_examples.specs.Gap.{GapIsAnswered};
 ghost use Rattle.ats_witness_examples.specs.Sums.{SumsAreOwn};
 
@@ -11,18 +12,24 @@ pub fn greatest_is_worked()
     ensures { GreatestIsWorked }
 {}
 
+/// The greatest delays of a stream for each of its listeners are those of the frames that came to it, and there is none
+/// for a listener to which none came.
+pub fn listeners_are_worked()
+    ensures { ListenersAreWorked }
+{}
+
 /// How many longest frames a burst holds whole, up to 40 of them.
 pub fn frames_are_worked()
     ensures { FramesAreWorked }
 {}
 
-/// What the longest frames of a network take to the ports of their paths, in picoseconds.
+/// What the longest frames of a network take to the ports of their routes, in picoseconds.
 pub fn travels_are_worked()
     ensures { TravelsAreWorked }
 {}
 
 /// The burst at a port for a stream, where others have a higher, the same or a lower class, where a class falls along
-/// the path, where bursts cover several frames, and where senders travel over ports that differ.
+/// the path, where bursts cover several frames, and where senders travel over ports that differ, on branches too.
 pub fn bursts_are_worked()
     ensures { BurstsAreWorked }
 {}
@@ -32,8 +39,8 @@ pub fn wait_is_worked()
     ensures { WaitIsWorked }
 {}
 
-/// The sum that is printed beside the delays of a stream is the sum of its own least bounds, in picoseconds, and the
-/// one that no found delay exceeds.
+/// The sum that is printed beside the delays of a stream for a listener is the sum of its own least bounds along the
+/// route there, in picoseconds, and the one that no found delay exceeds.
 pub fn sums_are_own()
     ensures { SumsAreOwn }
 {}
@@ -42,4 +49,9 @@ pub fn sums_are_own()
 /// name of the flow.
 pub fn gap_is_answered()
     ensures { GapIsAnswered }
+{}
+
+/// What is due to `witness` of a stream with two listeners, where a flow is in the way of the first.
+pub fn both_are_answered()
+    ensures { BothAreAnswered }
 {}
