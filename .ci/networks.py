@@ -35,8 +35,10 @@ class Port(NamedTuple):
 
 
 class Sender(NamedTuple):
-    """A stream or a flow: its name, the numbers of its path's ports, its class at each of them, and what it declares.
-    A flow has class 0, and neither rate nor burst."""
+    """A stream or a flow: its name, the numbers of its ports, its class at each of them, and what it declares. A flow
+    has class 0, and neither rate nor burst. The ports are those of the path to the first listener, and then for each
+    further listener those by which only it is reached of those so far; `branches` has for each of these the place of
+    the first such port, and that of the port before it."""
 
     name: str
     path: tuple
@@ -46,17 +48,35 @@ class Sender(NamedTuple):
     least: int
     most: int
     deadline_ns: int = 10**9
+    branches: tuple = ()
 
     def is_stream(self):
         """Whether it is a stream."""
         return self.classes[0] > 0
+
+    def legs(self):
+        """For each listener the places of the ports by which only it is reached of those so far."""
+        firsts = [0, *(first for first, _ in self.branches), len(self.path)]
+        return [range(*ends) for ends in zip(firsts, firsts[1:])]
+
+    def before(self):
+        """For each place but the first that of the port before."""
+        return {place: place - 1 for place in range(1, len(self.path))} | dict(self.branches)
+
+    def routes(self):
+        """For each listener the places of the ports on the route there."""
+        before, routes = self.before(), [[leg[-1]] for leg in self.legs()]
+        for route in routes:
+            while route[0] in before:
+                route.insert(0, before[route[0]])
+        return routes
 
     def with_class(self, cls):
         """The same with this class at each port."""
         return self._replace(classes=(cls,) * len(self.path))
 
     def places(self):
-        """Each port of its path with its class there."""
+        """Each of its ports with its class there."""
         return list(zip(self.path, self.classes))
 
 
@@ -78,7 +98,7 @@ def node_tables(bridges, fmt, stations):
     yield f"format = {fmt}"
     yield from (f'[[station]]\nname = "{name}"' for name in stations)
     for name, (least, most, residence) in bridges.items():
-        times = f"processing_min_ns = {least}\nprocessing_max_ns = {most}" if fmt == 2 else f"processing_ns = {most}"
+        times = f"processing_min_ns = {least}\nprocessing_max_ns = {most}" if fmt > 1 else f"processing_ns = {most}"
         yield f'[[bridge]]\nname = "{name}"\n{times}\nresidence_ns = {residence}'
 
 
@@ -88,6 +108,11 @@ def topology_text(fmt, stations, bridges, links):
     for a, b, mbps, propagation in links:
         tables.append(f'[[link]]\na = "{a}"\nb = "{b}"\nmbps = {mbps}\npropagation_ns = {propagation}')
     return "\n".join(tables) + "\n"
+
+
+def listed(names):
+    """Names as an array of a network file."""
+    return "[" + ", ".join(f'"{name}"' for name in names) + "]"
 
 
 def ports_of(bridges, links):
@@ -160,9 +185,33 @@ def certificate_of(ports, rows):
     return [HEADER] + [f"{ports[k].name()},{cls},{','.join(map(str, row))}" for (k, cls), row in rows.items()]
 
 
-def sum_of(rows, sender):
-    """The sum of the bounds along a stream's path."""
-    return sum(rows[place].bound for place in sender.places())
+def tree_of(walks, ports):
+    """The ports of walks from one node, of which each further one leaves the others for good, and the branches."""
+    path, branches, reached = list(walks[0]), [], {ports[number].end for number in walks[0]}
+    for walk in walks[1:]:
+        own = [number for number in walk if number not in path]
+        if not own or reached & {ports[number].end for number in own}:
+            continue
+        branches.append((len(path), path.index(walk[len(walk) - len(own) - 1])))
+        path += own
+        reached |= {ports[number].end for number in own}
+    return tuple(path), tuple(branches)
+
+
+def called(ports, sender, leg):
+    """How a listener is called: by its stream, and but for the first one by its station too."""
+    return f"{sender.name} {ports[sender.path[sender.legs()[leg][-1]]].end}" if leg else sender.name
+
+
+def sum_of(rows, sender, leg=0):
+    """The sum of the bounds along a stream's route to a listener."""
+    places = sender.places()
+    return sum(rows[places[at]].bound for at in sender.routes()[leg])
+
+
+def listeners_of(senders):
+    """The listeners of the streams, each as its stream and its leg."""
+    return [(sender, leg) for sender in senders if sender.is_stream() for leg in range(1 + len(sender.branches))]
 
 
 def overload(ports, rows):
@@ -178,15 +227,16 @@ def overstay(ports, rows):
     return next((f"residence {port.name()} {cls} {need}" for port, cls, need in behind if need > port.residence), None)
 
 
-def first_late(senders, rows):
-    """The first stream that the least bounds make late; None where there is none."""
-    sums = ((sender, sum_of(rows, sender)) for sender in senders if sender.is_stream())
-    return next((f"deadline {it.name} {total}" for it, total in sums if total > 1000 * it.deadline_ns), None)
+def first_late(ports, senders, rows):
+    """The first listener for which the least bounds make a stream late; None where there is none."""
+    sums = ((it, leg, sum_of(rows, it, leg)) for it, leg in listeners_of(senders))
+    late = ((it, leg, total) for it, leg, total in sums if total > 1000 * it.deadline_ns)
+    return next((f"deadline {called(ports, it, leg)} {total}" for it, leg, total in late), None)
 
 
 def reason_against(ports, senders, rows):
     """The first reason why no certificate holds, as it is printed behind `refused`; None where one holds."""
-    return overload(ports, rows) or overstay(ports, rows) or first_late(senders, rows)
+    return overload(ports, rows) or overstay(ports, rows) or first_late(ports, senders, rows)
 
 
 def bound_due(ports, senders):
@@ -199,9 +249,10 @@ def bound_due(ports, senders):
 def check_due(ports, senders):
     """The lines that are due to `check` of the least certificate, where it holds."""
     lines, rows, streams = [], rows_of(ports, senders), [sender for sender in senders if sender.is_stream()]
-    for sender in streams:
-        lines += [f"hop {sender.name} {ports[k].name()} {rows[k, cls].bound}" for k, cls in sender.places()]
-        lines.append(f"sum {sender.name} {sum_of(rows, sender)}")
+    for sender, leg in listeners_of(streams):
+        own = [sender.places()[at] for at in sender.legs()[leg]]
+        lines += [f"hop {sender.name} {ports[k].name()} {rows[k, cls].bound}" for k, cls in own]
+        lines.append(f"sum {called(ports, sender, leg)} {sum_of(rows, sender, leg)}")
     return [*lines, f"accepted {len(streams)}"]
 
 
@@ -215,12 +266,12 @@ def buffers_of(ports, senders, rows):
     together at the port differ."""
     found = dict.fromkeys(rows, 0)
     for sender in filter(Sender.is_stream, senders):
-        way = 0
-        for number, cls in sender.places():
+        ways = {}
+        for at, (number, cls) in enumerate(sender.places()):
             port, row = ports[number], rows[number, cls]
-            stay = row.wait + port.ps_per_bit * row.least
-            found[number, cls] += sender.burst + sender.rate * (stay + way) // SECOND
-            way = row.wait + port.latency - port.earliest
+            time = row.wait + port.ps_per_bit * row.least + ways.get(sender.before().get(at), 0)
+            found[number, cls] += sender.burst + sender.rate * time // SECOND
+            ways[at] = row.wait + port.latency - port.earliest
     return found
 
 
@@ -256,8 +307,11 @@ class Network:
     BRIDGES, MORE_STATIONS, RATES, PROPAGATIONS = (1, 2, 3, 4), (1, 2), (100, 1000, *RATES), (0, 500)
     PROCESSING, RESIDENCES = (0, 1000, 5000), (100_000, 400_000, 10_000_000)
 
+    # The formats of its file. In format 3 half of the streams have several listeners.
+    FORMATS = (1, 2)
+
     def __init__(self, draw):
-        self.draw, self.fmt, count = draw, draw.choice((1, 2)), draw.choice(self.BRIDGES)
+        self.draw, self.fmt, count = draw, draw.choice(self.FORMATS), draw.choice(self.BRIDGES)
         self.stations = [f"s{i}" for i in range(count + draw.choice(self.MORE_STATIONS))]
         self.bridges = {f"b{i}": self.bridge() for i in range(count)}
         ends = [(name, f"b{i % count}") for i, name in enumerate(self.stations)]
@@ -269,7 +323,7 @@ class Network:
     def bridge(self):
         """The least and the greatest processing of a bridge, and its residence, in nanoseconds."""
         most = self.draw.choice(self.PROCESSING)
-        least = self.draw.choice((0, most // 2, most)) if self.fmt == 2 else most
+        least = self.draw.choice((0, most // 2, most)) if self.fmt > 1 else most
         return least, most, self.draw.choice(self.RESIDENCES)
 
     def walk(self, ends):
@@ -277,14 +331,23 @@ class Network:
         return least_walk(self.ports, *ends)
 
     def ends_of(self, sender):
-        """The two stations of a sender's path."""
-        return self.ports[sender.path[0]].start, self.ports[sender.path[-1]].end
+        """The talker of a sender and its first listener."""
+        return self.ports[sender.path[0]].start, self.ports[sender.path[sender.legs()[0][-1]]].end
+
+    def route_text(self, sender):
+        """The lines that declare a sender's routes, by their ends or, of some with several listeners, by all nodes."""
+        start, ends = self.ends_of(sender)[0], [self.ports[sender.path[leg[-1]]].end for leg in sender.legs()]
+        if len(ends) == 1:
+            return f'from = "{start}"\nto = "{ends[0]}"'
+        if sender.most % 2 == 0:
+            return f'from = "{start}"\nto = {listed(ends)}'
+        routes = [[start, *(self.ports[sender.path[at]].end for at in route)] for route in sender.routes()]
+        return f"paths = [{', '.join(map(listed, routes))}]"
 
     def table(self, sender):
         """The table of a stream or a flow, with one class, or with one at each port where they differ."""
-        start, end = self.ends_of(sender)
         kind = "stream" if sender.is_stream() else "flow"
-        text = f'[[{kind}]]\nname = "{sender.name}"\nfrom = "{start}"\nto = "{end}"\nmax_octets = {sender.most}\n'
+        text = f'[[{kind}]]\nname = "{sender.name}"\n{self.route_text(sender)}\nmax_octets = {sender.most}\n'
         if kind == "flow":
             return text
         one = len(set(sender.classes)) == 1
@@ -318,15 +381,23 @@ class Varied(Network):
         """The path between two stations."""
         return self.walk(self.draw.sample(self.stations, 2))
 
+    def tree(self):
+        """The ports of a stream, and its branches: to one listener, or in format 3 half of the time to several."""
+        if self.fmt < 3 or self.draw.random() < 0.5:
+            return self.way(), ()
+        start, *ends = self.draw.sample(self.stations, self.draw.randint(2, len(self.stations)))
+        return tree_of([self.walk((start, end)) for end in ends], self.ports)
+
     def stream(self, name):
         """A stream of this name, four in ten of them with a class at each port."""
-        draw, path = self.draw, self.way()
+        draw, (path, branches) = self.draw, self.tree()
         least, most = draw.randint(64, 300), draw.randint(300, 2000)
         burst = bits_of(most) + draw.choice((0, 1, 5000, 30000))
         classes = [draw.randint(1, 7)] * len(path)
         if draw.random() < 0.4:
             classes = [draw.randint(1, 7) for _ in path]
-        return Sender(name, path, tuple(classes), draw.choice(self.STREAM_RATES), burst, least, most)
+        rate = draw.choice(self.STREAM_RATES)
+        return Sender(name, path, tuple(classes), rate, burst, least, most, branches=branches)
 
     def flow(self, name):
         """A flow of this name."""
@@ -346,8 +417,8 @@ class Alike(Varied):
         return (0 if least < most else least), most, residence
 
     def stream(self, name):
-        path, draw = self.way(), self.draw
-        return Sender(name, path, (6,) * len(path), *self.STREAM_RATES, draw.choice(self.BURSTS), 64, 1522)
+        (path, branches), burst = self.tree(), self.draw.choice(self.BURSTS)
+        return Sender(name, path, (6,) * len(path), *self.STREAM_RATES, burst, 64, 1522, branches=branches)
 
     def flow(self, name):
         path = self.way()

@@ -61,20 +61,54 @@ class Record:
         self.start, self.end = (int(words[6]), int(words[8])) if len(words) > 8 else (None, None)
 
 
-class Journey:
-    """What the text of a run tells of one frame: its name, octets and release, its hops, and its arrival or None."""
+class Leg:
+    """What the text of a run tells of a frame on its way to a listener, behind those before: its hops, and its arrival
+    or None; and the listener's name, which the first one has not."""
 
-    def __init__(self, words):
-        self.name, self.octets, self.release, self.hops, self.sink = words[2], int(words[3]), int(words[4]), [], None
+    def __init__(self, listener=None):
+        self.listener, self.hops, self.sink = listener, [], None
 
-    def lines(self, frame):
-        """The lines that tell it, where it has this number."""
-        yield f"frame {frame} {self.name} {self.octets} {self.release}"
+    def lines(self):
+        """The lines that tell it."""
+        yield from [] if self.listener is None else [f"listener {self.listener}"]
         for hop in self.hops:
             words = [hop.verdict] + ([] if hop.eligible is None else [str(hop.eligible)])
             words += [] if hop.start is None else ["start", str(hop.start), "end", str(hop.end)]
             yield " ".join(["hop", hop.port, str(hop.arrival)] + words)
         yield "discard" if self.sink is None else f"sink {self.sink}"
+
+
+class Journey:
+    """What the text of a run tells of one frame: its name, octets and release, and its legs, one for each listener."""
+
+    def __init__(self, words):
+        self.name, self.octets, self.release, self.legs = words[2], int(words[3]), int(words[4]), [Leg()]
+
+    @property
+    def hops(self):
+        """Its hops on the way to the first listener."""
+        return self.legs[0].hops
+
+    @property
+    def sink(self):
+        """Its arrival at the first listener, or None."""
+        return self.legs[0].sink
+
+    def lines(self, frame):
+        """The lines that tell it, where it has this number."""
+        yield f"frame {frame} {self.name} {self.octets} {self.release}"
+        for leg in self.legs:
+            yield from leg.lines()
+
+    def records(self, sender):
+        """Its hops by the places of its sender's ports."""
+        return {at: hop for places, leg in zip(sender.legs(), self.legs) for at, hop in zip(places, leg.hops)}
+
+    def ways(self, sender):
+        """For each listener the hops on the way there, and its arrival or None."""
+        records = self.records(sender)
+        for route, leg in zip(sender.routes(), self.legs):
+            yield [records[at] for at in route if at in records], leg.sink
 
 
 def journeys_of(lines):
@@ -85,10 +119,12 @@ def journeys_of(lines):
         if words[0] == "frame":
             out.append(Journey(words))
             assert int(words[1]) == len(out) - 1, text
+        elif words[0] == "listener":
+            out[-1].legs.append(Leg(words[1]))
         elif words[0] == "hop":
-            out[-1].hops.append(Record(words))
+            out[-1].legs[-1].hops.append(Record(words))
         elif words[0] == "sink":
-            out[-1].sink = int(words[1])
+            out[-1].legs[-1].sink = int(words[1])
         else:
             assert words[0] == "discard", text
     return out
@@ -107,12 +143,13 @@ def releases_of(journeys):
 def peaks_of(network, journeys):
     """The most bits of each class that a run's frames had at each port, by port and class: a frame is there from when
     it comes until its transmission ends."""
-    moments, places = {}, {it.name: it.places() for it in network.senders}
+    moments, senders = {}, {it.name: it for it in network.senders}
     for journey in journeys:
-        for place, hop in zip(places[journey.name], journey.hops):
+        places = senders[journey.name].places()
+        for at, hop in journey.records(senders[journey.name]).items():
             if hop.end is not None:
                 bits = bits_of(journey.octets)
-                moments.setdefault(place, []).extend([(hop.arrival, bits), (hop.end, -bits)])
+                moments.setdefault(places[at], []).extend([(hop.arrival, bits), (hop.end, -bits)])
     # At one time what ends comes first.
     return {place: max(accumulate(bits for _, bits in sorted(found))) for place, found in moments.items()}
 

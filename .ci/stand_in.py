@@ -108,7 +108,7 @@ def bursts_one_less(words, status, text):
 
 def always_tight(words, status, text):
     """A `witness` that prints the bound as the delay."""
-    named = r"^(witness \S+ delay) \d+ (bound (\d+) gap) \d+$"
+    named = r"^(witness \S+(?: \S+)? delay) \d+ (bound (\d+) gap) \d+$"
     return status, re.sub(named, r"\1 \3 \2 0", text, flags=re.M) if is_about(words, "witness") else text
 
 
@@ -143,13 +143,27 @@ def read_as_done(words, status, text):
 
 
 def routes_back(words, status, text):
-    """Paths in which the last two ports change places."""
-    return status, re.sub(r"^((?:stream|flow) .*?) (\S+) (\S+)$", r"\1 \3 \2", text, flags=re.M)
+    """Paths in which the last two ports change places, or where there is one port, it and what stands before it."""
+    return status, re.sub(r"^((?:stream|listener|flow) .*?) (\S+) (\S+)$", r"\1 \3 \2", text, flags=re.M)
 
 
 def arrivals_late(words, status, text):
     """Runs in which each frame arrives at its listener a picosecond later."""
     return status, re.sub(r"^sink (\d+)$", lambda found: f"sink {int(found[1]) + 1}", text, flags=re.M)
+
+
+# What a run tells of a copy: its listener and its hops, and then when it arrives.
+COPY = re.compile(r"^(listener \S+\n(?:hop .*\n)*)sink (\d+)$", re.M)
+
+
+def copies_late(words, status, text):
+    """Runs in which each frame arrives at its further listeners a picosecond later."""
+    return status, COPY.sub(lambda found: f"{found[1]}sink {int(found[2]) + 1}", text)
+
+
+def copies_lost(words, status, text):
+    """Runs in which no frame arrives at its further listeners."""
+    return status, COPY.sub(r"\1discard", text)
 
 
 def shifted_row(line, by):
@@ -259,8 +273,8 @@ WRONGS = {
         for it in (
             without_frames, without_releases, always_refused, always_accepted, never_late, never_full,
             always_conforming, latest_excess, worst_of_nothing, worst_one_less, one_less, always_admitted,
-            sums_one_less, status_of_success, nothing_printed, read_as_done, routes_back, arrivals_late, never_over,
-            bursts_one_less, always_tight, without_rivals, octets_whole,
+            sums_one_less, status_of_success, nothing_printed, read_as_done, routes_back, arrivals_late, copies_late,
+            copies_lost, never_over, bursts_one_less, always_tight, without_rivals, octets_whole,
         )
     },
 }  # fmt: skip

@@ -3,8 +3,8 @@
 from dataclasses import replace
 from typing import NamedTuple
 
-from second.bounds import least_certificate, sum_of
-from second.common import MOST_BYTES, Fault, Refusal, is_name, lines_of, lines_that_speak, number
+from second.bounds import least_certificate, sum_to
+from second.common import MOST_BYTES, MOST_PORTS, Fault, Refusal, is_name, lines_of, lines_that_speak, number
 from second.networks import MOST, Network, Sender, stream_fault
 
 MOST_REQUESTS = 10_000
@@ -79,7 +79,7 @@ def admitted(network, stream):
     rows, reason = least_certificate(wider)
     if reason:
         return None, reason
-    return wider, f"admitted {stream.name} {stream.classes[0]} {sum_of(stream, rows)}"
+    return wider, f"admitted {stream.name} {stream.classes[0]} {sum_to(stream, 0, rows)}"
 
 
 def answer_open(network, stream):
@@ -102,7 +102,8 @@ def answer(network, request):
         return Network(network.topology, rest, network.flows), [f"withdrawn {request.name}"]
     if any(it.name == request.name for it in network.senders):
         return network, [f"denied {request.name} name-taken"]
-    if len(network.streams) == MOST["stream"]:
+    ports = sum(len(stream.ports) for stream in [*network.streams, request.stream])
+    if len(network.streams) == MOST["stream"] or ports > MOST_PORTS:
         return network, [f"denied {request.name} limit"]
     if request.is_open:
         return answer_open(network, request.stream)

@@ -91,15 +91,21 @@ def overstay_of(network, rows):
     return row and f"residence {written(network, row[:2])} {need_of(network, row)}"
 
 
-def sum_of(stream, rows):
-    """The sum of the bounds along the path of a stream."""
-    return sum(rows[hop].bound for hop in stream.hops)
+def sum_to(stream, leg, rows):
+    """The sum of the bounds along the route of a stream to a listener."""
+    return sum(rows[hop].bound for hop in stream.hops_to(leg))
+
+
+def listeners_of(network):
+    """The listeners of all streams, each as the stream and its leg."""
+    return [(stream, leg) for stream in network.streams for leg in range(len(stream.legs))]
 
 
 def late_of(network, rows):
-    """The first stream whose bounds are over its deadline, as it is told, or None."""
-    late = next((it for it in network.streams if sum_of(it, rows) > it.deadline), None)
-    return late and f"deadline {late.name} {sum_of(late, rows)}"
+    """The first listener for which the bounds are over its stream's deadline, as it is told, or None."""
+    sums = ((stream, leg, sum_to(stream, leg, rows)) for stream, leg in listeners_of(network))
+    late = next((it for it in sums if it[2] > it[0].deadline), None)
+    return late and f"deadline {network.called(*late[:2])} {late[2]}"
 
 
 def least_certificate(network):
@@ -187,9 +193,10 @@ def checked(network, rows):
     refusal = refusal_of(network, rows)
     if refusal:
         raise Refusal(refusal)
-    for stream in network.streams:
-        yield from (f"hop {stream.name} {network.ports[hop[0]].name} {rows[hop].bound}" for hop in stream.hops)
-        yield f"sum {stream.name} {sum_of(stream, rows)}"
+    for stream, leg in listeners_of(network):
+        for hop in (stream.hops[place] for place in stream.legs[leg]):
+            yield f"hop {stream.name} {network.ports[hop[0]].name} {rows[hop].bound}"
+        yield f"sum {network.called(stream, leg)} {sum_to(stream, leg, rows)}"
     yield f"accepted {len(network.streams)}"
 
 
@@ -221,13 +228,14 @@ def load_text(network, at):
 
 
 def totals_text(network, rows, slacks):
-    """The last line of `explain`; the slacks are those of the streams in order."""
+    """The last line of `explain`; the slacks are those of the listeners in order."""
     over = sum(is_over(network, rows[hop]) for stream in network.streams for hop in stream.hops)
-    text = f"total streams {len(slacks)} late {sum(it < 0 for it in slacks)} over {over}"
+    text = f"total streams {len(network.streams)} late {sum(it < 0 for it in slacks)} over {over}"
     if not slacks:
         return text
     least = min(slacks)
-    return f"{text} tightest {network.streams[slacks.index(least)].name} {margin_text(least)}"
+    tightest = network.called(*listeners_of(network)[slacks.index(least)])
+    return f"{text} tightest {tightest} {margin_text(least)}"
 
 
 def explained(network):
@@ -236,9 +244,11 @@ def explained(network):
     if overload:
         raise Refusal(overload)
     rows = least_rows(network, sums)
-    slacks = [stream.deadline - sum_of(stream, rows) for stream in network.streams]
-    for stream, slack in zip(network.streams, slacks):
-        yield f"stream {stream.name} sum {sum_of(stream, rows)} deadline {stream.deadline} {margin_text(slack)}"
-        yield from (parts_text(network, rows[hop]) for hop in stream.hops)
+    listeners = listeners_of(network)
+    slacks = [stream.deadline - sum_to(stream, leg, rows) for stream, leg in listeners]
+    for (stream, leg), slack in zip(listeners, slacks):
+        called = f"{'listener' if leg else 'stream'} {network.called(stream, leg)}"
+        yield f"{called} sum {sum_to(stream, leg, rows)} deadline {stream.deadline} {margin_text(slack)}"
+        yield from (parts_text(network, rows[stream.hops[place]]) for place in stream.legs[leg])
     yield from (load_text(network, at) for at in sorted({place[0] for place in sums}))
     yield totals_text(network, rows, slacks)

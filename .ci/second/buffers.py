@@ -9,11 +9,10 @@ from second.runs import Run
 def windows_of(network, rows, stream):
     """Each hop of a stream with the time within which those of its frames that are together at the port became eligible
     at the port before, or here where this is the first."""
-    way = 0
-    for hop in stream.hops:
-        row = rows[hop]
+    for place, hop in enumerate(stream.hops):
+        row, before = rows[hop], stream.before.get(place)
+        way = 0 if before is None else need_of(network, rows[stream.hops[before]])
         yield hop, row.wait + network.ports[row.port].ps_per_bit * row.least + way
-        way = need_of(network, row)
 
 
 def buffers_of(network, rows):

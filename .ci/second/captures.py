@@ -3,7 +3,7 @@
 from struct import Struct
 from typing import NamedTuple
 
-from second.common import LAST_RELEASE, MOST_FRAMES, Fault
+from second.common import LAST_RELEASE, MOST_FRAMES, MOST_HOPS, Fault
 from second.runs import departed
 from second.schedules import Release
 
@@ -86,6 +86,7 @@ class Traffic:
     """What the records up to one come to at a station: releases, counts, and the first record that is over a limit."""
 
     def __init__(self, network, station):
+        self.network, self.ports = network, 0
         begins = {port.number for port in network.ports if port.leaves == station}
         numbered = enumerate(network.streams)
         self.streams = {it.identity: number for number, it in numbered if it.ports[0] in begins and it.identity}
@@ -107,10 +108,12 @@ class Traffic:
 
     def release(self, at, stream, octets):
         """Adds a release."""
-        if at > LAST_RELEASE or len(self.releases) == MOST_FRAMES:
+        ports = self.ports + len(self.network.streams[stream].ports)
+        if at > LAST_RELEASE or len(self.releases) == MOST_FRAMES or ports > MOST_HOPS:
             self.over = self.over or self.records
         else:
             self.releases.append(Release(at, stream, octets))
+            self.ports = ports
 
 
 def traffic_of(network, station, data):

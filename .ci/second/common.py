@@ -5,6 +5,8 @@ import re
 SECOND = 10**12  # picoseconds
 LAST_RELEASE = 10**17  # picoseconds
 MOST_FRAMES = 200_000
+MOST_PORTS = 65_536  # of all streams of a network together
+MOST_HOPS = 3_200_000  # ports of all frames of a run together
 MOST_BURST = 10**9
 MOST_BYTES = 16_777_216
 NUMBER = re.compile("0|[1-9][0-9]{0,35}")

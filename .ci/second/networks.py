@@ -1,4 +1,4 @@
-"""Network files: the form of the tables, nodes and links, paths, and the first fault of all these; what `show` prints.
+"""Network files: the form of the tables, nodes and links, routes, and the first fault of all these; what `show` prints.
 
 The text is parsed by `tomllib` of Python, which knows TOML 1.0. A text that it refuses is not judged where something
 stands in it that TOML 1.1 may allow: an inline table, the escapes `\\e` and `\\x`, a time without seconds (from memory,
@@ -10,12 +10,12 @@ from collections import Counter
 from dataclasses import dataclass, field
 from functools import cached_property, lru_cache
 
-from second.common import MOST_BYTES, Fault, Unjudged, first_of, is_name, rules_of_stream
+from second.common import MOST_BYTES, MOST_PORTS, Fault, Unjudged, first_of, is_name, rules_of_stream
 
 MBPS = (10, 100, 1000, 2500, 5000, 10000, 25000, 40000, 50000, 100000)
 ARRAYS = ("station", "bridge", "link", "stream", "flow")
 MOST = {"station": 1024, "bridge": 1024, "link": 2048, "stream": 4096, "flow": 1024}
-STREAM = "name path from to class classes rate_bps burst_bits min_octets max_octets deadline_ns address vlan"
+STREAM = "name path paths from to class classes rate_bps burst_bits min_octets max_octets deadline_ns address vlan"
 KEYS = {
     "top": ["format", *ARRAYS],
     "station": ["name"],
@@ -27,6 +27,7 @@ BRIDGES = {
     1: ["name", "processing_ns", "residence_ns"],
     2: ["name", "processing_min_ns", "processing_max_ns", "residence_ns"],
 }
+BRIDGES[3] = BRIDGES[2]
 PARTNER = {"from": "to", "to": "from", "address": "vlan", "vlan": "address"}
 NARROW = ("processing_ns", "processing_min_ns", "processing_max_ns", "residence_ns", "mbps", "propagation_ns")
 ADDRESS = re.compile("[0-9A-Fa-f]{2}(?::[0-9A-Fa-f]{2}){5}")
@@ -60,7 +61,11 @@ class Port:
 
 @dataclass(frozen=True)
 class Sender:
-    """A stream, or a flow, which has class 0 at each port, no rate and no burst; the deadline is in picoseconds."""
+    """A stream, or a flow, which has class 0 at each port, no rate and no burst; the deadline is in picoseconds.
+
+    The ports are those of the path to the first listener, and then for each further listener those that lead there and
+    to no listener before it. `branches` has for each further listener the place of the first of these among all ports,
+    and the place of the port that leads to the bridge from where they go on."""
 
     name: str
     ports: tuple
@@ -71,11 +76,47 @@ class Sender:
     burst: int = 0
     deadline: int = 0
     identity: tuple | None = None
+    branches: tuple = ()
 
     @property
     def hops(self):
-        """The ports of the path, each with the class there."""
+        """The ports, each with the class there."""
         return list(zip(self.ports, self.classes))
+
+    @cached_property
+    def legs(self):
+        """For each listener the places of the ports that lead there and to none before."""
+        firsts = [0, *(first for first, _ in self.branches), len(self.ports)]
+        return [range(*ends) for ends in zip(firsts, firsts[1:])]
+
+    @cached_property
+    def before(self):
+        """For each place but the first that of the port before."""
+        return {place: place - 1 for place in range(1, len(self.ports))} | dict(self.branches)
+
+    @cached_property
+    def onward(self):
+        """For each place those of the ports that leave the bridge to which its port leads."""
+        found = {}
+        for place, before in sorted(self.before.items()):
+            found.setdefault(before, []).append(place)
+        return found
+
+    @cached_property
+    def routes(self):
+        """For each listener the places of the ports on the route there, in order."""
+        return [self.route_to(leg[-1]) for leg in self.legs]
+
+    def route_to(self, place):
+        """The places of the ports on the way to this one, itself included."""
+        route = [place]
+        while route[-1] in self.before:
+            route.append(self.before[route[-1]])
+        return route[::-1]
+
+    def hops_to(self, leg):
+        """The ports on the route to a listener, each with the class there."""
+        return [(self.ports[place], self.classes[place]) for place in self.routes[leg]]
 
     @property
     def is_flow(self):
@@ -156,11 +197,16 @@ class Network:
 
     @cached_property
     def users(self):
-        """For each port that a path has, the senders whose path has it, each with its class there."""
+        """For each port the senders that have it, each with its class there."""
         found = {}
         for sender, (number, traffic_class) in ((it, hop) for it in self.senders for hop in it.hops):
             found.setdefault(number, []).append((sender, traffic_class))
         return found
+
+    def called(self, sender, leg):
+        """How a listener is called: by the stream, and but for the first one by its station too."""
+        station = self.ports[sender.ports[sender.legs[leg][-1]]].leads_to
+        return f"{sender.name} {station}" if leg else sender.name
 
 
 def parts_of(value):
@@ -235,42 +281,52 @@ def is_named(value):
     return isinstance(value, str) and is_name(value)
 
 
-def is_of_kind(key, entry):
-    """Whether what stands with a key of a table is of the kind that is asked there."""
+def is_path(value):
+    """Whether a value is an array of two names or more."""
+    return are(value, is_named) and len(value) >= 2
+
+
+def is_of_kind(key, entry, has_routes):
+    """Whether what stands with a key of a table is of the kind that is asked there; some have several routes."""
     value = entry[key]
+    if key == "to" and has_routes and isinstance(value, list):
+        return bool(value) and are(value, is_named)
+    if key == "paths":
+        return bool(value) and are(value, is_path) and not {"path", "from", "to"} & set(entry)
     if key in ARRAYS:
         return are_tables(value)
     if key in ("name", "a", "b", "from", "to"):
         return is_named(value)
     if key == "path":
-        return are(value, is_named) and len(value) >= 2 and not {"from", "to"} & set(entry)
+        return is_path(value) and not ({"from", "to"} | ({"paths"} if has_routes else set())) & set(entry)
     if key == "classes":
         return are(value, lambda it: is_whole(it, 0, 2**63 - 1)) and "class" not in entry
     if key == "address":
         return isinstance(value, str) and bool(ADDRESS.fullmatch(value))
-    ranges = {"format": (1, 2), "vlan": (1, 4094)}
+    ranges = {"format": (1, 3), "vlan": (1, 4094)}
     return is_whole(value, *ranges.get(key, (0, 2**32 - 1 if key in NARROW else 2**63 - 1)))
 
 
-def is_missing(key, table, entry):
+def is_missing(key, table, entry, has_routes):
     """Whether a key has to stand in a table and does not."""
-    if key in entry or key in ("classes", "deadline_ns") or table == "top" and key != "format":
+    if key in entry or key in ("classes", "deadline_ns", "paths") or table == "top" and key != "format":
         return False
     if key in PARTNER:
         return PARTNER[key] in entry
     if key == "path":
-        return not {"from", "to"} & set(entry)
+        return not ({"from", "to"} | ({"paths"} if has_routes else set())) & set(entry)
     return key != "class" or "classes" not in entry
 
 
 def judge_form(table, count, entry, keys):
     """Names the first fault of form of one table, if it has one."""
-    missing = next((key for key in keys if is_missing(key, table, entry)), None)
+    has_routes = "paths" in keys
+    missing = next((key for key in keys if is_missing(key, table, entry, has_routes)), None)
     if missing:
         raise Fault(f"missing {table} {count} {missing}")
     if set(entry) - set(keys):
         raise Fault(f"unknown {table} {count}")
-    wrong = next((key for key in keys if key in entry and not is_of_kind(key, entry)), None)
+    wrong = next((key for key in keys if key in entry and not is_of_kind(key, entry, has_routes)), None)
     if wrong:
         raise Fault(f"kind {table} {count} {wrong}")
 
@@ -280,8 +336,11 @@ def judge_array(table, tree):
     entries = tree.get(table, [])
     if len(entries) + (len(tree.get("station", [])) if table == "bridge" else 0) > MOST[table]:
         raise Fault(f"limit {table}")
+    keys = BRIDGES[tree.get("format", 1)] if table == "bridge" else KEYS[table]
+    if tree.get("format") != 3:
+        keys = [key for key in keys if key != "paths"]
     for count, entry in enumerate(entries, 1):
-        judge_form(table, count, entry, BRIDGES[tree["format"]] if table == "bridge" else KEYS[table])
+        judge_form(table, count, entry, keys)
 
 
 def judge_forms(tree):
@@ -345,41 +404,73 @@ def topology_of(tree):
     return Topology({node["name"] for node in stations}, [node["name"] for node in bridges], ports)
 
 
-def path_of(topology, entry):
-    """The ports of the path that an entry declares, or None where it declares no valid one."""
-    nodes = entry.get("path")
-    if nodes is None:
-        walk = topology.route(entry["from"], entry["to"])
-        return walk if walk and topology.is_valid(topology.nodes_of(walk)) else None
+def route_between(topology, start, end):
+    """The ports of the shortest route from one station to another, or None where there is none."""
+    walk = topology.route(start, end)
+    return walk if walk and topology.is_valid(topology.nodes_of(walk)) else None
+
+
+def route_over(topology, nodes):
+    """The ports of the route over these nodes, or None where it is no valid one."""
     walk = [topology.between.get(pair) for pair in zip(nodes, nodes[1:])]
     return tuple(walk) if None not in walk and topology.is_valid(nodes) else None
+
+
+def routes_of(topology, entry):
+    """The ports of each route that an entry declares, None in the place of one that is not valid."""
+    if "from" in entry:
+        ends = entry["to"] if isinstance(entry["to"], list) else [entry["to"]]
+        return [route_between(topology, entry["from"], end) for end in ends]
+    return [route_over(topology, nodes) for nodes in entry.get("paths") or [entry["path"]]]
+
+
+def tree_of_routes(topology, routes):
+    """The ports of a tree of routes, in the order of its legs, and its branches; or None where they make no tree."""
+    if None in routes:
+        return None
+    ports, places, branches = [], {}, []
+    reached = {topology.ports[routes[0][0]].leaves}
+    for route in routes:
+        shared = next((place for place, number in enumerate(route) if number not in places), len(route))
+        own = [topology.ports[number].leads_to for number in route[shared:]]
+        if (shared == 0) != (not ports) or not own or not reached.isdisjoint(own):
+            return None
+        if ports:
+            branches.append((len(ports), places[route[shared - 1]]))
+        for number in route[shared:]:
+            places[number] = len(ports)
+            ports.append(number)
+        reached.update(own)
+    return tuple(ports), tuple(branches)
 
 
 def stream_fault(ports, classes, sender, deadline):
     """The first rule that a stream breaks, or None; its classes are as they are given, its deadline in nanoseconds."""
     numbers = rules_of_stream(sender.rate, sender.burst, sender.least, sender.greatest)
     right = len(classes) in (1, len(ports)) and all(1 <= it <= 7 for it in classes)
-    limits = [("limit", len(ports) > 16), ("limit", not 1 <= deadline <= MOST_DEADLINE)]
+    longest = max(map(len, sender.routes))
+    limits = [("limit", longest > 16), ("limit", not 1 <= deadline <= MOST_DEADLINE)]
     return first_of([("bad-class", not right), *numbers, *limits])
 
 
 def stream_of(topology, entry):
     """The stream that a table declares, and the first rule that it breaks, if it breaks one."""
-    ports = path_of(topology, entry)
-    if ports is None:
+    tree = tree_of_routes(topology, routes_of(topology, entry))
+    if tree is None:
         return None, "bad-path"
+    ports, branches = tree
     given = entry.get("classes", [entry.get("class")])
     classes = tuple(given) if len(given) == len(ports) else tuple(given[:1]) * len(ports)
     deadline = entry.get("deadline_ns", MOST_DEADLINE)
     identity = (int(entry["address"].replace(":", ""), 16), entry["vlan"]) if "address" in entry else None
     numbers = (entry[key] for key in ("min_octets", "max_octets", "rate_bps", "burst_bits"))
-    sender = Sender(entry["name"], ports, classes, *numbers, 1000 * deadline, identity)
+    sender = Sender(entry["name"], ports, classes, *numbers, 1000 * deadline, identity, branches)
     return sender, stream_fault(ports, given, sender, deadline)
 
 
 def flow_of(topology, entry):
     """The flow that a table declares, and the first rule that it breaks, if it breaks one."""
-    ports = path_of(topology, entry)
+    (ports,) = routes_of(topology, entry)
     if ports is None:
         return None, "bad-path"
     greatest = entry["max_octets"]
@@ -389,7 +480,7 @@ def flow_of(topology, entry):
 
 def senders_of(topology, table, entries, names, read):
     """The senders of an array, whose names are added to those that are taken, or the first fault of one."""
-    found, identities = [], set()
+    found, identities, total = [], set(), 0
     for count, entry in enumerate(entries, 1):
         sender, fault = read(topology, entry)
         if fault:
@@ -398,6 +489,9 @@ def senders_of(topology, table, entries, names, read):
             raise Fault(f"sender-twice {table} {count}")
         if sender.identity in identities:
             raise Fault(f"identity-twice {count}")
+        total += len(sender.ports)
+        if total > MOST_PORTS and table == "stream":
+            raise Fault("limit stream")
         names.add(sender.name)
         identities |= {sender.identity} - {None}
         found.append(sender)
@@ -421,16 +515,19 @@ def port_text(port):
 
 
 def sender_text(network, kind, sender):
-    """What `show` prints of a stream or flow."""
-    classes = sender.classes[:1] if len(set(sender.classes)) == 1 else sender.classes
-    path = " ".join(network.ports[number].name for number in sender.ports)
-    return f"{kind} {sender.name} {','.join(map(str, classes))} {path}"
+    """What `show` prints of a stream or flow: a line for each listener."""
+    for leg, places in enumerate(sender.legs):
+        classes = [sender.classes[place] for place in places]
+        classes = classes[:1] if len(set(classes)) == 1 else classes
+        ports = " ".join(network.ports[sender.ports[place]].name for place in places)
+        first = "listener" if leg else kind
+        yield f"{first} {network.called(sender, leg)} {','.join(map(str, classes))} {ports}"
 
 
 def shown(network):
     """What `show` prints."""
     streams, flows = network.streams, network.flows
     yield from map(port_text, network.ports)
-    yield from (sender_text(network, "stream", it) for it in streams)
-    yield from (sender_text(network, "flow", it) for it in flows)
+    yield from (line for it in streams for line in sender_text(network, "stream", it))
+    yield from (line for it in flows for line in sender_text(network, "flow", it))
     yield f"total ports {len(network.ports)} streams {len(streams)} flows {len(flows)}"

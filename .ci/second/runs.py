@@ -2,6 +2,7 @@
 for a frame. By the rules of ports, links and groups and the key and wait of the order there is just one such run."""
 
 from heapq import heapify, heappop, heappush
+from itertools import chain
 from typing import Callable, NamedTuple
 
 from second.common import wire_bits
@@ -60,24 +61,27 @@ class Sending:
 
 
 class Run:
-    """A run: the lines of each frame, how it ended, and when; and what crossed each port."""
+    """A run: the lines of each frame along each leg of its sender, how it ended for each listener, and when; and what
+    crossed each port. A frame that comes to a bridge is judged once, whatever ports it goes on by."""
 
     def __init__(self, network, releases, order):
         self.network, self.releases, self.order = network, releases, order
         self.senders = network.senders
         self.ports = [Sending(port) for port in network.ports]
-        self.groups, self.crossings, self.ends = {}, [], [None] * len(releases)
-        self.lines = [[self.release_text(frame, it)] for frame, it in enumerate(releases)]
-        self.agenda = [(release.at, COMES, frame, 0) for frame, release in enumerate(releases)]
+        self.groups, self.crossings = {}, []
+        legs = [len(self.senders[release.sender].legs) for release in releases]
+        self.ends = [[None] * count for count in legs]
+        self.lines = [[[] for _ in range(count)] for count in legs]
+        self.agenda = [(release.at, COMES, frame, -1) for frame, release in enumerate(releases)]
         heapify(self.agenda)
         self.play()
 
     def play(self):
         """Plays the run to its end."""
         while self.agenda:
-            now, phase, which, hop = heappop(self.agenda)
+            now, phase, which, place = heappop(self.agenda)
             if phase == COMES:
-                self.come(now, which, hop)
+                self.come(now, which, place)
             else:
                 self.look(now, which)
 
@@ -85,33 +89,60 @@ class Run:
         """The line of a release."""
         return f"frame {frame} {self.senders[release.sender].name} {release.octets} {release.at}"
 
-    def verdict(self, sender, now, octets, hop):
-        """The verdict on a frame of a sender that comes to a hop, and its eligibility time."""
-        if hop == 0:
+    def verdict(self, sender, now, octets, place):
+        """The verdict on a frame of a sender that comes behind the port of a place, and its eligibility time; before
+        the first place it is at its talker."""
+        if place < 0:
             return ELIGIBLE, now
         if sender.is_flow:
             return (ELIGIBLE, now) if is_declared_size(sender, octets) else (SIZE, None)
-        number, traffic_class = sender.hops[hop - 1]
+        number, traffic_class = sender.hops[place]
         group = self.groups.setdefault((number, traffic_class), Group(self.network.ports[number].residence))
         return group.judge(sender, now, octets)
 
-    def come(self, now, frame, hop):
-        """A frame comes to the node before this hop of its path, or to its listener."""
+    def come(self, now, frame, place):
+        """A frame comes behind the port of a place: to a listener, or to a bridge; or it is released."""
         release = self.releases[frame]
         sender = self.senders[release.sender]
-        if hop == len(sender.ports):
-            self.end(frame, SINK, now, f"sink {now}")
+        onward = sender.onward.get(place, []) if place >= 0 else [0]
+        if not onward:
+            leg = self.leg_of(sender, place)
+            self.ends[frame][leg] = SINK, now
+            self.lines[frame][leg].append(f"sink {now}")
             return
-        verdict, eligible = self.verdict(sender, now, release.octets, hop)
-        port = self.ports[sender.ports[hop]]
-        text = f"hop {port.port.name} {now} {verdict}"
-        if verdict == ELIGIBLE:
-            key = self.order.key(release.sender, frame)
-            heappush(port.held[sender.classes[hop]], (eligible, key, frame, hop, now, f"{text} {eligible}"))
-            heappush(self.agenda, (eligible, LOOKS, port.port.number, 0))
-        else:
-            self.lines[frame].append(text if verdict == SIZE else f"{text} {eligible}")
-            self.end(frame, verdict, now, "discard")
+        verdict, eligible = self.verdict(sender, now, release.octets, place)
+        for there in onward:
+            port = self.ports[sender.ports[there]]
+            text = f"hop {port.port.name} {now} {verdict}"
+            if verdict == ELIGIBLE:
+                key = self.order.key(release.sender, frame)
+                heappush(port.held[sender.classes[there]], (eligible, key, frame, there, now, f"{text} {eligible}"))
+                heappush(self.agenda, (eligible, LOOKS, port.port.number, 0))
+            else:
+                self.lines[frame][self.leg_of(sender, there)].append(text if verdict == SIZE else f"{text} {eligible}")
+        if verdict != ELIGIBLE:
+            self.discard(frame, sender, set(onward), (verdict, now))
+
+    def discard(self, frame, sender, onward, end):
+        """A frame ends before these places, for each listener behind."""
+        for leg, route in enumerate(sender.routes):
+            if onward & set(route):
+                self.ends[frame][leg] = end
+                self.lines[frame][leg].append("discard")
+
+    def leg_of(self, sender, place):
+        """The leg that has a place."""
+        return next(leg for leg, places in enumerate(sender.legs) if place in places)
+
+    def lines_of(self, frame):
+        """What `replay` prints of a frame."""
+        release = self.releases[frame]
+        sender = self.senders[release.sender]
+        yield self.release_text(frame, release)
+        for leg, lines in enumerate(self.lines[frame]):
+            if leg:
+                yield f"listener {self.network.called(sender, leg).split()[1]}"
+            yield from lines
 
     def look(self, now, number):
         """A port looks for a frame to send."""
@@ -119,23 +150,18 @@ class Run:
         taken = port.take(now) if port.until <= now else None
         if taken is None:
             return
-        *_, frame, hop, came, text = taken
+        *_, frame, place, came, text = taken
         release = self.releases[frame]
-        bits, place = wire_bits(release.octets), self.senders[release.sender].hops[hop]
+        sender, bits = self.senders[release.sender], wire_bits(release.octets)
         port.send(now, bits, frame, self.order)
-        self.crossings.append(Crossing(place, came, port.until, bits))
-        self.lines[frame].append(f"{text} start {now} end {port.until}")
-        heappush(self.agenda, (port.arrival, COMES, frame, hop + 1))
+        self.crossings.append(Crossing(sender.hops[place], came, port.until, bits))
+        self.lines[frame][self.leg_of(sender, place)].append(f"{text} start {now} end {port.until}")
+        heappush(self.agenda, (port.arrival, COMES, frame, place))
         heappush(self.agenda, (port.until, LOOKS, number, 0))
-
-    def end(self, frame, how, when, text):
-        """A frame ended."""
-        self.ends[frame] = how, when
-        self.lines[frame].append(text)
 
 
 def counts_text(ends):
-    """How many frames ended in each way."""
+    """In how many cases a frame ended in each way."""
     ways = [how for how, _ in ends]
     return f"sunk {ways.count(SINK)} late {ways.count(LATE)} size {ways.count(SIZE)}"
 
@@ -143,6 +169,6 @@ def counts_text(ends):
 def departed(network, releases, order):
     """What `replay` prints."""
     run = Run(network, releases, order)
-    for lines in run.lines:
-        yield from lines
-    yield f"total frames {len(releases)} {counts_text(run.ends)}"
+    for frame in range(len(releases)):
+        yield from run.lines_of(frame)
+    yield f"total frames {len(releases)} {counts_text(chain.from_iterable(run.ends))}"

@@ -3,7 +3,7 @@ the schedule of some releases."""
 
 from typing import NamedTuple
 
-from second.common import LAST_RELEASE, MOST_FRAMES, SECOND, Fault, Refusal, number, wire_bits
+from second.common import LAST_RELEASE, MOST_FRAMES, MOST_HOPS, SECOND, Fault, Refusal, number, wire_bits
 from second.groups import is_declared_size
 from second.tables import rows_of
 
@@ -40,9 +40,12 @@ def releases_of(network, data):
     """The releases that the bytes of a schedule declare, or their first fault."""
     if len(data) > MOST_BYTES:
         raise Fault("too-long")
-    names, releases = {sender.name: count for count, sender in enumerate(network.senders)}, []
+    names, releases, ports = {sender.name: count for count, sender in enumerate(network.senders)}, [], 0
     for count, fields in rows_of(data, HEADER):
         releases.append(release_of(names, count, fields, releases))
+        ports += len(network.senders[releases[-1].sender].ports)
+        if ports > MOST_HOPS:
+            raise Fault(f"limit {count}")
     return releases
 
 

@@ -5,15 +5,17 @@ HEADER = "bridge,received_from,class,stream,rate_bps,burst_bits,max_octets,resid
 
 def settings_of(network):
     """Each place of a setting, by which settings are ordered, with its record. A place is the number of the bridge,
-    that of the port of reception, the class there, and the number of the sender."""
+    that of the port of reception, the class there, the number of the sender, and the place of the port on which it goes
+    on among those of the sender."""
     bridges = {name: count for count, name in enumerate(network.topology.bridges)}
     for count, sender in enumerate(network.senders):
         shaped = ("", "") if sender.is_flow else (sender.rate, sender.burst)
-        for (number, own), (next_number, there) in zip(sender.hops, sender.hops[1:]):
+        for place, at in sorted(sender.before.items()):
+            (number, own), (next_number, there) = sender.hops[at], sender.hops[place]
             before, after = network.ports[number], network.ports[next_number]
             stay = "" if sender.is_flow else before.residence // 1000
             fields = before.leads_to, before.name, own, sender.name, *shaped, sender.greatest, stay, after.name, there
-            yield (bridges[before.leads_to], number, own, count), fields
+            yield (bridges[before.leads_to], number, own, count, place), fields
 
 
 def told(network):

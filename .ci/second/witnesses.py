@@ -1,7 +1,7 @@
 """Delays that can happen: the burst at each hop of a stream's path, the delay of the stream in its run, and what
 `witness` prints."""
 
-from second.bounds import least_certificate, sum_of
+from second.bounds import least_certificate, sum_to
 from second.common import Refusal, wire_bits
 from second.runs import LATEST, SINK, Order, Run
 from second.schedules import Release
@@ -19,7 +19,7 @@ def stream_called(network, word):
 
 def travel_of(network, sender, at):
     """How long the longest frame of a sender takes over the ports before this one, each latency being the greatest."""
-    before = [network.ports[number] for number in sender.ports[: sender.ports.index(at)]]
+    before = [network.ports[sender.ports[place]] for place in sender.route_to(sender.ports.index(at))[:-1]]
     return sum(port.ps_per_bit * wire_bits(sender.greatest) + port.latency for port in before)
 
 
@@ -40,10 +40,25 @@ def goes_last(stream):
     return Order(lambda sender, frame: (sender == stream, frame), LATEST.wait)
 
 
-def delay_in(network, stream, releases):
-    """The greatest delay of a stream in the run of these releases."""
-    ends = zip(Run(network, releases, goes_last(stream)).ends, releases)
-    return max(when - release.at for (how, when), release in ends if how == SINK and release.sender == stream)
+def delay_in(network, stream, leg, releases):
+    """The greatest delay of a stream for a listener in the run of these releases."""
+    ends = [(*it[leg], release.at) for it, release in zip(Run(network, releases, goes_last(stream)).ends, releases)
+            if release.sender == stream]
+    return max(when - at for how, when, at in ends if how == SINK)
+
+
+def witnessed_for(network, stream, leg, rows):
+    """What `witness` prints for a listener."""
+    sender = network.streams[stream]
+    hops = sender.hops_to(leg)
+    bursts = [burst_at(network, *hop) for hop in hops]
+    delays = [delay_in(network, stream, leg, burst) for burst in bursts]
+    for (at, _), delay in zip(hops, delays):
+        yield f"hop {network.ports[at].name} {delay}"
+    worst, bound = max(delays), sum_to(sender, leg, rows)
+    for release in bursts[delays.index(worst)]:
+        yield f"release {release.at} {network.senders[release.sender].name} {release.octets}"
+    yield f"witness {network.called(sender, leg)} delay {worst} bound {bound} gap {bound - worst}"
 
 
 def witnessed(network, stream):
@@ -52,11 +67,7 @@ def witnessed(network, stream):
     if reason:
         raise Refusal(reason)
     sender = network.streams[stream]
-    bursts = [burst_at(network, *hop) for hop in sender.hops]
-    delays = [delay_in(network, stream, burst) for burst in bursts]
-    for at, delay in zip(sender.ports, delays):
-        yield f"hop {network.ports[at].name} {delay}"
-    worst, bound = max(delays), sum_of(sender, rows)
-    for release in bursts[delays.index(worst)]:
-        yield f"release {release.at} {network.senders[release.sender].name} {release.octets}"
-    yield f"witness {sender.name} delay {worst} bound {bound} gap {bound - worst}"
+    for leg in range(len(sender.legs)):
+        if leg:
+            yield f"listener {network.called(sender, leg)}"
+        yield from witnessed_for(network, stream, leg, rows)
