@@ -34,26 +34,25 @@ def of_scheduler(rate, burst, clock, steps):
     return own, up(burst + up(own * clock[1], SECOND), steps[1]) * steps[1]
 
 
-def along(settings):
-    """The settings of a stream in the order of its path: each bridge receives from the port that the one before sends
-    to."""
-    by_reception = {it["received_from"]: it for it in settings}
-    port = next(iter(by_reception.keys() - {it["sent_to"] for it in settings}), None)
-    while port in by_reception:
-        yield by_reception[port]
-        port = by_reception[port]["sent_to"]
-
-
 def change(settings, kept, clock, steps):
     """Changes the settings of a stream whose talker keeps this rate and burst in true time, and gives what its frames
-    keep behind the last bridge."""
-    for it in along(settings):
-        it["rate_bps"], it["burst_bits"] = own = of_scheduler(*kept, clock, steps)
-        it["residence_ns"] = up(
-            1000 * int(it["residence_ns"]) * (MILLION + clock[0]) + MILLION * clock[1], 1000 * MILLION
-        )
-        kept = in_true_time(*own, *clock)
-    return kept
+    keep behind the last bridge, of several last ones the greatest. Each bridge receives from the port that the one
+    before sends to; one that copies has a setting for each port on which it sends, and one scheduler for all."""
+    by_reception = {}
+    for it in settings:
+        by_reception.setdefault(it["received_from"], []).append(it)
+    first = next(iter(by_reception.keys() - {it["sent_to"] for it in settings}), None)
+    ahead, last = [(first, kept)], []
+    for port, kept in ahead:
+        own = of_scheduler(*kept, clock, steps)
+        for it in by_reception.get(port, []):
+            it["rate_bps"], it["burst_bits"] = own
+            it["residence_ns"] = up(
+                1000 * int(it["residence_ns"]) * (MILLION + clock[0]) + MILLION * clock[1], 1000 * MILLION
+            )
+            ahead.append((it["sent_to"], in_true_time(*own, *clock)))
+        last += [] if port in by_reception else [kept]
+    return tuple(map(max, zip(*last)))
 
 
 def declared(path, settings_of, clock, talker, steps):
