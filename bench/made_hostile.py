@@ -6,6 +6,7 @@ MAX_SCHEDULE_BYTES = 33_554_432
 MAX_CAPTURE_BYTES = 268_435_456
 MAX_RECORDS = 1_000_000
 MAX_FRAMES = 200_000
+MAX_PORTS = 3_200_000
 MAX_REQUESTS = 10_000
 
 PIECE = 1 << 16
@@ -271,6 +272,33 @@ def long_line(streams, length=0, flows=0, rate=1_000_000, octets=2000, mbps=1000
     return make
 
 
+# The most listeners of a stream, all stations around a bridge but its talker; the most streams to all of them; and the
+# most frames of such streams in a run.
+LISTENERS, TREES = 1022, 64
+TREE_FRAMES = MAX_PORTS // (LISTENERS + 1)
+
+
+def hub(streams, grows=True):
+    """A maker of a bridge with as many stations as there may be, and of streams from the first one to all others, or of
+    a share of these where that is asked for."""
+    names = [f"s{k}" for k in range(LISTENERS + 1)]
+    to = ", ".join(f'"{name}"' for name in names[1:])
+
+    def lines(share):
+        yield 'format = 3\n[[bridge]]\nname = "b"\nprocessing_min_ns = 1000\nprocessing_max_ns = 1000\n'
+        yield "residence_ns = 1000000000\n"
+        for name in names:
+            yield f'[[station]]\nname = "{name}"\n[[link]]\na = "{name}"\nb = "b"\nmbps = 1000\npropagation_ns = 500\n'
+        for k in range(streams // share):
+            yield f'[[stream]]\nname = "stream_{k}"\nfrom = "s0"\nto = [{to}]\nclass = {1 + k % 7}\n'
+            yield "rate_bps = 1000000\nburst_bits = 672\nmin_octets = 64\nmax_octets = 64\n"
+
+    def make(share):
+        write_lines("n.toml", lines(share if grows else 1))
+
+    return make
+
+
 def late_requests(count):
     """A maker of so many requests to enter the line from end to end, with a deadline that is met in no class."""
     return repeated("r.txt", "", count, lambda k: f"admit new_{k} t u lowest 1000 672 64 64 1\n")
@@ -280,13 +308,12 @@ def late_requests(count):
 PAUSE_PS = 672_000_000
 
 
-def releases(streams, pause, octets=64, begin=0, length=0):
-    """A maker of a schedule of as many frames as a run may have, of these streams in turn, so many picoseconds apart
-    and from this time on. The streams' names have at least this length."""
+def releases(streams, pause, octets=64, begin=0, length=0, count=MAX_FRAMES):
+    """A maker of a schedule of as many frames as a run may have, or of so many, of these streams in turn, so many
+    picoseconds apart and from this time on. The streams' names have at least this length."""
     names = [padded_name(f"stream_{k}", length) for k in range(streams)]
-
 
     def release(k):
         return f"{begin + k * pause},{names[k % streams]},{octets}\n"
 
-    return repeated("s.csv", SCHEDULE_HEADER, MAX_FRAMES, release)
+    return repeated("s.csv", SCHEDULE_HEADER, count, release)
