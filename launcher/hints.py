@@ -19,19 +19,21 @@ KEYS = {
     "top": ["format", "station", "bridge", "link", "stream", "flow"],
     "station": ["name"],
     "link": ["a", "b", "mbps", "propagation_ns"],
-    "stream": [
-        "name", "path", "from", "to", "class", "classes", "rate_bps", "burst_bits", "min_octets", "max_octets",
-        "deadline_ns", "address", "vlan",
-    ],
     "flow": ["name", "path", "from", "to", "max_octets"],
 }
-BRIDGE_KEYS = {
-    1: ["name", "processing_ns", "residence_ns"],
-    2: ["name", "processing_min_ns", "processing_max_ns", "residence_ns"],
+SPREAD_KEYS = ["name", "processing_min_ns", "processing_max_ns", "residence_ns"]
+BEHIND_ROUTES = [
+    "class", "classes", "rate_bps", "burst_bits", "min_octets", "max_octets", "deadline_ns", "address", "vlan",
+]
+ONE_ROUTE_KEYS = ["name", "path", "from", "to", *BEHIND_ROUTES]
+# Those of the tables whose keys go by the format.
+FORMAT_KEYS = {
+    "bridge": {1: ["name", "processing_ns", "residence_ns"], 2: SPREAD_KEYS, 3: SPREAD_KEYS},
+    "stream": {1: ONE_ROUTE_KEYS, 2: ONE_ROUTE_KEYS, 3: ["name", "path", "paths", "from", "to", *BEHIND_ROUTES]},
 }
 # The least and the greatest that a number may be.
 RANGES = {
-    "format": (1, 2),
+    "format": (1, 3),
     "propagation_ns": (0, 1000000),
     "processing_ns": (0, 1000000),
     "processing_min_ns": (0, 1000000),
@@ -48,6 +50,8 @@ RANGES = {
 RATES = "10, 100, 1000, 2500, 5000, 10000, 25000, 40000, 50000 or 100000"
 MOST_NESTED = 80
 MOST_LINKS = 16
+MOST_STREAMS = 4096
+MOST_PORTS = 65536
 HEADERS = {"CERT": "port,class,higher,equal,bursts,lower,least,wait,bound", "SCHEDULE": "at_ps,sender,octets"}
 REQUEST_FORMS = ["admit NAME FROM TO CLASS RATE BURST MIN MAX DEADLINE_NS", "withdraw NAME"]
 SHAPE_FORMS = ["residence NS", "stream NAME RATE BURST MIN MAX", "frame AT NAME OCTETS"]
@@ -159,7 +163,7 @@ def entry_of(document, table, number):
 
 
 def keys_of(document, table):
-    return BRIDGE_KEYS.get(document.get("format"), []) if table == "bridge" else KEYS[table]
+    return FORMAT_KEYS[table].get(document.get("format"), []) if table in FORMAT_KEYS else KEYS[table]
 
 
 def who_is(document, table, number):
@@ -176,7 +180,7 @@ def unknown_key(document, table, number):
     for key in entry_of(document, table, number):
         if key not in keys:
             listed = "; its keys are " + ", ".join(keys)
-            if table == "bridge" and any(key in others for others in BRIDGE_KEYS.values()):
+            if any(key in others for others in FORMAT_KEYS.get(table, {}).values()):
                 return f"the key {key} is not one of format {document.get('format')}{listed}"
             if table != "top" and key in KEYS["top"]:
                 due = "put it before the first table in double brackets"
@@ -196,24 +200,35 @@ def missing_format(document):
             if isinstance(entry, dict) and "format" in entry:
                 due = "put it before the first table"
                 return f"format stands behind [[{table}]] and so belongs to {table} {number}: {due}"
-    due = "the file begins with format = 1, or 2 where bridges have two processing times"
+    due = "the file begins with format = 1, or 2 where bridges have two processing times, or 3 where a stream has"
+    due += " several listeners"
     empty = "" if document else "nothing is declared, as where what was to write the file did not; "
     return unknown_key(document, "top", 0) or empty + due
 
 
 DUE = {
     "path": "path stands there, or from and to",
+    "paths": "path stands there, or paths, or from and to",
     "class": "class or classes stands there",
     "address": "address and vlan stand together",
     "vlan": "address and vlan stand together",
 }
 
 
+def beside_path(entry, key):
+    """What to do about one end of a route that is given by its nodes, where the other end is missing."""
+    end = {"from": "to", "to": "from"}.get(key)
+    given = next((it for it in ("path", "paths") if it in entry), None)
+    return f"{end} stands beside {given}: leave it out" if given and end in entry else None
+
+
 def missing_key(document, table, number, key):
     """Which entry lacks the key: its name, and the key there that may have been meant for it."""
     if table == "top":
         return missing_format(document)
-    due = unknown_key(document, table, number) or DUE.get(key)
+    kind = "paths" if key == "path" and "paths" in keys_of(document, table) else key
+    told = beside_path(entry_of(document, table, number), key)
+    due = unknown_key(document, table, number) or told or DUE.get(kind)
     return who_is(document, table, number) + (f"; {due}" if due else "")
 
 
@@ -226,22 +241,52 @@ def letters(name):
     return f"{shown(name)} has {len(name)} letters: a name has 1 to 32"
 
 
+def wrong_name(names):
+    """What is wrong with the first of these that is no name."""
+    wrong = [name for name in names if not isinstance(name, str) or not NAME.fullmatch(name)]
+    return letters(wrong[0]) if wrong else None
+
+
 def wrong_path(entry, path):
     if "from" in entry or "to" in entry:
         return "path stands beside from or to"
+    if "paths" in entry:
+        return "path stands beside paths"
     if not isinstance(path, list):
         return f'path is {shown(path)}: it is an array of names, as ["s1", "b1", "s2"]'
-    for name in path:
-        if not isinstance(name, str) or not NAME.fullmatch(name):
-            return letters(name)
-    return f"path has {len(path)} names: it has at least two"
+    if any(isinstance(name, list) for name in path):
+        return "path has paths in it: several paths stand with the key paths, in format 3"
+    return wrong_name(path) or f"path has {len(path)} names: it has at least two"
+
+
+def wrong_paths(entry, paths):
+    if any(key in entry for key in ("path", "from", "to")):
+        return "paths stands beside path, or from and to"
+    if not isinstance(paths, list) or not all(isinstance(path, list) for path in paths):
+        return f'paths is {shown(paths)}: it is an array of paths, as [["s1", "b1", "s2"], ["s1", "b1", "s3"]]'
+    for number, path in enumerate(paths, 1):
+        if told := wrong_name(path) or (f"it has {len(path)} names: it has at least two" if len(path) < 2 else None):
+            return f"path {number} of paths: {told}"
+    return "paths has no path: it has at least one"
+
+
+def wrong_listeners(document, table, to):
+    """What is wrong with the listener, or with the listeners of a stream of format 3."""
+    if not isinstance(to, list):
+        several = table == "stream" and isinstance(to, str) and len(re.split(r"[\s,]+", to.strip())) > 1
+        return letters(to) + ('; several listeners are an array, as ["s2", "s3"], in format 3' if several else "")
+    if table != "stream":
+        return f"to is {shown(to)}: a flow has one listener"
+    if document.get("format") != 3:
+        return f"to is {shown(to)}: a stream has several listeners in format 3 alone"
+    return wrong_name(to) or "to names no listener: it is a name, or an array of at least one"
 
 
 def wrong_number(key, value):
     if key == "mbps":
         due = f"it is {RATES}"
     elif key in RANGES:
-        due = "it is 1 or 2" if key == "format" else f"it is {range_of(key)}"
+        due = "it is 1, 2 or 3" if key == "format" else f"it is {range_of(key)}"
     else:
         return f"{key} is {shown(value)}"
     whole = isinstance(value, int) and not isinstance(value, bool)
@@ -256,10 +301,16 @@ def wrong_kind(document, table, number, key):
     value = entry.get(key)
     if table == "top" and isinstance(value, dict):
         return f"[{key}] has to be [[{key}]], with two pairs of brackets"
-    if key in ("name", "a", "b", "from", "to"):
+    if key in ("name", "a", "b"):
         return letters(value)
-    if key == "path":
+    if key == "from":
+        told = letters(value)
+    elif key == "to":
+        told = wrong_listeners(document, table, value)
+    elif key == "path":
         told = wrong_path(entry, value)
+    elif key == "paths":
+        told = wrong_paths(entry, value)
     elif key in ("class", "classes") and "class" in entry and "classes" in entry:
         told = "classes stands beside class"
     elif key == "address":
@@ -315,31 +366,82 @@ def node_fault(document, fault, number):
 # Streams and flows
 
 
-def bad_path(document, table, number):
-    entry, nodes = entry_of(document, table, number), nodes_of(document)
-    path = entry.get("path") or [entry.get("from"), entry.get("to")]
-    who = who_is(document, table, number)
+def listeners_of(entry):
+    return entry["to"] if isinstance(entry["to"], list) else [entry["to"]]
+
+
+def ways_of(entry):
+    """What stands in an entry of each route: the names of a path, or of both ends."""
+    if "path" in entry:
+        return [entry["path"]]
+    return entry["paths"] if "paths" in entry else [[entry["from"], to] for to in listeners_of(entry)]
+
+
+def bad_way(document, path, by_ends):
+    """Why no path is the one that a route names, by all its nodes or by its ends."""
+    nodes = nodes_of(document)
     for name in path:
         if name not in nodes:
-            return f"{who}; no node is called {shown(name)}{near(name, nodes)}"
+            return f"no node is called {shown(name)}{near(name, nodes)}"
     stations = [node.get("name") for node in document.get("station", [])]
     for place, name in enumerate(path):
         if path.index(name) < place:
-            return f"{who}; " + (f"its path visits {name} twice" if "path" in entry else "from and to are the same")
+            return "from and to are the same" if by_ends else f"its path visits {name} twice"
         if (name in stations) != (place in (0, len(path) - 1)):
             kind = "station" if name in stations else "bridge"
-            return f"{who}; {name} is a {kind}: stations stand at both ends and nowhere else"
+            return f"{name} is a {kind}: stations stand at both ends and nowhere else"
     links = links_of(document)
     for before, after in zip(path, path[1:]):
-        if "path" in entry and frozenset((before, after)) not in links:
-            return f"{who}; no link joins {before} and {after}"
-    if "path" not in entry and path[1] not in distances(path[0], links):
-        return f"{who}; no links lead from {path[0]} to {path[1]}"
-    return who
+        if not by_ends and frozenset((before, after)) not in links:
+            return f"no link joins {before} and {after}"
+    if by_ends and path[1] not in distances(path[0], links):
+        return f"no links lead from {path[0]} to {path[1]}"
+    return None
+
+
+def no_tree(routes):
+    """Why routes, by all their nodes, are not those of one tree."""
+    known, before = {}, []
+    for route in routes:
+        if route[0] != routes[0][0]:
+            return f"its paths begin at {routes[0][0]} and at {route[0]}: a stream has one talker"
+        if route[-1] in before:
+            return f"its listener {route[-1]} is there twice"
+        for here, there in zip(route, route[1:]):
+            if known.setdefault(there, here) != here:
+                return f"{there} is reached in two ways, from {known[there]} and from {here}"
+        before.append(route[-1])
+    return None
+
+
+def bad_path(document, table, number):
+    entry, who = entry_of(document, table, number), who_is(document, table, number)
+    by_ends = "path" not in entry and "paths" not in entry
+    told = [bad_way(document, path, by_ends) for path in ways_of(entry)]
+    found = next(filter(None, told), None) or no_tree(ways_of(entry))
+    return f"{who}; {found}" if found else who
 
 
 def links_of(document):
     return {frozenset((link["a"], link["b"])) for link in document.get("link", [])}
+
+
+def route_between(document, start, end):
+    """The nodes of the route that has the fewest links, and of those the one whose ports come first."""
+    ends = [(link["a"], link["b"]) for link in document.get("link", [])]
+    ports = [port for one, other in ends for port in ((one, other), (other, one))]
+    left, route = distances(end, links_of(document)), [start]
+    while route[-1] != end:
+        route.append(next(b for a, b in ports if a == route[-1] and left.get(b) == left[a] - 1))
+    return route
+
+
+def ports_of(document, entry):
+    """How many ports a stream has."""
+    routes = ways_of(entry)
+    if "path" not in entry and "paths" not in entry:
+        routes = [route_between(document, *ends) for ends in routes]
+    return len({step for route in routes for step in zip(route, route[1:])})
 
 
 def distances(start, links):
@@ -361,22 +463,30 @@ RULES = {
 }
 
 
+def most_links(document, entry):
+    """How many links the longest route of an entry has."""
+    if "path" in entry or "paths" in entry:
+        return max(len(path) for path in ways_of(entry)) - 1
+    far = distances(entry["from"], links_of(document))
+    return max(far[listener] for listener in listeners_of(entry))
+
+
 def due_of(document, entry, fault):
     """What an entry has to keep that breaks a rule."""
+    if fault == "limit" and (links := most_links(document, entry)) > MOST_LINKS:
+        return f"its longest route has {links} links; {RULES[fault]}"
     if fault == "burst-below-frame":
         return f"the burst is at least {8 * (entry['max_octets'] + 20)}"
     if fault == "bad-class" and "classes" in entry:
-        if "path" in entry:
-            ports = len(entry["path"]) - 1
-        else:
-            ports = distances(entry["from"], links_of(document))[entry["to"]]
-        return f"{RULES[fault]}, and of the path's {ports} ports each has one, or all the same"
+        whose = "path" if len(ways_of(entry)) == 1 else "stream"
+        ports = ports_of(document, entry)
+        return f"{RULES[fault]}, and of the {whose}'s {ports} ports each has one, or all the same"
     return RULES[fault]
 
 
 def breaks_limit(entry, key):
-    if key == "path":
-        return len(entry[key]) > MOST_LINKS + 1
+    if key in ("path", "paths"):
+        return any(len(path) > MOST_LINKS + 1 for path in ways_of(entry))
     return not RANGES[key][0] <= entry[key] <= RANGES[key][1]
 
 
@@ -387,7 +497,7 @@ def sender_fault(document, table, number, fault):
         "bad-rate": ["rate_bps"],
         "bad-sizes": ["min_octets", "max_octets"],
         "burst-below-frame": ["burst_bits", "max_octets"],
-        "limit": ["path", "burst_bits", "deadline_ns"],
+        "limit": ["path", "paths", "burst_bits", "deadline_ns"],
     }[fault]
     keys = [key for key in keys if key in entry and (fault != "limit" or breaks_limit(entry, key))]
     has = ", ".join(f"{key} {shown(entry[key])}" for key in keys)
@@ -407,6 +517,8 @@ def network_hint(raw, words):
     match words:
         case ["limit"]:
             return over_a_limit(document)
+        case ["limit", "stream"] if len(document["stream"]) <= MOST_STREAMS:
+            return f"the streams have together more than {MOST_PORTS} ports"
         case ["limit", table]:
             return f"there are {len(document[table])} tables [[{table}]]"
         case ["unknown", table, number]:
@@ -458,6 +570,11 @@ def no_port(port, document):
     return f"; no port is called {shown(port)}{near(port, ports)}"
 
 
+LIMITS_OF_RELEASES = (
+    "at most 200000 frames are released, none after 100000000000000000 ps, and they have at most 3200000 ports together"
+)
+
+
 def due_of_record(kind, fault, record, number, net):
     """What a record has to keep that has a fault."""
     if fault == "bad-row":
@@ -468,6 +585,8 @@ def due_of_record(kind, fault, record, number, net):
         return "; numbers are whole, without signs, points, exponents and blanks"
     if fault == "bad-size":
         return f"; octets are {range_of('max_octets')}"
+    if fault == "limit":
+        return f"; {LIMITS_OF_RELEASES}"
     if fault == "unknown-name":
         return no_sender(record[1], network_of(net))
     if fault == "unknown-port":

@@ -124,7 +124,7 @@ def table_of_generate(lines):
     columns = ["sender", "frames", "sunk", "late", "size", "worst_us", "bound_us", "worst_%"]
     table, found = Table(columns, ["sender"]), []
     for words in map(str.split, lines[:-1]):
-        at = words.index("frames")
+        at = len(words) - 12  # names may be words of the text, too
         counts, worst, bound = words[at + 1 : at + 8 : 2], int(words[at + 9]), words[at + 11]
         shown = [up(int(bound)), percent_up(worst, int(bound))] if bound != "-" else ["-", "-"]
         cells = (label(words[1:at]), *counts, up(worst), *shown)

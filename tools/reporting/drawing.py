@@ -23,7 +23,9 @@ def between(one, other):
         at = max(one.column, other.column) + far if one.to_right else min(one.column, other.column) - far
         bends = f"C{place(at)} {place(one.y)} {place(at)} {place(other.y)}"
     start = f"M{place(one.x)} {place(one.y)}H{place(one.column)}"
-    return f"{start}{bends} {place(other.column)} {place(other.y)}H{place(other.x)}"
+    # A line without length has no direction, in which an arrowhead could lie.
+    end = f"H{place(other.x)}" if place(other.x) != place(other.column) else ""
+    return f"{start}{bends} {place(other.column)} {place(other.y)}{end}"
 
 
 def stalk(bar, station):

@@ -7,7 +7,8 @@ import journeys
 import texts
 from program import DONE, REFUSED, Stopped
 
-# Found delays are asked for where a network has at most so many streams: each is a call with runs of its own.
+# Found delays are asked for where the streams of a network have together at most so many listeners: each listener takes
+# runs of its own.
 MOST_WITNESSES = 64
 
 
@@ -27,6 +28,8 @@ class Model:
         self.users = users_of(self.shown)
         explained = self.asked("explain", self.net)
         self.explained = texts.explained_of(explained) if explained else None
+        self.hops_at = hops_at(self.shown, self.explained)
+        self.listeners = listeners_of(self.shown)
         bound = self.asked("bound", self.net)
         self.rows = texts.rows_of(bound) if bound else {}
         self.read_run(words)
@@ -86,15 +89,15 @@ class Model:
         return texts.buffers_of(answer.lines) if answer.status == DONE else {}
 
     def found_delays(self):
-        """The greatest delay that `witness` finds for each stream, where the program has that command and streams are
-        not too many."""
-        names = list(dict.fromkeys(route.name for route in self.shown.streams))
-        found = {}
-        for name in names if len(names) <= MOST_WITNESSES else []:
+        """The greatest delay that `witness` finds for each listener, where the program has that command and listeners
+        are not too many."""
+        routes, found = self.shown.streams, {}
+        names = dict.fromkeys(route.name for route in routes) if len(routes) <= MOST_WITNESSES else {}
+        for name in names:
             answer = self.program.ask_quietly("witness", self.net, name)
             if answer.status != DONE:
                 return {}
-            found[name] = texts.found_delay_of(answer.lines)
+            found |= texts.found_delays_of(answer.lines)
         return found
 
     def marks(self, number):
@@ -107,6 +110,29 @@ class Model:
     def bursting(self, port, cls):
         """The names of the streams whose bursts count at a port and class: those of the class and the higher ones."""
         return [name for name, other in self.users.get(port, []) if other >= cls]
+
+    def hops(self, number):
+        """The hops of a stream's whole way to a listener: those in front of a further listener's branch too, which the
+        program prints of a listener before it."""
+        name = self.shown.streams[number].name
+        return [self.hops_at[name, port] for port in self.ways[number]]
+
+    def in_front(self, number):
+        """How many of these hops the program prints of listeners before it."""
+        return len(self.ways[number]) - len(self.shown.streams[number].ports)
+
+    def place_of(self, number):
+        """Which of the listeners of its stream this is, from 1, and how many there are."""
+        same = self.listeners[self.shown.streams[number].name]
+        return number - same[0] + 1, len(same)
+
+    def is_forked(self):
+        """Whether some stream has several listeners."""
+        return any(route.listener for route in self.shown.streams)
+
+    def end_of(self, number):
+        """The listener at the end of a stream's way."""
+        return self.shown.ports[self.ways[number][-1]].end
 
     def late(self):
         """The numbers of the late streams, the latest first."""
@@ -158,6 +184,20 @@ class Model:
             same = route.classes * len(route.ports) if len(route.classes) == 1 else route.classes
             found |= {(route.name, port): cls for port, cls in zip(route.ports, same)}
         return found
+
+
+def hops_at(shown, explained):
+    """The hop of each stream at each port of its ways."""
+    sums = explained.sums if explained else []
+    return {(route.name, hop.port): hop for route, it in zip(shown.streams, sums) for hop in it.hops}
+
+
+def listeners_of(shown):
+    """The numbers of each stream's listeners, by its name."""
+    found = {}
+    for number, route in enumerate(shown.streams):
+        found.setdefault(route.name, []).append(number)
+    return found
 
 
 def users_of(shown):

@@ -247,7 +247,18 @@ if (run) {
     box?.classList.add("chosen");
     frameTold.textContent = box ? box.title || one("title", box).textContent : frameTold.dataset.hint;
   };
-  run.addEventListener("click", (event) => tellFrame(event.target));
+  let chosenBox = -1;
+  run.addEventListener("click", (event) => {
+    tellFrame(event.target);
+    chosenBox = boxes.findIndex(([box]) => box === event.target);
+  });
+  const step = (by) => {
+    if (!boxes.length) return;
+    chosenBox = chosenBox < 0 && by < 0 ? boxes.length - 1 : (chosenBox + by + boxes.length) % boxes.length;
+    const [box, x, width] = boxes[chosenBox];
+    if (x + width <= from || x >= from + span) see(x + width / 2 - span / 2, span);
+    tellFrame(box);
+  };
   const see = (start, length) => {
     span = Math.min(whole, Math.max(whole / 1e5, length));
     from = Math.min(whole - span, Math.max(0, start));
@@ -262,8 +273,11 @@ if (run) {
     back: () => see(from - span / 3, span),
     on: () => see(from + span / 3, span),
     all: () => see(0, whole),
+    next: () => step(1),
+    before: () => step(-1),
   };
-  const keys = { "+": "in", "=": "in", "-": "out", ArrowLeft: "back", ArrowRight: "on", Home: "all" };
+  const moves = { ArrowLeft: "back", ArrowRight: "on", Home: "all", ".": "next", ",": "before" };
+  const keys = { "+": "in", "=": "in", "-": "out", ...moves };
   all("button[data-run]").forEach((button) => button.addEventListener("click", acts[button.dataset.run]));
   run.addEventListener("keydown", (event) => {
     if (keys[event.key] && !event.ctrlKey) {

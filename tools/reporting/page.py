@@ -21,6 +21,9 @@ from timeline import timeline
 
 HERE = os.path.dirname(os.path.abspath(__file__))
 
+# What `witness` found.
+FOUND = "delay that can happen, which <code>witness</code> found by trying bursts at each port"
+
 # How many hops, rows of a certificate, journeys, and streams and flows stand in a page, and whether their routes and
 # hops are data, which the script alone shows: in the fullest page, and in those that are made where it is over the
 # greatest length, in octets. They are data too where not all hops stand in the page.
@@ -50,6 +53,12 @@ def section(number, title, *body):
     return f'<section id="{number}"><h2>{title}</h2>\n' + "\n".join(it for it in body if it) + "\n</section>"
 
 
+def classes_of(hops):
+    """The classes of hops: one, where it is that of all."""
+    classes = [hop.cls for hop in hops]
+    return classes[:1] if len({*classes}) == 1 else classes
+
+
 def data_of(model, ways):
     """The ports of routes by their numbers, the classes there, and the parts of the bound of each port and class."""
     ports, rows, sums = model.shown.ports, {}, model.explained.sums if model.explained else []
@@ -59,7 +68,7 @@ def data_of(model, ways):
         rows[f"{ports[hop.port].number}:{hop.cls}"] = parts + ([] if hop.stay is None else [hop.stay, hop.residence])
     told = {
         "ways": {number: [ports[name].number for name in names] for number, names in ways.items()},
-        "classes": {number: model.shown.streams[number].classes for number in ways if number < len(sums)},
+        "classes": {number: classes_of(model.hops(number)) for number in ways if number < len(sums)},
         "ports": {ports[name].number: name for names in ways.values() for name in names},
         "rows": rows,
     }
@@ -123,9 +132,9 @@ def marks_legend(model):
     """What stands on the bar of a stream."""
     told = ['<i class="key sumkey"></i>worst-case delay', '<i class="key due"></i>deadline']
     if "run" in model.kinds_of_marks:
-        told.append('<i class="key run"></i>longest delay in the run')
+        told.append('<i class="key run"></i>longest delay in the run (-: no frame of it arrived)')
     if "found" in model.kinds_of_marks:
-        told.append('<i class="key found"></i>delay that <code>witness</code> found')
+        told.append(f'<i class="key found"></i>{FOUND}')
     return f'<p class="legend">{" ".join(f"<span>{it}</span>" for it in told)}</p>'
 
 
@@ -137,23 +146,42 @@ def left_out(model, order):
 
 # What is said of times in a page.
 ROUNDED = (
-    "Times are microseconds. Each number is rounded by itself, to the side on which a reader is safe: bounds, delays, "
-    "loads and shares up, deadlines and what is left of them down. So parts together may be some thousandths more than "
-    "what they are parts of."
+    "Times are microseconds to thousandths, loads and shares percent to hundredths. Each number is rounded by itself, "
+    "to the side on which a reader is safe: bounds, delays, loads and shares up, deadlines and what is left of them "
+    "down. So parts together may be more than what they are parts of, by some of the last digits."
 )
+
+# What is asked of senders, where bounds hold.
+PROMISED = (
+    ". In a network that is as its file says no frame takes longer, as long as the talker of its stream keeps the "
+    "rates, bursts and sizes that are declared for what it sends. Nothing is asked of others: they may send what they "
+    "like"
+)
+
+# What is missing where Python does not read the file.
+NO_FILE = " Rates and bursts stand in the file, which Python could not read here."
+
+# What the octets of a frame leave out.
+WIRE = "20 octets more, for preamble and gap"
+
+
+def streams_head(model):
+    """What stands above the table of streams, which has a row for each listener."""
+    return "Streams and their listeners" if model.is_forked() else "Streams"
 
 
 def streams_part(model, order):
     """The table of all streams."""
-    promised = "is the sum of the bounds of all hops on its way"
-    if model.rows:
-        promised += ": no frame takes longer, of a stream whose talker keeps the declared rates, bursts and sizes"
-    known = "" if model.declared.known else " Rates and bursts stand in the file, which Python could not read here."
-    note = f"The worst-case delay of a stream {promised}. Used is its share of the deadline.{known}"
+    note = "The worst-case delay of a stream is the sum of the bounds of all hops on its way"
+    note += PROMISED if model.rows else ""
+    note += ". Used is the share of the deadline that this is. Streams with the least left stand first."
+    if model.is_forked():
+        note += " Each listener has a row, a further one with its station behind the name of the stream."
+    note += f" Rates and bursts count for each frame {WIRE}." if model.declared.known else NO_FILE
     if any(map(model.is_without_deadline, order)):
         note += " Where the file gives no deadline, one second holds."
     note = f'<p class="note">{note}</p><p class="note">{ROUNDED}</p>{left_out(model, order)}'
-    return section("bounds", "Streams", marks_legend(model), stream_table(model, order), note)
+    return section("bounds", streams_head(model), marks_legend(model), stream_table(model, order), note)
 
 
 def flows_part(model, numbers):
@@ -161,7 +189,7 @@ def flows_part(model, numbers):
     if not numbers:
         return ""
     note = "Nothing is promised of these frames. A stream may have to wait for one of them at each port: that is the "
-    note += "part <i>lower</i> of its bounds."
+    note += f"part <i>lower</i> of its bounds. On a link a frame takes {WIRE}."
     rest = len(model.shown.flows) - len(numbers)
     more = f'<p class="note">The other {rest} flows are left out.</p>' if rest else ""
     table = flow_table(model, numbers)
@@ -174,7 +202,7 @@ def hops_part(model, order, most):
     opened = model.chosen() if model.chosen() in order else order[0]
     shown, hops = [], 0
     for number in [opened, *(number for number in order if number != opened)]:
-        hops += len(model.explained.sums[number].hops)
+        hops += len(model.ways[number])
         if hops <= most or not shown:
             shown.append(hop_table(model, number, number == opened))
     rest = len(model.explained.sums) - len(shown)
@@ -193,11 +221,13 @@ def rows_part(model, most):
 
 def ports_part(model, most):
     """The table of the ports."""
-    note = "A load is the share of the link that the rates of streams take, rounded up; best effort is not counted."
-    buffers = model.buffers and " A buffer is the most bits that frames of the class take there at any time."
-    return section(
-        "load", "Ports", port_table(model), f'<p class="note">{note}{buffers or ""}</p>', rows_part(model, most)
-    )
+    note = "Ports that no stream uses are left out. A load is the share of the link that the rates of streams take, "
+    note += "rounded up; best effort is not counted."
+    if model.buffers:
+        note += " A buffer is the most bits, with preambles and gaps, that frames of the class take there at any time, "
+        note += "as long as their talkers keep what is declared."
+        note += " Held is the most that there were in the run." if model.run else ""
+    return section("load", "Ports", port_table(model), f'<p class="note">{note}</p>', rows_part(model, most))
 
 
 # Up to how many frames stand open below a timeline.
@@ -223,7 +253,8 @@ def journey_table(model, most):
     table = framed(columns, (journey_row(it, bounds) for it in shown), "frames")
     rest = f"<p>{len(model.journeys) - most} more are left out.</p>" if len(model.journeys) > most else ""
     is_open = " open" if len(shown) <= OPEN_FRAMES else ""
-    note = '<p class="note">Microseconds. Times of a run are exact; worst-case delays are rounded up.</p>'
+    note = "Microseconds. Times of a run are exact; worst-case delays are rounded up. On a link a frame takes "
+    note = f'<p class="note">{note}{WIRE}.</p>'
     return f"<details{is_open}><summary>The frames that are drawn</summary>{table}{note}{rest}</details>"
 
 
@@ -231,25 +262,39 @@ def judged_told(line):
     """What a line of `conform` means."""
     words = line.split()
     if line.startswith("conforms "):
-        return "All talkers keep their buckets in it: they release no more than their rates, bursts and sizes allow."
+        told = "All talkers keep their buckets in this run: they release no more than their rates, bursts and sizes "
+        return told + "allow."
     if line.startswith("refused bucket "):
         told = f"A talker breaks its buckets: from frame {words[2]} to frame {words[3]} a stream sends more than its "
         return told + "rate and burst allow."
     return f"A talker breaks its buckets: frame {words[2]} has a size that is not declared."
 
 
+# What each order decides.
+ORDERS = {
+    "early": "the one that was released first, and the least time",
+    "late": "the one whose sender stands later in the file, and the greatest time",
+    "mixed": "it mixes senders, and times, by its number",
+}
+
+
 def run_told(model):
     """What the run comes to, in words."""
     words = model.run.totals.split()
-    told = f"Frames: {words[2]}. Arrived: {words[4]}. Discarded as late: {words[6]}, for their size: {words[8]}. "
-    told += "Which of two equal frames goes first, and how long a bridge takes, was decided by the order "
-    told += f"<code>{text(model.order_word)}</code>."
-    kept = judged_told(model.conforms)
+    each = ", each listener counted" if model.is_forked() else ""
+    told = f"Frames: {words[2]}. Arrived: {words[4]}{each}. Discarded as late: {words[6]}, for their size: {words[8]}. "
+    told += "Late is one that a bridge would have to hold for longer than its maximum residence time. "
+    order = f"<code>{text(model.order_word)}</code>: {ORDERS[model.order_word.partition(':')[0]]}."
+    told += f"Which of two equal frames goes first, and how long a bridge takes, was decided by the order {order}"
+    kept, counted = judged_told(model.conforms), ""
     if not model.conforms.startswith("conforms "):
         kept += " Its frames may take longer than their worst-case delays."
-    elif model.rows:
-        kept += " So no delay is above the worst-case delay of its stream."
-    return f"<p>{told}</p><p>{kept} <small>(<code>{text(model.conforms)}</code>)</small></p>"
+    else:
+        kept += " So no delay in it is above the worst-case delay of its stream." if model.rows else ""
+        kept += " That speaks of this run alone."
+        counted = ", the number of its releases"
+    said = f"the program's word: <code>{text(model.conforms)}</code>{counted}"
+    return f"<p>{told}</p><p>{kept} <small>({said})</small></p>"
 
 
 def run_legend(model):
@@ -291,14 +336,14 @@ def foot(model, version):
 def parts(model, budget):
     """The parts of the page behind its head."""
     hops, rows, frames, senders, is_data = budget
-    all_hops = sum(len(it.hops) for it in model.explained.sums) if model.explained else 0
+    all_hops = sum(map(len, model.ways)) if model.explained else 0
     model.is_data = is_data or all_hops > hops
     order = model.order()[:senders]
     numbers = [*order, *model.flow_numbers()][:senders]
     network = network_part(model, numbers)
     flows = flows_part(model, [*model.flow_numbers()][:senders])
     if model.explained is None:
-        table = section("unknown", "Streams", declared_table(model, order), left_out(model, order))
+        table = section("unknown", streams_head(model), declared_table(model, order), left_out(model, order))
         return [verdict(model), network, table, flows, run_part(model, frames)]
     streams = [flows]
     if order:
@@ -323,7 +368,7 @@ def page_of(model, title, version):
     """The page of a network: the fullest that is not too long."""
     for budget in BUDGETS:
         page = whole(title, *parts(model, budget), foot(model, version))
-        if len(page) <= LONGEST:
+        if len(page.encode()) <= LONGEST:
             return page
     return page
 

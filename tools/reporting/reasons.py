@@ -1,7 +1,7 @@
 """Why bounds are as they are, and why there are none, in words."""
 
 from figures import down, percent, rate, text, up, used
-from tables import PARTS
+from tables import PARTS, to_listener
 
 # How many of the parts of a delay are named as the reason for it, how many names of streams stand in one of them, and
 # of how many late streams reasons are told.
@@ -56,7 +56,7 @@ def part_told(model, number, hop, name):
 def reasons_of(model, number):
     """The longest parts of a delay, in words, each with its share of all."""
     it = model.explained.sums[number]
-    parts = [(getattr(hop, name), hop, name) for hop in it.hops for name, _ in PARTS]
+    parts = [(getattr(hop, name), hop, name) for hop in model.hops(number) for name, _ in PARTS]
     longest = sorted(parts, key=lambda part: -part[0])[:REASONS]
     told = (
         f"<li><b>{up(ps)} &micro;s</b> ({used(ps, it.sum)} of it) at <code>{text(hop.port)}</code>: "
@@ -79,8 +79,9 @@ def tightest_told(model):
     it = model.explained.sums[number]
     if it.left < 0:
         return late_told(model)
-    told = f"Closest to its deadline is {stream_link(model, number)}: its worst-case delay is {up(it.sum)} &micro;s, "
-    told += f"{used(it.sum, it.deadline)} of its deadline of {down(it.deadline)} &micro;s, and {down(it.left)} are left"
+    told = f"Closest to its deadline is {stream_link(model, number)}: its worst-case delay{to_listener(model, number)} "
+    share = f"{used(it.sum, it.deadline)} of its deadline of {down(it.deadline)} &micro;s"
+    told += f"is {up(it.sum)} &micro;s, {share}, and {down(it.left)} are left"
     reasons = reasons_of(model, number) + fullest_told(model)
     return f'<p class="lead">{told}. The longest parts of that delay:</p>{reasons}'
 
@@ -104,7 +105,8 @@ def late_told(model):
         it = model.explained.sums[number]
         name = ("The latest stream is " if not place else "Late too is ") + stream_link(model, number)
         share = f"{used(it.sum, it.deadline)} of its deadline of {down(it.deadline)} &micro;s"
-        words = f"{name}: its worst-case delay is {up(it.sum)} &micro;s, {share}, late by {up(-it.left)}."
+        words = f"{name}: its worst-case delay{to_listener(model, number)} is {up(it.sum)} &micro;s"
+        words += f", {share}, late by {up(-it.left)}."
         told.append(f'<p class="lead">{words} The longest parts of that delay:</p>{reasons_of(model, number)}')
     rest = len(late) - MOST_LATE
     more = f'<p class="bad">{rest} more streams are late: they stand first in the table of streams.</p>'
@@ -125,11 +127,13 @@ def overstays_told(model):
 def counts_told(model):
     """How many streams are in time, and where frames may have to stay for too long."""
     total = model.explained.total
-    late = f"Late streams: {total.late} of {total.streams}." if total.late else ""
+    # The program counts late listeners, so where some stream has several, all are counted.
+    what, count = ("listeners", len(model.explained.sums)) if model.is_forked() else ("streams", total.streams)
+    late = f"Late {what}: {total.late} of {count}." if total.late else ""
     over = "Frames may have to stay in bridges for longer than their maximum residence time." if total.over else ""
     if late or over:
         return f'<p class="bad">{late} {over}</p>{overstays_told(model)}'
-    told = f"Streams within their deadlines: {total.streams} of {total.streams}."
+    told = f"{what.capitalize()} within their deadlines: {count} of {count}."
     return f'<p class="good">{told}</p>' if total.streams else ""
 
 

@@ -7,9 +7,12 @@ PARTS = (
     ("lower", "waiting for one frame of a lower class or of best effort that has begun"),
     ("bursts", "waiting for bursts of the same and higher classes, its own too, but for the shortest frame"),
     ("higher", "what the rates of higher classes add meanwhile"),
-    ("frame", "sending the shortest frame of the class"),
+    ("frame", "sending the shortest frame of the class; the rest of a stream's own frame is counted in bursts"),
     ("latency", "propagation, and processing in the bridge behind"),
 )
+
+# What stands beside them.
+STAY = "the longest that the next bridge's scheduler may have to hold a frame, of what it may hold one at the most"
 
 # The columns of delays that were seen.
 MARKS = {"run": "in the run", "found": "found"}
@@ -25,7 +28,7 @@ def cell(ps, shown, kind=""):
 
 def heads(*names):
     """The head of a table: each column with its name, and whether it has numbers."""
-    cells = "".join(f'<th scope="col"{number and " class=n"}>{name}</th>' for name, number in names)
+    cells = "".join(f'<th scope="col"{" class=n" if number else ""}>{name}</th>' for name, number in names)
     return f"<thead><tr>{cells}</tr></thead>"
 
 
@@ -45,8 +48,9 @@ def sum_bar(it, marks):
     """The bar of a stream: its worst-case delay against its deadline, with marks of delays that were seen."""
     late = " late" if it.left < 0 else ""
     fill = f'<b class="fill{late}" style="width:{share(it.sum * DEADLINE, it.deadline * 100)}"></b>'
-    seen = "".join(mark(kind, ps, it.deadline) for kind, ps in marks.items() if ps is not None)
-    return f'<div class="sum">{fill}{seen}</div>'
+    # What comes later is in front: the mark of the run, which is the smaller one.
+    seen = [mark(kind, ps, it.deadline) for kind, ps in marks.items() if ps is not None]
+    return f'<div class="sum">{fill}{"".join(reversed(seen))}</div>'
 
 
 def left_cell(it):
@@ -78,6 +82,20 @@ def ends(model, way):
     return f"{model.shown.ports[way[0]].start} to {model.shown.ports[way[-1]].end}"
 
 
+def stream_ends(model, number):
+    """The talker and the listener of a stream, and where it has several, which of them this is."""
+    place, count = model.place_of(number)
+    if count == 1:
+        return ends(model, model.ways[number])
+    start = model.shown.ports[model.ways[number][0]].start
+    return f"{start} to <b>{model.end_of(number)}</b> <small>{place} of {count}</small>"
+
+
+def to_listener(model, number):
+    """To which listener a delay is, in words, where the stream has several."""
+    return f" to {model.end_of(number)}" if model.place_of(number)[1] > 1 else ""
+
+
 def declared_cells(model, route):
     """The cells of a stream's rate and burst, which stand in the network's file."""
     table = model.declared.tables.get(route.name)
@@ -101,7 +119,7 @@ def stream_row(model, number):
     return (
         f'<tr data-r="{number}"><td class=n>{number + 1}</td><th scope="row">{name}</th><td>{sum_bar(it, marks)}</td>'
         f"{used_cell(it)}{left_cell(it)}{cell(it.sum, up(it.sum), 'n')}{deadline_cell(model, number)}{seen}"
-        f"<td>{classes(route)}</td><td>{ends(model, model.ways[number])}</td>{declared_cells(model, route)}</tr>"
+        f"<td>{classes(route)}</td><td>{stream_ends(model, number)}</td>{declared_cells(model, route)}</tr>"
     )
 
 
@@ -125,7 +143,7 @@ def declared_row(model, number):
     name = f"{route_link(model, number)}{route.label()}</a>"
     return (
         f'<tr data-r="{number}"><td class=n>{number + 1}</td><th scope="row">{name}</th><td>{classes(route)}</td>'
-        f"<td>{ends(model, model.ways[number])}</td>{declared_cells(model, route)}</tr>"
+        f"<td>{stream_ends(model, number)}</td>{declared_cells(model, route)}</tr>"
     )
 
 
@@ -201,19 +219,30 @@ def hop_row(model, hop, longest):
     )
 
 
+def front_told(model, number):
+    """Which hops of a further listener are those of others too."""
+    count = model.in_front(number)
+    if not count:
+        return ""
+    what, behind = ("hop is that", "it") if count == 1 else (f"{count} hops are those", "them")
+    told = f"The first {what} of other listeners of the stream too: behind {behind} its frames are copied."
+    return f'<p class="note">{told}</p>'
+
+
 def hop_table(model, number, is_open=False):
     """The hops of a stream, to be opened."""
-    it = model.explained.sums[number]
-    longest = max((hop.bound for hop in it.hops), default=1)
+    it, hops = model.explained.sums[number], model.hops(number)
+    longest = max((hop.bound for hop in hops), default=1)
     columns = [("port", False), ("class", False), ("bound", True), ("its parts", False)]
     columns += [(f'<i class="key {name}"></i>{name}', True) for name, _ in PARTS]
     columns += [("stay in next bridge", True)]
     left = f"late by {up(-it.left)}" if it.left < 0 else f"{down(it.left)} left"
     share = used(it.sum, it.deadline)
-    told = f"<b>{it.label}</b>: {WORST} {up(it.sum)} &micro;s, {share} of {down(it.deadline)}, {left}"
+    most = f"{WORST}{to_listener(model, number)} {up(it.sum)} &micro;s"
+    told = f"<b>{it.label}</b>: {most}, {share} of {down(it.deadline)}, {left}"
     return (
         f'<details id="h{number}"{" open" if is_open else ""}><summary>{told}</summary>'
-        f"{framed(columns, (hop_row(model, hop, longest) for hop in it.hops))}"
+        f"{framed(columns, (hop_row(model, hop, longest) for hop in hops))}{front_told(model, number)}"
         f'<p data-r="{number}">{route_link(model, number)}its route in the drawing</a></p></details>'
     )
 
@@ -241,10 +270,11 @@ def class_words(model, port):
 
 
 def buffer_words(model, port):
-    """What the queues of a port hold at the most, by class, and what they held in the run."""
+    """What the queues of a port hold at the most, by class, highest first, and what they held in the run."""
     told = []
-    for (name, cls), (bits, peak) in model.buffers.items():
-        if name == port:
+    for cls in range(7, 0, -1):
+        if (port, cls) in model.buffers:
+            bits, peak = model.buffers[port, cls]
             told.append(f"{cls}: {bits}" + ("" if peak is None else f" (held {peak})"))
     return ", ".join(told) or "-"
 
@@ -283,6 +313,8 @@ def certificate_table(model):
 
 
 def part_words():
-    """What the parts of a bound are."""
-    told = (f'<li><i class="key {name}"></i><b>{name}</b>: {what}</li>' for name, what in PARTS)
-    return f"<ul class=keys>{''.join(told)}</ul>"
+    """What the parts of a bound are, and what stands beside them."""
+    told = [f'<li><i class="key {name}"></i><b>{name}</b>: {what}</li>' for name, what in PARTS]
+    told.append(f"<li><b>stay in next bridge</b>: {STAY}</li>")
+    note = "The bars of each table have a scale of their own: the longest bar is the greatest bound there."
+    return f"<ul class=keys>{''.join(told)}</ul><p class=note>{note}</p>"

@@ -124,7 +124,7 @@ def explained_of(lines):
     sums, loads, total = [], {}, Total(0, 0, 0, "", 0)
     for words in map(str.split, lines):
         if words[0] in ("stream", "listener"):
-            at = words.index("sum")
+            at = len(words) - 6  # names may be words of the text, too
             left = left_of(words[at + 4 :])
             sums.append(Sum(" ".join(words[1:at]), int(words[at + 1]), int(words[at + 3]), left, []))
         elif words[0] == "hop":
@@ -149,10 +149,13 @@ def buffers_of(lines):
     return {(it[1], int(it[2])): (int(it[3]), int(it[5]) if len(it) > 4 else None) for it in words}
 
 
-def found_delay_of(lines):
-    """The greatest delay that `witness` found."""
-    words = lines[-1].split()
-    return int(words[words.index("delay") + 1])
+def found_delays_of(lines):
+    """The greatest delay that `witness` found for each listener, by what the program calls it."""
+    found = {}
+    for words in (line.split() for line in lines if line.startswith("witness ")):
+        at = len(words) - 6
+        found[" ".join(words[1:at])] = int(words[at + 1])
+    return found
 
 
 def declared_in(raw):

@@ -81,7 +81,8 @@ def timeline(shown, crossings, classes, first, last):
     return (
         f'<div class="lanes"><div class="names"><div class="corner">&micro;s</div>{names}</div>'
         f'<div class="run" id="run" tabindex="0" data-first="{first}" data-span="{span}" data-lane="{LANE}" '
-        f'aria-label="The timeline: arrow keys move along it, plus and minus zoom"><div class="times">'
+        'aria-label="The timeline: arrow keys move along it, plus and minus zoom, full stop and comma choose a frame">'
+        '<div class="times">'
         f'{steps(first, last)}</div><div class="field"><svg {size} preserveAspectRatio="none" width="100%">'
         f'<g class="ground">{ground}</g>\n'
         + "\n".join(drawn)
