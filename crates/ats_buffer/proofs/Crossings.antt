@@ -20,7 +20,7 @@ use Rattle.ats_trace.specs.Projections.{Crossing, transmission_by, transmission_
 use Rattle.ats_trace.specs.Projections.{crossings_along, crossings_over, journey_crossings, crossings_from}
 use Rattle.ats_trace.specs.Run.{IsLegal}
 use Rattle.ats_trace.specs.declared.journey.Release.{Release}
-use Rattle.ats_trace.specs.declared.journey.HopRecord.{HopRecord}
+use Rattle.ats_trace.specs.HopRecord.{HopRecord}
 use Rattle.ats_trace.specs.declared.journey.Ending.{Ending}
 use Rattle.ats_trace.specs.declared.journey.Ending.TheVariants.{Sink, Discard}
 use Rattle.ats_tally.proofs.Network.{few_ports}

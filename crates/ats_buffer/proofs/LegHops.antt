@@ -12,7 +12,7 @@ use Rattle.ats_tally.proofs.Along.{IsPlaced, leg_placed}
 use Rattle.ats_tally.proofs.Network.{few_ports}
 use Rattle.ats_trace.specs.Journey.{IsCopy, IsJourney, IsWay, Leg, Travel, legs_at, legs_in, no_leg, record_at}
 use Rattle.ats_trace.specs.Stored.{leg_in}
-use Rattle.ats_trace.specs.declared.journey.HopRecord.{HopRecord}
+use Rattle.ats_trace.specs.HopRecord.{HopRecord}
 use Rattle.ats_trace.specs.declared.journey.Ending.{Ending}
 use Rattle.ats_trace.proofs.OneVerdict.{copies_many}
 use Rattle.ats_route_law.proofs.Leads.{copy_at}

@@ -21,7 +21,7 @@ use Rattle.ats_trace.specs.Run.{IsLegal}
 use Rattle.ats_trace.specs.Stored.{leg_in, no_travel, travel_at, journey_of}
 use Rattle.ats_trace.specs.declared.journey.Journey.{Journey}
 use Rattle.ats_trace.specs.declared.journey.Release.{Release}
-use Rattle.ats_trace.specs.declared.journey.HopRecord.{HopRecord}
+use Rattle.ats_trace.specs.HopRecord.{HopRecord}
 use Rattle.ats_trace.specs.declared.journey.Ending.{Ending}
 use Rattle.ats_trace.specs.declared.journey.Ending.TheVariants.{Sink, Discard}
 use Rattle.ats_trace.proofs.OneVerdict.{copies_many}

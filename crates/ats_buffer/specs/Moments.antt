@@ -9,7 +9,7 @@ use Rattle.ats_num.specs.declared.time.Ps.{Ps}
 use Rattle.ats_num.specs.declared.wire.TheConstants.{MAX_WIRE_BITS}
 use Rattle.ats_trace.specs.Journey.{Leg, Travel, legs_at}
 use Rattle.ats_trace.specs.Stored.{leg_in}
-use Rattle.ats_trace.specs.declared.journey.HopRecord.{HopRecord}
+use Rattle.ats_trace.specs.HopRecord.{HopRecord}
 use Rattle.ats_trace.specs.declared.journey.Release.{Release}
 use Rattle.ats_trace.specs.Projections.{Crossing, crossings_along, crossings_from, journey_crossings}
 use Rattle.ats_buffer.specs.declared.moments.Moment.{Moment}

@@ -130,8 +130,8 @@ fn push_visit(
     ensures { OnOk result (moments.new.items
         ≡ moments.old.items ++ moments_at port class bits visit.now) }
 {
-    if let Some((_, end)) = visit.sent {
-        push_stay(moments, port, class, bits, visit.arrival, end)?;
+    if let Some((_, end)) = visit.sent() {
+        push_stay(moments, port, class, bits, visit.arrival(), end)?;
     }
     Ok(())
 }

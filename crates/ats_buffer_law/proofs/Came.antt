@@ -16,7 +16,7 @@ use Rattle.ats_trace.specs.Projections.{Hop, Crossing, transmission_by, transmis
 use Rattle.ats_trace.specs.Projections.{crossings_along, crossings_from, journey_crossings}
 use Rattle.ats_trace.specs.Ways.{route_to, way_to}
 use Rattle.ats_trace.specs.declared.journey.Release.{Release}
-use Rattle.ats_trace.specs.declared.journey.HopRecord.{HopRecord}
+use Rattle.ats_trace.specs.HopRecord.{HopRecord}
 use Rattle.ats_trace.specs.declared.journey.Ending.{Ending}
 use Rattle.ats_trace.specs.declared.journey.Ending.TheVariants.{Sink, Discard}
 use Rattle.ats_soundness_law.proofs.Along.{hop_of, all_hops, all_were_sent}

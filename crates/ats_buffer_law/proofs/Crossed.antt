@@ -15,7 +15,7 @@ use Rattle.ats_trace.specs.Projections.{handed_at, hops_along, crossings_along, 
 use Rattle.ats_trace.specs.Projections.{journey_crossings, journey_handed, hops_from, crossings_from, handed_from}
 use Rattle.ats_trace.specs.Projections.{crossings_over}
 use Rattle.ats_trace.specs.declared.journey.Release.{Release}
-use Rattle.ats_trace.specs.declared.journey.HopRecord.{HopRecord}
+use Rattle.ats_trace.specs.HopRecord.{HopRecord}
 use Rattle.ats_trace.specs.declared.journey.Ending.{Ending}
 use Rattle.ats_trace.specs.declared.journey.Ending.TheVariants.{Sink, Discard}
 use Rattle.ats_soundness_law.proofs.Along.{crossing_by, handed_on, hop_of}

@@ -16,7 +16,7 @@ use Rattle.ats_trace.specs.Projections.{Crossing, Hop, crossing_at, crossings_al
 use Rattle.ats_trace.specs.Stored.{leg_in}
 use Rattle.ats_trace.specs.Ways.{listener_count, route_to, way_to}
 use Rattle.ats_trace.specs.declared.journey.Ending.{Ending}
-use Rattle.ats_trace.specs.declared.journey.HopRecord.{HopRecord}
+use Rattle.ats_trace.specs.HopRecord.{HopRecord}
 use Rattle.ats_trace.specs.declared.journey.Release.{Release}
 use Rattle.ats_trace.proofs.Legs.{concat-legs_of}
 use Rattle.ats_route_law.proofs.Leads.{copy_at, lead_first, lead_next, records_at}

@@ -23,7 +23,7 @@ use Rattle.ats_trace.specs.Ways.{listener_count, route_to, way_to}
 use Rattle.ats_trace.specs.Projections.{Hop, Crossing, Handed, transmission_of, crossing_at, crossings_along}
 use Rattle.ats_trace.specs.Projections.{handed_along, journey_crossings, journey_handed, crossings_from, handed_from}
 use Rattle.ats_trace.specs.declared.journey.Release.{Release}
-use Rattle.ats_trace.specs.declared.journey.HopRecord.{HopRecord}
+use Rattle.ats_trace.specs.HopRecord.{HopRecord}
 use Rattle.ats_trace.specs.declared.journey.Ending.{Ending}
 use Rattle.ats_soundness_law.specs.Sound.{IsEligibleBy}
 use Rattle.ats_soundness_law.proofs.Journeys.{IsAt, each_hop, each_on_route, each_was_sent, journey_route}

@@ -18,7 +18,7 @@ use Rattle.ats_trace.specs.Projections.{Hop, Crossing, transmission_by, transmis
 use Rattle.ats_trace.specs.Projections.{hops_along, crossings_along, journey_hops, journey_crossings, hops_from}
 use Rattle.ats_trace.specs.Projections.{crossings_from, crossings_over, hops_over}
 use Rattle.ats_trace.specs.declared.journey.Release.{Release}
-use Rattle.ats_trace.specs.declared.journey.HopRecord.{HopRecord}
+use Rattle.ats_trace.specs.HopRecord.{HopRecord}
 use Rattle.ats_trace.specs.declared.journey.Ending.{Ending}
 use Rattle.ats_trace.specs.declared.journey.Ending.TheVariants.{Sink, Discard}
 use Rattle.ats_trace.proofs.Legs.{legs_cons}

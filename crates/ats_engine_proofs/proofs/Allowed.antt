@@ -23,9 +23,9 @@ use Rattle.ats_transmit.specs.declared.sent.Sent.{Sent}
 use Rattle.ats_events.specs.declared.moment.Moment.{Moment}
 use Rattle.ats_events.specs.declared.phase.TheConstants.{SELECTION}
 use Rattle.ats_trace.specs.Projections.{Crossing}
-use Rattle.ats_trace.specs.declared.journey.HopRecord.{HopRecord}
+use Rattle.ats_trace.specs.HopRecord.{HopRecord, IsEligible}
 use Rattle.ats_trace.specs.declared.journey.Release.{Release}
-use Rattle.ats_run_records.specs.Progress.{Progress, progress_at}
+use Rattle.ats_run_records.specs.Progress.{Progress, last_hop, progress_at}
 use Rattle.ats_engine_steps.specs.Bounds.{horizon, all_left}
 use Rattle.ats_engine_steps.specs.Conditions.{HasRoom, IsThere, MayComeNow, MayBeOffered, MaySelect, MayEnd}
 use Rattle.ats_engine_steps.specs.Course.{Course, arrives_from_at, crossings_so_far, eligibility_of, offer_at, path_of}
@@ -170,7 +170,7 @@ held-one {T} {key} {wait} {network} {releases} {course} holds row port has withi
     port-one holds.rules holds.shape row held.row port within held.within known
     (named ∙ sym (ap (λ (x : Offer). x.frame) held.same)) has (held-has holds held)
 
--- a frame that a port holds passes it, and came there along the leg that has it
+-- a frame that a port holds passes it, came there along the leg that has it, and is eligible
 held-there : {T : Type 0} {key : T → ℕ → ℕ → ℕ} {wait : ℕ → ℕ → ℕ} {network : DeclaredNetwork}
     {releases : List Release} {course : Course T} {entries : List (Moment × Event)} {port : ℕ} {o : Offer}
     → Holds key wait network releases course entries → IsHeld network course port o
@@ -191,17 +191,20 @@ held-there {T} {key} {wait} {network} {releases} {course} {entries} {port} {o} h
     (stands-at_most IsUnsent (path_of network p) p.hops at.stands)) in
     let known : (progress_at course.records p.frame).release.sender < length (senders_of network) =
     subst (λ (r : Release). r.sender < length (senders_of network)) (sym one) at.sender in
+    let one_leg : (r : ℕ) → IsLegAt network course p.frame port r → held.row ≡ r =
+    λ r leg. named-one holds.rules holds.shape p.frame port held.row r within known own leg in
     subst (IsThere network course port) named (record {
       trunk = omega (arith, (firsts-are holds.shape).trunks);
       numbered = within;
       sender = known;
       passes = subst (λ (r : Release). Contains (sender_at network r.sender).ports port) (sym one)
           (contains-leg network p.release.sender p.leg port holds.rules at.sender at.leg has);
-      came = λ r leg. (
-          let same : held.row ≡ r =
-          named-one holds.rules holds.shape p.frame port held.row r within known own leg in
-          subst (λ (n : ℕ). (n < length course.records) × (0 < length (progress_at course.records n).hops)) same
-          (held.within, some));
+      came = λ r leg.
+          subst (λ (n : ℕ). (n < length course.records) × (0 < length (progress_at course.records n).hops))
+          (one_leg r leg) (held.within, some);
+      eligible = λ r leg.
+          subst (λ (n : ℕ). IsEligible (last_hop (progress_at course.records n)).verdict) (one_leg r leg)
+          (subst IsEligible (sym (standing-last at).verdict) tt);
     })
 
 -- a port has started no transmission at the time of an event before selections

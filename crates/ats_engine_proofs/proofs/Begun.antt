@@ -11,7 +11,7 @@ use Rattle.ats_network.specs.Network.{DeclaredNetwork}
 use Rattle.ats_network.specs.Senders.{sender_at}
 use Rattle.ats_events.specs.declared.moment.Moment.{Moment}
 use Rattle.ats_trace.specs.Stored.{row_of}
-use Rattle.ats_trace.specs.declared.journey.HopRecord.{HopRecord}
+use Rattle.ats_trace.specs.HopRecord.{HopRecord}
 use Rattle.ats_trace.specs.declared.journey.Release.{Release}
 use Rattle.ats_run_records.specs.Progress.{Progress, progress_at}
 use Rattle.ats_engine_steps.specs.Course.{Course, stage_at, path_of, sender_of}

@@ -14,7 +14,7 @@ use Rattle.ats_network.specs.Sender.{Sender}
 use Rattle.ats_trace.specs.Journey.{AreCopies, IsCopy, Leg, Travel, legs_in, no_leg, record_at}
 use Rattle.ats_trace.specs.Projections.{Crossing, Handed, Hop, crossings_along, crossings_over, handed_along}
 use Rattle.ats_trace.specs.Projections.{handed_over, hops_along, hops_over}
-use Rattle.ats_trace.specs.declared.journey.HopRecord.{HopRecord}
+use Rattle.ats_trace.specs.HopRecord.{HopRecord}
 use Rattle.ats_trace.specs.declared.journey.Release.{Release}
 use Rattle.ats_trace.proofs.Legs.{legs_cons}
 use Rattle.ats_trace.proofs.OneVerdict.{copies_many, zip_at}

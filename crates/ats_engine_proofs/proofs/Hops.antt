@@ -17,7 +17,7 @@ use Rattle.ats_group.specs.declared.verdict.Verdict.TheVariants.{Eligible, Late,
 use Rattle.ats_port_rule.specs.Transmission.{Transmission}
 use Rattle.ats_trace.specs.Projections.{Hop, transmission_by, transmission_of, hop_at, hops_along}
 use Rattle.ats_trace.specs.declared.journey.Release.{Release}
-use Rattle.ats_trace.specs.declared.journey.HopRecord.{HopRecord}
+use Rattle.ats_trace.specs.HopRecord.{HopRecord}
 use Rattle.ats_run_records.specs.Progress.{Progress, progress_at, no_progress}
 use Rattle.ats_engine_steps.specs.Course.{Course, leg_hops, sent_so_far}
 use Rattle.ats_engine_steps.specs.Frames.{Stands}

@@ -29,7 +29,7 @@ use Rattle.ats_trace.specs.Projections.{journey_crossings, journey_hops, sent_by
 use Rattle.ats_trace.specs.Run.{IsLegal}
 use Rattle.ats_trace.specs.declared.journey.Ending.{Ending}
 use Rattle.ats_trace.specs.declared.journey.Ending.TheVariants.{Sink, Discard}
-use Rattle.ats_trace.specs.declared.journey.HopRecord.{HopRecord}
+use Rattle.ats_trace.specs.HopRecord.{HopRecord}
 use Rattle.ats_trace.specs.declared.journey.Release.{Release}
 use Rattle.ats_trace.proofs.Legs.{legs_keep}
 use Rattle.ats_trace.proofs.OneVerdict.{copies_many}

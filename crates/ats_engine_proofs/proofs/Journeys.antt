@@ -17,7 +17,7 @@ use Rattle.ats_network.proofs.SenderLemmas.{sender_keeps}
 use Rattle.ats_trace.specs.Journey.{AreCopies, IsCopy, IsJourney, IsReleased, IsWay, Leg, Travel, legs_at}
 use Rattle.ats_trace.specs.Journey.{legs_in, no_leg, record_at}
 use Rattle.ats_trace.specs.Stored.{no_travel, row_of, travel_at}
-use Rattle.ats_trace.specs.declared.journey.HopRecord.{HopRecord}
+use Rattle.ats_trace.specs.HopRecord.{HopRecord}
 use Rattle.ats_trace.specs.declared.journey.Release.{Release}
 use Rattle.ats_trace.proofs.RowLemmas.{length-gathered}
 use Rattle.ats_run_records.specs.Progress.{Progress, copies_count, finished, progress_at, told_of}

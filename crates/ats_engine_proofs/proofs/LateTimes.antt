@@ -30,7 +30,7 @@ use Rattle.ats_trace.specs.Eligibility.{declared_by, offer_of, IsJudged, IsPasse
 use Rattle.ats_trace.specs.Run.{IsLegal}
 use Rattle.ats_trace.specs.declared.journey.Ending.{Ending}
 use Rattle.ats_trace.specs.declared.journey.Ending.TheVariants.{Sink, Discard}
-use Rattle.ats_trace.specs.declared.journey.HopRecord.{HopRecord}
+use Rattle.ats_trace.specs.HopRecord.{HopRecord}
 use Rattle.ats_trace.specs.declared.journey.Release.{Release}
 use Rattle.ats_trace.proofs.Legs.{legs_keep}
 use Rattle.ats_trace.proofs.OneVerdict.{copies_many}

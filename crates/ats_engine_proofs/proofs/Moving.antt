@@ -12,7 +12,7 @@ use Rattle.ats_network.specs.Class.{class_at}
 use Rattle.ats_network.specs.Senders.{sender_at}
 use Rattle.ats_events.specs.declared.moment.Moment.{Moment}
 use Rattle.ats_events.specs.declared.phase.TheConstants.{SELECTION}
-use Rattle.ats_trace.specs.declared.journey.HopRecord.{HopRecord}
+use Rattle.ats_trace.specs.HopRecord.{HopRecord}
 use Rattle.ats_trace.specs.declared.journey.Release.{Release}
 use Rattle.ats_run_records.specs.Progress.{Progress, progress_at, no_progress, no_hop}
 use Rattle.ats_engine_steps.specs.Course.{Course, stage_at}

@@ -24,7 +24,7 @@ use Rattle.ats_transmit.specs.declared.offer.Offer.{Offer}
 use Rattle.ats_transmit.specs.declared.sent.Sent.{Sent}
 use Rattle.ats_trace.specs.Journey.{legs_at}
 use Rattle.ats_trace.specs.Projections.{Hop}
-use Rattle.ats_trace.specs.declared.journey.HopRecord.{HopRecord}
+use Rattle.ats_trace.specs.HopRecord.{HopRecord}
 use Rattle.ats_trace.specs.declared.journey.Release.{Release}
 use Rattle.ats_run_records.specs.Progress.{Progress, progress_at, no_progress}
 use Rattle.ats_engine_steps.specs.Course.{Course, leg_hops, offer_at, path_of, place_of, place_at, sender_of}

@@ -2,7 +2,7 @@
 use Rattle.std.proofs.Common.{◌≡◌, ℕ, ◌<◌, List, length, subst}
 use Rattle.std.specs.Prelude.{Contains}
 use Rattle.ats_network.specs.Network.{DeclaredNetwork, IsNetwork}
-use Rattle.ats_trace.specs.declared.journey.HopRecord.{HopRecord}
+use Rattle.ats_trace.specs.HopRecord.{HopRecord}
 use Rattle.ats_trace.specs.declared.journey.Release.{Release}
 use Rattle.ats_run_records.specs.Progress.{Progress, progress_at}
 use Rattle.ats_engine_steps.specs.Course.{Course, path_of, place_at, place_of}

@@ -38,7 +38,7 @@ use Rattle.ats_trace.specs.Projections.{Hop, Crossing, Handed, hops_along, cross
 use Rattle.ats_trace.specs.Releases.{AreReleases, HaveFewPorts, IsRelease}
 use Rattle.ats_trace.specs.Stored.{row_of}
 use Rattle.ats_trace.specs.declared.journey.Ending.{Ending}
-use Rattle.ats_trace.specs.declared.journey.HopRecord.{HopRecord}
+use Rattle.ats_trace.specs.HopRecord.{HopRecord}
 use Rattle.ats_trace.specs.declared.journey.Release.{Release}
 use Rattle.ats_run_records.specs.Progress.{Progress, progress_at, no_progress, copies_opened, leg_opened, trunks_opened}
 use Rattle.ats_run_records.proofs.AllCounts.{length-trunks, no_release}

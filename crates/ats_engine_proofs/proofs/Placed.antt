@@ -10,7 +10,7 @@ use Rattle.ats_network.specs.Network.{DeclaredNetwork, IsNetwork, senders_of}
 use Rattle.ats_network.proofs.SenderLemmas.{sender_keeps}
 use Rattle.ats_trace.specs.Links.{in_order_from}
 use Rattle.ats_trace.specs.Projections.{Crossing}
-use Rattle.ats_trace.specs.declared.journey.HopRecord.{HopRecord}
+use Rattle.ats_trace.specs.HopRecord.{HopRecord}
 use Rattle.ats_run_records.specs.Progress.{Progress, progress_at, last_hop, no_hop}
 use Rattle.ats_engine_steps.specs.Conditions.{IsPlaced}
 use Rattle.ats_engine_steps.specs.Course.{path_of, place_of, sender_of}

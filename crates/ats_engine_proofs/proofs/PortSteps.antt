@@ -10,7 +10,7 @@ use Rattle.ats_events.specs.declared.phase.TheConstants.{SELECTION}
 use Rattle.ats_transmit.specs.State.{PortState, opened, IsLawfulPort}
 use Rattle.ats_transmit.specs.declared.offer.Offer.{Offer}
 use Rattle.ats_transmit.specs.declared.sent.Sent.{Sent}
-use Rattle.ats_trace.specs.declared.journey.HopRecord.{HopRecord}
+use Rattle.ats_trace.specs.HopRecord.{HopRecord}
 use Rattle.ats_trace.specs.declared.journey.Release.{Release}
 use Rattle.ats_run_records.specs.Progress.{Progress, progress_at, no_progress, last_hop, with_sent}
 use Rattle.ats_engine_steps.specs.Course.{Course, path_of, stage_at, turn_at, place_of, place_at, offer_at}

@@ -8,7 +8,7 @@ use Rattle.std.proofs.lemmas.Slice.Zip.{get_or-zip, length-zip}
 use Rattle.ats_network.specs.Network.{DeclaredNetwork}
 use Rattle.ats_events.specs.declared.moment.Moment.{Moment}
 use Rattle.ats_trace.specs.declared.journey.Release.{Release}
-use Rattle.ats_trace.specs.declared.journey.HopRecord.{HopRecord}
+use Rattle.ats_trace.specs.HopRecord.{HopRecord}
 use Rattle.ats_run_records.specs.Progress.{Progress, no_progress, progress_at}
 use Rattle.ats_engine_steps.specs.Course.{Course, stage_at}
 use Rattle.ats_engine_steps.specs.Frames.{IsFrame, Goes, Stands, IsSent}

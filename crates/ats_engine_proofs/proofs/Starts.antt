@@ -16,7 +16,7 @@ use Rattle.ats_group.specs.declared.verdict.Verdict.{Verdict}
 use Rattle.ats_events.specs.declared.moment.Moment.{Moment}
 use Rattle.ats_trace.specs.Stored.{row_of}
 use Rattle.ats_trace.specs.declared.journey.Ending.{Ending}
-use Rattle.ats_trace.specs.declared.journey.HopRecord.{HopRecord}
+use Rattle.ats_trace.specs.HopRecord.{HopRecord}
 use Rattle.ats_trace.specs.declared.journey.Release.{Release}
 use Rattle.ats_run_records.specs.Progress.{Progress, copies_count, no_progress, progress_at, with_hop}
 use Rattle.ats_engine_steps.specs.Course.{Course, sender_of, stage_at}

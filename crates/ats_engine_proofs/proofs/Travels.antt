@@ -24,7 +24,7 @@ use Rattle.ats_transmit.specs.declared.offer.Offer.{Offer}
 use Rattle.ats_trace.specs.Projections.{Crossing, Handed, crossing_of, crossings_along, hops_along, handed_along}
 use Rattle.ats_trace.specs.declared.journey.Ending.{Ending}
 use Rattle.ats_trace.specs.declared.journey.Ending.TheVariants.{Sink, Discard}
-use Rattle.ats_trace.specs.declared.journey.HopRecord.{HopRecord}
+use Rattle.ats_trace.specs.HopRecord.{HopRecord}
 use Rattle.ats_trace.specs.declared.journey.Release.{Release}
 use Rattle.ats_run_records.specs.Progress.{Progress, no_progress, progress_at, last_hop, no_hop, with_hop, with_sent}
 use Rattle.ats_run_records.specs.Progress.{with_ending}

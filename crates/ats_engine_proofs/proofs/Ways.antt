@@ -8,7 +8,7 @@ use Rattle.ats_group.specs.declared.verdict.Verdict.TheVariants.{Eligible}
 use Rattle.ats_trace.specs.Journey.{IsSentOrEnds, IsWay}
 use Rattle.ats_trace.specs.declared.journey.Ending.{Ending}
 use Rattle.ats_trace.specs.declared.journey.Ending.TheVariants.{Sink, Discard}
-use Rattle.ats_trace.specs.declared.journey.HopRecord.{HopRecord}
+use Rattle.ats_trace.specs.HopRecord.{HopRecord}
 use Rattle.ats_trace.specs.declared.journey.Release.{Release}
 use Rattle.ats_run_records.specs.Progress.{no_hop}
 use Rattle.ats_engine_steps.specs.Frames.{IsUnsent, IsSentUntil, IsSent, Goes, Stands, HasBegun, BeginsBy}

@@ -6,7 +6,7 @@ use Rattle.ats_group.specs.declared.verdict.Verdict.TheVariants.{Eligible, Late,
 use Rattle.ats_trace.specs.Journey.{Leg, Travel}
 use Rattle.ats_trace.specs.declared.journey.Ending.{Ending}
 use Rattle.ats_trace.specs.declared.journey.Ending.TheVariants.{Sink, Discard}
-use Rattle.ats_trace.specs.declared.journey.HopRecord.{HopRecord}
+use Rattle.ats_trace.specs.HopRecord.{HopRecord}
 
 -- an eligible frame is so before this time, and a late one would have been
 abbrev pub IsVerdictBefore : ℕ → Verdict → Type 0

@@ -13,7 +13,7 @@ use Rattle.ats_network.specs.Network.{DeclaredNetwork}
 use Rattle.ats_trace.proofs.Legs.{pairs_across}
 use Rattle.ats_events.specs.declared.moment.Moment.{Moment}
 use Rattle.ats_trace.specs.Stored.{row_of}
-use Rattle.ats_trace.specs.declared.journey.HopRecord.{HopRecord}
+use Rattle.ats_trace.specs.HopRecord.{HopRecord}
 use Rattle.ats_run_records.specs.Progress.{Progress, no_progress, progress_at, with_hop}
 use Rattle.ats_engine_steps.specs.Conditions.{HasRoom, MayComeNow}
 use Rattle.ats_engine_steps.specs.Course.{Course, sender_of}

@@ -13,7 +13,8 @@ use Rattle.ats_transmit.specs.Sending.{last_start, last_end}
 use Rattle.ats_transmit.specs.State.{offered_of}
 use Rattle.ats_transmit.specs.declared.sent.Sent.{Sent}
 use Rattle.ats_transmit.specs.declared.offer.Offer.{Offer}
-use Rattle.ats_run_records.specs.Progress.{Progress, progress_at}
+use Rattle.ats_trace.specs.HopRecord.{IsEligible}
+use Rattle.ats_run_records.specs.Progress.{Progress, last_hop, progress_at}
 use Rattle.ats_engine_steps.specs.Course.{Course, sender_of, path_of, place_at, offer_at, arrives_from_at}
 use Rattle.ats_engine_steps.specs.Steps.{IsLegAt, class_behind, rows_next}
 use Rattle.ats_engine_steps.specs.Ports.{port_state_at}
@@ -71,7 +72,7 @@ pub record MayBeOffered {T : Type 0} (network : DeclaredNetwork) (course : Cours
       → last_start (port_state_at course (place_at network course row)).sent
       < (offer_at network course row).eligible.0
 
--- a frame passes a port: one of its sender's legs has it, and the frame came there along whichever has
+-- a frame passes a port: one of its sender's legs has it, and the frame came there along whichever has, and is eligible
 pub record IsThere {T : Type 0} (network : DeclaredNetwork) (course : Course T) (port frame : ℕ) : Type 0 where
   pub trunk : frame < length course.records
   pub numbered : frame < length course.firsts
@@ -79,6 +80,8 @@ pub record IsThere {T : Type 0} (network : DeclaredNetwork) (course : Course T) 
   pub passes : Contains (sender_of network (progress_at course.records frame)).ports port
   pub came : (row : ℕ) → IsLegAt network course frame port row
       → (row < length course.records) × (0 < length (progress_at course.records row).hops)
+  pub eligible : (row : ℕ) → IsLegAt network course frame port row
+      → IsEligible (last_hop (progress_at course.records row)).verdict
 
 -- a port selects now: it is free and due
 pub record MaySelect {T : Type 0} (network : DeclaredNetwork) (course : Course T) (now port : ℕ) : Type 0 where
@@ -89,7 +92,7 @@ pub record MaySelect {T : Type 0} (network : DeclaredNetwork) (course : Course T
   pub free : (port_state_at course port).is_sending ≡ false
   pub due : IsFirstStart (port_state_at course port).held (port_state_at course port).sent now
   pub there : All (λ (o : Offer). IsThere network course port o.frame) (port_state_at course port).held
-  pub time : now ≤ END
+  pub time : now < END
 
 -- the transmission of a frame along a leg ends now, at the port of its last hop record
 pub record MayEnd {T : Type 0} (network : DeclaredNetwork) (course : Course T) (now row : ℕ) : Type 0 where

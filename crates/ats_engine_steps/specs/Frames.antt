@@ -8,7 +8,7 @@ use Rattle.ats_group.specs.declared.verdict.Verdict.TheVariants.{Eligible}
 use Rattle.ats_trace.specs.Journey.{BeginsAs, IsWay, IsReleased}
 use Rattle.ats_trace.specs.Stored.{row_of}
 use Rattle.ats_trace.specs.declared.journey.Ending.TheVariants.{Discard}
-use Rattle.ats_trace.specs.declared.journey.HopRecord.{HopRecord}
+use Rattle.ats_trace.specs.HopRecord.{HopRecord}
 use Rattle.ats_trace.specs.declared.journey.Release.{Release}
 use Rattle.ats_run_records.specs.Progress.{Progress, progress_at}
 use Rattle.ats_engine_steps.specs.Course.{Course, path_of, sender_of}

@@ -20,7 +20,7 @@ use Rattle.ats_trace.specs.Eligibility.{declared_by}
 use Rattle.ats_trace.specs.Journey.{legs_at}
 use Rattle.ats_trace.specs.Stored.{row_of}
 use Rattle.ats_trace.specs.declared.journey.Ending.TheVariants.{Sink}
-use Rattle.ats_trace.specs.declared.journey.HopRecord.{HopRecord}
+use Rattle.ats_trace.specs.HopRecord.{HopRecord}
 use Rattle.ats_run_records.specs.Progress.{Progress, progress_at, with_hop, with_sent, with_ending}
 use Rattle.ats_engine_steps.specs.Course.{Course, place_at, offer_at, turn_at, arrives_from_at, sender_of, path_of}
 use Rattle.ats_engine_steps.specs.Entries.{arrival_moment, eligible_moment, end_moment, selection_moment}

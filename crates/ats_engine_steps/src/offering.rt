@@ -45,7 +45,7 @@ pub(crate) fn offer_of(net: &Network, records: &Records, row: u32) -> Offer
         frame: records.frame(row),
         sender: release.sender,
         class: class_of(net, release.sender, records.leg(row), hops.len() as u32 - 1),
-        eligible: eligibility_of(last.verdict),
+        eligible: eligibility_of(last.verdict()),
         octets: release.octets,
     }
 }

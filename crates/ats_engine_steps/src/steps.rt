@@ -87,12 +87,7 @@ fn enter<T: Tie>(state: &mut State<T>, row: u32, at: Ps, verdict: Verdict)
     requires room { HasRoom state.old.records.legs row }
     ensures { course_of state.new ≡ entered (course_of state.old) row at verdict }
 {
-    let hop = HopRecord {
-        arrival: at,
-        verdict,
-        sent: None,
-    };
-    state.records.push(row, hop);
+    state.records.push(row, HopRecord::new(at, verdict));
     state.stages[row as usize] = match verdict {
         Verdict::Eligible(eligible) => Stage::Due(eligible),
         Verdict::Late(_) => Stage::Over,

@@ -1,5 +1,8 @@
 //! Runs of the engine over trees: what happens to the copies that bridges make.
 
+ghost use Rattle.std.specs.Prelude.{◌<◌};
+ghost use Rattle.ats_num.specs.declared.time.TheConstants.{END};
+
 use ats_engine::Engine;
 use ats_events::Up;
 use ats_fixtures::trees::{crowded_fork, fork, fork_of_classes, tree};
@@ -63,21 +66,17 @@ fn went(run: &Run, frame: u32, leg: u32, hops: &[HopRecord], ending: Ending) -> 
 }
 
 // The record of a frame that came at a time, became eligible at one, and was sent from one to another.
-fn hop(arrival: u64, eligible: u64, start: u64, end: u64) -> HopRecord {
-    HopRecord {
-        arrival: Ps(arrival),
-        verdict: Verdict::Eligible(Ps(eligible)),
-        sent: Some((Ps(start), Ps(end))),
-    }
+fn hop(arrival: u64, eligible: u64, start: u64, end: u64) -> HopRecord
+    requires { start < END }
+{
+    let mut hop = HopRecord::new(Ps(arrival), Verdict::Eligible(Ps(eligible)));
+    hop.send(Ps(start), Ps(end));
+    hop
 }
 
 // The record of a frame that came at a time, and was discarded.
 fn discarded(arrival: u64, verdict: Verdict) -> HopRecord {
-    HopRecord {
-        arrival: Ps(arrival),
-        verdict,
-        sent: None,
-    }
+    HopRecord::new(Ps(arrival), verdict)
 }
 
 // The end of a journey at a listener.
@@ -88,12 +87,12 @@ fn sink(at: u64) -> Ending {
 #[test]
 fn copies_a_frame_at_a_bridge(rt: HostRuntime) {
     let run = run_of(&rt, fork(rt.alloc()), ONE);
-    let trunk = [
+    let trunk: &[HopRecord] = &[
         hop(0, 0, 0, 12_336_000),
         hop(13_836_000, 13_836_000, 13_836_000, 26_172_000),
     ];
     assert!(rt; has_legs(&run, 0, 2));
-    assert!(rt; went(&run, 0, 0, &trunk, sink(26_672_000)));
+    assert!(rt; went(&run, 0, 0, trunk, sink(26_672_000)));
     assert!(rt; went(&run, 0, 1, &trunk[1..], sink(26_672_000)));
 }
 
@@ -114,24 +113,24 @@ fn sends_a_copy_while_the_trunk_waits(rt: HostRuntime) {
 #[test]
 fn discards_a_long_frame_for_each_listener(rt: HostRuntime) {
     let run = run_of(&rt, fork(rt.alloc()), TOO_LONG);
-    let trunk = [
+    let trunk: &[HopRecord] = &[
         hop(0, 0, 0, 12_344_000),
         discarded(13_844_000, Verdict::Size),
     ];
-    assert!(rt; went(&run, 0, 0, &trunk, Ending::Discard));
+    assert!(rt; went(&run, 0, 0, trunk, Ending::Discard));
     assert!(rt; went(&run, 0, 1, &trunk[1..], Ending::Discard));
 }
 
 #[test]
 fn discards_a_late_frame_for_each_listener(rt: HostRuntime) {
     let run = run_of(&rt, crowded_fork(rt.alloc()), CROWD);
-    let last = [
+    let last: &[HopRecord] = &[
         hop(0, 0, 14_784_000, 15_456_000),
         discarded(16_956_000, Verdict::Late(Ps(33_372_000))),
     ];
     let copy = [hop(16_284_000, 26_652_000, 26_652_000, 27_324_000)];
     assert!(rt; went(&run, 22, 1, &copy, sink(27_824_000)));
-    assert!(rt; went(&run, 23, 0, &last, Ending::Discard));
+    assert!(rt; went(&run, 23, 0, last, Ending::Discard));
     assert!(rt; went(&run, 23, 1, &last[1..], Ending::Discard));
 }
 
@@ -155,13 +154,13 @@ fn judges_by_the_class_at_the_port_before(rt: HostRuntime) {
 #[test]
 fn discards_behind_one_branching_and_before_another(rt: HostRuntime) {
     let run = run_of(&rt, tree(rt.alloc()), HELD_UP);
-    let trunk = [
+    let trunk: &[HopRecord] = &[
         hop(123_360_001, 123_360_001, 123_360_001, 135_696_001),
         hop(137_196_001, 137_196_001, 137_196_001, 149_532_001),
         discarded(151_032_001, Verdict::Late(Ps(163_368_000))),
     ];
     assert!(rt; has_legs(&run, 2, 4));
-    assert!(rt; went(&run, 2, 0, &trunk, Ending::Discard));
+    assert!(rt; went(&run, 2, 0, trunk, Ending::Discard));
     assert!(rt; went(&run, 2, 1, &trunk[1..2], sink(150_032_001)));
     assert!(rt; went(&run, 2, 2, &trunk[2..], Ending::Discard));
     assert!(rt; went(&run, 2, 3, &[], Ending::Discard));

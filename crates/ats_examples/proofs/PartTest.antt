@@ -17,7 +17,7 @@ use Rattle.ats_trace.specs.Journey.{Leg, Travel, IsWay, IsSentOrEnds, IsReleased
 use Rattle.ats_trace.specs.Journey.{record_at, trunk_at}
 use Rattle.ats_trace.specs.Run.{releases_of, IsLegal}
 use Rattle.ats_trace.specs.declared.journey.Release.{Release}
-use Rattle.ats_trace.specs.declared.journey.HopRecord.{HopRecord}
+use Rattle.ats_trace.specs.HopRecord.{HopRecord}
 use Rattle.ats_trace.specs.declared.journey.Ending.{Ending}
 use Rattle.ats_trace.specs.declared.journey.Ending.TheVariants.{Sink, Discard}
 use Rattle.ats_trace.specs.Parts.{Part, in_order, octets, way, released, copies, links, waits, takes, apart, chosen}

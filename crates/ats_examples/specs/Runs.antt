@@ -1,7 +1,7 @@
 use Rattle.std.specs.Prelude.{ℕ, ◌+◌, List, [], ◌∷◌, ◌++◌, Some, None}
 use Rattle.ats_group.specs.declared.verdict.Verdict.TheVariants.{Eligible, Size, Late}
 use Rattle.ats_trace.specs.Journey.{Travel}
-use Rattle.ats_trace.specs.declared.journey.HopRecord.{HopRecord}
+use Rattle.ats_trace.specs.HopRecord.{HopRecord}
 use Rattle.ats_trace.specs.declared.journey.Ending.TheVariants.{Sink, Discard}
 
 -- Runs over one bridge, written out in full.

@@ -8,7 +8,7 @@ use Rattle.ats_trace.specs.Releases.{AreReleases}
 use Rattle.ats_trace.specs.Run.{releases_of}
 use Rattle.ats_trace.specs.Stored.{travel_at, no_travel}
 use Rattle.ats_trace.specs.Talker.{talker_of}
-use Rattle.ats_trace.specs.declared.journey.HopRecord.{HopRecord}
+use Rattle.ats_trace.specs.HopRecord.{HopRecord}
 use Rattle.ats_trace.specs.declared.journey.Release.{Release}
 use Rattle.ats_trace.specs.declared.run.TheConstants.{MAX_FRAMES}
 use Rattle.ats_examples.specs.Networks.{line}

@@ -15,7 +15,7 @@ use Rattle.ats_trace.specs.Projections.{crossings_over, handed_over, journey_hop
 use Rattle.ats_trace.specs.Projections.{hops_from, crossings_from, handed_from}
 use Rattle.ats_trace.specs.Projections.{sent_by, crossings_by, handed_by}
 use Rattle.ats_trace.specs.declared.journey.Release.{Release}
-use Rattle.ats_trace.specs.declared.journey.HopRecord.{HopRecord}
+use Rattle.ats_trace.specs.HopRecord.{HopRecord}
 use Rattle.ats_trace.specs.declared.journey.Ending.{Ending}
 use Rattle.ats_trace.specs.declared.journey.Ending.TheVariants.{Sink, Discard}
 use Rattle.ats_legal_law.specs.Rest.{AreTimesBy, IsRecordBy, IsEndingBy, IsLegBy, IsOverBy}

@@ -14,7 +14,7 @@ use Rattle.ats_trace.specs.Projections.{hops_along, crossings_along, handed_alon
 use Rattle.ats_trace.specs.Projections.{handed_over, journey_hops, journey_crossings, journey_handed, hops_from}
 use Rattle.ats_trace.specs.Projections.{crossings_from, handed_from, sent_by}
 use Rattle.ats_trace.specs.declared.journey.Release.{Release}
-use Rattle.ats_trace.specs.declared.journey.HopRecord.{HopRecord}
+use Rattle.ats_trace.specs.HopRecord.{HopRecord}
 use Rattle.ats_trace.specs.declared.journey.Ending.{Ending}
 use Rattle.ats_trace.specs.declared.journey.Ending.TheVariants.{Sink, Discard}
 use Rattle.ats_trace.proofs.OneVerdict.{one_verdict}

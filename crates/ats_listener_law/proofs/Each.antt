@@ -12,7 +12,7 @@ use Rattle.ats_soundness_law.specs.Sound.{IsContainedOn, IsServedOn}
 use Rattle.ats_route_law.proofs.Leads.{leads-many}
 use Rattle.ats_trace.specs.Journey.{AreCopies, Leg, Travel, legs_in, no_leg}
 use Rattle.ats_trace.specs.Ways.{listener_count, records_in, route_to, routes_by, way_to}
-use Rattle.ats_trace.specs.declared.journey.HopRecord.{HopRecord}
+use Rattle.ats_trace.specs.HopRecord.{HopRecord}
 use Rattle.ats_trace.proofs.OneVerdict.{copies_many, zip_at}
 use Rattle.ats_checker.specs.InTime.{ArrivesInTimeOn}
 use Rattle.ats_listener_law.specs.Ways.{EachWayIsInTime, EachWayIsServed, ended_as, ways_by}

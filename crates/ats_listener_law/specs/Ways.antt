@@ -8,7 +8,7 @@ use Rattle.ats_network.specs.Senders.{sender_at}
 use Rattle.ats_certificate.specs.declared.row.Row.{Row}
 use Rattle.ats_trace.specs.Journey.{AreCopies, IsJourney, IsReleased, IsWay, Leg, Travel, legs_in}
 use Rattle.ats_trace.specs.Ways.{listener_count, records_in, route_to, routes_by, way_to}
-use Rattle.ats_trace.specs.declared.journey.HopRecord.{HopRecord}
+use Rattle.ats_trace.specs.HopRecord.{HopRecord}
 use Rattle.ats_soundness_law.specs.Sound.{IsContained, IsContainedOn, IsServed, IsServedOn}
 use Rattle.ats_checker.specs.InTime.{ArrivesInTime, ArrivesInTimeOn}
 

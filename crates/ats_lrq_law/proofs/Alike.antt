@@ -30,7 +30,7 @@ use Rattle.ats_trace.specs.Eligibility.{declared_by, offer_of, IsJudged, IsPasse
 use Rattle.ats_trace.specs.Run.{IsLegalBy}
 use Rattle.ats_trace.specs.Talker.{start_of, talker_of, frames_of, IsDeclaredSize, KeepsBucketsBy}
 use Rattle.ats_trace.specs.declared.journey.Release.{Release}
-use Rattle.ats_trace.specs.declared.journey.HopRecord.{HopRecord}
+use Rattle.ats_trace.specs.HopRecord.{HopRecord}
 use Rattle.ats_trace.specs.declared.journey.Ending.{Ending}
 use Rattle.ats_lrq.specs.Fold.{State, first, judged, after, next, verdicts_of, verdict_on}
 use Rattle.ats_lrq.specs.Judge.{lrq_judge, KeepsSpacing, spacing_rule}

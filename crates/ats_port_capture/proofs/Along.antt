@@ -16,7 +16,7 @@ use Rattle.ats_port_rule.specs.Transmission.{Transmission}
 use Rattle.ats_trace.specs.Journey.{Travel, IsSentOrEnds, IsWay}
 use Rattle.ats_trace.specs.Projections.{Hop, hop_at, hops_along, transmission_by, transmission_of}
 use Rattle.ats_trace.specs.declared.journey.Release.{Release}
-use Rattle.ats_trace.specs.declared.journey.HopRecord.{HopRecord}
+use Rattle.ats_trace.specs.HopRecord.{HopRecord}
 use Rattle.ats_trace.specs.declared.journey.Ending.{Ending}
 use Rattle.ats_trace.specs.declared.journey.Ending.TheVariants.{Sink, Discard}
 use Rattle.ats_port_capture.specs.Capture.{octets_of}

@@ -25,7 +25,7 @@ use Rattle.ats_network.proofs.SenderLemmas.{sender_keeps}
 use Rattle.ats_trace.specs.Journey.{IsJourney, Travel, legs_at, legs_in, no_leg}
 use Rattle.ats_trace.specs.Stored.{journey_of, leg_in, no_travel, travel_at}
 use Rattle.ats_trace.specs.declared.journey.Journey.{Journey}
-use Rattle.ats_trace.specs.declared.journey.HopRecord.{HopRecord}
+use Rattle.ats_trace.specs.HopRecord.{HopRecord}
 use Rattle.ats_trace.specs.declared.journey.Release.{Release}
 use Rattle.ats_port_capture.specs.Sightings.{IsWritable, sent_in, sighting_of}
 use Rattle.ats_port_capture.proofs.Along.{AgreesAt, at_place, kept, kept_at, kept_there, none_along, sent_there}

@@ -16,7 +16,7 @@ use Rattle.ats_port_rule.specs.Transmission.{Transmission}
 use Rattle.ats_trace.specs.Journey.{IsCopy, IsJourney, Leg, Travel, legs_at, legs_in, no_leg, record_at, trunk_at}
 use Rattle.ats_trace.specs.Projections.{hops_along, hops_over}
 use Rattle.ats_trace.specs.Stored.{leg_in, travel_at}
-use Rattle.ats_trace.specs.declared.journey.HopRecord.{HopRecord}
+use Rattle.ats_trace.specs.HopRecord.{HopRecord}
 use Rattle.ats_trace.specs.declared.journey.Release.{Release}
 use Rattle.ats_trace.proofs.Legs.{concat-legs_of, legs_keep, pairs_left, pairs_right}
 use Rattle.ats_trace.proofs.OneVerdict.{copies_many}

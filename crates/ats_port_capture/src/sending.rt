@@ -125,7 +125,7 @@ fn sighting_of(
 {
     let release = release_of(run, frame);
     let hop = place_of(network.sender_leg(release.sender, leg), port)?;
-    let (start, _) = run.hops_of(frame, leg).get(hop)?.sent?;
+    let (start, _) = run.hops_of(frame, leg).get(hop)?.sent()?;
     Some(Sighting {
         start,
         octets: release.octets,

@@ -23,7 +23,7 @@ use Rattle.ats_trace.specs.Journey.{IsJourney, Leg, Travel, legs_in}
 use Rattle.ats_trace.specs.Projections.{Hop, hop_at, hops_along, hops_from, hops_over, journey_hops, sent_by}
 use Rattle.ats_trace.specs.Projections.{transmission_by, transmission_of}
 use Rattle.ats_trace.specs.Stored.{no_travel, travel_at}
-use Rattle.ats_trace.specs.declared.journey.HopRecord.{HopRecord}
+use Rattle.ats_trace.specs.HopRecord.{HopRecord}
 use Rattle.ats_trace.specs.declared.journey.Release.{Release}
 use Rattle.ats_trace.proofs.Legs.{concat-legs_of}
 use Rattle.ats_trace.proofs.OneVerdict.{at_most_once, over-le}

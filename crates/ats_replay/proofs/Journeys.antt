@@ -11,7 +11,7 @@ use Rattle.ats_group.specs.declared.verdict.Verdict.TheVariants.{Eligible, Late,
 use Rattle.ats_trace.specs.Journey.{IsSentOrEnds, IsWay, Travel}
 use Rattle.ats_trace.specs.Stored.{journey_of, no_travel, travel_at}
 use Rattle.ats_trace.specs.declared.journey.Journey.{Journey}
-use Rattle.ats_trace.specs.declared.journey.HopRecord.{HopRecord}
+use Rattle.ats_trace.specs.HopRecord.{HopRecord}
 use Rattle.ats_trace.specs.declared.journey.Ending.{Ending}
 use Rattle.ats_trace.specs.declared.journey.Ending.TheVariants.{Sink, Discard}
 use Rattle.ats_replay.specs.Departures.{hop_line}

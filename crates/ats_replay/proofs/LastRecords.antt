@@ -14,7 +14,7 @@ use Rattle.ats_network.proofs.SenderLemmas.{sender_keeps}
 use Rattle.ats_trace.specs.Journey.{IsJourney, Travel, legs_in}
 use Rattle.ats_trace.specs.Stored.{leg_in}
 use Rattle.ats_trace.specs.Ways.{way_to}
-use Rattle.ats_trace.specs.declared.journey.HopRecord.{HopRecord}
+use Rattle.ats_trace.specs.HopRecord.{HopRecord}
 use Rattle.ats_route_law.proofs.Ways.{leads_in, way_at, way_before, way_first}
 use Rattle.ats_replay.specs.Totals.{last_of}
 use Rattle.ats_replay.proofs.Legs.{leg_listed, sender_of}

@@ -17,7 +17,7 @@ use Rattle.ats_network.proofs.SenderLemmas.{sender_keeps}
 use Rattle.ats_trace.specs.Journey.{IsCopy, IsJourney, Leg, Travel, legs_at, legs_in, no_leg, record_at}
 use Rattle.ats_trace.specs.Stored.{leg_in}
 use Rattle.ats_trace.specs.Ways.{route_to}
-use Rattle.ats_trace.specs.declared.journey.HopRecord.{HopRecord}
+use Rattle.ats_trace.specs.HopRecord.{HopRecord}
 use Rattle.ats_trace.proofs.Legs.{legs_keep}
 use Rattle.ats_trace.proofs.OneVerdict.{copies_many}
 use Rattle.ats_route_law.proofs.Ends.{leg_some, station_at_end}

@@ -26,7 +26,7 @@ use Rattle.ats_trace.specs.Stored.{leg_in}
 use Rattle.ats_trace.specs.Ways.{listener_count, way_to}
 use Rattle.ats_trace.specs.declared.journey.Ending.{Ending}
 use Rattle.ats_trace.specs.declared.journey.Ending.TheVariants.{Sink, Discard}
-use Rattle.ats_trace.specs.declared.journey.HopRecord.{HopRecord}
+use Rattle.ats_trace.specs.HopRecord.{HopRecord}
 use Rattle.ats_route_law.proofs.Leads.{copy_at}
 use Rattle.ats_route_law.proofs.Ways.{leads_in, way_at, way_before, way_first}
 use Rattle.ats_replay.specs.Laws.{EachListenerCountsOnce, listeners_together}

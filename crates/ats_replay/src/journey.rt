@@ -43,8 +43,8 @@ fn write_frame(
 }
 
 // What was decided on a frame.
-fn write_verdict(out: &mut Vec<u8>, verdict: &Verdict) -> Result<(), AllocError>
-    ensures { OnOk result (out.new.items ≡ out.old.items ++ verdict_text verdict.now) }
+fn write_verdict(out: &mut Vec<u8>, verdict: Verdict) -> Result<(), AllocError>
+    ensures { OnOk result (out.new.items ≡ out.old.items ++ verdict_text verdict) }
 {
     match verdict {
         Verdict::Eligible(at) => write_number(out, b" eligible ", at.0),
@@ -54,8 +54,8 @@ fn write_verdict(out: &mut Vec<u8>, verdict: &Verdict) -> Result<(), AllocError>
 }
 
 // When the transmission of a frame began and ended.
-fn write_sent(out: &mut Vec<u8>, sent: &Option<(Ps, Ps)>) -> Result<(), AllocError>
-    ensures { OnOk result (out.new.items ≡ out.old.items ++ sent_text sent.now) }
+fn write_sent(out: &mut Vec<u8>, sent: Option<(Ps, Ps)>) -> Result<(), AllocError>
+    ensures { OnOk result (out.new.items ≡ out.old.items ++ sent_text sent) }
 {
     match sent {
         Some((start, end)) => {
@@ -79,9 +79,9 @@ fn write_hop(
 {
     out.extend_from_slice(b"hop ")?;
     write_port(out, topology, port)?;
-    write_number(out, b" ", hop.arrival.0)?;
-    write_verdict(out, &hop.verdict)?;
-    write_sent(out, &hop.sent)?;
+    write_number(out, b" ", hop.arrival().0)?;
+    write_verdict(out, hop.verdict())?;
+    write_sent(out, hop.sent())?;
     out.extend_from_slice(b"\n")?;
     Ok(())
 }

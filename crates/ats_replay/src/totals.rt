@@ -106,7 +106,7 @@ fn is_late(last: &Option<HopRecord>) -> bool
     ensures { result ≡ passes is_late_verdict last.now }
 {
     match last {
-        Some(hop) => matches!(hop.verdict, Verdict::Late(_)),
+        Some(hop) => matches!(hop.verdict(), Verdict::Late(_)),
         None => false,
     }
 }
@@ -116,7 +116,7 @@ fn is_oversize(last: &Option<HopRecord>) -> bool
     ensures { result ≡ passes is_size_verdict last.now }
 {
     match last {
-        Some(hop) => matches!(hop.verdict, Verdict::Size),
+        Some(hop) => matches!(hop.verdict(), Verdict::Size),
         None => false,
     }
 }

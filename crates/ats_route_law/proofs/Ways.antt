@@ -9,7 +9,7 @@ use Rattle.ats_network.specs.Sender.{Sender}
 use Rattle.ats_trace.specs.Journey.{AreCopies, BeginsAs, IsCopy, Leg, Travel, legs_in, no_leg}
 use Rattle.ats_trace.specs.Stored.{leg_in}
 use Rattle.ats_trace.specs.Ways.{records_in, way_to}
-use Rattle.ats_trace.specs.declared.journey.HopRecord.{HopRecord}
+use Rattle.ats_trace.specs.HopRecord.{HopRecord}
 use Rattle.ats_trace.proofs.OneVerdict.{copies_many}
 use Rattle.ats_route_law.proofs.Leads.{copy_at, joined_at, lead_first, lead_next, leads-many, records_at}
 

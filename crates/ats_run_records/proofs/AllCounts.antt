@@ -10,7 +10,7 @@ use Rattle.ats_network.specs.Network.{DeclaredNetwork, IsNetwork, senders_of}
 use Rattle.ats_network.specs.Senders.{sender_at}
 use Rattle.ats_trace.specs.Releases.{AreReleases, IsRelease, HaveFewPorts, ports_of_frames}
 use Rattle.ats_trace.specs.Stored.{AreFirsts}
-use Rattle.ats_trace.specs.declared.journey.HopRecord.{HopRecord}
+use Rattle.ats_trace.specs.HopRecord.{HopRecord}
 use Rattle.ats_trace.specs.declared.journey.Journey.{Journey}
 use Rattle.ats_trace.specs.declared.journey.Release.{Release}
 use Rattle.ats_trace.specs.declared.journey.Span.{Span}

@@ -4,7 +4,7 @@ use Rattle.std.proofs.lemmas.List.{get_or-set_same, get_or-set_other, length-set
 use Rattle.ats_trace.specs.Stored.{AreFirsts, AreRows, gathered, leg_of, legs_told, travels_of}
 use Rattle.ats_trace.specs.Journey.{Leg}
 use Rattle.ats_trace.specs.declared.journey.Ending.{Ending}
-use Rattle.ats_trace.specs.declared.journey.HopRecord.{HopRecord}
+use Rattle.ats_trace.specs.HopRecord.{HopRecord}
 use Rattle.ats_trace.specs.declared.journey.Journey.{Journey}
 use Rattle.ats_trace.specs.declared.journey.Release.{Release}
 use Rattle.ats_trace.specs.declared.journey.Span.{Span}

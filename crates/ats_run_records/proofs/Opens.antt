@@ -3,7 +3,7 @@ use Rattle.std.proofs.Common.{All, take, drop, sum_by, refl, sym, ap, ◌∙◌,
 use Rattle.std.proofs.lemmas.List.{length-map, map-append, append-nil}
 use Rattle.std.proofs.lemmas.List.Elements.{All-head, All-tail}
 use Rattle.std.proofs.lemmas.List.Sums.{sum_by-cons, sum_by-append}
-use Rattle.ats_trace.specs.declared.journey.HopRecord.{HopRecord}
+use Rattle.ats_trace.specs.HopRecord.{HopRecord}
 use Rattle.ats_trace.specs.declared.journey.Journey.{Journey}
 use Rattle.ats_trace.specs.declared.journey.Span.{Span}
 use Rattle.ats_trace.specs.declared.run.TheConstants.{MAX_HOPS}

@@ -7,7 +7,7 @@ use Rattle.std.proofs.lemmas.List.{length-take}
 use Rattle.std.proofs.Math.Seq.{take-set-lt}
 use Rattle.std.proofs.lemmas.Slice.Zip.{get_or-zip, length-zip}
 use Rattle.std.proofs.lemmas.Bool.{cases_eq}
-use Rattle.ats_trace.specs.declared.journey.HopRecord.{HopRecord}
+use Rattle.ats_trace.specs.HopRecord.{HopRecord}
 use Rattle.ats_trace.specs.declared.journey.Journey.{Journey}
 use Rattle.ats_trace.specs.declared.journey.Span.{Span}
 use Rattle.ats_run_records.specs.Progress.{Progress, no_progress, progress_at}

@@ -4,11 +4,11 @@ use Rattle.std.proofs.lemmas.List.{get_or-set_same, get_or-set_other, length-set
 use Rattle.std.proofs.lemmas.List.{get_or-take, get_or-drop}
 use Rattle.std.proofs.lemmas.Bool.{cases_eq, cases_lt}
 use Rattle.ats_num.specs.declared.time.Ps.{Ps}
-use Rattle.ats_trace.specs.declared.journey.HopRecord.{HopRecord}
+use Rattle.ats_trace.specs.HopRecord.{HopRecord}
 use Rattle.ats_trace.specs.declared.journey.Journey.{Journey}
 use Rattle.ats_trace.specs.declared.journey.Span.{Span}
 use Rattle.ats_run_records.specs.declared.opening.TheConstants.{MAX_ROOM}
-use Rattle.ats_run_records.specs.Progress.{Ledger, Progress, progress_at, with_hop, with_sent, no_hop}
+use Rattle.ats_run_records.specs.Progress.{Ledger, Progress, last_hop, progress_at, with_hop, with_sent, no_hop}
 use Rattle.ats_run_records.specs.Inside.{progress_of, progresses, no_journey, no_span, span_at, end_of_room}
 use Rattle.ats_run_records.specs.Inside.{AreRecords, IsLaid, ledger_of}
 use Rattle.ats_run_records.proofs.Rooms.{row_at, AreEven, even-laid, length-progresses, progresses-at, changed}
@@ -298,6 +298,18 @@ last-range hops first count hop within some is =
     ∙ sym (get_or-drop first hops (count - 1) no_hop)
     ∙ sym (get_or-take (first + count - first) (drop first hops) (count - 1) no_hop (omega arith))
 
+-- the one that is found at the end of a row's range is the row's last
+pub last-is : {all : List Progress} {journeys : List Journey} {spans : List Span} {frames : List ℕ}
+    {hops : List HopRecord} {row : ℕ} {span : Span} (hop : HopRecord)
+    → IsFound all journeys spans frames hops row span → 0 < length (progress_at all row).hops
+    → hop ≡ get_or hops (span.first + span.count - 1) hop → hop ≡ last_hop (progress_at all row)
+last-is {all} {journeys} {spans} {frames} {hops} {row} {span} hop found some is =
+    let room = room-is found in
+    let more : 0 < span.count = omega (arith, count-is found) in
+    last-range hops span.first span.count hop (omega (arith, room.counts, room.within)) more is
+    ∙ ap (λ (hs : List HopRecord). get_or hs (span.count - 1) no_hop) (hops-is found)
+    ∙ ap (λ (n : ℕ). get_or (progress_at all row).hops (n - 1) no_hop) (sym (count-is found))
+
 pub laid-send : {all : List Progress} {journeys : List Journey} {spans : List Span} {frames : List ℕ}
     {hops : List HopRecord} {row : ℕ} {span : Span} (k : ℕ) (hop : HopRecord)
     → IsFound all journeys spans frames hops row span → IsLaid journeys spans frames (set hops k hop)
@@ -332,12 +344,12 @@ sent-range hops first count hop start end within some is =
     ∙ ap (λ (k : ℕ). set range k (timed (get_or range k no_hop) start end)) last
 
 pub view-send : {all : List Progress} {journeys : List Journey} {spans : List Span} {frames : List ℕ}
-    {hops : List HopRecord} {row : ℕ} {span : Span} (hop : HopRecord) (start end : Ps)
+    {hops : List HopRecord} {row : ℕ} {span : Span} (hop sent : HopRecord) (start end : Ps)
     → IsFound all journeys spans frames hops row span → 0 < length (progress_at all row).hops
-    → hop ≡ get_or hops (span.first + span.count - 1) hop
-    → progresses journeys spans frames (set hops (span.first + span.count - 1) (timed hop start end))
+    → hop ≡ get_or hops (span.first + span.count - 1) hop → sent ≡ timed hop start end
+    → progresses journeys spans frames (set hops (span.first + span.count - 1) sent)
     ≡ set all row (with_sent (progress_at all row) start end)
-view-send {all} {journeys} {spans} {frames} {hops} {row} {span} hop start end found some is =
+view-send {all} {journeys} {spans} {frames} {hops} {row} {span} hop sent start end found some is told =
     let laid = found.laid in
     let below = in-spans found in
     let own = span-is found in
@@ -351,7 +363,8 @@ view-send {all} {journeys} {spans} {frames} {hops} {row} {span} hop start end fo
     progress_of made (get_or journeys row no_journey, (s, get_or frames row 0)) in
     let sent_in : Span → Progress = λ (s : Span).
     with_sent (progress_of hops (get_or journeys row no_journey, (s, get_or frames row 0))) start end in
-    changed n journeys journeys spans spans frames frames hops made row
+    ap (λ (h : HopRecord). progresses journeys spans frames (set hops place h)) told
+    ∙ changed n journeys journeys spans spans frames frames hops made row
     (with_sent (progress_of hops (row_at journeys spans frames row)) start end) even even below
     (ap with_span (sym own)
     ∙ ap (λ (hs : List HopRecord). record (progress_of hops

@@ -8,7 +8,7 @@ use Rattle.ats_group.specs.declared.verdict.Verdict.TheVariants.{Size}
 use Rattle.ats_trace.specs.Journey.{Leg, Travel, legs_at}
 use Rattle.ats_trace.specs.Stored.{gathered}
 use Rattle.ats_trace.specs.declared.journey.Release.{Release}
-use Rattle.ats_trace.specs.declared.journey.HopRecord.{HopRecord}
+use Rattle.ats_trace.specs.HopRecord.{HopRecord}
 use Rattle.ats_trace.specs.declared.journey.Ending.{Ending}
 use Rattle.ats_trace.specs.declared.journey.Ending.TheVariants.{Discard}
 

@@ -128,9 +128,5 @@ pub(crate) fn rows_of(
 pub(crate) fn no_hop() -> HopRecord
     ensures { result ≡ no_hop }
 {
-    HopRecord {
-        arrival: Ps(0),
-        verdict: Verdict::Size,
-        sent: None,
-    }
+    HopRecord::new(Ps(0), Verdict::Size)
 }

@@ -1,11 +1,13 @@
 //! The records of all frames of a run.
 
 ghost use Rattle.std.specs.Prelude.{◌≡◌, ◌<◌, ◌≤◌, length, IfOk};
+ghost use Rattle.ats_num.specs.declared.time.TheConstants.{END};
+ghost use Rattle.ats_trace.specs.HopRecord.{IsEligible};
 ghost use Rattle.ats_trace.specs.Releases.{AreReleases, HaveFewPorts};
 ghost use Rattle.ats_trace.specs.Stored.{row_of};
 ghost use Rattle.ats_trace.specs.declared.run.TheConstants.{MAX_HOPS};
 ghost use Rattle.ats_run_records.specs.Progress.{progress_at, opened, with_leg, with_hop, with_sent, with_ending};
-ghost use Rattle.ats_run_records.specs.Progress.{finished};
+ghost use Rattle.ats_run_records.specs.Progress.{finished, last_hop};
 
 use crate::opening::{firsts_of, no_hop, rows_of};
 use ats_network::Network;
@@ -123,15 +125,18 @@ impl Records {
         span.count += 1;
     }
 
-    /// Tells in the last hop record of a row when its transmission starts and ends. It takes no memory.
+    /// Tells in the last hop record of a row when its transmission starts and ends. Conditions: the frame is eligible
+    /// there, and the start is below `END`. It takes no memory.
     pub fn send(&mut self, row: u32, start: Ps, end: Ps)
         requires row { row < length self.old.legs }
         requires last { 0 < length (progress_at self.old.legs row).hops }
+        requires eligible { IsEligible (last_hop (progress_at self.old.legs row)).verdict }
+        requires in_time { start.0 < END }
         ensures { self.new ≡ with_leg self.old row (with_sent (progress_at self.old.legs row) start end) }
     {
         let span = self.spans[row as usize];
         let place = span.first as usize + span.count as usize - 1;
-        self.hops[place].sent = Some((start, end));
+        self.hops[place].send(start, end);
     }
 
     /// Tells how the leg of a row ended. It takes no memory.

@@ -9,7 +9,7 @@ use Rattle.ats_network.specs.Network.{DeclaredNetwork, senders_of}
 use Rattle.ats_network.specs.Senders.{sender_at}
 use Rattle.ats_trace.specs.Journey.{legs_at}
 use Rattle.ats_trace.specs.Releases.{AreReleases, HaveFewPorts, IsRelease}
-use Rattle.ats_trace.specs.declared.journey.HopRecord.{HopRecord}
+use Rattle.ats_trace.specs.HopRecord.{HopRecord}
 use Rattle.ats_trace.specs.declared.journey.Release.{Release}
 use Rattle.ats_run_records.specs.Progress.{Ledger, opened, progress_at, with_hop, with_leg, with_sent}
 

@@ -11,7 +11,7 @@ use Rattle.ats_trace.specs.Journey.{IsJourney, IsWay, Travel, legs_at}
 use Rattle.ats_trace.specs.Stored.{travels_of}
 use Rattle.ats_trace.specs.declared.journey.Journey.{Journey}
 use Rattle.ats_trace.specs.declared.journey.Span.{Span}
-use Rattle.ats_trace.specs.declared.journey.HopRecord.{HopRecord}
+use Rattle.ats_trace.specs.HopRecord.{HopRecord}
 use Rattle.ats_trace.specs.declared.journey.Ending.{Ending}
 use Rattle.ats_trace.specs.declared.journey.Ending.TheVariants.{Sink, Discard}
 use Rattle.ats_trace.proofs.OneListener.{journey_alone}

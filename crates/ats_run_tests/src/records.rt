@@ -1,6 +1,7 @@
 //! The records of a run while it is made.
 
-ghost use Rattle.std.specs.Prelude.{◌≡◌, length};
+ghost use Rattle.std.specs.Prelude.{◌≡◌, length, None};
+ghost use Rattle.ats_group.specs.declared.verdict.Verdict.TheVariants.{Eligible};
 
 use ats_fixtures::lines::line;
 use ats_group::Verdict;
@@ -22,12 +23,14 @@ fn release(at: u64) -> Release
 }
 
 // A frame that comes at this time is eligible then, and is not sent yet.
-fn came(at: u64) -> HopRecord {
-    HopRecord {
-        arrival: Ps(at),
-        verdict: Verdict::Eligible(Ps(at)),
-        sent: None,
-    }
+fn came(at: u64) -> HopRecord
+    ensures { result ≡ record {
+      arrival = record { 0 = at };
+      verdict = Eligible (record { 0 = at });
+      sent = None;
+    } }
+{
+    HopRecord::new(Ps(at), Verdict::Eligible(Ps(at)))
 }
 
 #[test]
@@ -46,11 +49,8 @@ fn records_of_two_frames(rt: HostRuntime) {
     records.push(1, came(10));
     records.close(0, Ending::Discard);
     records.close(1, Ending::Sink(Ps(12)));
-    let sent = HopRecord {
-        arrival: Ps(7),
-        verdict: Verdict::Eligible(Ps(7)),
-        sent: Some((Ps(7), Ps(9))),
-    };
+    let mut sent = came(7);
+    sent.send(Ps(7), Ps(9));
     assert!(rt; records.hops_of(0) == [came(5)].as_slice());
     assert!(rt; records.hops_of(1) == [sent, came(10)].as_slice());
     let run = records.finish();

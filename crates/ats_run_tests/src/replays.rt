@@ -1,6 +1,8 @@
 //! Runs of a line, written by hand, printed and captured, and its schedulers.
 
-ghost use Rattle.std.specs.Prelude.{◌≡◌, ◌<◌, length, All};
+ghost use Rattle.std.specs.Prelude.{◌≡◌, ◌<◌, length, All, Some};
+ghost use Rattle.ats_num.specs.declared.time.TheConstants.{END};
+ghost use Rattle.ats_group.specs.declared.verdict.Verdict.TheVariants.{Eligible};
 ghost use Rattle.ats_network.specs.Network.{senders_of};
 ghost use Rattle.ats_network.specs.Senders.{sender_at};
 ghost use Rattle.ats_trace.specs.Journey.{IsJourney, legs_at};
@@ -65,15 +67,18 @@ fn journey(octets: u32, ending: Ending) -> Journey
     }
 }
 
-// The record of a frame that came at this time.
-fn hop(arrival: u64, verdict: Verdict, sent: Option<(Ps, Ps)>) -> HopRecord
-    ensures { result ≡ record { arrival = record { 0 = arrival }; verdict = verdict; sent = sent } }
+// The record of a frame that came at this time and was eligible then, and was sent from one time to another.
+fn passing(arrival: u64, start: u64, end: u64) -> HopRecord
+    requires { start < END }
+    ensures { result ≡ record {
+      arrival = record { 0 = arrival };
+      verdict = Eligible (record { 0 = arrival });
+      sent = Some (record { 0 = start }, record { 0 = end });
+    } }
 {
-    HopRecord {
-        arrival: Ps(arrival),
-        verdict,
-        sent,
-    }
+    let mut hop = HopRecord::new(Ps(arrival), Verdict::Eligible(Ps(arrival)));
+    hop.send(Ps(start), Ps(end));
+    hop
 }
 
 // The two records from this place on.
@@ -98,12 +103,8 @@ fn sent(rt: &(impl Abort + AllocGlobal), network: &Network) -> Run
     let rows = vec![in rt.alloc(); journey(1522, Ending::Sink(Ps(26_672_000)))].expect(rt, "room");
     let spans = vec![in rt.alloc(); span(0)].expect(rt, "room");
     let hops = vec![in rt.alloc();
-        hop(0, Verdict::Eligible(Ps(0)), Some((Ps(0), Ps(12_336_000)))),
-        hop(
-            13_836_000,
-            Verdict::Eligible(Ps(13_836_000)),
-            Some((Ps(13_836_000), Ps(26_172_000))),
-        ),
+        passing(0, 0, 12_336_000),
+        passing(13_836_000, 13_836_000, 26_172_000),
     ]
     .expect(rt, "room");
     let firsts = vec![in rt.alloc(); 1].expect(rt, "room");
@@ -124,14 +125,10 @@ fn discarded(rt: &(impl Abort + AllocGlobal), network: &Network) -> Run
     .expect(rt, "room");
     let spans = vec![in rt.alloc(); span(0), span(2)].expect(rt, "room");
     let hops = vec![in rt.alloc();
-        hop(0, Verdict::Eligible(Ps(0)), Some((Ps(0), Ps(12_344_000)))),
-        hop(13_844_000, Verdict::Size, None),
-        hop(
-            0,
-            Verdict::Eligible(Ps(0)),
-            Some((Ps(12_344_000), Ps(13_016_000)))
-        ),
-        hop(14_516_000, Verdict::Late(Ps(33_372_000)), None),
+        passing(0, 0, 12_344_000),
+        HopRecord::new(Ps(13_844_000), Verdict::Size),
+        passing(0, 12_344_000, 13_016_000),
+        HopRecord::new(Ps(14_516_000), Verdict::Late(Ps(33_372_000))),
     ]
     .expect(rt, "room");
     let firsts = vec![in rt.alloc(); 2, 2].expect(rt, "room");

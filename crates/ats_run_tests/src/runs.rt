@@ -10,11 +10,7 @@ use std::process::Abort;
 
 // The record of a frame that was discarded for its size when it came.
 fn discarded(arrival: u64) -> HopRecord {
-    HopRecord {
-        arrival: Ps(arrival),
-        verdict: Verdict::Size,
-        sent: None,
-    }
+    HopRecord::new(Ps(arrival), Verdict::Size)
 }
 
 // A frame that was discarded at its first hop.

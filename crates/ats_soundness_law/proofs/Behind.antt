@@ -8,7 +8,7 @@ use Rattle.ats_group.specs.declared.verdict.Verdict.TheVariants.{Eligible, Late,
 use Rattle.ats_trace.specs.Journey.{class_at, IsSentOrEnds, IsWay}
 use Rattle.ats_trace.specs.Projections.{Hop, Handed, transmission_by, hop_at, handed_at, hops_along, handed_along}
 use Rattle.ats_trace.specs.declared.journey.Release.{Release}
-use Rattle.ats_trace.specs.declared.journey.HopRecord.{HopRecord}
+use Rattle.ats_trace.specs.HopRecord.{HopRecord}
 use Rattle.ats_trace.specs.declared.journey.Ending.{Ending}
 use Rattle.ats_group.specs.Judge.{OnEligible}
 use Rattle.ats_soundness_law.proofs.Along.{handed_on, no_hops}

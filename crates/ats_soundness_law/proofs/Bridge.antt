@@ -31,7 +31,7 @@ use Rattle.ats_trace.specs.Projections.{handed_by, hop_at, sent_by, transmission
 use Rattle.ats_trace.specs.Eligibility.{declared_by, offer_of, IsJudged, residence_of_groups}
 use Rattle.ats_trace.specs.Ways.{listener_count, route_to, way_to}
 use Rattle.ats_trace.specs.declared.journey.Release.{Release}
-use Rattle.ats_trace.specs.declared.journey.HopRecord.{HopRecord}
+use Rattle.ats_trace.specs.HopRecord.{HopRecord}
 use Rattle.ats_trace.specs.declared.journey.Ending.{Ending}
 use Rattle.ats_soundness_law.specs.Laws.{BridgeIsOffered}
 use Rattle.ats_soundness_law.proofs.Along.{AtPort, AtPorts, one_hop, all_hops, all_handed}

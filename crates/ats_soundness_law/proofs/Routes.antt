@@ -18,7 +18,7 @@ use Rattle.ats_trace.specs.Projections.{Hop, Handed, crossings_along, handed_alo
 use Rattle.ats_trace.specs.Projections.{hop_at, transmission_of}
 use Rattle.ats_trace.specs.Ways.{records_in, route_to, way_to}
 use Rattle.ats_trace.specs.declared.journey.Release.{Release}
-use Rattle.ats_trace.specs.declared.journey.HopRecord.{HopRecord}
+use Rattle.ats_trace.specs.HopRecord.{HopRecord}
 use Rattle.ats_trace.specs.declared.journey.Ending.{Ending}
 use Rattle.ats_trace.proofs.OneVerdict.{copies_many}
 use Rattle.ats_soundness_law.proofs.Along.{no_hops, none_handed}

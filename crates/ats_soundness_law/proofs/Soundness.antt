@@ -24,7 +24,7 @@ use Rattle.ats_group_law.proofs.Regulator.{ats_is_regulator}
 use Rattle.ats_trace.specs.Talker.{start_of, talker_of, KeepsBucketsBy}
 use Rattle.ats_trace.specs.Ways.{route_to, way_to}
 use Rattle.ats_trace.specs.declared.journey.Release.{Release}
-use Rattle.ats_trace.specs.declared.journey.HopRecord.{HopRecord}
+use Rattle.ats_trace.specs.HopRecord.{HopRecord}
 use Rattle.ats_trace.specs.declared.journey.Ending.{Ending}
 use Rattle.ats_soundness_law.specs.Laws.{PathLaw, Containment, SoundByRule, SoundByRules, CertificateIsSound}
 use Rattle.ats_soundness_law.specs.Rules.{Rule, rows_are_there, Keeps}

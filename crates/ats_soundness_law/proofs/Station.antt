@@ -25,7 +25,7 @@ use Rattle.ats_trace.specs.Run.{releases_of}
 use Rattle.ats_trace.specs.Talker.{talker_of, start_of, KeepsBucketsBy, frames_of}
 use Rattle.ats_trace.specs.Ways.{route_to, way_to}
 use Rattle.ats_trace.specs.declared.journey.Release.{Release}
-use Rattle.ats_trace.specs.declared.journey.HopRecord.{HopRecord}
+use Rattle.ats_trace.specs.HopRecord.{HopRecord}
 use Rattle.ats_group.specs.Judge.{Judge}
 use Rattle.ats_soundness_law.specs.Laws.{StationIsOffered}
 use Rattle.ats_soundness_law.proofs.Along.{AtPort, hop_by, all_hops}

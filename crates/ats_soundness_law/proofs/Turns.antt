@@ -12,7 +12,7 @@ use Rattle.ats_trace.specs.Journey.{Leg, BeginsAs, IsCopy, IsReleased, IsSentOrE
 use Rattle.ats_trace.specs.Projections.{Crossing, Handed, crossing_at, crossing_of, crossings_along, handed_along}
 use Rattle.ats_trace.specs.Projections.{handed_at, transmission_by, transmission_of}
 use Rattle.ats_trace.specs.declared.journey.Release.{Release}
-use Rattle.ats_trace.specs.declared.journey.HopRecord.{HopRecord}
+use Rattle.ats_trace.specs.HopRecord.{HopRecord}
 use Rattle.ats_trace.specs.declared.journey.Ending.{Ending}
 use Rattle.ats_trace.specs.declared.journey.Ending.TheVariants.{Discard}
 use Rattle.ats_soundness_law.proofs.Parts.{IsPart, part_append, part_behind, part_same}

@@ -11,7 +11,7 @@ use Rattle.ats_trace.specs.Journey.{class_at, IsSentOrEnds, IsWay}
 use Rattle.ats_trace.specs.Projections.{Hop, Handed, transmission_by, transmission_of, hop_at, handed_at, hops_along}
 use Rattle.ats_trace.specs.Projections.{handed_along}
 use Rattle.ats_trace.specs.declared.journey.Release.{Release}
-use Rattle.ats_trace.specs.declared.journey.HopRecord.{HopRecord}
+use Rattle.ats_trace.specs.HopRecord.{HopRecord}
 use Rattle.ats_trace.specs.declared.journey.Ending.{Ending}
 use Rattle.ats_soundness_law.proofs.Along.{hop_by, hop_of, handed_on}
 

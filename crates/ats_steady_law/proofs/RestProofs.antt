@@ -6,7 +6,7 @@ use Rattle.ats_trace.specs.Eligibility.{declared_by}
 use Rattle.ats_trace.specs.Journey.{Travel}
 use Rattle.ats_trace.specs.Stored.{no_travel}
 use Rattle.ats_trace.specs.declared.journey.Ending.TheVariants.{Discard}
-use Rattle.ats_trace.specs.declared.journey.HopRecord.{HopRecord}
+use Rattle.ats_trace.specs.HopRecord.{HopRecord}
 use Rattle.ats_examples.specs.Networks.{line}
 use Rattle.ats_examples.specs.Runs.{hop, one_frame, sunk}
 use Rattle.ats_legal_law.specs.Rest.{FillsBy, IsLegBy, IsOverBy, IsRecordBy, RestsUntil}

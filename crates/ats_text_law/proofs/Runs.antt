@@ -17,7 +17,7 @@ use Rattle.ats_trace.specs.Journey.{IsCopy, IsJourney, IsWay, Leg, Travel, legs_
 use Rattle.ats_trace.specs.Stored.{leg_in}
 use Rattle.ats_trace.specs.Ways.{route_to}
 use Rattle.ats_trace.specs.declared.journey.Release.{Release}
-use Rattle.ats_trace.specs.declared.journey.HopRecord.{HopRecord}
+use Rattle.ats_trace.specs.HopRecord.{HopRecord}
 use Rattle.ats_trace.specs.declared.journey.Ending.{Ending}
 use Rattle.ats_trace.proofs.OneVerdict.{copies_many}
 use Rattle.ats_route_law.proofs.Leads.{copy_at}

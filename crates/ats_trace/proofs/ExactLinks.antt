@@ -30,7 +30,7 @@ use Rattle.ats_trace.specs.ExactLinks.{IsJourneyAt, IsJudgedAs, IsCopyAt}
 use Rattle.ats_trace.specs.ExactLinks.{IsLegalAt}
 use Rattle.ats_trace.specs.ExactLinks.{LinksAreExact}
 use Rattle.ats_trace.specs.declared.journey.Release.{Release}
-use Rattle.ats_trace.specs.declared.journey.HopRecord.{HopRecord}
+use Rattle.ats_trace.specs.HopRecord.{HopRecord}
 use Rattle.ats_trace.specs.declared.journey.Ending.{Ending}
 use Rattle.ats_trace.specs.declared.journey.Ending.TheVariants.{Sink, Discard}
 use Rattle.ats_trace.proofs.Legs.{legs_cons, legs_keep}

@@ -37,7 +37,7 @@ use Rattle.ats_trace.specs.Projections.{journey_hops, hops_from}
 use Rattle.ats_trace.specs.OneVerdict.{record_along, record_over, judged_as, HasOneVerdict}
 use Rattle.ats_trace.specs.OneVerdict.{OneVerdict}
 use Rattle.ats_trace.specs.declared.journey.Release.{Release}
-use Rattle.ats_trace.specs.declared.journey.HopRecord.{HopRecord}
+use Rattle.ats_trace.specs.HopRecord.{HopRecord}
 use Rattle.ats_trace.proofs.Legs.{concat-legs_of, legs_cons, pairs_across, pairs_left, pairs_right, place_of, place_is}
 use Rattle.ats_trace.proofs.Legs.{place_first, place_next, place_within, Stands, stands}
 

@@ -9,7 +9,7 @@ use Rattle.ats_trace.specs.Journey.{Leg, Travel, legs_in, no_leg}
 use Rattle.ats_trace.specs.Stored.{AreFirsts, AreRows, no_travel, travel_at, leg_in, journey_of, copies_of, row_of}
 use Rattle.ats_trace.specs.Stored.{end_of}
 use Rattle.ats_trace.specs.Stored.{travel_by, gathered, leg_of, legs_told, travels_of}
-use Rattle.ats_trace.specs.declared.journey.HopRecord.{HopRecord}
+use Rattle.ats_trace.specs.HopRecord.{HopRecord}
 use Rattle.ats_trace.specs.declared.journey.Journey.{Journey}
 use Rattle.ats_trace.specs.declared.journey.Release.{Release}
 use Rattle.ats_trace.specs.declared.journey.Span.{Span}

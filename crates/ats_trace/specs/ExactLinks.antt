@@ -19,7 +19,7 @@ use Rattle.ats_trace.specs.Projections.{sent_by, handed_by}
 use Rattle.ats_trace.specs.Eligibility.{IsJudged, IsPassed, residence_of_groups}
 use Rattle.ats_trace.specs.Run.{IsLegal, releases_of}
 use Rattle.ats_trace.specs.declared.journey.Release.{Release}
-use Rattle.ats_trace.specs.declared.journey.HopRecord.{HopRecord}
+use Rattle.ats_trace.specs.HopRecord.{HopRecord}
 use Rattle.ats_trace.specs.declared.journey.Ending.{Ending}
 use Rattle.ats_trace.specs.declared.journey.Ending.TheVariants.{Sink, Discard}
 

@@ -1,3 +1,5 @@
+pub mod HopRecord
+pub mod HopFields
 pub mod Journey
 pub mod Ways
 pub mod Projections

@@ -11,7 +11,7 @@ use Rattle.ats_port_rule.specs.Transmission.{Transmission}
 use Rattle.ats_trace.specs.Journey.{Leg, Travel, legs_at, legs_in}
 use Rattle.ats_trace.specs.Projections.{sent_by}
 use Rattle.ats_trace.specs.Run.{IsLegalBy}
-use Rattle.ats_trace.specs.declared.journey.HopRecord.{HopRecord}
+use Rattle.ats_trace.specs.HopRecord.{HopRecord}
 
 -- A bridge judges a frame once, for all of its ports on which the stream goes on.
 

@@ -3,7 +3,7 @@ use Rattle.std.specs.Prelude.{slice_range}
 use Rattle.std.specs.List.{zip}
 use Rattle.std.specs.List.Sorted.{IsNonDecreasing}
 use Rattle.ats_trace.specs.Journey.{Leg, Travel, legs_in, no_leg}
-use Rattle.ats_trace.specs.declared.journey.HopRecord.{HopRecord}
+use Rattle.ats_trace.specs.HopRecord.{HopRecord}
 use Rattle.ats_trace.specs.declared.journey.Ending.TheVariants.{Discard}
 use Rattle.ats_trace.specs.declared.journey.Journey.{Journey}
 use Rattle.ats_trace.specs.declared.journey.Release.{Release}

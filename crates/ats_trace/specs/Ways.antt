@@ -2,7 +2,7 @@ use Rattle.std.specs.Prelude.{ℕ, List, length, map, slice_index_or}
 use Rattle.ats_streams.specs.Branches.{leg_at, routes_of, with_leads}
 use Rattle.ats_network.specs.Sender.{Sender}
 use Rattle.ats_trace.specs.Journey.{Leg, Travel, legs_in, no_leg}
-use Rattle.ats_trace.specs.declared.journey.HopRecord.{HopRecord}
+use Rattle.ats_trace.specs.HopRecord.{HopRecord}
 
 -- the routes of a sender, listener by listener
 abbrev pub routes_by : Sender → List (List ℕ)

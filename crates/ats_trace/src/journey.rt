@@ -1,6 +1,5 @@
 //! What happens to one frame.
 
-use ats_group::Verdict;
 use ats_num::Ps;
 
 /// A frame that a talker releases.
@@ -12,17 +11,6 @@ pub struct Release {
     pub sender: u32,
     /// Its octets, counted with the frame check sequence, 64 to 2000.
     pub octets: u32,
-}
-
-/// What happened to a frame at one port of its sender.
-#[derive(Clone, Copy, Debug, PartialEq, Eq)]
-pub struct HopRecord {
-    /// When it came to the node that the port leaves; at the first hop of the trunk its release.
-    pub arrival: Ps,
-    /// What the node decided on it.
-    pub verdict: Verdict,
-    /// When its transmission started and ended; in a finished run `None` exactly where the verdict is not `Eligible`.
-    pub sent: Option<(Ps, Ps)>,
 }
 
 /// How a frame's journey ended.

@@ -4,7 +4,8 @@ ghost use Rattle.std.specs.Prelude.{◌≡◌, ◌↔◌, ◌<◌, ◌≤◌, []
 ghost use Rattle.ats_trace.specs.Journey.{legs_in};
 ghost use Rattle.ats_trace.specs.Stored.{AreRows, end_of, journey_of, leg_in, row_of, travel_at, travels_of};
 
-use crate::journey::{Ending, HopRecord, Journey, Span};
+use crate::hop_record::HopRecord;
+use crate::journey::{Ending, Journey, Span};
 use std::marker::Model;
 
 /// The most frames of a run.

@@ -1,7 +1,7 @@
 use Rattle.std.specs.Prelude.{ℕ, ◌+◌, List, [], ◌∷◌, ◌++◌, map, None}
 use Rattle.ats_group.specs.declared.verdict.Verdict.TheVariants.{Size, Late}
 use Rattle.ats_trace.specs.Journey.{Leg, Travel, no_leg}
-use Rattle.ats_trace.specs.declared.journey.HopRecord.{HopRecord}
+use Rattle.ats_trace.specs.HopRecord.{HopRecord}
 use Rattle.ats_trace.specs.declared.journey.Ending.TheVariants.{Sink, Discard}
 use Rattle.ats_examples.specs.Runs.{hop, sunk}
 use Rattle.ats_examples.specs.Babbler.{at_bridge, babble, beside, too_late}

@@ -35,7 +35,7 @@ use Rattle.ats_trace.specs.Projections.{handed_along, handed_at, handed_by, hand
 use Rattle.ats_trace.specs.Run.{IsLegal}
 use Rattle.ats_trace.specs.declared.journey.Ending.{Ending}
 use Rattle.ats_trace.specs.declared.journey.Ending.TheVariants.{Sink, Discard}
-use Rattle.ats_trace.specs.declared.journey.HopRecord.{HopRecord}
+use Rattle.ats_trace.specs.HopRecord.{HopRecord}
 use Rattle.ats_trace.specs.declared.journey.Release.{Release}
 use Rattle.ats_trace.specs.Ways.{listener_count, route_to, way_to}
 use Rattle.ats_witness.proofs.FoundLemmas.{listener_of}

@@ -4,9 +4,10 @@ use Rattle.ats_streams.specs.Branches.{leg_at}
 use Rattle.ats_network.specs.Network.{senders_of}
 use Rattle.ats_network.specs.Senders.{sender_at}
 use Rattle.ats_trace.specs.Journey.{Travel, legs_at}
+use Rattle.ats_trace.specs.HopRecord.{HopRecord}
 use Rattle.ats_trace.specs.Stored.{travel_at}
 use Rattle.ats_trace.specs.declared.journey.Release.{Release}
-use Rattle.ats_buffer.specs.Moments.{moments_of_leg}
+use Rattle.ats_buffer.specs.Moments.{moments_at, moments_of_leg}
 use Rattle.ats_buffer.proofs.LegHops.{leg_few, leg_rest}
 use Rattle.ats_buffer.proofs.Visits.{no_journey, no_hop, release_is, leg_of_frame, visit_of, read_of, told_more}
 use Rattle.ats_buffer.proofs.Visits.{told_all}
@@ -92,21 +93,26 @@ bounds-path-hop c =
 
 pub loop-hop-preserved : goal.loop-hop-preserved
 loop-hop-preserved c =
+    let hop : HopRecord = c.visit-item.result in
     let is = release_is c.args.run.now c.journeys.result.now c.args.frame c.journeys.ensures c.requires.frame in
-    let visit = visit_of c.args.network.now c.args.run.now c.args.frame c.args.leg c.loop-hop.hop no_hop
+    let visit = visit_of c.args.network.now c.args.run.now c.args.frame c.args.leg c.loop-hop.hop hop
     c.hops_of-visit-items.result.now c.hops_of-visit-items.ensures c.loop-hop-test.true c.loop-hop.invariant.rest in
     let network = c.args.network.now in
     let j : Travel = travel_at c.args.run.now c.args.frame in
     let k : ℕ = c.loop-hop.hop in
-    let read = read_of network j c.args.leg k no_hop
+    let read = read_of network j c.args.leg k hop
     (slice_index_or c.journeys.result.now c.args.frame no_journey).release c.sender_leg-path.result.now
     c.class_of-class.result c.wire_bits-bits.result c.hops_of-visit-items.result.now is c.sender_leg-path.ensures.value
     c.class_of-class.ensures c.wire_bits-bits.ensures.bits c.hops_of-visit-items.ensures in
     record {
       rest = visit.rest;
-      told = told_more network c.args.frame j c.args.leg k no_hop (slice_index_or c.sender_leg-path.result.now k 0)
-          c.class_of-class.result c.wire_bits-bits.result (slice_index_or c.hops_of-visit-items.result.now k no_hop)
-          c.loop-hop.moments.items c.push_visit.new.moments.items _ visit read c.in_ok-push_visit.ensures
+      told = told_more network c.args.frame j c.args.leg k hop (slice_index_or c.sender_leg-path.result.now k 0)
+          c.class_of-class.result c.wire_bits-bits.result (slice_index_or c.hops_of-visit-items.result.now k hop)
+          c.loop-hop.moments.items c.push_visit.new.moments.items _ visit read
+          (c.in_ok-push_visit.ensures
+          ∙ ap (λ (h : HopRecord). c.loop-hop.moments.items
+          ++ moments_at (slice_index_or c.sender_leg-path.result.now k 0) c.class_of-class.result
+          c.wire_bits-bits.result h) c.visit-item.is)
           c.loop-hop.invariant.told;
     }
 

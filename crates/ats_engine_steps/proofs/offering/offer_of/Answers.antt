@@ -1,5 +1,5 @@
 use Rattle.std.proofs.Common.{arith, length, ap, List}
-use Rattle.ats_trace.specs.declared.journey.HopRecord.{HopRecord}
+use Rattle.ats_trace.specs.HopRecord.{HopRecord}
 use Rattle.ats_engine_steps.proofs.offering.offer_of.Goals as goal
 
 pub overflow_cast-hops : goal.overflow_cast-hops

@@ -78,7 +78,12 @@ send-requires g c =
     let named = named-leg c.args.net.now old c.in-Start.frame c.args.port c.leg_with-leg.result c.row_of-row.result
     c.release.result c.release.ensures c.leg_with-leg.ensures.leg c.leg_with-leg.ensures.has c.row_of-row.ensures in
     let came = there.came c.row_of-row.result named in
-    record { row = came.0; last = came.1 }
+    record {
+      row = came.0;
+      last = came.1;
+      eligible = there.eligible c.row_of-row.result named;
+      in_time = c.requires.time;
+    }
 
 pub returns : goal.returns
 returns g c =

@@ -55,7 +55,7 @@ returns-in_err-start-clause-all c =
     } in
     ap (λ (o : Option Sighting). listed o) c.from_residual-in_err-start.ensures
     ∙ sym (came c.in_ok-hop.hop c.in_ok-get.field-0.now None read (sym c.in_ok-hop.ensures.place)
-    c.in_ok-get.ensures.lookup.3.0 c.in_ok-get.ensures.lookup.1 c.in_err-start.was)
+    c.in_ok-get.ensures.lookup.3.0 c.in_ok-get.ensures.lookup.1 (sym c.sent.ensures ∙ c.in_err-start.was))
 
 pub returns-clause-all : goal.returns-clause-all
 returns-clause-all c =
@@ -70,7 +70,7 @@ returns-clause-all c =
       class_is = c.requires.class;
     } in
     sym (came c.in_ok-hop.hop c.in_ok-get.field-0.now _ read (sym c.in_ok-hop.ensures.place)
-    c.in_ok-get.ensures.lookup.3.0 c.in_ok-get.ensures.lookup.1 c.in_ok-start.was)
+    c.in_ok-get.ensures.lookup.3.0 c.in_ok-get.ensures.lookup.1 (sym c.sent.ensures ∙ c.in_ok-start.was))
 
 pub returns-clause-each : goal.returns-clause-each
 returns-clause-each c =

@@ -1,5 +1,5 @@
 use Rattle.std.proofs.Common.{◌+◌, length, ap, ◌∙◌, List, slice_range, arith}
-use Rattle.ats_trace.specs.declared.journey.HopRecord.{HopRecord}
+use Rattle.ats_trace.specs.HopRecord.{HopRecord}
 use Rattle.ats_run_records.proofs.Writes.{in-place, in-rows, hops-is, room-is}
 use Rattle.ats_run_records.proofs.records.Records.hops_of.Goals as goal
 

@@ -1,6 +1,7 @@
-use Rattle.std.proofs.Common.{arith}
+use Rattle.std.proofs.Common.{arith, subst, sym}
+use Rattle.ats_trace.specs.HopRecord.{HopRecord, IsEligible}
 use Rattle.ats_run_records.proofs.Ends.{records-write, told-again}
-use Rattle.ats_run_records.proofs.Writes.{in-place, in-rows, room-is, count-is, laid-send, view-send}
+use Rattle.ats_run_records.proofs.Writes.{in-place, in-rows, room-is, count-is, last-is, laid-send, view-send}
 use Rattle.ats_run_records.proofs.records.Records.send.Goals as goal
 
 pub index-span-requires : goal.index-span-requires
@@ -21,6 +22,12 @@ index_mut-requires c =
     let room = room-is place in
     omega (arith, count-is place, c.requires.last, room.counts, room.within)
 
+pub send-requires-clause-eligible : goal.send-requires-clause-eligible
+send-requires-clause-eligible c =
+    let place = in-place c.self.invariant c.self.view_is c.requires.row c.index-span.ensures in
+    subst (λ (hop : HopRecord). IsEligible hop.verdict)
+    (sym (last-is c.index_mut.result.now place c.requires.last c.index_mut.ensures.value)) c.requires.eligible
+
 pub invariant_of-self : goal.invariant_of-self
 invariant_of-self c =
     records-write c.self.invariant
@@ -30,4 +37,5 @@ pub returns : goal.returns
 returns c =
     let place = in-place c.self.invariant c.self.view_is c.requires.row c.index-span.ensures in
     told-again _ _ _ _ _ _ c.self.view_is
-    (view-send c.index_mut.result.now c.args.start c.args.end place c.requires.last c.index_mut.ensures.value)
+    (view-send c.index_mut.result.now c.send.new.self c.args.start c.args.end place c.requires.last
+    c.index_mut.ensures.value c.send.ensures)
