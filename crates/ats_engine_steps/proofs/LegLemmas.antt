@@ -1,15 +1,14 @@
 -- The ports of a leg among those of its sender, and the leg that has a port.
-use Rattle.std.proofs.Common.{◌≡◌, ◌∙◌, ℕ, ◌+◌, ◌<◌, ◌≤◌, List, [], length, get_or, map}
-use Rattle.std.proofs.Common.{false, true, eqb, eq-eqb, inl, inr, sym, ap, subst, arith, length-append, All}
+use Rattle.std.proofs.Common.{◌≡◌, ◌∙◌, ℕ, zero, suc, ◌+◌, ◌-◌, ◌<◌, ◌≤◌, List, [], drop, length, get_or, map}
+use Rattle.std.proofs.Common.{inl, inr, refl, ap, subst, sym, arith, length-append, length-drop, length-take, All}
 use Rattle.std.proofs.lemmas.Bool.{cases_lt}
-use Rattle.std.proofs.lemmas.List.Folds.{list_any_at}
-use Rattle.std.proofs.lemmas.List.{get_or_default}
+use Rattle.std.proofs.lemmas.List.{get_or-drop, get_or-take, get_or_default}
 use Rattle.std.proofs.lemmas.List.Elements.{All-append, All-map}
 use Rattle.std.proofs.lemmas.List.Sums.{get_or-le-sum_by}
 use Rattle.std.specs.Prelude.{Contains}
-use Rattle.std.specs.List.{concat, list_any}
-use Rattle.ats_streams.proofs.BranchLemmas.{lead_of_trunk, legs-length, route-at, routes-length, trunk_within}
-use Rattle.ats_streams.specs.Branches.{AreBranches, first_from, leads_of, leg_at, legs_of, routes_of}
+use Rattle.ats_streams.proofs.BranchLemmas.{Spans, lead_of_trunk, legs-length, route-at, routes-length, spans_between}
+use Rattle.ats_streams.proofs.BranchLemmas.{spans_end, trunk_within}
+use Rattle.ats_streams.specs.Branches.{AreBranches, first_from, leads_of, leg_at, legs_of, no_branch, routes_of}
 use Rattle.ats_streams.specs.Flow.{DeclaredFlow, IsFlow}
 use Rattle.ats_streams.specs.Path.{IsPath}
 use Rattle.ats_streams.specs.Stream.{DeclaredStream}
@@ -19,7 +18,6 @@ use Rattle.ats_network.specs.Network.{DeclaredNetwork, IsNetwork, ports_together
 use Rattle.ats_network.specs.Sender.{Sender, flow_sender, stream_sender}
 use Rattle.ats_network.specs.Senders.{IsSender, no_sender, sender_at}
 use Rattle.ats_schedulers.proofs.LegPlaces.{IsLeg, leg_is}
-use Rattle.ats_trace.proofs.Legs.{Stands, concat-legs_of, place_is, stands}
 use Rattle.ats_trace.specs.Journey.{legs_at}
 use Rattle.ats_trace.specs.declared.journey.Release.{Release}
 
@@ -68,54 +66,43 @@ sender_leg network sender leg is within there =
     let keeps : IsSender network.topology s = sender_keeps network sender is within in
     leg_is s.ports s.branches leg keeps.branches (some_port_of network sender is within) there
 
--- a leg has a port
-pub record HasPort (ports : List ℕ) (branches : List Branch) (port : ℕ) : Type 0 where
-  pub leg : ℕ
-  pub there : leg ≤ length branches
-  pub has : Contains (leg_at (legs_of ports branches) leg) port
+-- where a leg other than the trunk begins
+pub first_is : (at : ℕ) (branches : List Branch) (leg : ℕ) → 1 ≤ leg
+    → first_from at branches leg ≡ (get_or branches (leg - 1) no_branch).first
+first_is at branches zero some = absurd (omega (arith, some))
+first_is at branches (suc n) some =
+    let before : suc n - 1 ≡ n = omega arith in
+    ap (λ (k : ℕ). (get_or branches k no_branch).first) (sym before)
 
--- so has some leg of a sender where the sender has it
-pub has_port : (ports : List ℕ) (branches : List Branch) (port : ℕ) → AreBranches ports branches
-    → Contains ports port → HasPort ports branches port
-has_port ports branches port are (place, within, is) =
-    let legs : List (List ℕ) = legs_of ports branches in
-    let all : concat legs ≡ ports = concat-legs_of ports branches are in
-    let stand : Stands legs place = stands legs place (omega (arith, within, ap (λ (l : List ℕ). length l) all)) in
-    let path : List ℕ = leg_at legs stand.leg in
-    record {
-      leg = stand.leg;
-      there = omega (arith, stand.in_legs, legs-length 0 ports branches);
-      has = (
-        stand.hop,
-        stand.in_leg,
-        get_or_default path stand.hop port 0 stand.in_leg
-            ∙ sym (place_is legs stand.leg stand.hop stand.in_legs stand.in_leg)
-            ∙ ap (λ (k : ℕ). get_or (concat legs) k 0) stand.there
-            ∙ ap (λ (l : List ℕ). get_or l place 0) all
-            ∙ sym (get_or_default ports place port 0 within)
-            ∙ is,
-      );
-    }
+-- the ports of a leg that stand from one place up to another have the one at a place between
+span_has : (ports : List ℕ) (branches : List Branch) (leg from to place port : ℕ) → Spans ports branches leg from to
+    → from ≤ place → place < to → get_or ports place 0 ≡ port → Contains (leg_at (legs_of ports branches) leg) port
+span_has ports branches leg from to place port span behind before is =
+    let whole : from + (place - from) ≡ place = omega (arith, behind) in
+    subst (λ (l : List ℕ). Contains l port) span.leg_is (
+      place - from,
+      omega (arith, behind, before, span.within, length-take (to - from) (drop from ports), length-drop from ports),
+      get_or-take (to - from) (drop from ports) (place - from) port (omega (arith, behind, before))
+          ∙ get_or-drop from ports (place - from) port
+          ∙ ap (λ (k : ℕ). get_or ports k port) whole
+          ∙ get_or_default ports place port 0 (omega (arith, before, span.within))
+          ∙ is,
+    )
 
--- a leg does not have a port that the search did not find in it
-pub not_in : (ports : List ℕ) (port : ℕ) → list_any (λ p. eqb p port) ports ≡ false → Contains ports port → ⊥
-not_in ports port none (place, within, is) =
-    let found : list_any (λ p. eqb p port) ports ≡ true =
-    list_any_at (λ p. eqb p port) ports place port within (eq-eqb (get_or ports place port) port is) in
-    cc
-
--- where no branch has a port of the sender, the trunk does
-pub in_trunk : (ports : List ℕ) (branches : List Branch) (port : ℕ) → AreBranches ports branches → Contains ports port
-    → ((leg : ℕ) → 1 ≤ leg → leg ≤ length branches → Contains (leg_at (legs_of ports branches) leg) port → ⊥)
-    → Contains (leg_at (legs_of ports branches) 0) port
-in_trunk ports branches port are has none =
-    let found : HasPort ports branches port = has_port ports branches port are has in
-    elim (cases_lt 0 found.leg) [
-      | inl later ↦ absurd (none found.leg (omega arith) found.there found.has)
-      | inr first ↦
-          (let trunk : found.leg ≡ 0 = omega arith in
-          subst (λ (leg : ℕ). Contains (leg_at (legs_of ports branches) leg) port) trunk found.has)
-    ]
+-- the last leg that begins no later than the place of a port has the port
+pub leg_has : (ports : List ℕ) (branches : List Branch) (leg place port : ℕ) → AreBranches ports branches
+    → leg ≤ length branches → first_from 0 branches leg ≤ place
+    → (leg < length branches → place < (get_or branches leg no_branch).first) → place < length ports
+    → get_or ports place 0 ≡ port → Contains (leg_at (legs_of ports branches) leg) port
+leg_has ports branches leg place port are there from below within is = elim (cases_lt leg (length branches)) [
+  | inl earlier ↦
+      span_has ports branches leg (first_from 0 branches leg) (get_or branches leg no_branch).first place port
+      (spans_between ports branches leg are earlier) from (below earlier) is
+  | inr last ↦
+      (let same : leg ≡ length branches = omega (arith, there, last) in
+      span_has ports branches leg (first_from 0 branches leg) (length ports) place port
+      (spans_end ports branches leg (first_from 0 branches leg) are same refl) from within is)
+]
 
 -- a sender has a leg more than branches
 pub legs_more : (network : DeclaredNetwork) (release told : Release) (legs : ℕ) → release ≡ told
