@@ -2,3 +2,4 @@ pub mod Runs
 pub mod Met
 pub mod Narrowed
 pub mod Groups
+pub mod Alone

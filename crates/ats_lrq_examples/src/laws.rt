@@ -1,5 +1,6 @@
 //! What the laws of length-rate-quotient regulators say of a worked network, and what they rest on.
 
+ghost use Rattle.ats_lrq_examples.specs.Alone.{OthersRegulate};
 ghost use Rattle.ats_lrq_examples.specs.Groups.{GroupsAreMet, ShapingIsMet};
 ghost use Rattle.ats_lrq_examples.specs.Met.{FlowsAreFree, LawIsMet, RegulatorCounts, SpacingCounts};
 ghost use Rattle.ats_lrq_examples.specs.Narrowed.{StreamsKeepOneFrame};
@@ -41,4 +42,10 @@ pub fn groups_are_met()
 /// again within the bound, and two of them just then.
 pub fn shaping_is_met()
     ensures { ShapingIsMet }
+{}
+
+/// Other regulators and rules are such too: a shaper for each member, which waits for no other, regulates by the rule
+/// of a token bucket; and a rule may name a time.
+pub fn others_regulate()
+    ensures { OthersRegulate }
 {}

@@ -18,6 +18,9 @@ use Rattle.ats_requests.specs.declared.denied.Denied.TheVariants.{Because, Limit
 use Rattle.ats_replay.specs.Summary.{summary_for}
 use Rattle.ats_trace.specs.Journey.{Travel}
 use Rattle.ats_trace.specs.Ways.{listener_count}
+use Rattle.ats_examples.specs.Networks.{fork}
+use Rattle.ats_examples.specs.Runs.{late}
+use Rattle.ats_examples.proofs.LegalProofs.{regulated_legal}
 use Rattle.ats_tree_examples.specs.Networks.{split}
 use Rattle.ats_tree_examples.specs.Runs.{long_split, one_split}
 use Rattle.ats_tree_examples.specs.Bounds.{split_rows}
@@ -55,6 +58,21 @@ reported zero (suc zero) there within = record {
 reported zero (suc (suc n)) there within = absurd (omega (arith, within))
 reported (suc n) listener there within = absurd (omega (arith, there))
 
+-- one frame of the first stream arrived, and one was late; the other stream has none
+late_reported : (sender listener : ℕ) → sender < length (senders_of fork)
+    → listener < listener_count (sender_at fork sender) → HasShortNumbers (summary_for fork late sender listener)
+late_reported zero zero there within = record {
+  totals = record { all_frames = lit< tt; all_sunk = lit< tt; all_late = lit< tt; all_size = lit< tt };
+  worst = lit< tt;
+}
+late_reported (suc zero) zero there within = record {
+  totals = record { all_frames = lit< tt; all_sunk = lit< tt; all_late = lit< tt; all_size = lit< tt };
+  worst = lit< tt;
+}
+late_reported zero (suc n) there within = absurd (omega (arith, within))
+late_reported (suc zero) (suc n) there within = absurd (omega (arith, within))
+late_reported (suc (suc n)) listener there within = absurd (omega (arith, there))
+
 -- how many octets the frames of a run have together
 abbrev octets_in : List Travel → ℕ
 octets_in [] = 0
@@ -72,8 +90,11 @@ runs = record {
     summaries = reported;
     bounds = all_by IsShort is_short short_by (26672000 ∷ 26672000 ∷ []) refl;
   };
+  reported_alone = record { summaries = reported; bounds = tt };
   bounds = all_by (HasShortBounds split.topology split_rows) (bounds_pass split.topology split_rows)
       (bounds_by split.topology split_rows) split.streams refl;
+  with_late = record { journeys = regulated_legal.late.journeys; times = times_by late refl };
+  with_late_reported = record { summaries = late_reported; bounds = tt };
 }
 
 explained : (network : DeclaredNetwork) → list_all (explains network) network.streams ≡ true

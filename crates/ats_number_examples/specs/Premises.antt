@@ -1,4 +1,4 @@
-use Rattle.std.specs.Prelude.{◌≢◌, ◌-◌, ◌^◌, List, [], ◌∷◌, codes, replicate, length, All, Some}
+use Rattle.std.specs.Prelude.{◌≢◌, ◌-◌, ◌^◌, List, [], ◌∷◌, codes, replicate, length, All, Some, None}
 use Rattle.ats_topology.specs.Topology.{ports_of, topology_of}
 use Rattle.ats_streams.specs.Stream.{declared_stream}
 use Rattle.ats_network.specs.Network.{DeclaredNetwork, IsNetwork, declared_network}
@@ -9,7 +9,8 @@ use Rattle.ats_requests.specs.declared.answer.Answer.TheVariants.{Admitted, Refu
 use Rattle.ats_requests.specs.declared.denied.Denied.TheVariants.{Because, Limit, NameTaken, NoClass}
 use Rattle.ats_requests.specs.declared.request.Request.{Request}
 use Rattle.ats_requests.specs.declared.request.Request.TheVariants.{Admit, Lowest, Withdraw}
-use Rattle.ats_examples.specs.Networks.{flow}
+use Rattle.ats_examples.specs.Networks.{flow, fork}
+use Rattle.ats_examples.specs.Runs.{late}
 use Rattle.ats_tree_examples.specs.Networks.{split}
 use Rattle.ats_tree_examples.specs.Runs.{long_split, one_split}
 use Rattle.ats_tree_examples.specs.Bounds.{split_rows}
@@ -27,7 +28,7 @@ pub record NumbersAreShort : Type 0 where
   pub not_next : ¬ IsShort (10 ^ 64)
 
 -- two runs over one network, of which one frame arrives at two listeners, and one is discarded for both; and what is
--- reported of them, with sums and without
+-- reported of the first with sums, and without. And a run with a frame that is late, and what is reported of it
 pub record RunsArePrintable : Type 0 where
   pub rules : IsNetwork split
   pub names : HasNames split
@@ -35,7 +36,10 @@ pub record RunsArePrintable : Type 0 where
   pub other : IsPrintable split long_split
   pub differ : one_split ≢ long_split
   pub reported : IsReportable split one_split (Some (26672000 ∷ 26672000 ∷ []))
+  pub reported_alone : IsReportable split one_split None
   pub bounds : All (HasShortBounds split.topology split_rows) split.streams
+  pub with_late : IsPrintable fork late
+  pub with_late_reported : IsReportable fork late None
 
 -- the network of two joined streams, which have the same names and ports, and differ from those in all else; with a
 -- flow

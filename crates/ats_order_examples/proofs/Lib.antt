@@ -1,2 +1,3 @@
 pub mod FlowProofs
 pub mod OrderProofs
+pub mod FlowBreakProofs

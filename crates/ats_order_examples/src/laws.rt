@@ -1,5 +1,6 @@
 //! Orders of frames at each kind of port, and of flows.
 
+ghost use Rattle.ats_order_examples.specs.FlowBreaks.{FlowsBreakAlone};
 ghost use Rattle.ats_order_examples.specs.Flows.{FlowsAreKept};
 ghost use Rattle.ats_order_examples.specs.Orders.{OrdersAreKept};
 
@@ -11,4 +12,10 @@ pub fn orders_are_kept()
 /// Frames of flows are sent and arrive in their order, and by an order's key and pace, as frames of streams do.
 pub fn flows_are_kept()
     ensures { FlowsAreKept }
+{}
+
+/// Each rule of a port, of a link and of a journey is for a flow's frames too: for each there is a run of such frames
+/// alone that breaks it, and nothing else.
+pub fn flows_break_alone()
+    ensures { FlowsBreakAlone }
 {}

@@ -7,10 +7,10 @@ use Rattle.ats_trace.specs.Journey.{Travel}
 use Rattle.ats_trace.specs.Stored.{no_travel}
 use Rattle.ats_trace.specs.declared.journey.Ending.TheVariants.{Discard}
 use Rattle.ats_trace.specs.HopRecord.{HopRecord}
-use Rattle.ats_examples.specs.Networks.{line}
+use Rattle.ats_examples.specs.Networks.{below, fork, line, line_and_flow}
 use Rattle.ats_examples.specs.Runs.{hop, one_frame, sunk}
 use Rattle.ats_legal_law.specs.Rest.{FillsBy, IsLegBy, IsOverBy, IsRecordBy, RestsUntil}
-use Rattle.ats_steady_law.specs.Resting.{RestsAreExact}
+use Rattle.ats_steady_law.specs.Resting.{EachStreamRests, RestsAreExact}
 
 -- When a run is over and a network has rested, to the picosecond.
 
@@ -82,4 +82,48 @@ rests_are_exact = record {
   not_before = not_before;
   over_late = All-cons (IsOverBy 26672000) arrived (discarded ∷ []) first_over
       (All-cons (IsOverBy 26672000) discarded [] second_over (All-nil (IsOverBy 26672000)));
+}
+
+fork_rests : RestsUntil fork 39008000 162368000
+fork_rests = record { after = lit< tt; filled = filled }
+  where
+    filled : (i : ℕ) → i < length fork.streams → FillsBy 39008000 162368000 (declared_by fork i)
+    filled zero within = lit≤ tt
+    filled (suc zero) within = lit≤ tt
+    filled (suc (suc i)) within = absurd (omega arith)
+
+fork_not_earlier : ¬ RestsUntil fork 39008000 162367999
+fork_not_earlier rests =
+    let full : 16236800000000000 ≤ 16236799900000000 = rests.filled 0 (lit< tt) in
+    absurd (omega arith)
+
+below_rests : RestsUntil below 0 24672000
+below_rests = record { after = lit< tt; filled = filled }
+  where
+    filled : (i : ℕ) → i < length below.streams → FillsBy 0 24672000 (declared_by below i)
+    filled zero within = lit≤ tt
+    filled (suc zero) within = lit≤ tt
+    filled (suc (suc i)) within = absurd (omega arith)
+
+below_not_earlier : ¬ RestsUntil below 0 24671999
+below_not_earlier rests =
+    let full : 12336000000000000 ≤ 12335999500000000 = rests.filled 1 (lit< tt) in
+    absurd (omega arith)
+
+beside_flow_rests : RestsUntil line_and_flow 26672000 150032000
+beside_flow_rests = record { after = lit< tt; filled = filled }
+  where
+    filled : (i : ℕ) → i < length line_and_flow.streams → FillsBy 26672000 150032000 (declared_by line_and_flow i)
+    filled zero within = lit≤ tt
+    filled (suc i) within = absurd (omega arith)
+
+pub each_stream_rests : EachStreamRests
+each_stream_rests = record {
+  of_two = fork_rests;
+  of_two_not_earlier = fork_not_earlier;
+  of_slower_last = below_rests;
+  last_not_earlier = below_not_earlier;
+  beside_flow = beside_flow_rests;
+  of_none = record { after = lit< tt; filled = λ i within. absurd (omega (arith, within)) };
+  none_not_at_once = λ rests. (let later : 5 < 5 = rests.after in absurd (omega arith));
 }
