@@ -7,7 +7,8 @@ use Rattle.ats_csv.specs.Reading.{records_of, same_fields}
 use Rattle.ats_certificate_file.specs.Reading.{header, row_in, row_after}
 use Rattle.ats_network_text.specs.Text.{classes_text}
 use Rattle.ats_schedule.specs.Reading.{header as release_header, release_after}
-use Rattle.ats_edge_examples.specs.Texts.{ClassesAreTold, NumbersAreShort, ShapesAreCut, TablesAreCut, TextsAreAtEdges}
+use Rattle.ats_edge_examples.specs.Texts.{ClassesAreTold, NumbersAreShort, QuotesAreCut, ShapesAreCut, TablesAreCut}
+use Rattle.ats_edge_examples.specs.Texts.{TextsAreAtEdges}
 
 tables_are_cut : TablesAreCut
 unfolding next_record records_from strip_bom records_of same_fields header row_in row_after release_header release_after
@@ -22,6 +23,19 @@ tables_are_cut = record {
   release_quotes = refl;
   release_blank = refl;
   release_sign = refl;
+}
+
+quotes_are_cut : QuotesAreCut
+unfolding next_record records_from strip_bom records_of
+quotes_are_cut = record {
+  twice = refl;
+  only = refl;
+  backslash = refl;
+  backslashes = refl;
+  line = refl;
+  inside = refl;
+  behind = refl;
+  single = refl;
 }
 
 shapes_are_cut : ShapesAreCut
@@ -45,6 +59,7 @@ classes_are_told = record { same = refl; last = refl; middle = refl }
 pub texts_are_at_edges : TextsAreAtEdges
 texts_are_at_edges = record {
   tables = tables_are_cut;
+  quotes = quotes_are_cut;
   shapes = shapes_are_cut;
   numbers = numbers_are_short;
   classes = classes_are_told;

@@ -3,6 +3,7 @@ use Rattle.ats_certificate.specs.declared.row.Row.{Row}
 use Rattle.ats_certificate_file.specs.Reading.{rows_of}
 use Rattle.ats_certificate_file.specs.declared.fault.CertFault.{CertFault}
 use Rattle.ats_certificate_file.specs.declared.fault.CertFault.TheVariants as row
+use Rattle.ats_csv.specs.Reading.{records_of}
 use Rattle.ats_network_text.specs.Text.{classes_text}
 use Rattle.ats_request_file.specs.Reading.{requests_of}
 use Rattle.ats_request_file.specs.declared.fault.RequestFault.{RequestFault}
@@ -52,6 +53,19 @@ pub record TablesAreCut : Type 0 where
   pub release_blank : releases_of way (codes "at_ps,sender,octets\n\n1001,f,1402\n\nx\n") ≡ Err (release.BadRow 3)
   pub release_sign : releases_of way (codes "at_ps,sender,octets\n1001,f,1402\n# x\n") ≡ Err (release.BadRow 3)
 
+-- quotes begin a field only in front of it; within a field in quotes two of them are one, and a comma and an end of
+-- line are bytes like others; a backslash is one always. What stands behind the last quote belongs to the field.
+-- Refuses quotes that are taken out in pairs, and ones that a backslash spares
+pub record QuotesAreCut : Type 0 where
+  pub twice : records_of (codes "\"a\"\",b\",c\n") ≡ (codes "a\",b" ∷ codes "c" ∷ []) ∷ []
+  pub only : records_of (codes "\"\"\"\",\"\"\n") ≡ (codes "\"" ∷ [] ∷ []) ∷ []
+  pub backslash : records_of (codes "\"a\\\",b\n") ≡ (codes "a\\" ∷ codes "b" ∷ []) ∷ []
+  pub backslashes : records_of (codes "a\\,\\b\n") ≡ (codes "a\\" ∷ codes "\\b" ∷ []) ∷ []
+  pub line : records_of (codes "\"a\nb\",c\n") ≡ (codes "a\nb" ∷ codes "c" ∷ []) ∷ []
+  pub inside : records_of (codes "a\"b\"\"c,d\n") ≡ (codes "a\"b\"\"c" ∷ codes "d" ∷ []) ∷ []
+  pub behind : records_of (codes "\"a\"b,c\n") ≡ (codes "ab" ∷ codes "c" ∷ []) ∷ []
+  pub single : records_of (codes "'a,b'\n") ≡ (codes "'a" ∷ codes "b'" ∷ []) ∷ []
+
 -- a residence of 0, and a stream whose burst is its longest frame, with a frame at time 0
 abbrev pub at_zero : DeclaredShape
 at_zero = record {
@@ -93,6 +107,7 @@ pub record ClassesAreTold : Type 0 where
 
 pub record TextsAreAtEdges : Type 0 where
   pub tables : TablesAreCut
+  pub quotes : QuotesAreCut
   pub shapes : ShapesAreCut
   pub numbers : NumbersAreShort
   pub classes : ClassesAreTold

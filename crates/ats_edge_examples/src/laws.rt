@@ -5,8 +5,8 @@ ghost use Rattle.ats_edge_examples.specs.Outside.{OutsideIsAtEdges};
 ghost use Rattle.ats_edge_examples.specs.Runs.{RunsAreAtEdges};
 ghost use Rattle.ats_edge_examples.specs.Texts.{TextsAreAtEdges};
 
-/// How lines of certificates and schedules are cut; shape files with a residence and a time of 0, and with a byte order
-/// mark; numbers of 18 and of 19 digits in request files; and classes along a path as they are told.
+/// How lines and fields of certificates and schedules are cut; shape files with a residence and a time of 0, and with a
+/// byte order mark; numbers of 18 and of 19 digits in request files; and classes along a path as they are told.
 pub fn texts_are_at_edges()
     ensures { TextsAreAtEdges }
 {}

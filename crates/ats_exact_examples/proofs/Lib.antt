@@ -1,6 +1,8 @@
+pub mod AnyWordProofs
 pub mod CommandProofs
 pub mod FaultProofs
 pub mod LinkProofs
+pub mod NamedProofs
 pub mod NumberProofs
 pub mod OnlyProofs
 pub mod OrderProofs

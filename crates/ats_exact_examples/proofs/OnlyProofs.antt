@@ -23,7 +23,7 @@ rates_are_ten = record { all = refl; none = refl }
 
 identities_are_whole : IdentitiesAreWhole
 unfolding identity_of address_of number16
-identities_are_whole = record { short = refl; whole = refl }
+identities_are_whole = record { short = refl; whole = refl; tagged = refl; high = refl; low = refl }
 
 -- the order of a number, where it is one, has the text of that number
 by_number : (text : List ℕ) (order : Order) (n : Option ℕ) → number_of text ≡ n

@@ -5,3 +5,5 @@ pub mod Ports
 pub mod Links
 pub mod Orders
 pub mod Only
+pub mod AnyWords
+pub mod Named

@@ -67,10 +67,18 @@ of_15 = replicate 12 1 ++ 0x81 ∷ 0 ∷ 0 ∷ []
 abbrev pub of_16 : List ℕ
 of_16 = of_15 ++ 5 ∷ []
 
--- no frame shows a tag of which the last byte is not there. Refuses an identity by 15 bytes
+-- the same with these two bytes in place of the tag's
+abbrev pub of_type : ℕ → ℕ → List ℕ
+of_type high low = replicate 12 1 ++ high ∷ low ∷ 0 ∷ 5 ∷ []
+
+-- no frame shows a tag of which the last byte is not there, or either of the first two is another one. Refuses an
+-- identity by 15 bytes, and one by 81 37
 pub record IdentitiesAreWhole : Type 0 where
   pub short : identity_of of_15 ≡ None
   pub whole : identity_of of_16 ≡ Some (0x010101010101, 5)
+  pub tagged : identity_of (of_type 0x81 0) ≡ Some (0x010101010101, 5)
+  pub high : map (λ high. identity_of (of_type high 0)) (0 ∷ 1 ∷ 0x80 ∷ 0x82 ∷ 0x88 ∷ 0xC1 ∷ []) ≡ replicate 6 None
+  pub low : map (λ low. identity_of (of_type 0x81 low)) (1 ∷ 0x37 ∷ 0x80 ∷ 0x81 ∷ 0xA8 ∷ 0xFF ∷ []) ≡ replicate 6 None
 
 pub record NothingElseIsRead : Type 0 where
   pub numbers : NumbersAreWritten

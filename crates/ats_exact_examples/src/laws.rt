@@ -7,6 +7,8 @@ ghost use Rattle.ats_exact_examples.specs.Ports.{GroupsCrossPorts};
 ghost use Rattle.ats_exact_examples.specs.Links.{LatenciesMayDiffer};
 ghost use Rattle.ats_exact_examples.specs.Orders.{OrdersAreExact};
 ghost use Rattle.ats_exact_examples.specs.Only.{NothingElseIsRead};
+ghost use Rattle.ats_exact_examples.specs.AnyWords.{WordsAreAny};
+ghost use Rattle.ats_exact_examples.specs.Named.{NamesAreExact};
 
 /// A longer wait covers too, and makes larger buffers there and behind.
 pub fn waits_may_grow()
@@ -44,4 +46,15 @@ pub fn orders_are_exact()
 /// No other numbers, rates, words or identities are read.
 pub fn nothing_else_is_read()
     ensures { NothingElseIsRead }
+{}
+
+/// Each command takes any words for its files and names, empty ones too, and where an order or a number is due one that
+/// writes one; and which of its words name files.
+pub fn words_are_any()
+    ensures { WordsAreAny }
+{}
+
+/// A stream, a port or a station that a word names is there, and is called just so.
+pub fn names_are_exact()
+    ensures { NamesAreExact }
 {}

@@ -28,7 +28,17 @@ numbers_are_read = record {
 }
 
 names_are_read : NamesAreRead
-names_are_read = record { whole = refl; none = refl; stored = refl; name_bytes = refl }
+names_are_read = record {
+  whole = refl;
+  none = refl;
+  stored = refl;
+  name_bytes = refl;
+  alone = refl;
+  in_front = refl;
+  in_middle = refl;
+  at_end = refl;
+  fronts = refl;
+}
 
 frames_are_counted : FramesAreCounted
 frames_are_counted = record { shortest = refl; longest = refl }

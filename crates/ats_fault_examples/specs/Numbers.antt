@@ -1,6 +1,6 @@
-use Rattle.std.specs.Prelude.{◌≡◌, ℕ, List, [], ◌∷◌, codes, replicate, IsOk, Some, None, Ok, Err}
+use Rattle.std.specs.Prelude.{◌≡◌, ℕ, true, List, [], ◌∷◌, ◌++◌, map, codes, replicate, IsOk, Some, None, Ok, Err}
 use Rattle.std.specs.List.{count_by, range_with_len}
-use Rattle.ats_num.specs.Name.{is_name_byte, name_of, padded}
+use Rattle.ats_num.specs.Name.{is_name, is_name_byte, name_of, padded}
 use Rattle.ats_num.specs.Number.{number_of}
 use Rattle.ats_num.specs.Wire.{bits_of}
 use Rattle.ats_command_input.specs.Making.{count_named, seed_named}
@@ -34,12 +34,19 @@ pub record NumbersAreRead : Type 0 where
   pub below_digits : number_of (codes "1/") ≡ None
   pub above_digits : number_of (codes "1:") ≡ None
 
--- a name is its bytes, and stands before zeros; 64 of the bytes may be in one
+-- a name is its bytes, and stands before zeros; 64 of the bytes may be in one, and each of them alone, in front and at
+-- the end: a digit and a sign too. Refuses names that begin with a letter alone
 pub record NamesAreRead : Type 0 where
   pub whole : name_of (codes "a-B_9") ≡ Some (codes "a-B_9")
   pub none : name_of (codes "a b") ≡ None
   pub stored : padded (codes "ab") ≡ 97 ∷ 98 ∷ replicate 30 0
   pub name_bytes : count_by is_name_byte (range_with_len 0 256) ≡ 64
+  pub alone : count_by (λ byte. is_name (byte ∷ [])) (range_with_len 0 256) ≡ 64
+  pub in_front : count_by (λ byte. is_name (byte ∷ codes "ab")) (range_with_len 0 256) ≡ 64
+  pub in_middle : count_by (λ byte. is_name (codes "a" ++ byte ∷ codes "b")) (range_with_len 0 256) ≡ 64
+  pub at_end : count_by (λ byte. is_name (codes "ab" ++ byte ∷ [])) (range_with_len 0 256) ≡ 64
+  pub fronts : map is_name (codes "1a" ∷ codes "-a" ∷ codes "_a" ∷ codes "_" ∷ codes "-" ∷ codes "7" ∷ [])
+      ≡ replicate 6 true
 
 -- the wire bits of the shortest and of the longest frame
 pub record FramesAreCounted : Type 0 where

@@ -43,6 +43,8 @@ addresses_are_read = record {
   first_letter = refl;
   space = refl;
   empty = refl;
+  joined = refl;
+  digits = refl;
   number = refl;
 }
 

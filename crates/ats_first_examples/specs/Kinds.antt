@@ -1,4 +1,5 @@
-use Rattle.std.specs.Prelude.{◌≡◌, ℕ, [], ◌∷◌, codes, pos, negsuc, true, Float, Some, None, Ok, Err}
+use Rattle.std.specs.Prelude.{◌≡◌, ℕ, ◌+◌, List, [], ◌∷◌, ◌++◌, take, drop, map, replicate, codes, pos, negsuc, true}
+use Rattle.std.specs.Prelude.{Float, Some, None, Ok, Err}
 use Rattle.toml.specs.Data.{Data, array, as_array, as_integer, as_str, boolean, float, integer, item, no_items}
 use Rattle.toml.specs.Data.{no_members, string, table}
 use Rattle.ats_network_table.specs.Kinds.{address_in, address_of, list_in, long_in, name_in, whole_in}
@@ -36,7 +37,13 @@ pub record ShortsAreRanged : Type 0 where
       ≡ Err (WrongKind Stream 3 key.Mbps)
   pub below : short_at (with_values ((key.Mbps, integer (negsuc 4)) ∷ [])) key.Mbps ≡ Err (WrongKind Stream 3 key.Mbps)
 
--- six pairs of digits, the first of them highest, in small letters or capitals
+-- six pairs of zeros with this byte at a place
+abbrev pub with_byte : ℕ → ℕ → List ℕ
+with_byte byte place =
+    take place (codes "00:00:00:00:00:00") ++ byte ∷ drop (place + 1) (codes "00:00:00:00:00:00")
+
+-- six pairs of digits, the first of them highest, in small letters or capitals; a `-` at any place between two pairs,
+-- or a `g` at any place of a digit, makes it none
 pub record AddressesAreRead : Type 0 where
   pub least : address_of (codes "00:00:00:00:00:00") ≡ Some 0
   pub in_order : address_of (codes "01:23:45:67:89:ab") ≡ Some 1250999896491
@@ -53,6 +60,9 @@ pub record AddressesAreRead : Type 0 where
   pub first_letter : address_of (codes "g0:00:00:00:00:00") ≡ None
   pub space : address_of (codes "00:00:00:00:00: 0") ≡ None
   pub empty : address_of [] ≡ None
+  pub joined : map (λ place. address_of (with_byte 45 place)) (2 ∷ 5 ∷ 8 ∷ 11 ∷ 14 ∷ []) ≡ replicate 5 None
+  pub digits : map (λ place. address_of (with_byte 103 place))
+      (0 ∷ 1 ∷ 3 ∷ 4 ∷ 6 ∷ 7 ∷ 9 ∷ 10 ∷ 12 ∷ 13 ∷ 15 ∷ 16 ∷ []) ≡ replicate 12 None
   pub number : address_in a_number ≡ None
 
 -- a path of two names or more; a list of numbers, and one number in its place

@@ -3,9 +3,25 @@ use Rattle.ats_pcap.specs.Capture.{form_of, is_whole, order_of, position_of, rec
 use Rattle.ats_pcap.specs.Capture.{header_fault as of_header, record_fault as of_record}
 use Rattle.ats_pcap.specs.Identity.{address_of, identity_of}
 use Rattle.ats_pcap.specs.Numbers.{number16, number32}
-use Rattle.ats_reading_examples.specs.Bytes.{CapturesHaveAllBits, HeadersHaveAllBits, RecordsHaveAllBits}
+use Rattle.ats_reading_examples.specs.Bytes.{CapturesHaveAllBits, HeadersHaveAllBits, MagicsHaveAllBits}
+use Rattle.ats_reading_examples.specs.Bytes.{RecordsHaveAllBits}
 
 -- Captures by computation.
+
+magics_have_all_bits : MagicsHaveAllBits
+unfolding form_of of_header is_whole order_of position_of of_record record_of address_of identity_of number16 number32
+magics_have_all_bits = record {
+  low_micros = refl;
+  high_micros = refl;
+  low_nanos = refl;
+  high_nanos = refl;
+  other = refl;
+  near_low_micros = refl;
+  near_high_micros = refl;
+  near_low_nanos = refl;
+  near_high_nanos = refl;
+  near_other = refl;
+}
 
 headers_have_all_bits : HeadersHaveAllBits
 unfolding form_of of_header is_whole order_of position_of of_record record_of address_of identity_of number16 number32
@@ -43,6 +59,7 @@ records_have_all_bits = record {
 
 pub captures_have_all_bits : CapturesHaveAllBits
 captures_have_all_bits = record {
+  magics = magics_have_all_bits;
   headers = headers_have_all_bits;
   records = records_have_all_bits;
 }

@@ -1,5 +1,6 @@
 pub mod KeyProofs
 pub mod ByteProofs
+pub mod VerbProofs
 pub mod LineProofs
 pub mod Steps
 pub mod PathProofs

@@ -1,7 +1,8 @@
-use Rattle.std.specs.Prelude.{◌≡◌, ℕ, List, [], ◌∷◌, ◌++◌, None, Result, Ok, Err}
+use Rattle.std.specs.Prelude.{◌≡◌, ℕ, ◌+◌, List, [], ◌∷◌, ◌++◌, map, replicate, None, Result, Ok, Err}
 use Rattle.ats_pcap.specs.Capture.{records_of}
 use Rattle.ats_pcap.specs.declared.fault.CaptureFault.{CaptureFault}
-use Rattle.ats_pcap.specs.declared.fault.CaptureFault.TheVariants.{BadLink, BadVersion, RecordTooLong}
+use Rattle.ats_pcap.specs.declared.fault.CaptureFault.TheVariants.{BadLink, BadMagic, BadVersion, CutShort}
+use Rattle.ats_pcap.specs.declared.fault.CaptureFault.TheVariants.{PcapNg, RecordTooLong}
 use Rattle.ats_pcap.specs.declared.record.Record.{Record}
 
 -- Numbers of captures in all their bytes.
@@ -21,6 +22,26 @@ low version link = records_of (low_header version link)
 
 abbrev pub high : List ℕ → List ℕ → Result (List Record) CaptureFault
 high version link = records_of (high_header version link)
+
+-- four bytes, of which one is greater by 1
+abbrev pub one_greater : ℕ → ℕ → ℕ → ℕ → List (List ℕ)
+one_greater a b c d =
+    ((a + 1) ∷ b ∷ c ∷ d ∷ []) ∷ (a ∷ (b + 1) ∷ c ∷ d ∷ []) ∷ (a ∷ b ∷ (c + 1) ∷ d ∷ []) ∷ (a ∷ b ∷ c ∷ (d + 1) ∷ [])
+    ∷ []
+
+-- the four magic numbers by their bytes, to which nothing is missing but the rest of the header; the mark of another
+-- format; and each of the five with one byte greater. Refuses a magic number by its first and its last byte
+pub record MagicsHaveAllBits : Type 0 where
+  pub low_micros : records_of (0xD4 ∷ 0xC3 ∷ 0xB2 ∷ 0xA1 ∷ []) ≡ Err (CutShort 0)
+  pub high_micros : records_of (0xA1 ∷ 0xB2 ∷ 0xC3 ∷ 0xD4 ∷ []) ≡ Err (CutShort 0)
+  pub low_nanos : records_of (0x4D ∷ 0x3C ∷ 0xB2 ∷ 0xA1 ∷ []) ≡ Err (CutShort 0)
+  pub high_nanos : records_of (0xA1 ∷ 0xB2 ∷ 0x3C ∷ 0x4D ∷ []) ≡ Err (CutShort 0)
+  pub other : records_of (0x0A ∷ 0x0D ∷ 0x0D ∷ 0x0A ∷ []) ≡ Err PcapNg
+  pub near_low_micros : map records_of (one_greater 0xD4 0xC3 0xB2 0xA1) ≡ replicate 4 (Err BadMagic)
+  pub near_high_micros : map records_of (one_greater 0xA1 0xB2 0xC3 0xD4) ≡ replicate 4 (Err BadMagic)
+  pub near_low_nanos : map records_of (one_greater 0x4D 0x3C 0xB2 0xA1) ≡ replicate 4 (Err BadMagic)
+  pub near_high_nanos : map records_of (one_greater 0xA1 0xB2 0x3C 0x4D) ≡ replicate 4 (Err BadMagic)
+  pub near_other : map records_of (one_greater 0x0A 0x0D 0x0D 0x0A) ≡ replicate 4 (Err BadMagic)
 
 -- a link type has 32 bits, and each number of a version 16
 pub record HeadersHaveAllBits : Type 0 where
@@ -72,5 +93,6 @@ pub record RecordsHaveAllBits : Type 0 where
   pub captured_fourth_high : high_read none none (1 ∷ 0 ∷ 0 ∷ 0 ∷ []) (0 ∷ 0 ∷ 0 ∷ 60 ∷ []) ≡ Err (RecordTooLong 1)
 
 pub record CapturesHaveAllBits : Type 0 where
+  pub magics : MagicsHaveAllBits
   pub headers : HeadersHaveAllBits
   pub records : RecordsHaveAllBits

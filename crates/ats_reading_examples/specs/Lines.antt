@@ -1,12 +1,17 @@
-use Rattle.std.specs.Prelude.{◌≡◌, ℕ, List, [], ◌∷◌, ◌++◌, codes, replicate, Result, Ok, Err}
-use Rattle.ats_io.specs.Text.{words_of}
+use Rattle.std.specs.Prelude.{◌≡◌, ℕ, ◌+◌, ◌≤◌, List, [], ◌∷◌, ◌++◌, length, codes, replicate, Result, Ok, Err}
+use Rattle.ats_io.specs.Text.{lines_of, words_of}
+use Rattle.ats_shape.specs.FaultLaw.{line_number}
 use Rattle.ats_shape.specs.Reading.{shape_of}
 use Rattle.ats_shape.specs.Shape.{DeclaredShape}
 use Rattle.ats_shape.specs.declared.fault.ShapeFault.{ShapeFault}
 use Rattle.ats_shape.specs.declared.fault.ShapeFault.TheVariants as line
+use Rattle.ats_streams.specs.declared.fault.StreamFault.{StreamFault}
 use Rattle.ats_streams.specs.declared.fault.StreamFault.TheVariants as rule
-use Rattle.ats_requests.specs.declared.request.Request.TheVariants.{Withdraw}
-use Rattle.ats_request_file.specs.Reading.{requests_of}
+use Rattle.ats_topology.specs.Topology.{DeclaredTopology}
+use Rattle.ats_requests.specs.declared.request.Request.{Request}
+use Rattle.ats_requests.specs.declared.request.Request.TheVariants.{Admit, Lowest, Withdraw}
+use Rattle.ats_words.specs.Words.{word}
+use Rattle.ats_request_file.specs.Reading.{request_in, requests_of}
 use Rattle.ats_trace.specs.declared.journey.Release.{Release}
 use Rattle.ats_schedule.specs.Reading.{release_after}
 use Rattle.ats_schedule.specs.declared.fault.ScheduleFault.{ScheduleFault}
@@ -38,6 +43,10 @@ SpacesPart = words_of (32 ∷ other_bytes ++ 32 ∷ 32 ∷ other_bytes ++ 32 ∷
 -- what is read of this line behind a residence and a stream
 abbrev pub behind_stream : List ℕ → Result DeclaredShape ShapeFault
 behind_stream text = shape_of (codes "residence 1000\nstream a 1000 672 64 64\n" ++ text)
+
+-- a number counts one of these lines from 1, or the one behind the last
+abbrev pub IsNumbered : List (List ℕ) → ℕ → Type 0
+IsNumbered lines n = (1 ≤ n) × (n ≤ length lines + 1)
 
 -- 10^18, 10^21, and the greatest number of 36 digits
 abbrev pub of_19 : List ℕ
@@ -82,8 +91,37 @@ pub record ReleaseNumbersAreLong : Type 0 where
   pub octets_of_36 : release_behind 0 (codes "1") nines ≡ Err (release.BadSize 3)
   pub octets_of_37 : release_behind 0 (codes "1") (codes "1" ++ nines) ≡ Err (release.BadNumber 3)
 
+-- the line that a fault of a shape file is told of has the number that is told, whichever the fault. Refuses a number
+-- of another line for frames, as that among the frames
+pub record LinesAreNumbered : Type 0 where
+  pub form : (n : ℕ) → line_number (line.BadLine n) ≡ n
+  pub name : (n : ℕ) → line_number (line.NameTwice n) ≡ n
+  pub broken : (n : ℕ) (broken : StreamFault) → line_number (line.Stream n broken) ≡ n
+  pub unknown : (n : ℕ) → line_number (line.UnknownName n) ≡ n
+  pub back : (n : ℕ) → line_number (line.TimeBack n) ≡ n
+  pub limit : (n : ℕ) → line_number (line.Limit n) ≡ n
+  pub first : (text : List ℕ) (fault : ShapeFault) → shape_of text ≡ Err fault
+      → IsNumbered (lines_of text) (line_number fault)
+  pub frame : behind_stream (codes "\n# a\nframe 5 a 64\nframe 6 a 64\n\nframe 7 b 64\n") ≡ Err (line.UnknownName 8)
+  pub frame_back : behind_stream (codes "\n# a\nframe 5 a 64\nframe 6 a 64\n\nframe 4 a 64\n") ≡ Err (line.TimeBack 8)
+  pub frame_form : behind_stream (codes "\n# a\nframe 5 a 64\nframe 6 a 64\n\nframe 7 a\n") ≡ Err (line.BadLine 8)
+
+-- the word that a line begins with which asks this
+abbrev pub verb_of : Request → List ℕ
+verb_of (Admit stream) = codes "admit"
+verb_of (Lowest stream) = codes "admit"
+verb_of (Withdraw name) = codes "withdraw"
+
+-- a line asks something only where it begins so, whatever its other words are. Refuses any first word in front of the
+-- nine that `admit` takes
+abbrev pub VerbsAreTwo : Type 0
+VerbsAreTwo = (topology : DeclaredTopology) (n : ℕ) (words : List (List ℕ)) (request : Request)
+    → request_in topology n words ≡ Ok request → word words 0 ≡ verb_of request
+
 pub record LinesAreRead : Type 0 where
   pub comments : CommentsAreAny
   pub words : SpacesPart
+  pub numbered : LinesAreNumbered
+  pub verbs : VerbsAreTwo
   pub streams : StreamNumbersAreLong
   pub releases : ReleaseNumbersAreLong

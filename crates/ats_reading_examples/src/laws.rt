@@ -17,7 +17,9 @@ pub fn captures_have_all_bits()
     ensures { CapturesHaveAllBits }
 {}
 
-/// A comment needs nothing behind its sign, nothing but a space parts words, and numbers may have up to 36 digits.
+/// A comment needs nothing behind its sign, nothing but a space parts words, and numbers may have up to 36 digits. Of
+/// all words: a line of a request file asks something only where it begins with the word for that. Of all texts: a
+/// fault of a shape file has the number of a line, and which it is, for lines of frames too.
 pub fn lines_are_read()
     ensures { LinesAreRead }
 {}

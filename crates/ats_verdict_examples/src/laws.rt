@@ -71,8 +71,8 @@ pub fn making_is_met()
     ensures { MakingIsMet }
 {}
 
-/// Of two shortest walks around a ring the one that is found, which is the least; and two lines between which no walk
-/// leads.
+/// Of two shortest walks around a ring the one that is found, which is the least by port numbers, whatever the nodes
+/// and the rates; and two lines between which no walk leads.
 pub fn walks_are_met()
     ensures { WalksAreMet }
 {}
