@@ -1,0 +1,6 @@
+pub mod PartsMeant
+pub mod SettingsMeant
+pub mod OnceMeant
+pub mod HandedMeant
+pub mod ReadMeant
+pub mod HappeningMeant

@@ -1,0 +1,6 @@
+pub mod Parts
+pub mod Settings
+pub mod Once
+pub mod Handed
+pub mod Read
+pub mod Happening

@@ -1,0 +1,46 @@
+//! What words say that laws only conclude, so that a word that said less would be noticed nowhere else.
+
+ghost use Rattle.ats_meaning_examples.specs.Handed.{HandingOnIsMeant};
+ghost use Rattle.ats_meaning_examples.specs.Happening.{HappeningIsMeant};
+ghost use Rattle.ats_meaning_examples.specs.Once.{OnceIsMeant};
+ghost use Rattle.ats_meaning_examples.specs.Parts.{ExplanationsAreMeant};
+ghost use Rattle.ats_meaning_examples.specs.Read.{ReadingIsMeant};
+ghost use Rattle.ats_meaning_examples.specs.Settings.{SettingsAreMeant};
+
+use ats_explain::laws::each_stream_adds_up;
+
+/// The parts of a bound, and the names in them, each with what they are not: parts with one time changed, and the names
+/// of senders that are not the first with longest frames of a lower class.
+pub fn explanations_are_meant()
+    ensures { ExplanationsAreMeant }
+{
+    each_stream_adds_up();
+}
+
+/// What a setting tells of a sender, of its ports and classes and of its scheduler, and that with one number changed it
+/// is not true.
+pub fn settings_are_meant()
+    ensures { SettingsAreMeant }
+{}
+
+/// That a frame is sent, told of and counted once; frames with a port twice, with two endings, or with none are not.
+pub fn once_is_meant()
+    ensures { OnceIsMeant }
+{}
+
+/// A frame is handed on within a bound where it is eligible by then, and not a picosecond later, nor where it is late
+/// or discarded for its size.
+pub fn handing_on_is_meant()
+    ensures { HandingOnIsMeant }
+{}
+
+/// What is read of a file is read of its bytes at once, of its pieces, and through a window.
+pub fn reading_is_meant()
+    ensures { ReadingIsMeant }
+{}
+
+/// That a delay can happen says that a legal run shows it, in which every station keeps its buckets, by a frame of the
+/// stream that takes so long to the listener; and each such run shows one, whichever releases it has.
+pub fn happening_is_meant()
+    ensures { HappeningIsMeant }
+{}

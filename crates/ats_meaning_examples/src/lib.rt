@@ -1,0 +1,4 @@
+//! What words say that laws only conclude.
+#![tactic(auto)]
+
+pub mod laws;
