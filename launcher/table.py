@@ -23,6 +23,9 @@ WRITE_FAILED, NO_TABLE = 5, 8
 # How an answer begins that is no text of a command.
 REFUSALS = ("input ", "refused ", "words")
 
+# What is said where a stream has several listeners, whose hops up to where its copies part stand once.
+SHARED = "; hops that listeners share stand at the first"
+
 NOTE = "# Rounded {}. Not proved: the exact numbers are what ats {} prints."
 
 
@@ -83,7 +86,7 @@ def table_of_check(lines):
             table.add(label(words[1:-1]), "sum", up(int(words[-1])))
         else:
             accepted.append(" ".join(words))
-    return [table.lines(), accepted], "up"
+    return [table.lines(), accepted], "up" + (SHARED if any("/" in row[0] for row in table.rows) else "")
 
 
 def streams_of(sums):
@@ -101,7 +104,8 @@ def hops_of(sums):
     for it in sums:
         for hop in it.hops:
             parts = [up(part) for part in (hop.bursts, hop.higher, hop.frame, hop.latency, hop.bound)]
-            stay = ["-", "-"] if hop.stay is None else [up(hop.stay), down(hop.residence)]
+            over = "!" if hop.stay is not None and hop.stay > hop.residence else ""
+            stay = ["-", "-"] if hop.stay is None else [up(hop.stay) + over, down(hop.residence)]
             table.add(label(it.label.split()), hop.port, hop.cls, up(hop.lower), hop.sender, *parts, *stay)
     return table
 
@@ -116,6 +120,8 @@ def table_of_explain(lines):
     total = explained.total
     counts = f"{total.streams} streams, {total.late} late, {total.over} stays over a residence"
     rounded = "up, but deadlines, residences and slack down; slack below 0 is late"
+    rounded += "; ! is a stay over its residence" if total.over else ""
+    rounded += SHARED if any(" " in it.label for it in sums) else ""
     return [streams_of(sums).lines(), hops_of(sums).lines(), loads.lines(), [counts]], rounded
 
 
