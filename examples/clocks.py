@@ -10,6 +10,7 @@ Usage: ats settings NET | python3 clocks.py PPM STEP TALKER_PPM TALKER_STEP [RAT
 From Python 3.11 on."""
 
 import csv
+import os
 import re
 import sys
 import tomllib
@@ -101,4 +102,9 @@ def main():
     out.writerows(rows)
 
 
-main()
+try:
+    main()
+    sys.stdout.flush()
+except BrokenPipeError:
+    os.dup2(os.open(os.devnull, os.O_WRONLY), 1)
+    sys.exit(5)
