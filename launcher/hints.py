@@ -47,11 +47,13 @@ RANGES = {
     "deadline_ns": (1, 1000000000),
     "vlan": (1, 4094),
 }
+MOST_NAMED = 8
 RATES = "10, 100, 1000, 2500, 5000, 10000, 25000, 40000, 50000 or 100000"
 MOST_NESTED = 80
 MOST_LINKS = 16
 MOST_STREAMS = 4096
 MOST_PORTS = 65536
+MOST_REQUESTS = 10000
 HEADERS = {"CERT": "port,class,higher,equal,bursts,lower,least,wait,bound", "SCHEDULE": "at_ps,sender,octets"}
 REQUEST_FORMS = ["admit NAME FROM TO CLASS RATE BURST MIN MAX DEADLINE_NS", "withdraw NAME"]
 SHAPE_FORMS = ["residence NS", "stream NAME RATE BURST MIN MAX", "frame AT NAME OCTETS"]
@@ -444,6 +446,23 @@ def ports_of(document, entry):
     return len({step for route in routes for step in zip(route, route[1:])})
 
 
+def classes_at(document, entry):
+    """The class of a stream at each of its ports."""
+    routes = ways_of(entry)
+    if "path" not in entry and "paths" not in entry:
+        routes = [route_between(document, *ends) for ends in routes]
+    ports = dict.fromkeys(f"{a}>{b}" for route in routes for a, b in zip(route, route[1:]))
+    return dict(zip(ports, entry["classes"] if "classes" in entry else [entry["class"]] * len(ports)))
+
+
+def rates_at(document, port, cls):
+    """The streams that have a class or a higher one at a port, with their rates, the greatest first."""
+    found = [it for it in document.get("stream", []) if classes_at(document, it).get(port, 0) >= cls]
+    found.sort(key=lambda it: -it["rate_bps"])
+    told = [f"{it['name']} ({it['rate_bps'] / 1e6:.12g} Mb/s)" for it in found]
+    return ", ".join(told[:MOST_NAMED]) + (f" and {len(told) - MOST_NAMED} more" if len(told) > MOST_NAMED else "")
+
+
 def distances(start, links):
     """How many links lead from a node to each node that it reaches."""
     found, ahead = {start: 0}, [start]
@@ -515,6 +534,8 @@ def network_hint(raw, words):
     import tomllib
     document = tomllib.loads(text_of(raw))
     match words:
+        case ["refused", "overloaded", port, cls, _]:
+            return rates_at(document, port, int(cls))
         case ["limit"]:
             return over_a_limit(document)
         case ["limit", "stream"] if len(document["stream"]) <= MOST_STREAMS:
@@ -616,6 +637,8 @@ def refused_frames(raw, fault, words, net):
     records = records_of(text_of(raw))
     frames = dict.fromkeys(int(word) for word in words)
     told = [f"frame {frame} is record {frame + 2}: {shown(','.join(records[frame + 1]))}" for frame in frames]
+    if fault == "bucket":
+        told.append("ats fit says which burst each stream asks for")
     if fault == "size":
         told.append(f"declared are {sizes_of(records[int(words[0]) + 1][1], network_of(net))}")
     return "; ".join(told)
@@ -628,6 +651,17 @@ def sizes_of(name, document):
     return f"{sender.get('min_octets', RANGES['max_octets'][0])} to {sender['max_octets']} octets"
 
 
+def limit_of_request(words, document):
+    """Which limit a request is over."""
+    if words[0] == "admit":
+        links = distances(words[2], links_of(document)).get(words[3], 0)
+        if links > MOST_LINKS:
+            return f"its route has {links} links; {RULES['limit']}"
+        if not 1 <= int(words[9]) <= RANGES["deadline_ns"][1] or int(words[6]) > RANGES["burst_bits"][1]:
+            return f"{RULES['limit']}, and a deadline is at least 1 ns"
+    return f"the most are {MOST_REQUESTS} requests"
+
+
 def request_hint(line, fault, net):
     """What a line of a request file has to keep that has a fault."""
     words = line.split()
@@ -635,7 +669,13 @@ def request_hint(line, fault, net):
         document = network_of(net)
         stations = [node["name"] for node in document.get("station", [])]
         strange = [end for end in words[2:4] if end not in stations]
-        return f"; no station is called {shown(strange[0])}{near(strange[0], stations)}" if strange else ""
+        if strange:
+            return f"; no station is called {shown(strange[0])}{near(strange[0], stations)}"
+        if fault == "no-path":
+            return "; FROM and TO are the same" if words[2] == words[3] else "; no links lead from FROM to TO"
+        return ""
+    if fault == "limit":
+        return f"; {limit_of_request(words, network_of(net))}"
     if fault == "burst-below-frame":
         return f"; the burst is at least {8 * (int(words[8]) + 20)}"
     return f"; {RULES[fault]}" if fault in ("bad-class", "bad-rate", "bad-sizes") else ""
