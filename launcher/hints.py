@@ -11,8 +11,12 @@ import csv
 import datetime
 import difflib
 import io
+import os
 import re
 import sys
+
+HERE = os.path.dirname(os.path.realpath(__file__))
+FOLDERS = [os.path.join(HERE, "reporting"), os.path.join(os.path.dirname(HERE), "tools", "reporting")]
 
 NAME = re.compile(r"[A-Za-z0-9_-]{1,32}")
 KEYS = {
@@ -455,11 +459,19 @@ def classes_at(document, entry):
     return dict(zip(ports, entry["classes"] if "classes" in entry else [entry["class"]] * len(ports)))
 
 
+def rate_told(bits):
+    """A rate as the report writes it, whose words lie beside these, or in the repository in tools/."""
+    sys.dont_write_bytecode = True
+    sys.path.insert(0, next(filter(os.path.isdir, FOLDERS), FOLDERS[0]))
+    from figures import rate
+    return rate(bits)
+
+
 def rates_at(document, port, cls):
     """The streams that have a class or a higher one at a port, with their rates, the greatest first."""
     found = [it for it in document.get("stream", []) if classes_at(document, it).get(port, 0) >= cls]
     found.sort(key=lambda it: -it["rate_bps"])
-    told = [f"{it['name']} ({it['rate_bps'] / 1e6:.12g} Mb/s)" for it in found]
+    told = [f"{it['name']} ({rate_told(it['rate_bps'])})" for it in found]
     return ", ".join(told[:MOST_NAMED]) + (f" and {len(told) - MOST_NAMED} more" if len(told) > MOST_NAMED else "")
 
 
