@@ -1,4 +1,4 @@
--- The station at the end of a route.
+-- The node at the end of a route.
 use Rattle.std.proofs.Common.{◌≡◌, ℕ, suc, ◌-◌, ◌<◌, List, [], ◌∷◌, length, get_or, ap, ◌∙◌, arith}
 use Rattle.ats_topology.specs.Port.{port_at}
 use Rattle.ats_topology.specs.Topology.{DeclaredTopology, node_at}
@@ -6,7 +6,6 @@ use Rattle.ats_topology.specs.Walks.{IsWalk}
 use Rattle.ats_topology.specs.declared.port.Port.{Port}
 use Rattle.ats_network.specs.Listeners.{end_of}
 use Rattle.ats_network.specs.Path.{IsValidPath}
-use Rattle.ats_network.proofs.ValidRoutes.{trunk_some}
 use Rattle.ats_listener_law.specs.Listeners.{StationIsAtTheEnd}
 
 -- a walk ends at the node to which it leads
@@ -22,8 +21,7 @@ walk_ends ports a b (p ∷ q ∷ path) walk some =
 pub path_ends : (topology : DeclaredTopology) (route : List ℕ) → (valid : IsValidPath topology route)
     → end_of topology.ports route ≡ valid.listener
 path_ends topology route valid =
-    walk_ends topology.ports valid.talker valid.listener route valid.walk
-    (trunk_some topology.ports valid.talker valid.listener route valid.walk valid.differ)
+    walk_ends topology.ports valid.talker valid.listener route valid.walk valid.some
 
 pub station_is_at_the_end : StationIsAtTheEnd
 station_is_at_the_end topology route valid =

@@ -1,4 +1,5 @@
 pub mod Turns
+pub mod AtBridges
 pub mod Listeners
 pub mod Ends
 pub mod Names

@@ -1,29 +1,27 @@
 -- No two listeners of a stream go by one name.
-use Rattle.std.proofs.Common.{◌≡◌, ◌≢◌, ℕ, zero, suc, ◌+◌, ◌-◌, ◌<◌, ◌≤◌, inl, inr, List, [], ◌∷◌, ◌++◌, length, map}
-use Rattle.std.proofs.Common.{drop, get_or, Option, Some, None, refl, sym, ap, subst, ◌∙◌, arith, length-append}
-use Rattle.std.proofs.Common.{length-drop, length-take}
+use Rattle.std.proofs.Common.{◌≡◌, ◌≢◌, ℕ, zero, suc, ◌-◌, ◌<◌, ◌≤◌, inl, inr, List, [], ◌∷◌, length, map}
+use Rattle.std.proofs.Common.{get_or, Option, Some, None, refl, sym, ap, subst, ◌∙◌, arith}
 use Rattle.std.specs.List.{All, AllPairs, concat}
 use Rattle.std.proofs.lemmas.Bool.{cases_lt}
-use Rattle.std.proofs.lemmas.List.{get_or-append-add, get_or-map, length-map}
+use Rattle.std.proofs.lemmas.List.{get_or-map, length-map}
 use Rattle.std.proofs.lemmas.Option.{none-some}
 use Rattle.ats_facts.proofs.Lists.{all_left, all_unmapped, pairs_tail}
 use Rattle.ats_num.specs.Places.{place_of as place_named}
-use Rattle.ats_streams.specs.Branches.{Ascend, leads_of, leg_at, legs_from, legs_of, routes_of}
+use Rattle.ats_streams.specs.Branches.{leg_at, legs_of, routes_of}
 use Rattle.ats_streams.specs.Stream.{DeclaredStream}
-use Rattle.ats_streams.specs.declared.branch.Branch.{Branch}
-use Rattle.ats_streams.proofs.BranchLemmas.{legs-length, route-at, routes-length}
+use Rattle.ats_streams.proofs.BranchLemmas.{legs-length, routes-length}
 use Rattle.ats_topology.specs.Node.{AreApart, names_of}
 use Rattle.ats_topology.specs.Port.{port_at}
-use Rattle.ats_topology.specs.Topology.{DeclaredTopology, no_node, node_at}
+use Rattle.ats_topology.specs.Topology.{DeclaredTopology, IsTopology, no_node, node_at}
 use Rattle.ats_topology.specs.declared.node.Node.{Node}
 use Rattle.ats_topology.specs.declared.port.Port.{Port}
-use Rattle.ats_network.specs.Listeners.{Listener, end_of, listeners_of, station_of}
+use Rattle.ats_network.specs.Listeners.{Listener, listeners_of, station_of}
 use Rattle.ats_network.specs.Path.{IsValidPath, nodes_along}
 use Rattle.ats_network.specs.Sender.{Sender, flow_sender, stream_sender}
 use Rattle.ats_network.specs.Senders.{IsSender}
 use Rattle.ats_network.proofs.PathLemmas.{nodes_to}
 use Rattle.ats_network.proofs.SenderLemmas.{each_is_sender}
-use Rattle.ats_network.proofs.ValidRoutes.{trunk_some}
+use Rattle.ats_network.proofs.BridgeLemmas.{listener_within}
 use Rattle.ats_tally.proofs.ListenerLemmas.{listener-is, listeners-length, name_by}
 use Rattle.ats_trace.proofs.Legs.{concat-legs_of, place_is, place_of, place_within}
 use Rattle.ats_route_law.proofs.Ends.{last_of, leg_some, route_ends}
@@ -124,17 +122,17 @@ one_node nodes a b apart in_a in_b same =
         (sym (get_or-map (λ (node : Node). node.name) nodes n no_node [] within))
         ∙ apart n (omega (arith, within, length-map nodes (λ (node : Node). node.name)))
 
--- so stations of one name are at the end of one route
-one_station : (topology : DeclaredTopology) (s : Sender) (m n : ℕ) → AreApart (names_of topology.nodes)
-    → IsSender topology s → m ≤ length s.branches → n ≤ length s.branches
+-- so nodes of one name are at the end of one route
+one_station : (topology : DeclaredTopology) (s : Sender) (m n : ℕ) → IsTopology topology → IsSender topology s
+    → m ≤ length s.branches → n ≤ length s.branches
     → station_of topology (leg_at (routes_of s.ports s.branches) m)
     ≡ station_of topology (leg_at (routes_of s.ports s.branches) n)
     → m ≡ n
-one_station topology s m n names is in_m in_n same =
+one_station topology s m n net is in_m in_n same =
     one_leg topology s m n is in_m in_n
     (sym (route_ends topology s m is in_m) ∙ path_ends topology (route m) (valid m in_m)
-    ∙ one_node topology.nodes (valid m in_m).listener (valid n in_n).listener names (valid m in_m).ends.within
-    (valid n in_n).ends.within
+    ∙ one_node topology.nodes (valid m in_m).listener (valid n in_n).listener net.names
+    (listener_within topology (route m) net (valid m in_m)) (listener_within topology (route n) net (valid n in_n))
     (sym (station_is_at_the_end topology (route m) (valid m in_m)) ∙ same
     ∙ station_is_at_the_end topology (route n) (valid n in_n))
     ∙ sym (path_ends topology (route n) (valid n in_n)) ∙ route_ends topology s n is in_n)
@@ -145,7 +143,7 @@ one_station topology s m n names is in_m in_n same =
     valid : (k : ℕ) → k ≤ length s.branches → IsValidPath topology (route k)
     valid k within = is.valid k [] (omega (arith, within, routes-length s.ports s.branches))
 
-names_apart : (topology : DeclaredTopology) (s : Sender) (m n : ℕ) → AreApart (names_of topology.nodes)
+names_apart : (topology : DeclaredTopology) (s : Sender) (m n : ℕ) → IsTopology topology
     → IsSender topology s → m < n → n ≤ length s.branches
     → name_by topology m (leg_at (routes_of s.ports s.branches) m)
     ≢ name_by topology n (leg_at (routes_of s.ports s.branches) n)
@@ -161,7 +159,7 @@ names_apart topology s (suc m) (suc n) names is below within same =
     omega (arith, one, below)
 
 -- so the listeners of a stream have different names
-listeners_apart : (topology : DeclaredTopology) (stream : DeclaredStream) → AreApart (names_of topology.nodes)
+listeners_apart : (topology : DeclaredTopology) (stream : DeclaredStream) → IsTopology topology
     → IsSender topology (stream_sender stream)
     → AllPairs (λ (a b : Listener). a.name ≢ b.name) (listeners_of topology stream)
 listeners_apart topology stream names is i j d below within same =
@@ -177,5 +175,5 @@ names_of_listeners_differ network net n d within =
     let streams : List Sender = map stream_sender network.streams in
     let senders : All (IsSender network.topology) streams =
     all_left (IsSender network.topology) streams (map flow_sender network.flows) (each_is_sender network net) in
-    listeners_apart network.topology (get_or network.streams n d) net.topology.names
+    listeners_apart network.topology (get_or network.streams n d) net.topology
     (all_unmapped (IsSender network.topology) stream_sender network.streams senders n d within)

@@ -7,7 +7,7 @@ use Rattle.ats_network.specs.Network.{DeclaredNetwork, IsNetwork}
 use Rattle.ats_network.specs.Path.{IsValidPath}
 
 -- the listeners of a stream are told leg by leg: each has the ports of its leg, and the route that ends with the leg;
--- the first has no name, and each further one that of the station at the end of its route
+-- the first has no name, and each further one that of the node at the end of its route
 pub record AreLegByLeg (topology : DeclaredTopology) (stream : DeclaredStream) : Type 0 where
   pub legs : map (λ (l : Listener). l.leg) (listeners_of topology stream) ≡ legs_of stream.ports stream.branches
   pub routes : map (λ (l : Listener). l.route) (listeners_of topology stream) ≡ routes_of stream.ports stream.branches
@@ -18,7 +18,7 @@ pub record AreLegByLeg (topology : DeclaredTopology) (stream : DeclaredStream) :
 abbrev pub ListenersAreLegByLeg : Type 0
 ListenersAreLegByLeg = (topology : DeclaredTopology) (stream : DeclaredStream) → AreLegByLeg topology stream
 
--- the station at the end of a valid path is the one to which the path leads
+-- the node at the end of a valid path is the one to which the path leads
 abbrev pub StationIsAtTheEnd : Type 0
 StationIsAtTheEnd = (topology : DeclaredTopology) (route : List ℕ) → (valid : IsValidPath topology route)
     → station_of topology route ≡ (node_at topology.nodes valid.listener).name

@@ -7,7 +7,7 @@ ghost use Rattle.ats_listener_law.specs.Once.{RatesAreSeenOnce, UsesItsPorts};
 ghost use Rattle.ats_listener_law.specs.OneListener.{OneArrivalIsInTime, OneIsFirstOverdue};
 ghost use Rattle.ats_listener_law.specs.OneListener.{OneListenerHasAllPorts, OneMarginForEach};
 ghost use Rattle.ats_listener_law.specs.OneListener.{OnePathComesTo};
-ghost use Rattle.ats_listener_law.specs.Routes.{RoutesTurnOff};
+ghost use Rattle.ats_listener_law.specs.Routes.{BranchesBeginAtBridges, RoutesTurnOff};
 ghost use Rattle.ats_listener_law.specs.Ways.{EachWayIsInTime, EachWayIsServed, OneForEachLeg};
 ghost use Rattle.ats_listener_law.specs.Ways.{WaysAreWays};
 
@@ -18,14 +18,19 @@ pub fn routes_turn_off()
     ensures { RoutesTurnOff }
 {}
 
+/// A law: each branch of a tree begins at a bridge, also where it begins at the talker.
+pub fn branches_begin_at_bridges()
+    ensures { BranchesBeginAtBridges }
+{}
+
 /// A law: the listeners of a stream are told leg by leg, each with the ports of its leg and the
-/// route that ends with the leg. The first has no name, and each further one that of the station at
+/// route that ends with the leg. The first has no name, and each further one that of the node at
 /// the end of its route.
 pub fn listeners_are_leg_by_leg()
     ensures { ListenersAreLegByLeg }
 {}
 
-/// A law: the station at the end of a valid path, after which a listener is named, is the one to
+/// A law: the node at the end of a valid path, after which a listener is named, is the one to
 /// which the path leads.
 pub fn station_is_at_the_end()
     ensures { StationIsAtTheEnd }

@@ -1,5 +1,5 @@
-use Rattle.std.proofs.Common.{◌≡◌, ◌≢◌, ℕ, ◌<◌, Bool, true, false, List, [], ◌∷◌, length, refl, sym, ap, subst, ◌∙◌}
-use Rattle.std.proofs.Common.{arith}
+use Rattle.std.proofs.Common.{◌≡◌, ◌≢◌, ℕ, ◌<◌, ◌≤◌, Bool, true, false, List, [], ◌∷◌, length, refl, sym, ap, subst}
+use Rattle.std.proofs.Common.{◌∙◌, arith}
 use Rattle.std.proofs.lemmas.Bool.{eq-eqb}
 use Rattle.std.specs.List.{All, AllPairs}
 use Rattle.ats_facts.proofs.Lists.{pairs_head, pairs_tail}
@@ -12,6 +12,7 @@ use Rattle.ats_topology.proofs.Rules.{ports_are_lawful}
 use Rattle.ats_network.specs.Bridges.{MeetAtBridge}
 use Rattle.ats_network.specs.Senders.{AllNeighbours}
 use Rattle.ats_network.specs.Laws.{PathsMeetAtBridges}
+use Rattle.ats_network.specs.Path.{IsValidPath}
 use Rattle.ats_network.proofs.CountLemmas.{one_passes}
 use Rattle.ats_network.proofs.PathLemmas.{nodes_to}
 
@@ -69,6 +70,29 @@ meet_along topology a (p ∷ q ∷ path) b is walk apart =
       meet_along topology (port_at ports p).to (q ∷ path) b is walk.1
           (pairs_tail (λ m n. m ≢ n) a (nodes_to ports (p ∷ q ∷ path)) apart),
     )
+
+-- a valid path leads between nodes of the topology
+pub talker_within : (topology : DeclaredTopology) (path : List ℕ) → IsTopology topology
+    → (valid : IsValidPath topology path) → valid.talker < length topology.nodes
+talker_within topology [] is valid = absurd (omega (arith, valid.some))
+talker_within topology (p ∷ path) is valid =
+    let kept : HasLawfulPorts topology = ports_are_lawful topology is in
+    subst (λ (n : ℕ). n < length topology.nodes) valid.walk.0.from
+    (kept.each p no_port valid.walk.0.within).between.from
+
+end_within : (topology : DeclaredTopology) (a b : ℕ) (path : List ℕ) → IsTopology topology → 1 ≤ length path
+    → IsWalk topology.ports a b path → b < length topology.nodes
+end_within topology a b [] is some walk = absurd (omega (arith, some))
+end_within topology a b (p ∷ []) is some walk =
+    let kept : HasLawfulPorts topology = ports_are_lawful topology is in
+    subst (λ (n : ℕ). n < length topology.nodes) walk.1 (kept.each p no_port walk.0.within).between.to
+end_within topology a b (p ∷ q ∷ path) is some walk =
+    end_within topology (port_at topology.ports p).to b (q ∷ path) is (omega arith) walk.1
+
+pub listener_within : (topology : DeclaredTopology) (path : List ℕ) → IsTopology topology
+    → (valid : IsValidPath topology path) → valid.listener < length topology.nodes
+listener_within topology path is valid =
+    end_within topology valid.talker valid.listener path is valid.some valid.walk
 
 pub meet_at_bridges : PathsMeetAtBridges
 meet_at_bridges topology [] is valid = tt

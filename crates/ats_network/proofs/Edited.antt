@@ -13,10 +13,12 @@ use Rattle.ats_num.specs.Places.{place_of}
 use Rattle.ats_num.proofs.Numbered.{place_of-lt}
 use Rattle.ats_topology.specs.Node.{AreApart}
 use Rattle.ats_topology.specs.Topology.{DeclaredTopology}
+use Rattle.ats_streams.specs.Branches.{AreShort, routes_of}
 use Rattle.ats_streams.specs.Rules.{CoversLongest, IsBurst}
+use Rattle.ats_streams.specs.declared.branch.Branch.{Branch}
 use Rattle.ats_streams.specs.Stream.{DeclaredStream, IsClass, IsStream, with_burst, with_class}
 use Rattle.ats_network.specs.Edits.{less_at, no_stream, with_burst_at, with_class_at, without_named}
-use Rattle.ats_network.specs.Network.{AreIdentified, DeclaredNetwork, IsNetwork, Share}
+use Rattle.ats_network.specs.Network.{AreIdentified, DeclaredNetwork, HasShortRoutes, IsNetwork, Share}
 use Rattle.ats_network.specs.Path.{IsTree}
 use Rattle.ats_network.specs.Sender.{Sender, stream_sender, flow_sender}
 use Rattle.ats_network.specs.Tables.{flow_names, stream_identities, stream_names}
@@ -104,6 +106,10 @@ replaced_network network n it is within keeps same_name same_ports same_branches
   few_streams = omega (arith, length-set network.streams n it, is.few_streams);
   few_flows = is.few_flows;
   few_ports = omega (arith, sum_by-set many network.streams n it no_stream within, ap length same_ports, is.few_ports);
+  most_ports = is.most_ports;
+  short_streams =
+      All-set (HasShortRoutes network.most_ports) network.streams n it short is.short_streams;
+  short_flows = is.short_flows;
 }
   where
     streams : List Sender
@@ -120,6 +126,12 @@ replaced_network network n it is within keeps same_name same_ports same_branches
     before = subst (Goes network.topology)
         (get_or-map stream_sender network.streams n no_stream (stream_sender no_stream) within)
         (left n (stream_sender no_stream) (omega (arith, length-map network.streams stream_sender, within)))
+
+    short : HasShortRoutes network.most_ports it
+    short = subst (λ (ports : List ℕ). AreShort network.most_ports (routes_of ports it.branches)) (sym same_ports)
+        (subst (λ (branches : List Branch). AreShort network.most_ports
+        (routes_of (get_or network.streams n no_stream).ports branches)) (sym same_branches)
+        (is.short_streams n no_stream within))
 
     tree : IsTree network.topology it.ports it.branches
     tree = subst (λ (ports : List ℕ). IsTree network.topology ports it.branches) (sym same_ports)
@@ -198,6 +210,9 @@ less_network network n is within = record {
       omega (arith, less, is.few_streams);
   few_flows = is.few_flows;
   few_ports = omega (arith, sum_by-remove many network.streams n no_stream within, is.few_ports);
+  most_ports = is.most_ports;
+  short_streams = all_remove (HasShortRoutes network.most_ports) network.streams n within is.short_streams;
+  short_flows = is.short_flows;
 }
   where
     streams : List Sender

@@ -75,7 +75,7 @@ begin_grow : (legs : List (List ℕ)) (own : List ℕ) (number : ℕ) (branches 
 begin_grow legs own number [] b begin many begins = (
   record {
     earlier = omega (arith, begins.earlier);
-    later = begins.later;
+    at_talker = begins.at_talker;
     within = subst (λ (l : List ℕ). b.hop < length l)
         (sym (get_or_append_left legs (own ∷ []) [] b.leg (omega (arith, begins.earlier, many)))) begins.within;
   },
@@ -84,7 +84,7 @@ begin_grow legs own number [] b begin many begins = (
 begin_grow legs own number (c ∷ branches) b begin many begins = (
   record {
     earlier = begin.0.earlier;
-    later = begin.0.later;
+    at_talker = begin.0.at_talker;
     within = subst (λ (l : List ℕ). c.hop < length l)
         (sym (get_or_append_left legs (own ∷ []) [] c.leg (omega (arith, begin.0.earlier, many)))) begin.0.within;
   },

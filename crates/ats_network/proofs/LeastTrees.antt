@@ -1,11 +1,11 @@
--- Least walks from one station to different ones make a tree.
+-- Least walks from one node make a tree, exactly where no listener is on the way to another one.
 use Rattle.std.proofs.Common.{◌≡◌, ◌≢◌, ℕ, zero, suc, ◌+◌, ◌-◌, ◌<◌, ◌≤◌, Bool, true, false, List, [], ◌∷◌, ◌++◌}
 use Rattle.std.proofs.Common.{length, take, drop}
 use Rattle.std.proofs.Common.{◌⊎◌, get_or, refl, sym, ap, subst, ◌∙◌, arith, inl, inr, length-append}
 use Rattle.std.proofs.Common.{length-drop, append_assoc}
 use Rattle.std.specs.List.{All, AllPairs}
 use Rattle.std.proofs.Math.Seq.{get_or-append_seam, take-append-add}
-use Rattle.std.proofs.lemmas.Bool.{cases_lt, eq-eqb, true≢false}
+use Rattle.std.proofs.lemmas.Bool.{cases_lt, true≢false}
 use Rattle.std.proofs.lemmas.List.{get_or-append-add, get_or-drop, get_or-take, append-nil, get_or_append_left}
 use Rattle.std.proofs.lemmas.List.{length-take-le, map-append, take-append-drop, take_all}
 use Rattle.std.proofs.lemmas.List.Elements.{All-append, All-cons, All-from_get_or, All-head, All-tail, All-take}
@@ -14,30 +14,27 @@ use Rattle.ats_facts.proofs.Lists.{pairs_head, pairs_tail}
 use Rattle.ats_streams.specs.Branches.{AreBranches, BeginsEarlier, lead_to, leads_of, leg_at, legs_of, no_branch}
 use Rattle.ats_streams.specs.Branches.{routes_of}
 use Rattle.ats_streams.specs.declared.branch.Branch.{Branch}
-use Rattle.ats_streams.proofs.BranchLemmas.{begins_at, legs-length, route-at, routes-length, trunk_within}
+use Rattle.ats_streams.proofs.BranchLemmas.{begins_at, lead_of_trunk, legs-length, route-at, routes-length}
+use Rattle.ats_streams.proofs.BranchLemmas.{trunk_within}
 use Rattle.ats_streams.proofs.OneListener.{no_branches}
 use Rattle.ats_streams.proofs.RouteLemmas.{each_on_routes}
-use Rattle.ats_topology.specs.Port.{port_at, no_port, leaves}
-use Rattle.ats_topology.specs.Topology.{DeclaredTopology, HasLawfulPorts, HasOnePort, IsStationAt, IsTopology}
+use Rattle.ats_topology.specs.Port.{port_at}
+use Rattle.ats_topology.specs.Topology.{DeclaredTopology}
 use Rattle.ats_topology.specs.Walks.{IsLeastWalk, IsWalk}
 use Rattle.ats_topology.specs.declared.port.Port.{Port}
 use Rattle.ats_topology.proofs.LawLemmas.{walk_is_one}
-use Rattle.ats_topology.proofs.Rules.{ports_are_lawful}
-use Rattle.ats_network.specs.Bridges.{IsBridgeAt, MeetAtBridge}
-use Rattle.ats_network.specs.Laws.{AreLeast, LeastWalksMakeATree, MakesTree}
+use Rattle.ats_network.specs.Laws.{AreLeast, EndApart, LeastWalksMakeATree, MakesTree}
+use Rattle.ats_network.specs.Listeners.{end_of}
 use Rattle.ats_network.specs.Path.{IsBranch, IsTree, IsValidPath, node_of_branch, nodes_along}
 use Rattle.ats_network.specs.PathSteps.{comes_to}
-use Rattle.ats_network.proofs.BridgeLemmas.{meet_at_bridges}
-use Rattle.ats_network.proofs.CountLemmas.{one_passes}
+use Rattle.ats_network.proofs.EndsApart.{Avoids, made_ends_apart, node_on, walk_ends}
 use Rattle.ats_network.proofs.Grown.{Grows, grows}
-use Rattle.ats_network.proofs.LeastWalkLemmas.{IsOnLeg, ends_once, least_upto, neighbours_at, on_leg, own_node}
+use Rattle.ats_network.proofs.LeastWalkLemmas.{IsOnLeg, ends_once, least_upto, on_leg, own_node}
 use Rattle.ats_network.proofs.LeastWalkLemmas.{walk_rest}
 use Rattle.ats_network.proofs.LeastWalkLemmas.{walk_upto}
 use Rattle.ats_network.proofs.Parts.{IsPart, part_later, part_same}
-use Rattle.ats_network.proofs.PathLemmas.{away, nodes_to, walk_ports}
-use Rattle.ats_network.proofs.TreeLemmas.{tree_ports}
-use Rattle.ats_network.proofs.ValidRoutes.{each_route_is_a_path, from_talker, nodes_apart, part_apart}
-use Rattle.ats_network.proofs.ValidRoutes.{trunk_some, walk_first}
+use Rattle.ats_network.proofs.PathLemmas.{away, nodes_to}
+use Rattle.ats_network.proofs.ValidRoutes.{from_talker, nodes_apart, part_apart, route_leads, walk_first}
 
 abbrev route_at : List ℕ → List Branch → ℕ → List ℕ
 route_at ports branches n = leg_at (leads_of ports branches) n ++ leg_at (legs_of ports branches) n
@@ -52,7 +49,6 @@ record IsFan (topology : DeclaredTopology) (talker : ℕ) (listeners : List ℕ)
   routes_are : routes_of ports branches ≡ routes
   least : (n : ℕ) → n ≤ length branches
       → IsLeastWalk topology.ports talker (get_or listeners n 0) (route_at ports branches n)
-  ends : (n : ℕ) → n ≤ length branches → IsStationAt topology (get_or listeners n 0)
 
 -- a port of the tree leads where this one leads
 abbrev is_in : List Port → List ℕ → ℕ → Bool
@@ -173,20 +169,18 @@ first_out test (x ∷ xs) = by (test x) refl (first_out test xs)
       here = λ h. e;
     }
 
--- a bridge is no station
-not_both : (topology : DeclaredTopology) (node : ℕ) → IsStationAt topology node → IsBridgeAt topology node → ⊥
-not_both topology node station bridge = true≢false (sym station.station ∙ bridge.bridge)
+-- each port of a walk leaves the node to which the one before leads
+walk_next : (ports : List Port) (a b : ℕ) (path : List ℕ) (i : ℕ) → IsWalk ports a b path → suc i < length path
+    → (port_at ports (get_or path (suc i) 0)).from ≡ (port_at ports (get_or path i 0)).to
+walk_next ports a b [] i walk within = absurd (omega arith)
+walk_next ports a b (p ∷ []) i walk within = absurd (omega arith)
+walk_next ports a b (p ∷ q ∷ path) zero walk within = walk.1.0.from
+walk_next ports a b (p ∷ q ∷ path) (suc i) walk within =
+    walk_next ports (port_at ports p).to b (q ∷ path) i walk.1 (omega arith)
 
--- where a walk has a further port, it meets it at a bridge
-bridge_on : (topology : DeclaredTopology) (path : List ℕ) (i : ℕ) → IsTopology topology → IsValidPath topology path
-    → suc i < length path → MeetAtBridge topology (get_or path i 0) (get_or path (suc i) 0)
-bridge_on topology path i is valid within =
-    neighbours_at (MeetAtBridge topology) path i (meet_at_bridges topology path is valid) within
-
--- a leg goes on from a bridge
+-- a leg goes on from a node
 record IsInner (topology : DeclaredTopology) (ports : List ℕ) (branches : List Branch) (node leg hop : ℕ) : Type 0 where
   within : suc hop < length (leg_at (legs_of ports branches) leg)
-  bridge : IsBridgeAt topology node
   from : (port_at topology.ports (get_or (leg_at (legs_of ports branches) leg) (suc hop) 0)).from ≡ node
 
 -- a node of the tree is where a leg goes on, or the listener of the leg
@@ -195,17 +189,17 @@ Place topology listeners ports branches node leg hop =
     IsInner topology ports branches node leg hop ⊎ (node ≡ get_or listeners leg 0)
 
 place_of_node : (topology : DeclaredTopology) (talker : ℕ) (listeners : List ℕ) (routes : List (List ℕ))
-    (ports : List ℕ) (branches : List Branch) (node : ℕ) → IsTopology topology
-    → IsFan topology talker listeners routes ports branches
+    (ports : List ℕ) (branches : List Branch) (node : ℕ) → IsFan topology talker listeners routes ports branches
     → (way : IsReached topology talker ports branches node)
     → Place topology listeners ports branches node way.on.leg way.on.hop
-place_of_node topology talker listeners routes ports branches node is fan way =
+place_of_node topology talker listeners routes ports branches node fan way =
     elim (cases_lt (suc hop) (length leg)) as (λ _. Place topology listeners ports branches node way.on.leg hop) [
       | inl more ↦ (
           let within : suc (length lead + hop) < length route = omega (arith, more, length-append lead leg) in
-          let meet : MeetAtBridge topology (get_or route (length lead + hop) 0) (get_or route (suc (length lead +
-          hop)) 0)
-          = bridge_on topology route (length lead + hop) is valid within in
+          let meet : (port_at topology.ports (get_or route (suc (length lead + hop)) 0)).from
+          ≡ (port_at topology.ports (get_or route (length lead + hop) 0)).to =
+          walk_next topology.ports talker (get_or listeners way.on.leg 0) route (length lead + hop)
+          (fan.least way.on.leg way.on.inside).walk_is within in
           let next : suc (length lead + hop) ≡ length lead + suc hop = omega arith in
           let here : get_or route (length lead + hop) 0 ≡ get_or leg hop 0 = get_or-append-add lead leg hop 0 in
           let there : get_or route (suc (length lead + hop)) 0 ≡ get_or leg (suc hop) 0 =
@@ -214,8 +208,7 @@ place_of_node topology talker listeners routes ports branches node is fan way =
           ap (λ (p : ℕ). (port_at topology.ports p).to) here ∙ way.on.leads in
           inl (record {
             within = more;
-            bridge = subst (IsBridgeAt topology) node_is meet.bridge;
-            from = ap (λ (p : ℕ). (port_at topology.ports p).from) (sym there) ∙ meet.next ∙ node_is;
+            from = ap (λ (p : ℕ). (port_at topology.ports p).from) (sym there) ∙ meet ∙ node_is;
           }))
       | inr past ↦ (
           let all : take (suc hop) leg ≡ leg = take_all (suc hop) leg (omega (arith, past)) in
@@ -237,147 +230,145 @@ place_of_node topology talker listeners routes ports branches node is fan way =
     route : List ℕ
     route = lead ++ leg
 
-    valid : IsValidPath topology (leg_at (leads_of ports branches) way.on.leg
-        ++ leg_at (legs_of ports branches) way.on.leg)
-    valid = subst (IsValidPath topology) (route-at ports branches way.on.leg [] way.on.inside)
-        (each_route_is_a_path topology ports branches fan.are fan.tree way.on.leg []
-        (omega (arith, way.on.inside, routes-length ports branches)))
-
--- a further walk leaves the tree at a hop of one of its legs
-record Leaves (topology : DeclaredTopology) (ports : List ℕ) (branches : List Branch) (r : List ℕ) : Type 0 where
-  count : ℕ
-  leg : ℕ
-  hop : ℕ
-  positive : 1 ≤ count
-  below : count < length r
-  inside : leg ≤ length branches
-  within : suc hop < length (leg_at (legs_of ports branches) leg)
-  front : take count r ≡ leg_at (leads_of ports branches) leg ++ take (suc hop) (leg_at (legs_of ports branches) leg)
-  from : (port_at topology.ports (get_or (leg_at (legs_of ports branches) leg) (suc hop) 0)).from
-      ≡ (port_at topology.ports (get_or r (count - 1) 0)).to
-  out : (i : ℕ) → count ≤ i → i < length r → is_in topology.ports ports (get_or r i 0) ≡ false
-
--- a walk from the talker begins with the tree's first port, since a station has one port
-first_in : (topology : DeclaredTopology) (talker : ℕ) (listeners : List ℕ) (routes : List (List ℕ)) (ports : List ℕ)
-    (branches : List Branch) (l : ℕ) (r : List ℕ) → IsTopology topology
-    → IsFan topology talker listeners routes ports branches → IsWalk topology.ports talker l r → 0 < length r
-    → is_in topology.ports ports (get_or r 0 0) ≡ true
-first_in topology talker listeners routes ports branches l r is fan walk some =
-    subst (λ (p : ℕ). is_in topology.ports ports p ≡ true) (sym same) (own_node topology.ports ports 0 some_ports)
+-- a further walk leaves the tree at a hop of one of its legs, or at the talker
+record Leaves (topology : DeclaredTopology) (l : ℕ) (ports : List ℕ) (branches : List Branch) (r : List ℕ) : Type 0
   where
-    some_trunk : 0 < length (leg_at (legs_of ports branches) 0)
-    some_trunk = trunk_some topology.ports fan.tree.trunk.talker fan.tree.trunk.listener
-        (leg_at (legs_of ports branches) 0) fan.tree.trunk.walk fan.tree.trunk.differ
+    count : ℕ
+    leg : ℕ
+    hop : ℕ
+    below : count < length r
+    inside : leg ≤ length branches
+    within : hop < length (leg_at (legs_of ports branches) leg)
+    at_talker : hop ≡ 0 → leg ≡ 0
+    front : take count r ≡ leg_at (leads_of ports branches) leg ++ take hop (leg_at (legs_of ports branches) leg)
+    walk : IsWalk topology.ports (port_at topology.ports (get_or (leg_at (legs_of ports branches) leg) hop 0)).from l
+        (drop count r)
+    out : (i : ℕ) → count ≤ i → i < length r → is_in topology.ports ports (get_or r i 0) ≡ false
 
-    some_ports : 0 < length ports
-    some_ports = omega (arith, some_trunk, trunk_within ports branches)
+-- no listener of the tree is on the way of the walk, nor its end on a route of the tree
+record IsFresh (topology : DeclaredTopology) (l : ℕ) (listeners ports : List ℕ) (branches : List Branch) (r : List ℕ) :
+    Type 0
+  where
+    others : (n : ℕ) → n ≤ length branches → Avoids topology.ports (route_at ports branches n) l
+    own : (n : ℕ) → n ≤ length branches → Avoids topology.ports r (get_or listeners n 0)
 
-    station : IsStationAt topology talker
-    station = subst (IsStationAt topology) fan.talker_is fan.tree.trunk.begins
+-- behind a port that leads into the tree
+leaves_behind : (topology : DeclaredTopology) (talker l : ℕ) (listeners : List ℕ) (routes : List (List ℕ))
+    (ports : List ℕ) (branches : List Branch) (r : List ℕ) (place : ℕ)
+    → IsFan topology talker listeners routes ports branches → IsLeastWalk topology.ports talker l r
+    → IsFresh topology l listeners ports branches r → 1 ≤ place → place ≤ length r
+    → is_in topology.ports ports (get_or r (place - 1) 0) ≡ true
+    → ((i : ℕ) → place ≤ i → i < length r → is_in topology.ports ports (get_or r i 0) ≡ false)
+    → Leaves topology l ports branches r
+leaves_behind topology talker l listeners routes ports branches r place fan least fresh positive inside last out =
+    by spot
+  where
+    P : List Port
+    P = topology.ports
 
-    kept : HasLawfulPorts topology
-    kept = ports_are_lawful topology is
+    node : ℕ
+    node = (port_at topology.ports (get_or r (place - 1) 0)).to
 
-    alone : HasOnePort topology.ports talker
-    alone = kept.stations talker station.within station.station
+    way : IsReached topology talker ports branches (port_at topology.ports (get_or r (place - 1) 0)).to
+    way = reached topology talker listeners routes ports branches
+        (port_at topology.ports (get_or r (place - 1) 0)).to fan last
 
-    own : (port_at topology.ports (get_or ports 0 0)).from ≡ talker
-    own = from_talker topology ports branches fan.tree some_trunk ∙ fan.talker_is
+    within : place - 1 < length r
+    within = omega (arith, positive, inside)
 
-    same : get_or r 0 0 ≡ get_or ports 0 0
-    same = one_passes (leaves talker) topology.ports (get_or r 0 0) (get_or ports 0 0) no_port alone.leaves
-        (walk_ports topology.ports talker r l walk 0 0 some)
-        (tree_ports topology ports branches fan.are fan.tree 0 0 some_ports)
-        (eq-eqb (port_at topology.ports (get_or r 0 0)).from talker
-        (walk_first topology.ports talker l r walk some))
-        (eq-eqb (port_at topology.ports (get_or ports 0 0)).from talker own)
+    next : suc (place - 1) ≡ place
+    next = omega (arith, positive)
+
+    lead : List ℕ
+    lead = leg_at (leads_of ports branches) way.on.leg
+
+    leg : List ℕ
+    leg = leg_at (legs_of ports branches) way.on.leg
+
+    -- the node is on the route of its leg, so it is not the end of the walk
+    on_route : (port_at topology.ports (get_or (lead ++ leg) (length lead + way.on.hop) 0)).to ≡ node
+    on_route = ap (λ (p : ℕ). (port_at P p).to) (get_or-append-add lead leg way.on.hop 0) ∙ way.on.leads
+
+    ended : place ≡ length r → node ≡ l
+    ended end =
+        let all : take (suc (place - 1)) r ≡ r = take_all (suc (place - 1)) r (omega (arith, positive, end)) in
+        ends_once P talker node l r
+        (subst (IsWalk P talker node) all (walk_upto P talker l r (place - 1) least.walk_is within)) least.walk_is
+
+    below : place < length r
+    below = elim (cases_lt place (length r)) as (λ _. place < length r) [
+      | inl h ↦ h
+      | inr past ↦ absurd (node_on (λ (n : ℕ). n ≢ l) P (lead ++ leg) (length lead + way.on.hop)
+          (omega (arith, way.on.within, length-append lead leg)) (fresh.others way.on.leg way.on.inside)
+          (on_route ∙ ended (omega (arith, past, inside))))
+    ]
+
+    spot : Place topology listeners ports branches (port_at topology.ports (get_or r (place - 1) 0)).to way.on.leg
+        way.on.hop
+    spot = place_of_node topology talker listeners routes ports branches
+        (port_at topology.ports (get_or r (place - 1) 0)).to fan way
+
+    by : Place topology listeners ports branches (port_at topology.ports (get_or r (place - 1) 0)).to way.on.leg
+        way.on.hop → Leaves topology l ports branches r
+    by (inl s) = record {
+      count = place;
+      leg = way.on.leg;
+      hop = suc way.on.hop;
+      below = below;
+      inside = way.on.inside;
+      within = s.within;
+      at_talker = λ zero. absurd (omega (arith, zero));
+      front = ap (λ (n : ℕ). take n r) (sym next)
+          ∙ same_way topology talker l ports branches r (place - 1) least within way;
+      walk = subst (λ (n : ℕ). IsWalk P n l (drop place r)) (sym s.from)
+          (subst (λ (k : ℕ). IsWalk P node l (drop k r)) next
+          (walk_rest P talker l r (place - 1) least.walk_is within));
+      out = out;
+    }
+    by (inr same) = absurd (node_on (λ (n : ℕ). n ≢ get_or listeners way.on.leg 0) P r (place - 1) within
+        (fresh.own way.on.leg way.on.inside) same)
 
 leaves_tree : (topology : DeclaredTopology) (talker l : ℕ) (listeners : List ℕ) (routes : List (List ℕ))
-    (ports : List ℕ) (branches : List Branch) (r : List ℕ) → IsTopology topology
-    → IsFan topology talker listeners routes ports branches → IsLeastWalk topology.ports talker l r
-    → IsValidPath topology r → IsStationAt topology l → All (λ other. other ≢ l) listeners → 0 < length r
-    → Leaves topology ports branches r
-leaves_tree topology talker l listeners routes ports branches r is fan least valid station fresh some = by place
+    (ports : List ℕ) (branches : List Branch) (r : List ℕ) → IsFan topology talker listeners routes ports branches
+    → IsLeastWalk topology.ports talker l r → IsFresh topology l listeners ports branches r → 0 < length r
+    → Leaves topology l ports branches r
+leaves_tree topology talker l listeners routes ports branches r fan least fresh some = by (cases_lt 0 f.place)
   where
+    P : List Port
+    P = topology.ports
+
     f : FirstOut (λ p. is_in topology.ports ports p) r
     f = first_out (λ p. is_in topology.ports ports p) r
 
-    -- the first port is of the tree
-    positive : 1 ≤ f.place
-    positive = elim (cases_lt 0 f.place) as (λ _. 1 ≤ f.place) [
-      | inl h ↦ omega (arith, h)
-      | inr none ↦ (
-          let at : f.place ≡ 0 = omega (arith, none) in
-          let out : is_in topology.ports ports (get_or r 0 0) ≡ false =
-          subst (λ (k : ℕ). is_in topology.ports ports (get_or r k 0) ≡ false) at
-          (f.here (omega (arith, at, some))) in
-          absurd (true≢false (sym (first_in topology talker listeners routes ports branches l r is fan
-          least.walk_is some) ∙ out)))
-    ]
+    -- behind the first port that leads out of the tree all lead out of it
+    never : f.place < length r → (i : ℕ) → f.place ≤ i → i < length r → (t : Bool)
+        → is_in topology.ports ports (get_or r i 0) ≡ t → is_in topology.ports ports (get_or r i 0) ≡ false
+    never below i h inside false e = e
+    never below i h inside true e = absurd (true≢false (sym (in_before topology talker l listeners routes ports
+        branches r i f.place fan least h inside e) ∙ f.here below))
 
-    way : IsReached topology talker ports branches (port_at topology.ports (get_or r (f.place - 1) 0)).to
-    way = reached topology talker listeners routes ports branches
-        (port_at topology.ports (get_or r (f.place - 1) 0)).to fan (f.before (f.place - 1) (omega (arith, positive)))
+    -- it leaves it at the talker
+    first : f.place ≡ 0 → Leaves topology l ports branches r
+    first none = record {
+      count = 0;
+      leg = 0;
+      hop = 0;
+      below = some;
+      inside = omega arith;
+      within = fan.tree.trunk.some;
+      at_talker = λ zero. refl;
+      front = sym (ap (λ (lead : List ℕ). lead ++ []) (lead_of_trunk ports branches));
+      walk = subst (λ (n : ℕ). IsWalk P n l r) (sym (walk_first P fan.tree.trunk.talker fan.tree.trunk.listener
+          (leg_at (legs_of ports branches) 0) fan.tree.trunk.walk fan.tree.trunk.some ∙ fan.talker_is)) least.walk_is;
+      out = λ i h inside. never (omega (arith, none, some)) i (omega (arith, none)) inside
+          (is_in P ports (get_or r i 0)) refl;
+    }
 
-    within : f.place - 1 < length r
-    within = omega (arith, positive, f.within)
-
-    -- the walk goes on from the last port of the tree, or this leads to its end
-    onward : f.place < length r
-        → IsBridgeAt topology (port_at topology.ports (get_or r (f.place - 1) 0)).to
-    onward below = (bridge_on topology r (f.place - 1) is valid (omega (arith, positive, below))).bridge
-
-    ended : f.place ≡ length r → (port_at topology.ports (get_or r (f.place - 1) 0)).to ≡ l
-    ended end =
-        let all : take (suc (f.place - 1)) r ≡ r = take_all (suc (f.place - 1)) r (omega (arith, positive, end)) in
-        ends_once topology.ports talker (port_at topology.ports (get_or r (f.place - 1) 0)).to l r
-        (subst (IsWalk topology.ports talker (port_at topology.ports (get_or r (f.place - 1) 0)).to) all
-        (walk_upto topology.ports talker l r (f.place - 1) least.walk_is within)) least.walk_is
-
-    place : Place topology listeners ports branches (port_at topology.ports (get_or r (f.place - 1) 0)).to way.on.leg
-        way.on.hop
-    place = place_of_node topology talker listeners routes ports branches
-        (port_at topology.ports (get_or r (f.place - 1) 0)).to is fan way
-
-    -- it does not end in the tree: its end is a station, and no listener of the tree
-    below : f.place < length r
-    below = elim (cases_lt f.place (length r)) as (λ _. f.place < length r) [
-      | inl h ↦ h
-      | inr past ↦ (
-          let end : f.place ≡ length r = omega (arith, past, f.within) in
-          absurd (elim place as (λ _. ⊥) [
-            | inl s ↦ not_both topology l station (subst (IsBridgeAt topology) (ended end) s.bridge)
-            | inr same ↦ fresh way.on.leg 0 (omega (arith, fan.many, way.on.inside)) (sym same ∙ ended end)
-          ]))
-    ]
-
-    by : Place topology listeners ports branches (port_at topology.ports (get_or r (f.place - 1) 0)).to way.on.leg
-        way.on.hop → Leaves topology ports branches r
-    by place = elim place as (λ _. Leaves topology ports branches r) [
-      | inl s ↦ record {
-        count = f.place;
-        leg = way.on.leg;
-        hop = way.on.hop;
-        positive = positive;
-        below = below;
-        inside = way.on.inside;
-        within = s.within;
-        front = (let next : suc (f.place - 1) ≡ f.place = omega (arith, positive) in
-            ap (λ (n : ℕ). take n r) (sym next)
-            ∙ same_way topology talker l ports branches r (f.place - 1) least within way);
-        from = s.from;
-        out = λ i h inside. not_in i h inside (is_in topology.ports ports (get_or r i 0)) refl;
-      }
-      | inr same ↦ absurd (not_both topology (port_at topology.ports (get_or r (f.place - 1) 0)).to
-          (subst (IsStationAt topology) (sym same) (fan.ends way.on.leg way.on.inside)) (onward below))
-    ]
-      where
-        not_in : (i : ℕ) → f.place ≤ i → i < length r → (t : Bool)
-            → is_in topology.ports ports (get_or r i 0) ≡ t → is_in topology.ports ports (get_or r i 0) ≡ false
-        not_in i h inside false e = e
-        not_in i h inside true e = absurd (true≢false (sym (in_before topology talker l listeners routes ports
-            branches r
-            i f.place fan least h inside e) ∙ f.here below))
+    by : (0 < f.place) ⊎ (f.place ≤ 0) → Leaves topology l ports branches r
+    by (inl positive) = leaves_behind topology talker l listeners routes ports branches r f.place fan least fresh
+        (omega (arith, positive)) f.within (f.before (f.place - 1) (omega (arith, positive)))
+        (λ i h inside. never (omega (arith, h, inside)) i h inside (is_in P ports (get_or r i 0)) refl)
+    by (inr none) = first (omega (arith, none))
 
 -- what is left of a list is a part of it
 part_drop : (n : ℕ) (xs : List ℕ) → IsPart (drop n xs) xs
@@ -435,26 +426,19 @@ record Fan (topology : DeclaredTopology) (talker : ℕ) (listeners : List ℕ) (
   branches : List Branch
   fan : IsFan topology talker listeners routes ports branches
 
--- the ends of a least walk that is a valid path
+-- the first node of a least walk that is a valid path
 talker_of : (topology : DeclaredTopology) (talker l : ℕ) (r : List ℕ) → IsLeastWalk topology.ports talker l r
     → (valid : IsValidPath topology r) → 0 < length r → valid.talker ≡ talker
 talker_of topology talker l r least valid some =
     sym (walk_first topology.ports valid.talker valid.listener r valid.walk some)
     ∙ walk_first topology.ports talker l r least.walk_is some
 
-listener_at : (topology : DeclaredTopology) (talker l : ℕ) (r : List ℕ) → IsLeastWalk topology.ports talker l r
-    → (valid : IsValidPath topology r) → 0 < length r → IsStationAt topology l
-listener_at topology talker l r least valid some =
-    subst (IsStationAt topology) (ends_once topology.ports talker valid.listener l r
-    (subst (λ (n : ℕ). IsWalk topology.ports n valid.listener r) (talker_of topology talker l r least valid some)
-    valid.walk) least.walk_is) valid.ends
-
 grow : (topology : DeclaredTopology) (talker l : ℕ) (listeners : List ℕ) (routes : List (List ℕ)) (ports : List ℕ)
-    (branches : List Branch) (r : List ℕ) → IsTopology topology
-    → IsFan topology talker listeners routes ports branches → IsLeastWalk topology.ports talker l r
-    → IsValidPath topology r → All (λ other. other ≢ l) listeners → 1 + length branches ≤ 65535
+    (branches : List Branch) (r : List ℕ) → IsFan topology talker listeners routes ports branches
+    → IsLeastWalk topology.ports talker l r → IsValidPath topology r → IsFresh topology l listeners ports branches r
+    → 1 + length branches ≤ 65535
     → Fan topology talker (listeners ++ l ∷ []) (routes ++ r ∷ [])
-grow topology talker l listeners routes ports branches r is fan least valid fresh few = record {
+grow topology talker l listeners routes ports branches r fan least valid fresh few = record {
   ports = ports ++ own;
   branches = branches ++ b ∷ [];
   fan = record {
@@ -465,7 +449,6 @@ grow topology talker l listeners routes ports branches r is fan least valid fres
     routes_are = g.routes ∙ ap (λ (rs : List (List ℕ)). rs ++ (lead_to legs leads b ++ own) ∷ []) fan.routes_are
         ∙ ap (λ (x : List ℕ). routes ++ x ∷ []) whole;
     least = λ n h. least_at n h (cases_lt n (1 + length branches));
-    ends = λ n h. ends_at n h (cases_lt n (1 + length branches));
   };
 }
   where
@@ -476,29 +459,22 @@ grow topology talker l listeners routes ports branches r is fan least valid fres
     leads = leads_of ports branches
 
     some : 0 < length r
-    some = trunk_some topology.ports valid.talker valid.listener r valid.walk valid.differ
+    some = valid.some
 
-    station : IsStationAt topology l
-    station = listener_at topology talker l r least valid some
-
-    off : Leaves topology ports branches r
-    off = leaves_tree topology talker l listeners routes ports branches r is fan least valid station fresh some
+    off : Leaves topology l ports branches r
+    off = leaves_tree topology talker l listeners routes ports branches r fan least fresh some
 
     own : List ℕ
     own = drop off.count r
 
     b : Branch
-    b = record { first = length ports; leg = off.leg; hop = suc off.hop }
+    b = record { first = length ports; leg = off.leg; hop = off.hop }
 
     begins : BeginsEarlier (legs_of ports branches) (1 + length branches) b
-    begins = record { earlier = omega (arith, off.inside); later = omega arith; within = off.within }
-
-    some_trunk : 0 < length (leg_at (legs_of ports branches) 0)
-    some_trunk = trunk_some topology.ports fan.tree.trunk.talker fan.tree.trunk.listener
-        (leg_at (legs_of ports branches) 0) fan.tree.trunk.walk fan.tree.trunk.differ
+    begins = record { earlier = omega (arith, off.inside); at_talker = off.at_talker; within = off.within }
 
     some_ports : 1 ≤ length ports
-    some_ports = omega (arith, some_trunk, trunk_within ports branches)
+    some_ports = omega (arith, fan.tree.trunk.some, trunk_within ports branches)
 
     g : Grows ports own branches b
     g = grows ports own branches b fan.are some_ports (omega (arith, off.below, length-drop off.count r)) refl begins
@@ -523,22 +499,16 @@ grow topology talker l listeners routes ports branches r is fan least valid fres
     trunk = record {
       talker = fan.tree.trunk.talker;
       listener = fan.tree.trunk.listener;
+      some = subst (λ (path : List ℕ). 1 ≤ length path) (sym (same 0 (omega arith))) fan.tree.trunk.some;
       walk = subst (IsWalk topology.ports fan.tree.trunk.talker fan.tree.trunk.listener) (sym (same 0 (omega arith)))
           fan.tree.trunk.walk;
-      begins = fan.tree.trunk.begins;
-      ends = fan.tree.trunk.ends;
-      differ = fan.tree.trunk.differ;
       apart = subst (λ (path : List ℕ). AllPairs (λ x y. x ≢ y) (nodes_along topology.ports path))
           (sym (same 0 (omega arith))) fan.tree.trunk.apart;
     }
 
-    -- the branch leads from the bridge where the walk leaves the tree
+    -- the branch leads from the node where the walk leaves the tree
     own_walk : IsWalk topology.ports (node_of_branch topology.ports legs b) l own
-    own_walk = let next : suc (off.count - 1) ≡ off.count = omega (arith, off.positive) in
-        subst (λ (n : ℕ). IsWalk topology.ports n l own) (sym off.from)
-        (subst (λ (k : ℕ). IsWalk topology.ports (port_at topology.ports (get_or r (off.count - 1) 0)).to l (drop k r))
-        next (walk_rest topology.ports talker l r (off.count - 1) least.walk_is
-        (omega (arith, off.positive, off.below))))
+    own_walk = off.walk
 
     starts : (c : Branch) → c.leg ≤ length branches
         → node_of_branch topology.ports (legs_of (ports ++ own) (branches ++ b ∷ [])) c
@@ -567,7 +537,6 @@ grow topology talker l listeners routes ports branches r is fan least valid fres
                   (sym (same (1 + n) (omega (arith, below))))
                   (subst (λ (start : ℕ). IsWalk topology.ports start first.listener (leg_at legs (1 + n)))
                   (sym (starts c (omega (arith, begun.earlier, below)))) first.walk);
-              ends = first.ends;
             })
         by (inr past) =
             let at : length branches ≡ n = omega (arith, past, h, length-append branches (b ∷ [])) in
@@ -580,7 +549,6 @@ grow topology talker l listeners routes ports branches r is fan least valid fres
               walk = subst (λ (path : List ℕ). IsWalk topology.ports (node_of_branch topology.ports
                   (legs_of (ports ++ own) (branches ++ b ∷ [])) b) l path) (sym new)
                   (subst (λ (start : ℕ). IsWalk topology.ports start l own) (sym (starts b off.inside)) own_walk);
-              ends = station;
             }))
 
     -- the nodes of the walk, and those of them that its own ports lead to
@@ -597,7 +565,7 @@ grow topology talker l listeners routes ports branches r is fan least valid fres
 
     apart : AllPairs (λ x y. x ≢ y) (nodes_along topology.ports (ports ++ own))
     apart = apart_more topology.ports talker ports own (omega (arith, some_ports))
-        (from_talker topology ports branches fan.tree some_trunk ∙ fan.talker_is) fan.tree.apart own_nodes out
+        (from_talker topology ports branches fan.tree fan.tree.trunk.some ∙ fan.talker_is) fan.tree.apart own_nodes out
 
     -- the routes that were there stay, and the last one is the walk
     routes_then : (n : ℕ) → n ≤ length branches
@@ -639,21 +607,10 @@ grow topology talker l listeners routes ports branches r is fan least valid fres
         (route_at (ports ++ own) (branches ++ b ∷ []) (1 + length branches))) (sym last_is)
         (subst (IsLeastWalk topology.ports talker l) (sym route_new) least))
 
-    ends_at : (n : ℕ) → n ≤ length (branches ++ b ∷ []) → (n < 1 + length branches) ⊎ (1 + length branches ≤ n)
-        → IsStationAt topology (get_or (listeners ++ l ∷ []) n 0)
-    ends_at n h (inl below) =
-        subst (IsStationAt topology) (sym (get_or_append_left listeners (l ∷ []) 0 n (omega (arith, below, fan.many))))
-        (fan.ends n (omega (arith, below)))
-    ends_at n h (inr past) =
-        let at : 1 + length branches ≡ n = omega (arith, past, h, length-append branches (b ∷ [])) in
-        subst (λ (m : ℕ). IsStationAt topology (get_or (listeners ++ l ∷ []) m 0)) at
-        (subst (IsStationAt topology) (sym last_is) station)
-
 -- the least walk to one listener is a tree by itself
 one_fan : (topology : DeclaredTopology) (talker l : ℕ) (r : List ℕ) → IsLeastWalk topology.ports talker l r
     → IsValidPath topology r → Fan topology talker (l ∷ []) (r ∷ [])
 one_fan topology talker l r least valid =
-    let some : 0 < length r = trunk_some topology.ports valid.talker valid.listener r valid.walk valid.differ in
     let at : (n : ℕ) → n ≤ 0 → 0 ≡ n = λ n h. omega (arith, h) in
     record {
       ports = r;
@@ -661,46 +618,88 @@ one_fan topology talker l r least valid =
       fan = record {
         are = no_branches r;
         tree = record { trunk = valid; each = λ n within. absurd (omega arith); apart = valid.apart };
-        talker_is = talker_of topology talker l r least valid some;
+        talker_is = talker_of topology talker l r least valid valid.some;
         many = refl;
         routes_are = refl;
         least = λ n h. subst (λ (k : ℕ). IsLeastWalk topology.ports talker (get_or (l ∷ []) k 0) (route_at r [] k))
             (at n h) least;
-        ends = λ n h. subst (λ (k : ℕ). IsStationAt topology (get_or (l ∷ []) k 0)) (at n h)
-            (listener_at topology talker l r least valid some);
       };
     }
 
+-- where no walk ends at a node of another one, the next one is fresh
+fresh_walk : (topology : DeclaredTopology) (talker l : ℕ) (done : List ℕ) (routes : List (List ℕ)) (r : List ℕ)
+    (walks : List (List ℕ)) (f : Fan topology talker done routes) → IsLeastWalk topology.ports talker l r
+    → 0 < length r → EndApart topology (routes ++ r ∷ walks) → IsFresh topology l done f.ports f.branches r
+fresh_walk topology talker l done routes r walks f least some apart = record {
+  others = λ n h. subst (λ (path : List ℕ). Avoids P path l) (there n h)
+      (subst (λ (e : ℕ). Avoids P (get_or all n []) e) last_end
+      (apart (length routes) n (omega (arith, long)) (omega (arith, h, many, long))
+      (λ same. omega (arith, same, h, many))));
+  own = λ n h. subst (λ (path : List ℕ). Avoids P path (get_or done n 0)) last
+      (subst (λ (e : ℕ). Avoids P (get_or all (length routes) []) e) (end_at n h)
+      (apart n (length routes) (omega (arith, h, many, long)) (omega (arith, long))
+      (λ same. omega (arith, same, h, many))));
+}
+  where
+    P : List Port
+    P = topology.ports
+
+    all : List (List ℕ)
+    all = routes ++ r ∷ walks
+
+    long : length (routes ++ r ∷ walks) ≡ length routes + suc (length walks)
+    long = length-append routes (r ∷ walks)
+
+    many : length routes ≡ suc (length f.branches)
+    many = ap (λ (rs : List (List ℕ)). length rs) (sym f.fan.routes_are) ∙ routes-length f.ports f.branches
+
+    last : get_or (routes ++ r ∷ walks) (length routes) [] ≡ r
+    last = get_or-append_seam routes r walks []
+
+    last_end : end_of topology.ports (get_or (routes ++ r ∷ walks) (length routes) []) ≡ l
+    last_end = ap (end_of P) last ∙ walk_ends P talker l r least.walk_is some
+
+    there : (n : ℕ) → n ≤ length f.branches
+        → get_or (routes ++ r ∷ walks) n [] ≡ route_at f.ports f.branches n
+    there n h = get_or_append_left routes (r ∷ walks) [] n (omega (arith, h, many))
+        ∙ ap (λ (rs : List (List ℕ)). get_or rs n []) (sym f.fan.routes_are) ∙ route-at f.ports f.branches n [] h
+
+    end_at : (n : ℕ) → n ≤ length f.branches
+        → end_of topology.ports (get_or (routes ++ r ∷ walks) n []) ≡ get_or done n 0
+    end_at n h = ap (end_of P) (there n h)
+        ∙ walk_ends P talker (get_or done n 0) (route_at f.ports f.branches n) (f.fan.least n h).walk_is
+        (route_leads topology f.ports f.branches f.fan.are f.fan.tree n h).some
+
 -- a fan grows by one walk after another
 grow_all : (topology : DeclaredTopology) (talker : ℕ) (done : List ℕ) (routes : List (List ℕ)) (listeners : List ℕ)
-    (walks : List (List ℕ)) → IsTopology topology → Fan topology talker done routes
-    → AreLeast topology talker listeners walks → AllPairs (λ a b. a ≢ b) (done ++ listeners)
-    → length (done ++ listeners) ≤ 65536 → MakesTree topology (routes ++ walks)
-grow_all topology talker done routes [] [] is fan least apart few = record {
+    (walks : List (List ℕ)) → Fan topology talker done routes → AreLeast topology talker listeners walks
+    → EndApart topology (routes ++ walks) → length (done ++ listeners) ≤ 65536
+    → MakesTree topology (routes ++ walks)
+grow_all topology talker done routes [] [] fan least apart few = record {
   ports = fan.ports;
   branches = fan.branches;
   are = fan.fan.are;
   tree = fan.fan.tree;
   routes_are = fan.fan.routes_are ∙ sym (append-nil routes);
 }
-grow_all topology talker done routes [] (r ∷ walks) is fan least apart few = absurd least
-grow_all topology talker done routes (l ∷ listeners) [] is fan least apart few = absurd least
-grow_all topology talker done routes (l ∷ listeners) (r ∷ walks) is fan least apart few =
+grow_all topology talker done routes [] (r ∷ walks) fan least apart few = absurd least
+grow_all topology talker done routes (l ∷ listeners) [] fan least apart few = absurd least
+grow_all topology talker done routes (l ∷ listeners) (r ∷ walks) fan least apart few =
     let long : length (done ++ l ∷ listeners) ≡ length done + suc (length listeners) =
     length-append done (l ∷ listeners) in
-    let fresh : All (λ other. other ≢ l) done = λ k d h same. (
-    apart k (length done) d h (omega (arith, long))
-    (get_or_append_left done (l ∷ listeners) d k h ∙ same ∙ sym (get_or-append_seam done l listeners d))) in
     let next : Fan topology talker (done ++ l ∷ []) (routes ++ r ∷ []) =
-    grow topology talker l done routes fan.ports fan.branches r is fan.fan least.0.0 least.0.1 fresh
+    grow topology talker l done routes fan.ports fan.branches r fan.fan least.0.0 least.0.1
+    (fresh_walk topology talker l done routes r walks fan least.0.0 least.0.1.some apart)
     (omega (arith, fan.fan.many, few, long)) in
     let on : (done ++ l ∷ []) ++ listeners ≡ done ++ l ∷ listeners = append_assoc done (l ∷ []) listeners in
     subst (MakesTree topology) (append_assoc routes (r ∷ []) walks)
-    (grow_all topology talker (done ++ l ∷ []) (routes ++ r ∷ []) listeners walks is next least.1
-    (subst (AllPairs (λ a b. a ≢ b)) (sym on) apart)
+    (grow_all topology talker (done ++ l ∷ []) (routes ++ r ∷ []) listeners walks next least.1
+    (subst (EndApart topology) (sym (append_assoc routes (r ∷ []) walks)) apart)
     (subst (λ (ls : List ℕ). length ls ≤ 65536) (sym on) few))
 
 pub least_walks_make_a_tree : LeastWalksMakeATree
-least_walks_make_a_tree topology talker l listeners r walks is least apart few =
-    grow_all topology talker (l ∷ []) (r ∷ []) listeners walks is
-    (one_fan topology talker l r least.0.0 least.0.1) least.1 apart few
+least_walks_make_a_tree topology talker l listeners r walks least few = (
+  λ makes. made_ends_apart topology makes.ports makes.branches (r ∷ walks) makes.are makes.tree makes.routes_are,
+  λ apart. grow_all topology talker (l ∷ []) (r ∷ []) listeners walks
+      (one_fan topology talker l r least.0.0 least.0.1) least.1 apart few,
+)

@@ -13,8 +13,8 @@ pub mod ValidRoutes
 pub mod RoutePorts
 pub mod Grown
 pub mod LeastWalkLemmas
+pub mod EndsApart
 pub mod LeastTrees
-pub mod Together
 pub mod CountLemmas
 pub mod BridgeLemmas
 pub mod SenderLemmas

@@ -8,7 +8,7 @@ use Rattle.std.proofs.lemmas.List.Kept.{AllPairs-cons}
 use Rattle.std.proofs.lemmas.Option.{same_Some, none-some}
 use Rattle.ats_facts.proofs.Lists.{pairs_head, pairs_tail}
 use Rattle.ats_topology.specs.Port.{port_at}
-use Rattle.ats_topology.specs.Topology.{DeclaredTopology, IsStationAt}
+use Rattle.ats_topology.specs.Topology.{DeclaredTopology}
 use Rattle.ats_topology.specs.Walks.{IsPortFrom, IsWalk, ArePorts}
 use Rattle.ats_topology.specs.declared.port.Port.{Port}
 use Rattle.ats_network.specs.Path.{IsValidPath}
@@ -80,7 +80,7 @@ ends_are ports (p ∷ path) a b h = by (walk_end ports (port_at ports p).from (p
 -- a valid path has ends
 pub ends_of-valid : (topology : DeclaredTopology) (path : List ℕ) (valid : IsValidPath topology path)
     → ends_of topology.ports path ≡ Some (valid.talker, valid.listener)
-ends_of-valid topology [] valid = absurd (valid.differ valid.walk)
+ends_of-valid topology [] valid = absurd (omega (arith, valid.some))
 ends_of-valid topology (p ∷ path) valid =
     let from : (port_at topology.ports p).from ≡ valid.talker = valid.walk.0.from in
     ap (λ (a : ℕ). option_map {U = ℕ × ℕ} (λ b. (a, b)) (walk_end topology.ports a (p ∷ path))) from
@@ -151,33 +151,19 @@ part_ways-pairs ports (p ∷ path) pairs =
     (pairs_head (λ a b. a ≢ b) (port_at ports p).to (nodes_to ports path) pairs))
     ∙ part_ways-pairs ports path (pairs_tail (λ a b. a ≢ b) (port_at ports p).to (nodes_to ports path) pairs)
 
--- the ports of a walk that is not empty lead to its end
-comes_to_end : (ports : List Port) (a : ℕ) (p : ℕ) (path : List ℕ) (b : ℕ) → IsWalk ports a b (p ∷ path)
-    → comes_to ports b (p ∷ path) ≡ true
-comes_to_end ports a p [] b w = ap (λ (t : Bool). t || false) (eq-eqb (port_at ports p).to b w.1)
-comes_to_end ports a p (q ∷ path) b w =
-    by (eqb (port_at ports p).to b) (comes_to_end ports (port_at ports p).to q path b w.1)
-  where
-    by : (t : Bool) → comes_to ports b (q ∷ path) ≡ true → (t || comes_to ports b (q ∷ path)) ≡ true
-    by true h = refl
-    by false h = h
-
--- a walk between stations whose ports part ways, none of them back to its first node, is a valid path
+-- a walk whose ports part ways, none of them back to its first node, is a valid path
 pub valid_from_parts : (topology : DeclaredTopology) (path : List ℕ) (a b : ℕ)
-    → ends_of topology.ports path ≡ Some (a, b) → IsStationAt topology a → IsStationAt topology b
-    → comes_to topology.ports a path ≡ false → part_ways topology.ports path ≡ true → IsValidPath topology path
-valid_from_parts topology [] a b h begins ends back part = absurd (none-some (a, b) h)
-valid_from_parts topology (p ∷ path) a b h begins ends back part =
+    → ends_of topology.ports path ≡ Some (a, b) → comes_to topology.ports a path ≡ false
+    → part_ways topology.ports path ≡ true → IsValidPath topology path
+valid_from_parts topology [] a b h back part = absurd (none-some (a, b) h)
+valid_from_parts topology (p ∷ path) a b h back part =
     let e : AreEnds topology.ports (p ∷ path) a b = ends_are topology.ports (p ∷ path) a b h in
     let from : (port_at topology.ports p).from ≡ a = e.walk.0.from in
     record {
       talker = a;
       listener = b;
+      some = omega arith;
       walk = e.walk;
-      begins = begins;
-      ends = ends;
-      differ = λ same. true≢false (sym (comes_to_end topology.ports a p path b e.walk)
-          ∙ ap (λ (n : ℕ). comes_to topology.ports n (p ∷ path)) (sym same) ∙ back);
       apart =
           AllPairs-cons (λ a b. a ≢ b) (port_at topology.ports p).from (nodes_to topology.ports (p ∷ path))
           (away topology.ports (port_at topology.ports p).from (p ∷ path)

@@ -13,7 +13,8 @@ use Rattle.ats_streams.specs.Stream.{DeclaredStream, IsStream}
 use Rattle.ats_streams.specs.Flow.{DeclaredFlow, IsFlow}
 use Rattle.ats_network.specs.Sender.{Sender, stream_sender, flow_sender}
 use Rattle.ats_network.specs.Path.{IsTree, IsValidPath}
-use Rattle.ats_network.specs.Network.{DeclaredNetwork, IsNetwork, senders_of, names_of, ports_together}
+use Rattle.ats_network.specs.Network.{DeclaredNetwork, HasShortPath, HasShortRoutes, IsNetwork, senders_of, names_of}
+use Rattle.ats_network.specs.Network.{ports_together}
 use Rattle.ats_network.specs.Pushes.{with_stream, with_flow, is_full, is_identity_taken}
 use Rattle.ats_network.specs.Tables.{stream_names, flow_names}
 use Rattle.ats_network.specs.declared.network.TheConstants.{MAX_STREAMS, MAX_FLOWS, MAX_PORTS_TOGETHER}
@@ -46,10 +47,10 @@ flow_names-push flows flow = map-append (λ (f : DeclaredFlow). f.name) flows (f
 
 -- a network with one stream more keeps what a network keeps
 pub pushed_stream : (network : DeclaredNetwork) (stream : DeclaredStream) → IsNetwork network → IsStream stream
-    → IsTree network.topology stream.ports stream.branches
+    → IsTree network.topology stream.ports stream.branches → HasShortRoutes network.most_ports stream
     → place_of stream.name (names_of (senders_of network)) ≡ None → is_identity_taken network.streams stream.identity
     ≡ false → is_full network.streams stream.ports ≡ false → IsNetwork (with_stream network stream)
-pushed_stream network stream is keeps tree absent free room = record {
+pushed_stream network stream is keeps tree short absent free room = record {
   topology = is.topology;
   streams = All-push IsStream network.streams stream is.streams keeps;
   flows = is.flows;
@@ -70,6 +71,10 @@ pushed_stream network stream is keeps tree absent free room = record {
     sum_by_push (λ (s : DeclaredStream). length s.ports) network.streams
         stream,
   );
+  most_ports = is.most_ports;
+  short_streams =
+      All-push (HasShortRoutes network.most_ports) network.streams stream is.short_streams short;
+  short_flows = is.short_flows;
 }
   where
     streams : List Sender
@@ -86,10 +91,10 @@ pushed_stream network stream is keeps tree absent free room = record {
 
 -- a network with one flow more keeps what a network keeps
 pub pushed_flow : (network : DeclaredNetwork) (flow : DeclaredFlow) → IsNetwork network → IsFlow flow
-    → IsValidPath network.topology flow.path
+    → IsValidPath network.topology flow.path → HasShortPath network.most_ports flow
     → place_of flow.name (names_of (senders_of network)) ≡ None → length network.flows < MAX_FLOWS
     → IsNetwork (with_flow network flow)
-pushed_flow network flow is keeps valid absent room = record {
+pushed_flow network flow is keeps valid short absent room = record {
   topology = is.topology;
   streams = is.streams;
   flows = All-push IsFlow network.flows flow is.flows keeps;
@@ -103,6 +108,9 @@ pushed_flow network flow is keeps valid absent room = record {
   few_streams = is.few_streams;
   few_flows = omega (arith, length-append network.flows (flow ∷ []));
   few_ports = is.few_ports;
+  most_ports = is.most_ports;
+  short_streams = is.short_streams;
+  short_flows = All-push (HasShortPath network.most_ports) network.flows flow is.short_flows short;
 }
   where
     streams : List Sender

@@ -1,12 +1,14 @@
-use Rattle.std.proofs.Common.{◌≡◌, ◌≢◌, ℕ, ◌-◌, ◌<◌, ◌≤◌, List, [], ◌∷◌, map, length, get_or, refl, sym, ap, ◌∙◌, arith}
+use Rattle.std.proofs.Common.{◌≡◌, ◌≢◌, ℕ, ◌-◌, ◌<◌, ◌≤◌, List, [], ◌∷◌, map, length, get_or, refl, sym, ap, subst}
+use Rattle.std.proofs.Common.{◌∙◌, arith}
 use Rattle.std.proofs.Common.{length-append}
 use Rattle.std.specs.List.{All, AllPairs}
 use Rattle.std.proofs.lemmas.List.{get_or-append_right, get_or-map, length-map}
-use Rattle.std.proofs.lemmas.List.Elements.{All-nil, All-cons, All-head, All-tail, All-append, All-weaker}
+use Rattle.std.proofs.lemmas.List.Elements.{All-nil, All-cons, All-head, All-map, All-tail, All-append, All-weaker}
 use Rattle.ats_facts.proofs.Lists.{all_left, all_right, pairs_tail}
 use Rattle.ats_streams.specs.Rules.{AreSizes, KeepsRules}
 use Rattle.ats_streams.proofs.OneListener.{alone_path, no_branches}
-use Rattle.ats_streams.specs.Branches.{AreBranches, routes_of}
+use Rattle.ats_streams.specs.Branches.{AreBranches, AreShort, routes_of}
+use Rattle.ats_streams.specs.declared.branch.Branch.{Branch}
 use Rattle.ats_streams.specs.Path.{IsPath}
 use Rattle.ats_streams.specs.Stream.{DeclaredStream, IsStream, IsClass}
 use Rattle.ats_streams.specs.Flow.{DeclaredFlow, IsFlow}
@@ -16,10 +18,10 @@ use Rattle.ats_topology.specs.Topology.{DeclaredTopology, IsTopology}
 use Rattle.ats_network.specs.Sender.{Sender, stream_sender, flow_sender}
 use Rattle.ats_network.specs.Class.{class_at}
 use Rattle.ats_network.specs.Path.{IsTree, IsValidPath, nodes_along}
-use Rattle.ats_network.specs.Network.{DeclaredNetwork, IsNetwork, HasOneListener, senders_of}
+use Rattle.ats_network.specs.Network.{DeclaredNetwork, IsNetwork, HasOneListener, HasShortPath, senders_of}
 use Rattle.ats_network.specs.Bridges.{MeetAtBridge}
 use Rattle.ats_network.specs.Senders.{AllNeighbours, IsSender, HasPath, sender_at, no_sender}
-use Rattle.ats_network.specs.Laws.{EachIsSender, EachSenderHasPath}
+use Rattle.ats_network.specs.Laws.{EachIsSender, EachRouteIsShort, EachSenderHasPath}
 use Rattle.ats_network.proofs.ClassLemmas.{class_at-flow}
 use Rattle.ats_network.proofs.PathLemmas.{nodes_to}
 use Rattle.ats_network.proofs.BridgeLemmas.{meet_at_bridges}
@@ -152,6 +154,17 @@ senders_alone network alone =
     All-append (λ (s : Sender). s.branches ≡ []) (map stream_sender network.streams) (map flow_sender network.flows)
     (streams_alone network.streams alone) (flows_alone network.flows)
 
+-- no route of a sender has more ports than its network allows
+pub each_route_is_short : EachRouteIsShort
+each_route_is_short network is =
+    let Short : Sender → Type 0 = λ s. AreShort network.most_ports (routes_of s.ports s.branches) in
+    let short : List ℕ → Type 0 = λ route. length route ≤ network.most_ports in
+    All-append Short (map stream_sender network.streams) (map flow_sender network.flows)
+    (All-map Short stream_sender network.streams is.short_streams)
+    (All-map Short flow_sender network.flows
+    (All-weaker (HasShortPath network.most_ports) (λ (f : DeclaredFlow). Short (flow_sender f))
+    (λ f h. All-cons short f.path [] h (All-nil short)) network.flows is.short_flows))
+
 pub each_sender_has_path : EachSenderHasPath
 each_sender_has_path network is alone n d h =
     has_path network.topology (get_or (senders_of network) n d) is.topology (each_is_sender network is n d h)
@@ -161,6 +174,17 @@ each_sender_has_path network is alone n d h =
 pub sender_path : (network : DeclaredNetwork) (n : ℕ) → IsNetwork network → HasOneListener network
     → n < length (senders_of network) → HasPath network.topology (sender_at network n)
 sender_path network n is alone within = each_sender_has_path network is alone n no_sender within
+
+-- and it has no more ports than the network allows
+pub sender_short : (network : DeclaredNetwork) (n : ℕ) → IsNetwork network → HasOneListener network
+    → n < length (senders_of network) → length (sender_at network n).ports ≤ network.most_ports
+sender_short network n is alone within =
+    let s : Sender = sender_at network n in
+    let path : HasPath network.topology s = sender_path network n is alone within in
+    let routes : AreShort network.most_ports (routes_of s.ports []) =
+    subst (λ (b : List Branch). AreShort network.most_ports (routes_of s.ports b)) path.one_listener
+    (each_route_is_short network is n no_sender within) in
+    All-head (λ (route : List ℕ). length route ≤ network.most_ports) s.ports [] routes
 
 -- the sender with a number keeps a sender's rules
 pub sender_keeps : (network : DeclaredNetwork) (n : ℕ) → IsNetwork network → n < length (senders_of network)

@@ -11,9 +11,10 @@ use Rattle.ats_streams.specs.Branches.{AreBranches, BeginsEarlier, Ascend, first
 use Rattle.ats_streams.specs.Branches.{no_branch}
 use Rattle.ats_streams.specs.declared.branch.Branch.{Branch}
 use Rattle.ats_streams.proofs.BranchLemmas.{IsPlaced, begins_at, lead_of, lead_of_trunk, leg_between}
-use Rattle.ats_streams.proofs.BranchLemmas.{lead-length, leg_last, placed, route-at, routes-length}
+use Rattle.ats_streams.proofs.BranchLemmas.{leg_last, placed, route-at, routes-length}
+use Rattle.ats_streams.proofs.Places.{branch_some}
 use Rattle.ats_topology.specs.Port.{port_at}
-use Rattle.ats_topology.specs.Topology.{DeclaredTopology, IsStationAt}
+use Rattle.ats_topology.specs.Topology.{DeclaredTopology}
 use Rattle.ats_topology.specs.Walks.{IsWalk}
 use Rattle.ats_topology.specs.declared.port.Port.{Port}
 use Rattle.ats_network.specs.Laws.{EachRouteIsAPath}
@@ -48,24 +49,23 @@ abbrev start_of : List Port → List (List ℕ) → List Branch → ℕ → ℕ 
 start_of ports legs branches talker zero = talker
 start_of ports legs branches talker (suc n) = node_of_branch ports legs (get_or branches n no_branch)
 
--- a leg leads from there to a station
+-- a leg leads from there to its end
 record Leads (topology : DeclaredTopology) (start : ℕ) (leg : List ℕ) : Type 0 where
   listener : ℕ
   walk : IsWalk topology.ports start listener leg
-  ends : IsStationAt topology listener
 
 leg_leads : (topology : DeclaredTopology) (ports : List ℕ) (branches : List Branch)
     → (tree : IsTree topology ports branches) (n : ℕ) → n ≤ length branches
     → Leads topology (start_of topology.ports (legs_of ports branches) branches tree.trunk.talker n)
     (leg_at (legs_of ports branches) n)
 leg_leads topology ports branches tree zero within =
-    record { listener = tree.trunk.listener; walk = tree.trunk.walk; ends = tree.trunk.ends }
+    record { listener = tree.trunk.listener; walk = tree.trunk.walk }
 leg_leads topology ports branches tree (suc n) within =
     let start : ℕ = start_of topology.ports (legs_of ports branches) branches tree.trunk.talker (suc n) in
     let branch : IsBranch topology (legs_of ports branches) (get_or branches n no_branch)
     (leg_at (legs_of ports branches) (1 + n)) = tree.each n (omega arith) in
     subst (λ (k : ℕ). Leads topology start (leg_at (legs_of ports branches) k)) (omega arith)
-    (record { listener = branch.listener; walk = branch.walk; ends = branch.ends })
+    (record { listener = branch.listener; walk = branch.walk })
 
 -- the ports in front of a leg lead from the talker to where it begins
 lead_leads : (topology : DeclaredTopology) (ports : List ℕ) (branches : List Branch) → AreBranches ports branches
@@ -96,7 +96,7 @@ lead_leads topology ports branches are tree (suc fuel) (suc n) enough within =
     (walk_front topology.ports start leg.listener (leg_at legs b.leg) b.hop leg.walk begins.within)))
 
 -- legs begin one behind the other
-first_rises : (at : ℕ) (branches : List Branch) (end n m : ℕ) → Ascend at branches end → n ≤ m → m ≤ length branches
+pub first_rises : (at : ℕ) (branches : List Branch) (end n m : ℕ) → Ascend at branches end → n ≤ m → m ≤ length branches
     → first_from at branches n ≤ first_from at branches m
 first_rises at branches end n zero ascend h within =
     let same : n ≡ 0 = omega (arith, h) in
@@ -184,18 +184,6 @@ nodes_apart ports talker [] first apart = λ i j d below within. absurd (omega a
 nodes_apart ports talker (p ∷ numbers) first apart =
     subst (λ (n : ℕ). AllPairs (λ a b. a ≢ b) (n ∷ nodes_to ports (p ∷ numbers))) first apart
 
-pub trunk_some : (ports : List Port) (a b : ℕ) (path : List ℕ) → IsWalk ports a b path → a ≢ b → 0 < length path
-trunk_some ports a b [] walk differ = absurd (differ walk)
-trunk_some ports a b (p ∷ path) walk differ = omega arith
-
--- what holds of each node to which a walk leads holds of the last
-pub at_last : (P : ℕ → Type 0) (ports : List Port) (a b : ℕ) (path : List ℕ) → IsWalk ports a b path → 0 < length path
-    → All P (nodes_to ports path) → P b
-at_last P ports a b [] walk some all = absurd (omega arith)
-at_last P ports a b (p ∷ []) walk some all = subst P walk.1 (all 0 0 (omega arith))
-at_last P ports a b (p ∷ q ∷ path) walk some all =
-    at_last P ports (port_at ports p).to b (q ∷ path) walk.1 (omega arith) (λ k d h. all (suc k) d (omega arith))
-
 -- the node to which a port leads
 abbrev to_of : List Port → ℕ → ℕ
 to_of ports q = (port_at ports q).to
@@ -240,51 +228,61 @@ route_some : (topology : DeclaredTopology) (ports : List ℕ) (branches : List B
 route_some topology ports branches are tree zero within =
     let lead : List ℕ = leg_at (leads_of ports branches) 0 in
     let leg : List ℕ = leg_at (legs_of ports branches) 0 in
-    let some : 0 < length leg =
-    trunk_some topology.ports tree.trunk.talker tree.trunk.listener leg tree.trunk.walk tree.trunk.differ in
-    omega (arith, some, length-append lead leg)
+    omega (arith, tree.trunk.some, length-append lead leg)
 route_some topology ports branches are tree (suc n) within =
-    let begins : BeginsEarlier (legs_of ports branches) (1 + n) (get_or branches n no_branch) =
-    begins_at (legs_of ports branches) 1 branches n are.begin (omega arith) in
-    let lead : List ℕ = leg_at (leads_of ports branches) (suc n) in
-    let long : length lead ≡ length (leg_at (leads_of ports branches) (1 + n)) =
-    ap (λ (k : ℕ). length (leg_at (leads_of ports branches) k)) (omega arith) in
     omega (
       arith,
-      begins.later,
-      long,
-      lead-length ports branches n are (omega arith),
-      length-append lead (leg_at (legs_of ports branches) (suc n)),
+      branch_some 0 ports branches n are.places (omega arith),
+      length-append (leg_at (leads_of ports branches) (suc n)) (leg_at (legs_of ports branches) (suc n)),
     )
+
+-- and is a walk from the talker
+pub record RouteLeads (topology : DeclaredTopology) (talker : ℕ) (route : List ℕ) : Type 0 where
+  pub listener : ℕ
+  pub walk : IsWalk topology.ports talker listener route
+  pub some : 0 < length route
+
+pub route_leads : (topology : DeclaredTopology) (ports : List ℕ) (branches : List Branch)
+    → AreBranches ports branches → (tree : IsTree topology ports branches) (n : ℕ) → n ≤ length branches
+    → RouteLeads topology tree.trunk.talker
+    (leg_at (leads_of ports branches) n ++ leg_at (legs_of ports branches) n)
+route_leads topology ports branches are tree n within =
+    let lead : List ℕ = leg_at (leads_of ports branches) n in
+    let own : List ℕ = leg_at (legs_of ports branches) n in
+    let talker : ℕ = tree.trunk.talker in
+    let start : ℕ = start_of topology.ports (legs_of ports branches) branches talker n in
+    let leg : Leads topology start own = leg_leads topology ports branches tree n within in
+    record {
+      listener = leg.listener;
+      walk = walk_join topology.ports talker start leg.listener lead own
+          (lead_leads topology ports branches are tree n n (omega arith) within) leg.walk;
+      some = route_some topology ports branches are tree n within;
+    }
+
+-- so its first port leaves the talker
+pub route_begins : (topology : DeclaredTopology) (ports : List ℕ) (branches : List Branch)
+    → AreBranches ports branches → (tree : IsTree topology ports branches) (n : ℕ) → n ≤ length branches
+    → (port_at topology.ports
+    (get_or (leg_at (leads_of ports branches) n ++ leg_at (legs_of ports branches) n) 0 0)).from ≡ tree.trunk.talker
+route_begins topology ports branches are tree n within =
+    let route : List ℕ = leg_at (leads_of ports branches) n ++ leg_at (legs_of ports branches) n in
+    let leads : RouteLeads topology tree.trunk.talker route = route_leads topology ports branches are tree n within in
+    walk_first topology.ports tree.trunk.talker leads.listener route leads.walk leads.some
 
 pub each_route_is_a_path : EachRouteIsAPath
 each_route_is_a_path topology ports branches are tree n d h =
     let within : n ≤ length branches = omega (arith, h, routes-length ports branches) in
-    let lead : List ℕ = leg_at (leads_of ports branches) n in
-    let own : List ℕ = leg_at (legs_of ports branches) n in
-    let route : List ℕ = lead ++ own in
+    let route : List ℕ = leg_at (leads_of ports branches) n ++ leg_at (legs_of ports branches) n in
     let talker : ℕ = tree.trunk.talker in
-    let start : ℕ = start_of topology.ports (legs_of ports branches) branches talker n in
-    let leg : Leads topology start own = leg_leads topology ports branches tree n within in
-    let walk : IsWalk topology.ports talker leg.listener route =
-    walk_join topology.ports talker start leg.listener lead own
-    (lead_leads topology ports branches are tree n n (omega arith) within) leg.walk in
-    let some : 0 < length route = route_some topology ports branches are tree n within in
-    let trunk : 0 < length (leg_at (legs_of ports branches) 0) =
-    trunk_some topology.ports talker tree.trunk.listener (leg_at (legs_of ports branches) 0) tree.trunk.walk
-    tree.trunk.differ in
+    let leads : RouteLeads topology talker route = route_leads topology ports branches are tree n within in
     let all : AllPairs (λ a b. a ≢ b) (talker ∷ nodes_to topology.ports ports) =
-    nodes_apart topology.ports talker ports (from_talker topology ports branches tree trunk) tree.apart in
+    nodes_apart topology.ports talker ports (from_talker topology ports branches tree tree.trunk.some) tree.apart in
     let apart : AllPairs (λ a b. a ≢ b) (talker ∷ nodes_to topology.ports route) =
     part_apart topology.ports talker route ports (route_part ports branches are n within) all in
     subst (IsValidPath topology) (sym (route-at ports branches n d within)) (record {
       talker = talker;
-      listener = leg.listener;
-      walk = walk;
-      begins = tree.trunk.begins;
-      ends = leg.ends;
-      differ = at_last (λ b. talker ≢ b) topology.ports talker leg.listener route walk some
-          (pairs_head (λ a b. a ≢ b) talker (nodes_to topology.ports route) apart);
-      apart = along_apart topology.ports talker route
-          (walk_first topology.ports talker leg.listener route walk some) apart;
+      listener = leads.listener;
+      some = leads.some;
+      walk = leads.walk;
+      apart = along_apart topology.ports talker route (route_begins topology ports branches are tree n within) apart;
     })

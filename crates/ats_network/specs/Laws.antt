@@ -1,10 +1,12 @@
 use Rattle.std.specs.Prelude.{◌≡◌, ◌≢◌, ◌↔◌, ℕ, ◌<◌, ◌≤◌, List, [], ◌∷◌, length, slice_index_or, Some, None, All}
 use Rattle.std.specs.Prelude.{AllPairs}
-use Rattle.ats_topology.specs.Topology.{DeclaredTopology, IsTopology}
+use Rattle.ats_topology.specs.Topology.{DeclaredTopology, IsStationAt, IsTopology}
 use Rattle.ats_topology.specs.Walks.{IsLeastWalk, NoWalk}
-use Rattle.ats_streams.specs.Branches.{AreBranches, routes_of}
+use Rattle.ats_streams.specs.Branches.{AreBranches, AreShort, routes_of}
 use Rattle.ats_streams.specs.declared.branch.Branch.{Branch}
-use Rattle.ats_network.specs.Path.{IsTree, IsValidPath}
+use Rattle.ats_network.specs.Path.{IsTree, IsValidPath, nodes_along}
+use Rattle.ats_network.specs.Ends.{beginning_of}
+use Rattle.ats_network.specs.Listeners.{end_of}
 use Rattle.ats_network.specs.Bridges.{MeetAtBridge}
 use Rattle.ats_network.specs.Sender.{Sender}
 use Rattle.ats_network.specs.Class.{class_at}
@@ -15,6 +17,11 @@ use Rattle.ats_network.specs.Shortest.{shortest_of}
 -- each sender of a network keeps a sender's rules
 abbrev pub EachIsSender : Type 0
 EachIsSender = (network : DeclaredNetwork) → IsNetwork network → All (IsSender network.topology) (senders_of network)
+
+-- no route of a sender has more ports than its network allows: 16 or 64
+abbrev pub EachRouteIsShort : Type 0
+EachRouteIsShort = (network : DeclaredNetwork) → IsNetwork network
+    → All (λ (s : Sender). AreShort network.most_ports (routes_of s.ports s.branches)) (senders_of network)
 
 -- where each stream of a network has one listener, each sender's ports are a path
 abbrev pub EachSenderHasPath : Type 0
@@ -61,11 +68,26 @@ pub record MakesTree (topology : DeclaredTopology) (routes : List (List ℕ)) : 
   pub tree : IsTree topology ports branches
   pub routes_are : routes_of ports branches ≡ routes
 
--- valid least walks from one station to different ones, 65,536 at most, are the routes of a trunk and branches
+-- no listener is on the way to another one: no walk ends at a node of another walk
+abbrev pub EndApart : DeclaredTopology → List (List ℕ) → Type 0
+EndApart topology walks = (i j : ℕ) → i < length walks → j < length walks → i ≢ j
+    → All (λ node. node ≢ end_of topology.ports (slice_index_or walks i []))
+    (nodes_along topology.ports (slice_index_or walks j []))
+
+-- least walks from one node, 65,536 at most, each a valid path, are the routes of a trunk and branches exactly where no
+-- listener is on the way to another one
 abbrev pub LeastWalksMakeATree : Type 0
 LeastWalksMakeATree = (topology : DeclaredTopology) (talker l : ℕ) (listeners : List ℕ) (r : List ℕ)
-    (walks : List (List ℕ)) → IsTopology topology → AreLeast topology talker (l ∷ listeners) (r ∷ walks)
-    → AllPairs (λ a b. a ≢ b) (l ∷ listeners) → length (l ∷ listeners) ≤ 65536 → MakesTree topology (r ∷ walks)
+    (walks : List (List ℕ)) → AreLeast topology talker (l ∷ listeners) (r ∷ walks)
+    → length (l ∷ listeners) ≤ 65536 → MakesTree topology (r ∷ walks) ↔ EndApart topology (r ∷ walks)
+
+-- stations that are ends of valid paths from one node are on no way to another one: where each path begins at this node
+-- and ends at a station, and no two end at the same, no path ends at a node of another one
+abbrev pub StationsEndApart : Type 0
+StationsEndApart = (topology : DeclaredTopology) (talker : ℕ) (paths : List (List ℕ)) → IsTopology topology
+    → All (IsValidPath topology) paths → All (λ path. beginning_of topology.ports path ≡ talker) paths
+    → All (λ path. IsStationAt topology (end_of topology.ports path)) paths
+    → AllPairs (λ p q. end_of topology.ports p ≢ end_of topology.ports q) paths → EndApart topology paths
 
 -- between two nodes of a topology, the walk that is computed is the least, and there is none only where no walk leads
 -- there

@@ -14,3 +14,4 @@ pub mod PathSteps
 pub mod Shortest
 pub mod Laws
 pub mod Listeners
+pub mod Ends

@@ -9,18 +9,18 @@ use Rattle.ats_streams.specs.Stream.{DeclaredStream}
 abbrev pub end_of : List Port → List ℕ → ℕ
 end_of ports route = (port_at ports (slice_index_or route (length route - 1) 0)).to
 
--- the name of the station at which a route ends
+-- the name of the node at which a route ends
 abbrev pub station_of : DeclaredTopology → List ℕ → List ℕ
 station_of topology route = (node_at topology.nodes (end_of topology.ports route)).name
 
 -- a listener of a stream: the ports of its own leg, the route to it from the talker, and, where it is not the first,
--- the name of its station, by which it is told from the first
+-- the name of its node, by which it is told from the first
 pub record Listener : Type 0 where
   pub name : Option (List ℕ)
   pub leg : List ℕ
   pub route : List ℕ
 
--- the listener of this leg, to which this route leads, by its station's name
+-- the listener of this leg, to which this route leads, by its node's name
 abbrev pub named_listener : DeclaredTopology → List ℕ → List ℕ → Listener
 named_listener topology leg route = record { name = Some (station_of topology route); leg = leg; route = route }
 

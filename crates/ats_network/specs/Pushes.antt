@@ -5,18 +5,20 @@ use Rattle.std.specs.List.{position_from}
 use Rattle.ats_num.specs.Places.{place_of}
 use Rattle.ats_streams.specs.Stream.{DeclaredStream}
 use Rattle.ats_streams.specs.Flow.{DeclaredFlow}
-use Rattle.ats_network.specs.Network.{DeclaredNetwork, declared_network, senders_of, names_of, ports_together}
+use Rattle.ats_network.specs.Network.{DeclaredNetwork, network_within, senders_of, names_of, ports_together}
 use Rattle.ats_network.specs.declared.network.TheConstants.{MAX_STREAMS, MAX_FLOWS, MAX_PORTS_TOGETHER}
 use Rattle.ats_network.specs.declared.fault.PushFault.{PushFault}
 use Rattle.ats_network.specs.declared.fault.PushFault.TheVariants.{NameTaken, IdentityTaken, Limit}
 
 -- the network with one stream more, the last of them
 abbrev pub with_stream : DeclaredNetwork → DeclaredStream → DeclaredNetwork
-with_stream network stream = declared_network network.topology (network.streams ++ stream ∷ []) network.flows
+with_stream network stream =
+    network_within network.topology network.most_ports (network.streams ++ stream ∷ []) network.flows
 
 -- the network with one flow more, the last of them
 abbrev pub with_flow : DeclaredNetwork → DeclaredFlow → DeclaredNetwork
-with_flow network flow = declared_network network.topology network.streams (network.flows ++ flow ∷ [])
+with_flow network flow =
+    network_within network.topology network.most_ports network.streams (network.flows ++ flow ∷ [])
 
 -- a sender of the network has this name
 abbrev pub is_name_taken : DeclaredNetwork → List ℕ → Bool

@@ -35,7 +35,7 @@ AllNeighbours R [] = Unit {0}
 AllNeighbours R (p ∷ []) = Unit {0}
 AllNeighbours R (p ∷ q ∷ path) = R p q × AllNeighbours R (q ∷ path)
 
--- what each sender of a network keeps: legs that make a tree of different ports of the topology; routes of 1 to 16
+-- what each sender of a network keeps: legs that make a tree of different ports of the topology; routes of 1 to 64
 -- ports, each of them a valid path whose ports meet at bridges; a class of at most 7 for each port, and sizes of
 -- frames; and, where its class at a port is not 0, a rate and a burst as a declared stream has them
 pub record IsSender (topology : DeclaredTopology) (sender : Sender) : Type 0 where
@@ -52,7 +52,7 @@ pub record IsSender (topology : DeclaredTopology) (sender : Sender) : Type 0 whe
   pub shaped : (port : ℕ) → 1 ≤ class_at sender port
       → KeepsRules sender.rate sender.burst_bits sender.min_octets sender.max_octets
 
--- what a sender with one listener keeps besides: its ports are a valid path of 1 to 16, and they meet at bridges
+-- what a sender with one listener keeps besides: its ports are a valid path of 1 to 64, and they meet at bridges
 pub record HasPath (topology : DeclaredTopology) (sender : Sender) : Type 0 where
   pub one_listener : sender.branches ≡ []
   pub path : IsPath sender.ports

@@ -1,12 +1,18 @@
 //! Laws of the definitions.
 
-ghost use Rattle.ats_network.specs.Laws.{ClassIsByHop, EachIsSender, EachRouteIsAPath, EachSenderHasPath};
+ghost use Rattle.ats_network.specs.Laws.{ClassIsByHop, EachIsSender, EachRouteIsAPath, EachRouteIsShort};
+ghost use Rattle.ats_network.specs.Laws.{EachSenderHasPath};
 ghost use Rattle.ats_network.specs.Laws.{OneListenerIsAPath};
-ghost use Rattle.ats_network.specs.Laws.{LeastWalksMakeATree, PathsMeetAtBridges, ShortestIsLeast};
+ghost use Rattle.ats_network.specs.Laws.{LeastWalksMakeATree, PathsMeetAtBridges, ShortestIsLeast, StationsEndApart};
 
 /// A law: each sender of a network keeps a sender's rules.
 pub fn each_is_sender()
     ensures { EachIsSender }
+{}
+
+/// A law: no route of a sender has more ports than its network allows, which is 16 or 64.
+pub fn each_route_is_short()
+    ensures { EachRouteIsShort }
 {}
 
 /// A law: where each stream of a network has one listener, each sender's ports are a path.
@@ -41,7 +47,13 @@ pub fn shortest_is_least()
     ensures { ShortestIsLeast }
 {}
 
-/// A law: valid least walks from one station to different ones are the routes of a trunk and branches.
+/// A law: valid least walks from one node are the routes of a trunk and branches exactly where no listener is on the
+/// way to another one.
 pub fn least_walks_make_a_tree()
     ensures { LeastWalksMakeATree }
+{}
+
+/// A law: no station is on the way to another one, of valid paths from one node to different stations.
+pub fn stations_end_apart()
+    ensures { StationsEndApart }
 {}

@@ -12,6 +12,6 @@ mod stream_table;
 
 pub use fault::PushFault;
 pub use network::Network;
-pub use paths::{is_valid_path, station_of};
+pub use paths::{is_valid_path, joins_stations, station_of};
 pub use routes::{shortest, shortest_kept};
 pub use sender::Sender;

@@ -8,9 +8,10 @@ ghost use Rattle.ats_streams.specs.Branches.{leg_at, legs_of, routes_of};
 ghost use Rattle.ats_streams.specs.Path.{IsPath};
 ghost use Rattle.ats_streams.specs.Rules.{CoversLongest, IsBurst};
 ghost use Rattle.ats_streams.specs.Stream.{DeclaredStream, IsClass};
+ghost use Rattle.ats_streams.specs.declared.path.TheConstants.{MAX_PORTS};
 ghost use Rattle.ats_network.specs.Listeners.{station_of};
-ghost use Rattle.ats_network.specs.Network.{HasOneListener, IsNetwork, declared_network, senders_of, names_of};
-ghost use Rattle.ats_network.specs.Network.{ports_together};
+ghost use Rattle.ats_network.specs.Network.{HasOneListener, HasShortPath, HasShortRoutes, IsMostPorts, IsNetwork};
+ghost use Rattle.ats_network.specs.Network.{network_within, senders_of, names_of, ports_together};
 ghost use Rattle.ats_network.specs.Path.{IsTree, IsValidPath};
 ghost use Rattle.ats_network.specs.Class.{class_at};
 ghost use Rattle.ats_network.specs.Senders.{IsSender, sender_at};
@@ -35,7 +36,7 @@ use std::marker::Model;
 pub const MAX_STREAMS: usize = 4096;
 
 /// The most flows of a network.
-pub const MAX_FLOWS: usize = 1024;
+pub const MAX_FLOWS: usize = 4096;
 
 /// The most ports of all streams of a network, counted together.
 pub const MAX_PORTS_TOGETHER: usize = 65_536;
@@ -43,32 +44,36 @@ pub const MAX_PORTS_TOGETHER: usize = 65_536;
 /// A network: nodes and links with their ports, and the streams and flows that are declared over
 /// them. Each flow has a valid path, the legs of each stream make a tree, each has a name of its own, and no two
 /// streams declare one destination address and VLAN identifier. The streams in their order and then the flows in
-/// theirs are the senders, numbered from 0. Contracts see the topology and the two lists.
+/// theirs are the senders, numbered from 0. No route has more ports than the network's greatest number of ports of a
+/// route, which is 16 or 64. Contracts see the topology, this number and the two lists.
 #[derive(Drop)]
 pub struct Network {
     shape: Topology,
+    most_ports: u32,
     stream_table: StreamTable,
     flow_table: FlowTable,
 }
 
 impl Model for Network {
-    ghost use Rattle.ats_network.specs.Network.{DeclaredNetwork, IsNetwork, declared_network};
+    ghost use Rattle.ats_network.specs.Network.{DeclaredNetwork, IsNetwork, network_within};
 
     ghost Value = { DeclaredNetwork };
 
-    ghost view = { λ n. declared_network n.shape n.stream_table n.flow_table };
+    ghost view = { λ n. network_within n.shape n.most_ports n.stream_table n.flow_table };
 
-    ghost invariant = { λ n. IsNetwork (declared_network n.shape n.stream_table n.flow_table) };
+    ghost invariant = { λ n. IsNetwork (network_within n.shape n.most_ports n.stream_table n.flow_table) };
 }
 
 impl Network {
-    /// The network of these nodes and links, without streams and flows.
-    pub fn new(alloc: Global, topology: Topology) -> Self
-        ensures { result ≡ declared_network topology [] [] }
+    /// The network of these nodes and links, without streams and flows, whose routes may have so many ports: 16 or 64.
+    pub fn new(alloc: Global, topology: Topology, most_ports: u32) -> Self
+        requires { IsMostPorts most_ports }
+        ensures { result ≡ network_within topology most_ports [] [] }
     {
         let _ports = topology.ports(); // for what a topology keeps
         Network {
             shape: topology,
+            most_ports,
             stream_table: StreamTable::new(alloc),
             flow_table: FlowTable::new(alloc),
         }
@@ -80,6 +85,15 @@ impl Network {
         ensures rules { IsNetwork self.now }
     {
         &self.shape
+    }
+
+    /// The most ports that a route may have: 16 or 64.
+    pub fn most_ports(&self) -> u32
+        ensures value { result ≡ self.now.most_ports }
+        ensures most { result ≤ MAX_PORTS }
+        ensures rules { IsNetwork self.now }
+    {
+        self.most_ports
     }
 
     /// The streams, in order.
@@ -207,7 +221,7 @@ impl Network {
         self.sender(sender).name()
     }
 
-    /// The name of the station of the listener to which one leg of a stream leads, counted from 0.
+    /// The name of the listener to which one leg of a stream leads, counted from 0: of the node at which it ends.
     pub fn listener(&self, stream: u32, leg: u32) -> Name
         requires stream { stream < length self.now.streams }
         requires leg { leg ≤ length (slice_index_or self.now.streams stream no_stream).branches }
@@ -228,9 +242,9 @@ impl Network {
         have_one_listener(self.streams())
     }
 
-    /// Whether a stream or a flow of this network may have these ports as its path: each exists and
-    /// leaves the node to which the one before leads, the path begins and ends at different
-    /// stations, and no node occurs twice. A path may be of any length here. It takes no memory.
+    /// Whether a stream or a flow of this network may have these ports as its path: there is one at
+    /// least, each exists and leaves the node to which the one before leads, and no node occurs
+    /// twice. A path may be of any length here. It takes no memory.
     pub fn valid_path(&self, path: &[u32]) -> bool
         ensures valid { IsTrue result ↔ IsValidPath self.now.topology path.now }
         ensures rules { IsNetwork self.now }
@@ -254,8 +268,8 @@ impl Network {
         }
     }
 
-    /// Adds a stream whose legs make a tree as the last of the streams, of which there may be 4096, with 65,536 ports
-    /// together. All else stays.
+    /// Adds a stream whose legs make a tree, and whose routes have at most `most_ports` ports, as the last of the
+    /// streams, of which there may be 4096, with 65,536 ports together. All else stays.
     ///
     /// # Errors
     ///
@@ -266,6 +280,7 @@ impl Network {
     /// memory runs out.
     pub fn push_stream(&mut self, stream: Stream) -> Result<(), Failure<PushFault>>
         requires tree { IsTree self.old.topology stream.ports stream.branches }
+        requires short { HasShortRoutes self.old.most_ports stream }
         ensures ok { OnOk result (self.new ≡ with_stream self.old stream) }
         ensures sound { OnOk result (stream_push_fault self.old stream ≡ None) }
         ensures fault { IfErr result (λ fault. IsDue fault (stream_push_fault self.old stream)) }
@@ -317,15 +332,17 @@ impl Network {
         self.stream_table.take(name)
     }
 
-    /// Adds a flow with a valid path as the last of the flows, of which there may be 1024. All else stays.
+    /// Adds a flow with a valid path, of at most `most_ports` ports, as the last of the flows, of which there may be
+    /// 4096. All else stays.
     ///
     /// # Errors
     ///
     /// The network stays as it was. The first of these, in this order: `NameTaken` exactly where a
-    /// stream or a flow has the name; `Limit` exactly where 1024 flows are there;
+    /// stream or a flow has the name; `Limit` exactly where 4096 flows are there;
     /// `Failure::NoMemory` where memory runs out.
     pub fn push_flow(&mut self, flow: Flow) -> Result<(), Failure<PushFault>>
-        requires { IsValidPath self.old.topology flow.path }
+        requires valid { IsValidPath self.old.topology flow.path }
+        requires short { HasShortPath self.old.most_ports flow }
         ensures ok { OnOk result (self.new ≡ with_flow self.old flow) }
         ensures sound { OnOk result (flow_push_fault self.old flow ≡ None) }
         ensures fault { IfErr result (λ fault. IsDue fault (flow_push_fault self.old flow)) }

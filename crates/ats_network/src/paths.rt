@@ -2,7 +2,9 @@
 
 ghost use Rattle.std.specs.Prelude.{◌≡◌, ◌↔◌, ◌<◌, length, IsTrue};
 ghost use Rattle.ats_topology.specs.Walks.{ArePorts};
-ghost use Rattle.ats_topology.specs.Topology.{IsStationAt};
+ghost use Rattle.ats_topology.specs.Node.{is_station};
+ghost use Rattle.ats_topology.specs.Topology.{node_at};
+ghost use Rattle.ats_network.specs.Ends.{joins_stations};
 ghost use Rattle.ats_network.specs.Listeners.{station_of};
 ghost use Rattle.ats_network.specs.Path.{IsValidPath};
 ghost use Rattle.ats_network.specs.PathSteps.{walk_end, ends_of, comes_to, part_ways};
@@ -10,22 +12,16 @@ ghost use Rattle.ats_network.specs.PathSteps.{walk_end, ends_of, comes_to, part_
 use ats_num::Name;
 use ats_topology::{Port, Topology};
 
-/// Whether these are the numbers of the ports of a valid path: each exists and leaves the node to
-/// which the one before leads, the path begins and ends at different stations, and no node occurs
-/// twice. It takes no memory, and compares each two ports of the path at most once.
+/// Whether these are the numbers of the ports of a valid path: there is one at least, each exists and
+/// leaves the node to which the one before leads, and no node occurs twice. It takes no memory, and
+/// compares each two ports of the path at most once.
 pub fn is_valid_path(topology: &Topology, path: &[u32]) -> bool
     ensures { IsTrue result ↔ IsValidPath topology.now path.now }
 {
     let ports = topology.ports();
-    let Some((talker, listener)) = ends(ports, path) else {
+    let Some((talker, _)) = ends(ports, path) else {
         return false;
     };
-    if !is_station_at(topology, talker) {
-        return false;
-    }
-    if !is_station_at(topology, listener) {
-        return false;
-    }
     if comes_to(ports, talker, path) {
         return false;
     }
@@ -40,16 +36,6 @@ fn ends(ports: &[Port], path: &[u32]) -> Option<(u32, u32)>
     let from = ports.get(*first as usize)?.from;
     let to = walk_end(ports, from, path)?;
     Some((from, to))
-}
-
-// Whether this is the number of a station.
-fn is_station_at(topology: &Topology, node: u32) -> bool
-    ensures { IsTrue result ↔ IsStationAt topology.now node }
-{
-    match topology.nodes().get(node as usize) {
-        Some(node) => node.kind.is_station(),
-        None => false,
-    }
 }
 
 // The node to which a walk from a node along these ports leads, if they make one.
@@ -88,7 +74,27 @@ fn part_ways(ports: &[Port], path: &[u32]) -> bool
     true
 }
 
-/// The name of the station at which a route ends, or of the node there.
+/// Whether a route begins and ends at stations.
+pub fn joins_stations(topology: &Topology, route: &[u32]) -> bool
+    requires some { 0 < length route.now }
+    requires ports { ArePorts topology.now.ports route.now }
+    ensures { result ≡ joins_stations topology.now route.now }
+{
+    let ports = topology.ports();
+    let first = ports[route[0] as usize].from;
+    let last = ports[route[route.len() - 1] as usize].to;
+    is_station(topology, first) && is_station(topology, last)
+}
+
+// Whether a node is a station.
+fn is_station(topology: &Topology, node: u32) -> bool
+    requires { node < length topology.now.nodes }
+    ensures { result ≡ is_station (node_at topology.now.nodes node).kind }
+{
+    topology.nodes()[node as usize].kind.is_station()
+}
+
+/// The name of the node at which a route ends.
 pub fn station_of(topology: &Topology, route: &[u32]) -> Name
     requires some { 0 < length route.now }
     requires ports { ArePorts topology.now.ports route.now }

@@ -9,8 +9,8 @@ use Rattle.std.proofs.lemmas.Option.{none-some}
 use Rattle.std.proofs.lemmas.List.{get_or_append_left, get_or-append-add, get_or-take}
 use Rattle.ats_streams.specs.Branches.{AreBranches, BeginsEarlier, leads_of, leg_at, legs_of, no_branch, routes_of}
 use Rattle.ats_streams.specs.declared.branch.Branch.{Branch}
-use Rattle.ats_streams.proofs.BranchLemmas.{begins_at, lead_of, lead_of_trunk, lead-length, legs-length, route-at}
-use Rattle.ats_streams.proofs.BranchLemmas.{routes-length}
+use Rattle.ats_streams.proofs.BranchLemmas.{begins_at, behind_or_talker, lead_of, lead_of_trunk, lead-length}
+use Rattle.ats_streams.proofs.BranchLemmas.{legs-length, route-at, routes-length}
 use Rattle.ats_topology.specs.Topology.{DeclaredTopology}
 use Rattle.ats_network.specs.Class.{before_along, before_on, port_before}
 use Rattle.ats_network.specs.Sender.{Sender}
@@ -19,7 +19,7 @@ use Rattle.ats_network.proofs.ClassLemmas.{before_along-at}
 use Rattle.ats_network.proofs.Parts.{part_pairs}
 use Rattle.ats_network.proofs.ValidRoutes.{route_part}
 use Rattle.ats_trace.proofs.Legs.{concat-legs_of}
-use Rattle.ats_route_law.specs.Laws.{PortBeforeIsOne, in_front_of, ports_of_leg}
+use Rattle.ats_route_law.specs.Laws.{PortBeforeIsOne, before_hop, in_front_of, ports_of_leg}
 use Rattle.ats_route_law.proofs.Places.{IsAt, at_one}
 
 -- the ports in front of a leg of a sender, and the route that ends with it
@@ -78,6 +78,29 @@ in_leg s n h within short i is =
       front = ap (λ (p : ℕ). Some p) (sym here);
     }
 
+-- a branch with ports in front of it does not begin at the talker
+later_where_led : (s : Sender) (n : ℕ) → AreBranches s.ports s.branches → n < length s.branches
+    → 1 ≤ length (lead_on s (suc n)) → 1 ≤ (get_or s.branches n no_branch).hop
+later_where_led s n are within some =
+    by (behind_or_talker legs (1 + n) b (begins_at legs 1 s.branches n are.begin within))
+  where
+    legs : List (List ℕ)
+    legs = legs_of s.ports s.branches
+
+    b : Branch
+    b = get_or s.branches n no_branch
+
+    by : (1 ≤ b.hop) ⊎ ((b.leg ≡ 0) × (b.hop ≡ 0)) → 1 ≤ (get_or s.branches n no_branch).hop
+    by (inl later) = later
+    by (inr at) = absurd (omega (
+      arith,
+      some,
+      lead_long s n are within,
+      at.1,
+      ap (λ (k : ℕ). length (lead_on s k)) at.0,
+      ap (λ (l : List ℕ). length l) (lead_of_trunk s.ports s.branches),
+    ))
+
 -- and where a branch begins
 at_begin : (s : Sender) (n : ℕ) → AreBranches s.ports s.branches → n < length s.branches
     → 0 < length (ports_of_leg s (suc n)) → (i : ℕ) → suc i ≡ length (lead_on s (suc n))
@@ -85,20 +108,21 @@ at_begin : (s : Sender) (n : ℕ) → AreBranches s.ports s.branches → n < len
 at_begin s n are within some i is =
     let legs : List (List ℕ) = legs_of s.ports s.branches in
     let b : Branch = get_or s.branches n no_branch in
-    let begins : BeginsEarlier legs (1 + n) b = begins_at legs 1 s.branches n are.begin within in
+    let later : 1 ≤ b.hop = later_where_led s n are within (omega (arith, is)) in
     let lead : List ℕ = lead_on s (suc n) in
     let leg : List ℕ = ports_of_leg s (suc n) in
     let before : List ℕ = lead_on s b.leg in
     let own : List ℕ = ports_of_leg s b.leg in
     let lead_is : lead ≡ before ++ take b.hop own = lead_next s n are within in
     let long : length lead ≡ b.hop + length before = lead_long s n are within in
-    let last : i ≡ length before + (b.hop - 1) = omega (arith, is, long, begins.later) in
+    let last : i ≡ length before + (b.hop - 1) = omega (arith, is, long, later) in
+    let hop_is : b.hop ≡ suc (b.hop - 1) = omega (arith, later) in
     let here : get_or (lead ++ leg) i 0 ≡ get_or own (b.hop - 1) 0 =
     get_or_append_left lead leg 0 i (omega (arith, is))
     ∙ ap (λ (l : List ℕ). get_or l i 0) lead_is
     ∙ ap (λ (k : ℕ). get_or (before ++ take b.hop own) k 0) last
     ∙ get_or-append-add before (take b.hop own) (b.hop - 1) 0
-    ∙ get_or-take b.hop own (b.hop - 1) 0 (omega (arith, begins.later)) in
+    ∙ get_or-take b.hop own (b.hop - 1) 0 (omega (arith, later)) in
     let next : suc i ≡ length lead + 0 = omega (arith, is) in
     let there : get_or (lead ++ leg) (suc i) 0 ≡ get_or leg 0 0 =
     ap (λ (k : ℕ). get_or (lead ++ leg) k 0) next ∙ get_or-append-add lead leg 0 0 in
@@ -106,7 +130,7 @@ at_begin s n are within some i is =
       leg = suc n;
       hop = 0;
       at = record { in_legs = omega (arith, legs-length 0 s.ports s.branches, within); in_leg = some; is = sym there };
-      front = ap (λ (p : ℕ). Some p) (sym here);
+      front = ap (before_hop own) hop_is ∙ ap (λ (p : ℕ). Some p) (sym here);
     }
 
 -- and in front of it, where it is so on the route to the leg at which the branch begins
@@ -238,9 +262,15 @@ not_first : (s : Sender) (leg hop x : ℕ) → AreBranches s.ports s.branches �
 not_first s leg (suc hop) x are within has = omega arith
 not_first s zero zero x are within has = absurd (none-some x has)
 not_first s (suc n) zero x are within has =
-    let begins : BeginsEarlier (legs_of s.ports s.branches) (1 + n) (get_or s.branches n no_branch) =
-    begins_at (legs_of s.ports s.branches) 1 s.branches n are.begin (omega arith) in
-    omega (arith, lead_long s n are (omega arith), begins.later)
+    by (get_or s.branches n no_branch).hop (lead_long s n are (omega arith)) has
+  where
+    own : List ℕ
+    own = ports_of_leg s (get_or s.branches n no_branch).leg
+
+    by : (hop : ℕ) → length (lead_on s (suc n)) ≡ hop + length (lead_on s (get_or s.branches n no_branch).leg)
+        → before_hop own hop ≡ Some x → 1 ≤ length (lead_on s (suc n)) + 0
+    by zero long has = absurd (none-some x has)
+    by (suc hop) long has = omega (arith, long)
 
 -- the port before another one is before it on some route
 before_on-found : (q x : ℕ) (routes : List (List ℕ)) → before_on q routes ≡ Some x

@@ -1,39 +1,20 @@
 -- Where the routes of a sender end.
-use Rattle.std.proofs.Common.{◌≡◌, ℕ, zero, suc, ◌+◌, ◌-◌, ◌<◌, ◌≤◌, List, [], ◌∷◌, ◌++◌, length, get_or, ap, ◌∙◌}
-use Rattle.std.proofs.Common.{arith}
-use Rattle.std.proofs.Common.{drop, length-append, length-drop, length-take}
+use Rattle.std.proofs.Common.{◌≡◌, ℕ, zero, suc, ◌+◌, ◌-◌, ◌<◌, ◌≤◌, List, [], ◌++◌, length, get_or, ap, ◌∙◌}
+use Rattle.std.proofs.Common.{arith, length-append}
 use Rattle.std.proofs.lemmas.List.{get_or-append-add}
-use Rattle.ats_streams.specs.Branches.{Ascend, leads_of, leg_at, legs_from, legs_of, routes_of}
-use Rattle.ats_streams.specs.declared.branch.Branch.{Branch}
+use Rattle.ats_streams.specs.Branches.{leads_of, leg_at, legs_of, routes_of}
 use Rattle.ats_streams.proofs.BranchLemmas.{route-at}
+use Rattle.ats_streams.proofs.Places.{branch_some}
 use Rattle.ats_topology.specs.Port.{port_at}
 use Rattle.ats_topology.specs.Topology.{DeclaredTopology, node_at}
 use Rattle.ats_network.specs.Listeners.{end_of, station_of}
 use Rattle.ats_network.specs.Sender.{Sender}
 use Rattle.ats_network.specs.Senders.{IsSender}
-use Rattle.ats_network.proofs.ValidRoutes.{trunk_some}
 
--- the leg of a branch has a port
-pub branch_some : (at : ℕ) (ports : List ℕ) (branches : List Branch) (n : ℕ) → Ascend at branches (length ports)
-    → n < length branches → 0 < length (leg_at (legs_from at ports branches) (suc n))
-branch_some at ports [] n ascend within = absurd (omega arith)
-branch_some at ports (b ∷ []) zero ascend within = omega (arith, length-drop b.first ports, ascend.1)
-branch_some at ports (b ∷ c ∷ branches) zero ascend within = omega (
-  arith,
-  length-take (c.first - b.first) (drop b.first ports),
-  length-drop b.first ports,
-  ascend.1,
-  ascend.2.0,
-  ascend.2.1,
-)
-branch_some at ports (b ∷ branches) (suc n) ascend within =
-    branch_some b.first ports branches n ascend.2 (omega arith)
-
+-- each leg has a port
 pub leg_some : (topology : DeclaredTopology) (s : Sender) (n : ℕ) → IsSender topology s → n ≤ length s.branches
     → 0 < length (leg_at (legs_of s.ports s.branches) n)
-leg_some topology s zero is within =
-    trunk_some topology.ports is.tree.trunk.talker is.tree.trunk.listener (leg_at (legs_of s.ports s.branches) 0)
-    is.tree.trunk.walk is.tree.trunk.differ
+leg_some topology s zero is within = is.tree.trunk.some
 leg_some topology s (suc n) is within = branch_some 0 s.ports s.branches n is.branches.places (omega (arith, within))
 
 -- the last port of a leg
@@ -57,7 +38,7 @@ route_ends topology s n is within =
     ap (end_of topology.ports) (route-at s.ports s.branches n [] within)
     ∙ ap (λ (p : ℕ). (port_at topology.ports p).to) (last_same lead leg (leg_some topology s n is within))
 
--- so at the station to which its leg leads
+-- so at the node to which its leg leads
 pub station_at_end : (topology : DeclaredTopology) (s : Sender) (n : ℕ) → IsSender topology s → n ≤ length s.branches
     → station_of topology (leg_at (routes_of s.ports s.branches) n)
     ≡ station_of topology (leg_at (legs_of s.ports s.branches) n)

@@ -1,8 +1,7 @@
 -- Nodes of ports that are apart.
-use Rattle.std.proofs.Common.{◌≡◌, ◌≢◌, ℕ, zero, suc, ◌+◌, ◌<◌, ◌≤◌, false, List, [], ◌∷◌, ◌++◌, length, drop, get_or}
-use Rattle.std.proofs.Common.{◌⊎◌, inl, inr, sym, ap, subst, ◌∙◌, arith, length-append}
+use Rattle.std.proofs.Common.{◌≡◌, ◌≢◌, ℕ, zero, suc, ◌+◌, ◌<◌, false, List, [], ◌∷◌, ◌++◌, length, drop, get_or}
+use Rattle.std.proofs.Common.{sym, ap, subst, ◌∙◌, arith, length-append}
 use Rattle.std.specs.List.{All, AllPairs}
-use Rattle.std.proofs.lemmas.Bool.{cases_lt}
 use Rattle.std.proofs.lemmas.List.{get_or-append-add, get_or-map, get_or_append_left, length-map, map-append}
 use Rattle.std.proofs.lemmas.List.Elements.{All-append, All-cons, All-head, All-tail}
 use Rattle.std.proofs.lemmas.List.Kept.{AllPairs-cons}
@@ -98,24 +97,6 @@ behind_out ports numbers own apart = λ k d within.
   where
     to : ℕ → ℕ
     to p = (port_at ports p).to
-
--- the same node twice along ports that lead to different ones is at one place
-pub one_place : (ports : List Port) (numbers : List ℕ) (i j : ℕ) → AllPairs (λ a b. a ≢ b) (nodes_to ports numbers)
-    → i < length numbers → j < length numbers
-    → (port_at ports (get_or numbers i 0)).to ≡ (port_at ports (get_or numbers j 0)).to → i ≡ j
-one_place ports numbers i j apart first second same = by (cases_lt i j) (cases_lt j i)
-  where
-    to : ℕ → ℕ
-    to p = (port_at ports p).to
-
-    never : (m n : ℕ) → m < n → n < length numbers → to (get_or numbers m 0) ≡ to (get_or numbers n 0) → ⊥
-    never m n below within e = apart m n 0 below (omega (arith, within, length-map numbers to))
-        (get_or-map to numbers m 0 0 (omega (arith, below, within)) ∙ e ∙ sym (get_or-map to numbers n 0 0 within))
-
-    by : (i < j) ⊎ (j ≤ i) → (j < i) ⊎ (i ≤ j) → i ≡ j
-    by (inl below) other = absurd (never i j below second same)
-    by (inr past) (inl above) = absurd (never j i above first (sym same))
-    by (inr past) (inr under) = omega (arith, past, under)
 
 -- the nodes of a path without its first one
 pub to_apart : (ports : List Port) (numbers : List ℕ) → AllPairs (λ a b. a ≢ b) (nodes_along ports numbers)

@@ -5,7 +5,7 @@ use Rattle.std.proofs.Common.{ltb}
 use Rattle.std.proofs.Common.{length-drop, length-take}
 use Rattle.std.specs.Global.{Vec}
 use Rattle.std.specs.Prelude.{option_and_then}
-use Rattle.std.specs.List.{All, list_any, position_from}
+use Rattle.std.specs.List.{All, list_any}
 use Rattle.std.specs.Str.{bytes_eq}
 use Rattle.std.proofs.lemmas.Bool.{eqb-true, false≢true, lt-ltb, ltb-false}
 use Rattle.std.proofs.lemmas.Bool.Decides.{Decides-eqb}
@@ -17,7 +17,7 @@ use Rattle.std.proofs.lemmas.Map.Steps.{length-le_from_distinct_below}
 use Rattle.ats_streams.specs.Branches.{AreBranches, first_from, leg_at, legs_of, no_branch, routes_of}
 use Rattle.ats_streams.proofs.BranchLemmas.{Spans, routes-length}
 use Rattle.ats_streams.specs.declared.branch.Branch.{Branch}
-use Rattle.ats_topology.specs.Port.{leads_to, no_port, port_at}
+use Rattle.ats_topology.specs.Port.{no_port, port_at}
 use Rattle.ats_topology.specs.Topology.{DeclaredTopology, IsTopology}
 use Rattle.ats_topology.specs.Walks.{ArePorts}
 use Rattle.ats_topology.specs.declared.port.Port.{Port}
@@ -27,10 +27,11 @@ use Rattle.ats_network.proofs.PathLemmas.{nodes_to, walk_ports}
 use Rattle.ats_network.proofs.TreeLemmas.{tree_ports}
 use Rattle.ats_route_tree.specs.Legs.{DeclaredLegs}
 use Rattle.ats_route_tree.specs.LegsView.{routes_in}
-use Rattle.ats_route_tree.specs.Steps.{branch_behind, goes_off, grown, grown_where, known_ports, leg_with, node_after}
-use Rattle.ats_route_tree.specs.Steps.{place_to, with_known, with_route}
+use Rattle.ats_route_tree.specs.Steps.{branch_behind, branch_first, goes_off, goes_off_first, grown, grown_where}
+use Rattle.ats_route_tree.specs.Steps.{known_ports, leg_with, node_after}
+use Rattle.ats_route_tree.specs.Steps.{place_to, with_first, with_known, with_route}
 use Rattle.ats_route_tree.proofs.Apart.{to_apart}
-use Rattle.ats_route_tree.proofs.Known.{are_known, is_in, known_are, none_known}
+use Rattle.ats_route_tree.proofs.Known.{is_in, known_are, known_more, none_known}
 use Rattle.ats_route_tree.proofs.Places.{first_step}
 
 -- a port of the topology
@@ -152,43 +153,25 @@ span_length ports branches leg from to s =
       length-drop from ports,
     )
 
--- no port that is found leads to a node to which none leads
-none_found : (test : ℕ → Bool) (n : ℕ) (xs : List ℕ) → list_any test xs ≡ false → position_from test n xs ≡ None
-none_found test n [] h = refl
-none_found test n (x ∷ xs) h = by (test x) h (none_found test (n + 1) xs)
-  where
-    by : (t : Bool) → (t || list_any test xs) ≡ false
-        → (list_any test xs ≡ false → position_from test (n + 1) xs ≡ None)
-        → cond t (Some n) (position_from test (n + 1) xs) ≡ None
-    by true h more = absurd (false≢true (sym h))
-    by false h more = more h
-
--- a route none of whose ports is known does not go off
-pub none_known_none : (topology : DeclaredTopology) (legs : DeclaredLegs) (route : List ℕ) → 0 < length route
-    → known_ports topology.ports legs.ports route ≡ 0 → with_route topology legs route ≡ None
-none_known_none topology legs route some none =
-    ap (λ (n : ℕ). with_known topology legs route n) none
-    ∙ ap (option_and_then (λ place. grown_where legs route 0 (branch_behind legs place)))
-    (none_found (λ p. leads_to (node_after topology.ports route 0) (port_at topology.ports p)) 0 legs.ports out)
-  where
-    all : All (λ p. is_in topology.ports legs.ports p ≡ false) route
-    all = subst (λ (n : ℕ). All (λ p. is_in topology.ports legs.ports p ≡ false) (drop n route)) none
-        (are_known topology.ports legs.ports route).out
-
-    out : is_in topology.ports legs.ports (get_or route 0 0) ≡ false
-    out = all 0 0 some
-
 -- the legs with one branch more
 pub grown_is : (topology : DeclaredTopology) (legs : DeclaredLegs) (route : List ℕ) (count place : ℕ) (b : Branch)
-    (next : DeclaredLegs) → known_ports topology.ports legs.ports route ≡ count
+    (next : DeclaredLegs) → 0 < count → known_ports topology.ports legs.ports route ≡ count
     → place_to topology.ports (node_after topology.ports route count) legs.ports ≡ Some place
     → branch_behind legs place ≡ b → goes_off legs route count b ≡ true → grown legs route count b ≡ next
     → with_route topology legs route ≡ Some next
-grown_is topology legs route count place b next known there branch passes same =
+grown_is topology legs route count place b next some known there branch passes same =
     ap (λ (n : ℕ). with_known topology legs route n) known
+    ∙ known_more topology legs route count some
     ∙ ap (option_and_then (λ p. grown_where legs route count (branch_behind legs p))) there
     ∙ ap (λ (c : Branch). grown_where legs route count c) branch
     ∙ ap (λ (t : Bool). cond t (Some (grown legs route count b)) None) passes ∙ ap Some same
+
+-- a route goes off at the talker by its tests
+pub first_is : (ports : List Port) (legs : DeclaredLegs) (route : List ℕ) (next : DeclaredLegs)
+    → goes_off_first ports legs route ≡ true → grown legs route 0 (branch_first legs) ≡ next
+    → Some next ≡ with_first ports legs route
+first_is ports legs route next passes same =
+    sym (ap (λ (t : Bool). cond t (Some (grown legs route 0 (branch_first legs))) None) passes ∙ ap Some same)
 
 -- the route of a leg among the routes that are given
 pub route_at_leg : (routes : List (Vec ℕ)) (all : List (List ℕ)) (leg : ℕ) (r : Vec ℕ) → routes_in routes ≡ all

@@ -1,7 +1,7 @@
 -- Legs with a branch for one route more.
-use Rattle.std.proofs.Common.{◌≡◌, ◌≢◌, ℕ, suc, ◌+◌, ◌-◌, ◌<◌, ◌≤◌, Bool, true, false, cond, ◌&&◌, List, []}
+use Rattle.std.proofs.Common.{◌≡◌, ◌≢◌, ℕ, zero, suc, ◌+◌, ◌-◌, ◌<◌, ◌≤◌, Bool, true, false, cond, ◌&&◌, List, []}
 use Rattle.std.proofs.Common.{◌∷◌, ◌++◌, length, take, drop, get_or, ◌⊎◌, inl, inr, Option, Some, None, refl, sym, ap}
-use Rattle.std.proofs.Common.{subst, ◌∙◌, arith, ltb, length-append, length-drop, length-take}
+use Rattle.std.proofs.Common.{subst, ◌∙◌, arith, eqb, ltb, length-append, length-drop, length-take}
 use Rattle.std.specs.Prelude.{option_and_then}
 use Rattle.std.specs.List.{AllPairs}
 use Rattle.std.specs.Str.{bytes_eq}
@@ -14,23 +14,27 @@ use Rattle.ats_facts.proofs.Bytes.{bytes_eq-true}
 use Rattle.ats_streams.specs.Branches.{AreBranches, BeginsEarlier, first_from, lead_to, leads_of, leg_at, legs_of}
 use Rattle.ats_streams.specs.Branches.{no_branch, routes_of}
 use Rattle.ats_streams.specs.declared.branch.Branch.{Branch}
-use Rattle.ats_streams.proofs.BranchLemmas.{begins_at, legs-length, route-at, routes-length, trunk_within}
+use Rattle.ats_streams.proofs.BranchLemmas.{begins_at, lead_of_trunk, legs-length, route-at, routes-length}
+use Rattle.ats_streams.proofs.BranchLemmas.{trunk_within}
 use Rattle.ats_topology.specs.Port.{leads_to, port_at}
 use Rattle.ats_topology.specs.Topology.{DeclaredTopology}
 use Rattle.ats_topology.specs.Walks.{IsWalk}
+use Rattle.ats_topology.specs.declared.port.Port.{Port}
+use Rattle.ats_network.specs.Ends.{beginning_of}
 use Rattle.ats_network.specs.Path.{IsBranch, IsTree, IsValidPath, node_of_branch, nodes_along}
 use Rattle.ats_network.proofs.Grown.{Grows, grows}
 use Rattle.ats_network.proofs.LeastWalkLemmas.{walk_rest}
 use Rattle.ats_network.proofs.PathLemmas.{nodes_to}
-use Rattle.ats_network.proofs.ValidRoutes.{each_route_is_a_path, from_talker, nodes_apart, part_apart, trunk_some}
-use Rattle.ats_network.proofs.ValidRoutes.{walk_first}
+use Rattle.ats_network.proofs.EndsApart.{one_place}
+use Rattle.ats_network.proofs.ValidRoutes.{each_route_is_a_path, from_talker, nodes_apart, part_apart}
+use Rattle.ats_network.proofs.ValidRoutes.{route_begins, walk_first}
 use Rattle.std.proofs.lemmas.Bool.{eqb-true}
 use Rattle.ats_route_tree.specs.Legs.{DeclaredLegs, HaveRoutes}
-use Rattle.ats_route_tree.specs.Steps.{branch_behind, goes_off, grown, grown_where, known_ports, leg_with, node_after}
-use Rattle.ats_route_tree.specs.Steps.{place_to, with_known, with_route}
-use Rattle.ats_route_tree.proofs.Apart.{apart_more, one_place, part_drop, to_apart}
+use Rattle.ats_route_tree.specs.Steps.{branch_behind, branch_first, goes_off, goes_off_first, grown, grown_where}
+use Rattle.ats_route_tree.specs.Steps.{known_ports, leg_with, node_after, place_to, with_known, with_route}
+use Rattle.ats_route_tree.proofs.Apart.{apart_more, part_drop, to_apart}
 use Rattle.ats_route_tree.proofs.Known.{AreKnown, are_known}
-use Rattle.ats_route_tree.proofs.Places.{HasPlace, IsFound, first_same, found, has_place}
+use Rattle.ats_route_tree.proofs.Places.{HasPlace, IsFound, found, has_place}
 
 -- a route goes off behind the port at a place, by its tests
 record IsOff (topology : DeclaredTopology) (legs : DeclaredLegs) (route : List ℕ) (count : ℕ) (next : DeclaredLegs) :
@@ -71,11 +75,14 @@ tested legs route count b passes =
       few = ltb-true (length legs.branches) 65535 four.1;
     }
 
-off : (topology : DeclaredTopology) (legs : DeclaredLegs) (route : List ℕ) (count : ℕ) (next : DeclaredLegs)
-    → with_known topology legs route count ≡ Some next → IsOff topology legs route count next
-off topology legs route count next h =
-    by (place_to topology.ports (node_after topology.ports route count) legs.ports) refl h
+off : (topology : DeclaredTopology) (legs : DeclaredLegs) (route : List ℕ) (n : ℕ) (next : DeclaredLegs)
+    → with_known topology legs route (suc n) ≡ Some next → IsOff topology legs route (suc n) next
+off topology legs route n next h =
+    by (place_to topology.ports (node_after topology.ports route (suc n)) legs.ports) refl h
   where
+    count : ℕ
+    count = suc n
+
     at : (place : ℕ) → place_to topology.ports (node_after topology.ports route count) legs.ports ≡ Some place
         → (t : Bool) → goes_off legs route count (branch_behind legs place) ≡ t
         → cond t (Some (grown legs route count (branch_behind legs place))) None ≡ Some next
@@ -94,27 +101,38 @@ off topology legs route count next h =
     by None e h = absurd (none-some next h)
     by (Some place) e h = at place e (goes_off legs route count (branch_behind legs place)) refl h
 
--- what is known of a route that goes off: its first ports are those in front of the branch
-record Leaves (topology : DeclaredTopology) (ports : List ℕ) (branches : List Branch) (route : List ℕ) (count : ℕ)
-    (b : Branch) : Type 0
+-- what is known of a route that goes off: its first ports are those in front of the branch, and the others lead on from
+-- where the branch begins
+record Leaves (topology : DeclaredTopology) (ports : List ℕ) (branches : List Branch) (route : List ℕ)
+    (listener count : ℕ) (b : Branch) : Type 0
   where
     begins : BeginsEarlier (legs_of ports branches) (1 + length branches) b
+    last : b.first ≡ length ports
+    below : count < length route
+    few : length branches < 65535
     front : take count route ≡ lead_to (legs_of ports branches) (leads_of ports branches) b
-    from : node_of_branch topology.ports (legs_of ports branches) b
-        ≡ (port_at topology.ports (get_or route (count - 1) 0)).to
-    first : get_or route 0 0 ≡ get_or ports 0 0
+    walk : IsWalk topology.ports (node_of_branch topology.ports (legs_of ports branches) b) listener (drop count route)
+    first : (port_at topology.ports (get_or route 0 0)).from ≡ (port_at topology.ports (get_or ports 0 0)).from
 
 leaves : (topology : DeclaredTopology) (ports : List ℕ) (branches : List Branch) (route : List ℕ) (count place : ℕ)
-    → AreBranches ports branches → IsTree topology ports branches → IsValidPath topology route
+    → AreBranches ports branches → IsTree topology ports branches → (valid : IsValidPath topology route)
     → place_to topology.ports (node_after topology.ports route count) ports ≡ Some place
     → Tested (record { ports = ports; branches = branches }) route count
     (branch_behind (record { ports = ports; branches = branches }) place)
-    → Leaves topology ports branches route count (branch_behind (record { ports = ports; branches = branches }) place)
+    → Leaves topology ports branches route valid.listener count
+    (branch_behind (record { ports = ports; branches = branches }) place)
 leaves topology ports branches route count place are tree valid there t = record {
-  begins = record { earlier = omega (arith, on.inside); later = omega arith; within = t.within };
+  begins = record {
+    earlier = omega (arith, on.inside);
+    at_talker = λ zero. absurd (omega (arith, zero));
+    within = t.within;
+  };
+  last = refl;
+  below = t.below;
+  few = t.few;
   front = t.same ∙ ap (λ (r : List ℕ). take count r) other_is ∙ ap (λ (n : ℕ). take n (lead ++ leg)) count_is
       ∙ take-append-add lead leg (suc hop);
-  from = from;
+  walk = walk;
   first = first;
 }
   where
@@ -209,19 +227,94 @@ leaves topology ports branches route count place are tree valid there t = record
         (omega (arith, more, length-drop count (lead ++ leg)))
         ∙ ap (λ (p : ℕ). (port_at topology.ports p).to) (sym (common (count - 1) (omega (arith, t.some))))
 
-    some_trunk : 0 < length (leg_at legs 0)
-    some_trunk = trunk_some topology.ports tree.trunk.talker tree.trunk.listener (leg_at legs 0) tree.trunk.walk
-        tree.trunk.differ
+    -- what is left of the route leads on from there
+    walk : IsWalk topology.ports (port_at topology.ports (get_or (leg_at (legs_of ports branches) n) (suc hop) 0)).from
+        valid.listener (drop count route)
+    walk = let next : suc (count - 1) ≡ count = omega (arith, t.some) in
+        subst (λ (k : ℕ). IsWalk topology.ports k valid.listener (drop count route)) (sym from)
+        (subst (λ (k : ℕ). IsWalk topology.ports (port_at topology.ports (get_or route (count - 1) 0)).to
+        valid.listener (drop k route)) next
+        (walk_rest topology.ports valid.talker valid.listener route (count - 1) valid.walk
+        (omega (arith, t.some, t.below))))
 
-    first : get_or route 0 0 ≡ get_or ports 0 0
-    first = common 0 t.some ∙ first_same ports branches are some_trunk n n (omega arith) on.inside
+    first : (port_at topology.ports (get_or route 0 0)).from ≡ (port_at topology.ports (get_or ports 0 0)).from
+    first = ap (λ (p : ℕ). (port_at topology.ports p).from) (common 0 t.some)
+        ∙ route_begins topology ports branches are tree n on.inside
+        ∙ sym (from_talker topology ports branches tree tree.trunk.some)
+
+-- a route goes off from legs, with one more branch
+record GoesOff (topology : DeclaredTopology) (legs : DeclaredLegs) (route : List ℕ) (listener count : ℕ)
+    (next : DeclaredLegs) : Type 0
+  where
+    b : Branch
+    leaves : Leaves topology legs.ports legs.branches route listener count b
+    next_is : grown legs route count b ≡ next
+
+-- at the talker
+leaves_first : (topology : DeclaredTopology) (legs : DeclaredLegs) (route : List ℕ)
+    → IsTree topology legs.ports legs.branches → (valid : IsValidPath topology route)
+    → goes_off_first topology.ports legs route ≡ true
+    → Leaves topology legs.ports legs.branches route valid.listener 0 (branch_first legs)
+leaves_first topology legs route tree valid passes = record {
+  begins = record { earlier = omega arith; at_talker = λ zero. refl; within = tree.trunk.some };
+  last = refl;
+  below = valid.some;
+  few = ltb-true (length legs.branches) 65535 parts.1;
+  front = sym (ap (λ (lead : List ℕ). lead ++ []) (lead_of_trunk legs.ports legs.branches));
+  walk = subst (λ (n : ℕ). IsWalk P n valid.listener route)
+      (sym (walk_first P valid.talker valid.listener route valid.walk valid.some) ∙ same
+      ∙ from_talker topology legs.ports legs.branches tree tree.trunk.some
+      ∙ sym (walk_first P tree.trunk.talker tree.trunk.listener (leg_at (legs_of legs.ports legs.branches) 0)
+      tree.trunk.walk tree.trunk.some)) valid.walk;
+  first = same;
+}
+  where
+    P : List Port
+    P = topology.ports
+
+    a : ℕ
+    a = beginning_of topology.ports route
+
+    z : ℕ
+    z = beginning_of topology.ports legs.ports
+
+    parts : (eqb (beginning_of topology.ports route) (beginning_of topology.ports legs.ports) ≡ true)
+        × (ltb (length legs.branches) 65535 ≡ true)
+    parts = and_parts (eqb a z) (ltb (length legs.branches) 65535) passes
+
+    same : (port_at topology.ports (get_or route 0 0)).from ≡ (port_at topology.ports (get_or legs.ports 0 0)).from
+    same = eqb-true a z parts.0
+
+goes_by : (topology : DeclaredTopology) (legs : DeclaredLegs) (route : List ℕ) (count : ℕ) (next : DeclaredLegs)
+    → AreBranches legs.ports legs.branches → IsTree topology legs.ports legs.branches
+    → (valid : IsValidPath topology route) → with_known topology legs route count ≡ Some next
+    → GoesOff topology legs route valid.listener count next
+goes_by topology legs route zero next are tree valid h = by (goes_off_first topology.ports legs route) refl h
+  where
+    by : (t : Bool) → goes_off_first topology.ports legs route ≡ t
+        → cond t (Some (grown legs route 0 (branch_first legs))) None ≡ Some next
+        → GoesOff topology legs route valid.listener 0 next
+    by true e h = record {
+      b = branch_first legs;
+      leaves = leaves_first topology legs route tree valid e;
+      next_is = same_Some (grown legs route 0 (branch_first legs)) next h;
+    }
+    by false e h = absurd (none-some next h)
+goes_by topology legs route (suc n) next are tree valid h =
+    let o : IsOff topology legs route (suc n) next = off topology legs route n next h in
+    record {
+      b = branch_behind legs o.place;
+      leaves = leaves topology legs.ports legs.branches route (suc n) o.place are tree valid o.there
+          (tested legs route (suc n) (branch_behind legs o.place) o.passes);
+      next_is = o.next_is;
+    }
 
 -- legs with a branch for a route that goes off from them have its route too
 pub grow : (topology : DeclaredTopology) (routes : List (List ℕ)) (legs : DeclaredLegs) (route : List ℕ)
     (next : DeclaredLegs) → HaveRoutes topology routes legs → IsValidPath topology route
     → with_route topology legs route ≡ Some next → HaveRoutes topology (routes ++ route ∷ []) next
 grow topology routes old route next have valid h =
-    subst (HaveRoutes topology (routes ++ route ∷ [])) o.next_is (record {
+    subst (HaveRoutes topology (routes ++ route ∷ [])) off_at.next_is (record {
       are = g.are;
       tree = record { trunk = trunk; each = each; apart = apart };
       routes_are = g.routes ∙ ap (λ (rs : List (List ℕ)). rs ++ (lead_to legs (leads_of ports branches) b ++ own) ∷ [])
@@ -243,17 +336,14 @@ grow topology routes old route next have valid h =
     known : AreKnown topology.ports ports route count
     known = are_known topology.ports ports route
 
-    o : IsOff topology old route count next
-    o = off topology old route count next h
+    off_at : GoesOff topology old route valid.listener count next
+    off_at = goes_by topology old route count next have.are tree valid h
 
     b : Branch
-    b = branch_behind old o.place
+    b = off_at.b
 
-    t : Tested old route count b
-    t = tested old route count b o.passes
-
-    off_at : Leaves topology ports branches route count b
-    off_at = leaves topology ports branches route count o.place have.are tree valid o.there t
+    t : Leaves topology ports branches route valid.listener count b
+    t = off_at.leaves
 
     own : List ℕ
     own = drop count route
@@ -262,18 +352,17 @@ grow topology routes old route next have valid h =
     legs = legs_of ports branches
 
     some_trunk : 0 < length (leg_at legs 0)
-    some_trunk = trunk_some topology.ports tree.trunk.talker tree.trunk.listener (leg_at legs 0) tree.trunk.walk
-        tree.trunk.differ
+    some_trunk = tree.trunk.some
 
     some_ports : 1 ≤ length ports
     some_ports = omega (arith, some_trunk, trunk_within ports branches)
 
     g : Grows ports own branches b
-    g = grows ports own branches b have.are some_ports (omega (arith, t.below, length-drop count route)) refl
-        off_at.begins (omega (arith, t.few))
+    g = grows ports own branches b have.are some_ports (omega (arith, t.below, length-drop count route)) t.last
+        t.begins (omega (arith, t.few))
 
     whole : lead_to legs (leads_of ports branches) b ++ own ≡ route
-    whole = ap (λ (l : List ℕ). l ++ own) (sym off_at.front) ∙ take-append-drop count route
+    whole = ap (λ (l : List ℕ). l ++ own) (sym t.front) ∙ take-append-drop count route
 
     many : length legs ≡ suc (length branches)
     many = legs-length 0 ports branches
@@ -292,12 +381,7 @@ grow topology routes old route next have valid h =
 
     -- the branch leads from the node where the route goes off
     own_walk : IsWalk topology.ports (node_of_branch topology.ports legs b) valid.listener own
-    own_walk = let next : suc (count - 1) ≡ count = omega (arith, t.some) in
-        subst (λ (n : ℕ). IsWalk topology.ports n valid.listener own) (sym off_at.from)
-        (subst (λ (k : ℕ). IsWalk topology.ports (port_at topology.ports (get_or route (count - 1) 0)).to
-        valid.listener (drop k route)) next
-        (walk_rest topology.ports valid.talker valid.listener route (count - 1) valid.walk
-        (omega (arith, t.some, t.below))))
+    own_walk = t.walk
 
     starts : (c : Branch) → c.leg ≤ length branches
         → node_of_branch topology.ports (legs_of (ports ++ own) (branches ++ b ∷ [])) c
@@ -326,7 +410,6 @@ grow topology routes old route next have valid h =
                   (sym (same (1 + n) (omega (arith, below))))
                   (subst (λ (start : ℕ). IsWalk topology.ports start first.listener (leg_at legs (1 + n)))
                   (sym (starts c (omega (arith, begun.earlier, below)))) first.walk);
-              ends = first.ends;
             })
         by (inr past) =
             let at : length branches ≡ n = omega (arith, past, h, length-append branches (b ∷ [])) in
@@ -339,8 +422,7 @@ grow topology routes old route next have valid h =
               walk = subst (λ (path : List ℕ). IsWalk topology.ports (node_of_branch topology.ports
                   (legs_of (ports ++ own) (branches ++ b ∷ [])) b) valid.listener path) (sym new)
                   (subst (λ (start : ℕ). IsWalk topology.ports start valid.listener own)
-                  (sym (starts b (omega (arith, off_at.begins.earlier)))) own_walk);
-              ends = valid.ends;
+                  (sym (starts b (omega (arith, t.begins.earlier)))) own_walk);
             }))
 
     -- the nodes of the route, and those of them that its own ports lead to
@@ -349,7 +431,7 @@ grow topology routes old route next have valid h =
 
     nodes : AllPairs (λ x y. x ≢ y) (tree.trunk.talker ∷ nodes_to topology.ports route)
     nodes = nodes_apart topology.ports tree.trunk.talker route
-        (ap (λ (p : ℕ). (port_at topology.ports p).from) off_at.first ∙ talker_is) valid.apart
+        (t.first ∙ talker_is) valid.apart
 
     own_nodes : AllPairs (λ x y. x ≢ y) (tree.trunk.talker ∷ nodes_to topology.ports own)
     own_nodes = part_apart topology.ports tree.trunk.talker own route (part_drop count route) nodes

@@ -1,12 +1,16 @@
 -- How many first ports of a route lead to nodes of a tree.
-use Rattle.std.proofs.Common.{◌≡◌, ℕ, zero, suc, ◌≤◌, Bool, true, false, List, [], ◌∷◌, ◌++◌, length, drop}
+use Rattle.std.proofs.Common.{◌≡◌, ℕ, zero, suc, ◌<◌, ◌≤◌, Bool, true, false, List, [], ◌∷◌, ◌++◌, length, drop}
 use Rattle.std.proofs.Common.{get_or, refl, ap, subst, ◌∙◌, arith}
+use Rattle.std.specs.Prelude.{option_and_then}
 use Rattle.std.specs.List.{All}
 use Rattle.std.proofs.lemmas.List.Elements.{All-cons, All-head, All-nil, All-tail}
 use Rattle.ats_topology.specs.Port.{port_at}
+use Rattle.ats_topology.specs.Topology.{DeclaredTopology}
 use Rattle.ats_topology.specs.declared.port.Port.{Port}
 use Rattle.ats_network.specs.PathSteps.{comes_to}
-use Rattle.ats_route_tree.specs.Steps.{known_ports, one_more}
+use Rattle.ats_route_tree.specs.Legs.{DeclaredLegs}
+use Rattle.ats_route_tree.specs.Steps.{branch_behind, grown_where, known_ports, node_after, one_more, place_to}
+use Rattle.ats_route_tree.specs.Steps.{with_known}
 
 -- a port leads to a node to which one of these ports leads
 abbrev pub is_in : List Port → List ℕ → ℕ → Bool
@@ -52,6 +56,14 @@ are_known ports numbers (p ∷ route) =
         earlier : (i : ℕ) → suc i ≡ suc (suc n) → is_in ports numbers (get_or (p ∷ route) i 0) ≡ true
         earlier zero h = absurd (omega (arith, h))
         earlier (suc i) h = k.last i (omega (arith, h))
+
+-- where some are known, the route goes off behind the last of them
+pub known_more : (topology : DeclaredTopology) (legs : DeclaredLegs) (route : List ℕ) (count : ℕ) → 0 < count
+    → with_known topology legs route count
+    ≡ option_and_then (λ place. grown_where legs route count (branch_behind legs place))
+    (place_to topology.ports (node_after topology.ports route count) legs.ports)
+known_more topology legs route zero some = absurd (omega (arith, some))
+known_more topology legs route (suc n) some = refl
 
 pub none_known : (ports : List Port) (numbers own : List ℕ) → All (λ p. is_in ports numbers p ≡ false) own
     → known_ports ports numbers own ≡ 0

@@ -1,6 +1,6 @@
 -- How legs are found route by route: what the clauses of private functions speak of, and what decides whether routes
 -- are those of a tree. Which legs routes have, `HaveRoutes` alone says.
-use Rattle.std.specs.Prelude.{ℕ, zero, suc, ◌-◌, Bool, ◌&&◌, nat_lt, if◌then◌else◌, List, [], ◌∷◌, ◌++◌}
+use Rattle.std.specs.Prelude.{ℕ, zero, suc, ◌-◌, Bool, ◌&&◌, ◌==◌, nat_lt, if◌then◌else◌, List, [], ◌∷◌, ◌++◌}
 use Rattle.std.specs.Prelude.{length, take, drop, slice_index_or, Option, Some, None, option_and_then}
 use Rattle.std.specs.List.{position_from}
 use Rattle.std.specs.Str.{bytes_eq}
@@ -10,6 +10,7 @@ use Rattle.ats_streams.specs.declared.branch.TheConstants.{MAX_BRANCHES}
 use Rattle.ats_topology.specs.Port.{leads_to, port_at}
 use Rattle.ats_topology.specs.Topology.{DeclaredTopology}
 use Rattle.ats_topology.specs.declared.port.Port.{Port}
+use Rattle.ats_network.specs.Ends.{beginning_of}
 use Rattle.ats_network.specs.PathSteps.{comes_to}
 use Rattle.ats_route_tree.specs.Legs.{DeclaredLegs}
 
@@ -41,6 +42,10 @@ branch_on legs place leg =
 abbrev pub branch_behind : DeclaredLegs → ℕ → Branch
 branch_behind legs place = branch_on legs place (leg_with legs.branches place)
 
+-- the branch of these legs, the last of all, that begins at the talker
+abbrev pub branch_first : DeclaredLegs → Branch
+branch_first legs = record { first = length legs.ports; leg = 0; hop = 0 }
+
 -- a route, so many first ports of which are those of another one, goes off there from a leg that goes on
 abbrev pub goes_off : DeclaredLegs → List ℕ → ℕ → Branch → Bool
 goes_off legs route count b =
@@ -60,11 +65,22 @@ grown_where legs route count b = if goes_off legs route count b then Some (grown
 abbrev pub node_after : List Port → List ℕ → ℕ → ℕ
 node_after ports route count = (port_at ports (slice_index_or route (count - 1) 0)).to
 
+-- a route none of whose ports is known goes off at the talker, where it begins there
+abbrev pub goes_off_first : List Port → DeclaredLegs → List ℕ → Bool
+goes_off_first ports legs route =
+    beginning_of ports route == beginning_of ports legs.ports && nat_lt (length legs.branches) MAX_BRANCHES
+
+-- the legs with a branch at the talker for one more route, if it goes off there
+abbrev pub with_first : List Port → DeclaredLegs → List ℕ → Option DeclaredLegs
+with_first ports legs route =
+    if goes_off_first ports legs route then Some (grown legs route 0 (branch_first legs)) else None
+
 -- the legs with a branch for one more route, of which so many first ports are known
 abbrev pub with_known : DeclaredTopology → DeclaredLegs → List ℕ → ℕ → Option DeclaredLegs
-with_known topology legs route count =
-    option_and_then (λ place. grown_where legs route count (branch_behind legs place))
-    (place_to topology.ports (node_after topology.ports route count) legs.ports)
+with_known topology legs route zero = with_first topology.ports legs route
+with_known topology legs route (suc n) =
+    option_and_then (λ place. grown_where legs route (suc n) (branch_behind legs place))
+    (place_to topology.ports (node_after topology.ports route (suc n)) legs.ports)
 
 -- the legs with a branch for one more route, if it goes off from them
 abbrev pub with_route : DeclaredTopology → DeclaredLegs → List ℕ → Option DeclaredLegs

@@ -1,15 +1,16 @@
 //! The legs that have given routes.
 
-ghost use Rattle.std.specs.Prelude.{◌≡◌, [], All, IfOk, IfSome, if◌then◌else◌, Some, None};
+ghost use Rattle.std.specs.Prelude.{◌≡◌, ◌<◌, ◌^◌, [], All, IfOk, IfSome, if◌then◌else◌, length, Some, None};
 ghost use Rattle.std.specs.Option.{option_map};
+ghost use Rattle.ats_topology.specs.Walks.{ArePorts};
 ghost use Rattle.ats_network.specs.Path.{IsValidPath};
 ghost use Rattle.ats_route_tree.specs.Legs.{HaveRoutes};
 ghost use Rattle.ats_route_tree.specs.LegsView.{legs_view, routes_in};
-ghost use Rattle.ats_route_tree.specs.Steps.{legs_found, with_route};
+ghost use Rattle.ats_route_tree.specs.Steps.{legs_found, with_first, with_route};
 
-use crate::steps::{branch_behind, goes_off, known_ports, place_to};
+use crate::steps::{branch_behind, branch_first, goes_off, goes_off_first, known_ports, place_to};
 use ats_streams::Branch;
-use ats_topology::Topology;
+use ats_topology::{Port, Topology};
 use std::alloc::{AllocError, Global};
 
 /// The legs of a stream: the numbers of the ports of its trunk and then of each branch, and its branches.
@@ -22,7 +23,8 @@ pub struct Legs {
 }
 
 /// The legs of the tree that has just these routes, of which the first is that of the trunk; `None` exactly where no
-/// tree has them: a listener is there twice, a route begins at another talker, or a node is reached in two ways.
+/// tree has them: a listener is on the route to another one, a route begins at another talker, or a node is reached in
+/// two ways.
 ///
 /// # Errors
 ///
@@ -79,7 +81,7 @@ impl Legs {
         let ports = topology.ports();
         let count = known_ports(ports, &self.ports, route);
         if count == 0 {
-            return Ok(false);
+            return self.grow_first(ports, route);
         }
         let node = ports[route[count - 1] as usize].to;
         let Some(place) = place_to(ports, node, &self.ports) else {
@@ -90,6 +92,24 @@ impl Legs {
             return Ok(false);
         }
         self.ports.extend_from_slice(&route[count..])?;
+        self.branches.push(branch)?;
+        Ok(true)
+    }
+
+    // The same at the talker, for a route none of whose ports is known.
+    fn grow_first(&mut self, ports: &[Port], route: &[u32]) -> Result<bool, AllocError>
+        requires numbers { ArePorts ports.now self.old.ports.items }
+        requires route { ArePorts ports.now route.now }
+        requires some { (0 < length self.old.ports.items) × (0 < length route.now) }
+        requires few { length self.old.ports.items < 2 ^ 31 }
+        ensures { IfOk result (λ more. (if more then Some (legs_view self.new) else None)
+            ≡ with_first ports.now (legs_view self.old) route.now) }
+    {
+        if !goes_off_first(ports, &self.ports, &self.branches, route) {
+            return Ok(false);
+        }
+        let branch = branch_first(self.ports.len());
+        self.ports.extend_from_slice(route)?;
         self.branches.push(branch)?;
         Ok(true)
     }

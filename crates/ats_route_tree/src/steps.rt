@@ -91,6 +91,36 @@ pub(crate) fn branch_behind(ports: usize, branches: &[Branch], place: usize) -> 
     }
 }
 
+/// Whether a route none of whose ports is known goes off at the talker.
+pub(crate) fn goes_off_first(
+    ports: &[Port],
+    numbers: &[u32],
+    branches: &[Branch],
+    route: &[u32],
+) -> bool
+    requires numbers { ArePorts ports.now numbers.now }
+    requires route { ArePorts ports.now route.now }
+    requires some { (0 < length numbers.now) × (0 < length route.now) }
+    ensures { result ≡ steps.goes_off_first ports.now (record { ports = numbers.now; branches = branches.now })
+        route.now }
+{
+    ports[route[0] as usize].from == ports[numbers[0] as usize].from
+        && branches.len() < MAX_BRANCHES
+}
+
+/// The branch of legs that have so many ports, the last of all, that begins at the talker.
+pub(crate) fn branch_first(ports: usize) -> Branch
+    requires { ports < 2 ^ 31 }
+    ensures { (numbers : List ℕ) (branches : List Branch) → length numbers ≡ ports
+        → result ≡ steps.branch_first (record { ports = numbers; branches = branches }) }
+{
+    Branch {
+        first: ports as u32,
+        leg: 0,
+        hop: 0,
+    }
+}
+
 /// Whether a route, so many first ports of which are those of another one, goes off there from a leg that goes on. The
 /// legs have these routes.
 pub(crate) fn goes_off(

@@ -1,8 +1,9 @@
 -- The port from which a sender's frames come, by its place.
 use Rattle.std.proofs.Common.{◌≡◌, ◌≢◌, ℕ, zero, suc, ◌+◌, ◌-◌, ◌<◌, ◌≤◌, ◌⊎◌, inl, inr, List, [], ◌∷◌, length, get_or}
-use Rattle.std.proofs.Common.{map, Some, refl, sym, ap, ◌∙◌, arith, length-append}
+use Rattle.std.proofs.Common.{map, Option, Some, None, refl, sym, ap, subst, ◌∙◌, arith, length-append}
+use Rattle.std.specs.Prelude.{is_some}
 use Rattle.std.specs.List.{All}
-use Rattle.std.proofs.lemmas.Bool.{cases_eq}
+use Rattle.std.proofs.lemmas.Bool.{cases_eq, true≢false}
 use Rattle.std.proofs.lemmas.List.Elements.{All-append, All-map}
 use Rattle.std.proofs.lemmas.List.Sums.{get_or-le-sum_by}
 use Rattle.ats_streams.specs.Branches.{BeginsEarlier, first_from, leads_of, leg_at, legs_of, no_branch, routes_of}
@@ -16,9 +17,10 @@ use Rattle.ats_network.specs.Network.{DeclaredNetwork, IsNetwork, ports_together
 use Rattle.ats_network.specs.Sender.{Sender, stream_sender, flow_sender}
 use Rattle.ats_network.specs.Senders.{IsSender, sender_at, no_sender}
 use Rattle.ats_network.proofs.SenderLemmas.{sender_keeps}
-use Rattle.ats_route_law.proofs.Standing.{LeadsTo, before_branch, before_place, leads_to}
-use Rattle.ats_settings.specs.Before.{IsBefore}
-use Rattle.ats_settings.specs.Settings.{LeavesBridge, port_at_place}
+use Rattle.ats_route_law.proofs.Standing.{LeadsTo, before_branch, before_place, leads_to, none_before_first}
+use Rattle.ats_route_law.proofs.Standing.{none_leads}
+use Rattle.ats_settings.specs.Before.{IsBefore, IsFrom}
+use Rattle.ats_settings.specs.Settings.{LeavesBridge, port_at_place, port_behind}
 
 -- a place of a sender's ports, with that of the port before
 pub record ComesFrom (network : DeclaredNetwork) (sender place before : ℕ) : Type 0 where
@@ -27,28 +29,52 @@ pub record ComesFrom (network : DeclaredNetwork) (sender place before : ℕ) : T
       ≡ Some (port_at_place network sender before)
 
 pub comes_from : (network : DeclaredNetwork) (sender place before : ℕ) → IsNetwork network
-    → LeavesBridge network sender place → IsBefore (sender_at network sender).branches place before
-    → ComesFrom network sender place before
-comes_from network sender place before is at (inl begins) =
+    → sender < length (senders_of network) → place < length (sender_at network sender).ports
+    → IsBefore (sender_at network sender).branches place before → ComesFrom network sender place before
+comes_from network sender place before is exists within (inl begins) =
     let s : Sender = sender_at network sender in
-    let keeps : IsSender network.topology s = sender_keeps network sender is at.exists in
+    let keeps : IsSender network.topology s = sender_keeps network sender is exists in
     let b : Branch = get_or s.branches begins.branch no_branch in
-    let leads : LeadsTo s b (first_from 0 s.branches b.leg + b.hop - 1) =
-    leads_to network.topology s begins.branch keeps begins.exists in
+    let leads : LeadsTo s b before =
+    leads_to network.topology s begins.branch before keeps begins.exists begins.is in
     record {
-      within = omega (arith, leads.within, begins.is);
+      within = leads.within;
       is = ap (λ (p : ℕ). port_before s (get_or s.ports p 0)) (sym begins.begins)
-          ∙ before_branch network.topology s begins.branch keeps begins.exists
-          ∙ ap (λ (p : ℕ). Some p) (sym leads.at ∙ ap (λ (p : ℕ). get_or s.ports p 0) (sym begins.is));
+          ∙ before_branch network.topology s begins.branch keeps begins.exists ∙ leads.at;
     }
-comes_from network sender place before is at (inr goes) =
+comes_from network sender place before is exists within (inr goes) =
     let s : Sender = sender_at network sender in
-    let keeps : IsSender network.topology s = sender_keeps network sender is at.exists in
+    let keeps : IsSender network.topology s = sender_keeps network sender is exists in
+    let same : place - 1 ≡ before = omega (arith, goes.is) in
     record {
-      within = omega (arith, goes.is, at.within);
-      is = before_place network.topology s place keeps at.later at.within goes.elsewhere
-          ∙ ap (λ (p : ℕ). Some (get_or s.ports p 0)) (sym goes.is);
+      within = omega (arith, goes.is, within);
+      is = before_place network.topology s place keeps (omega (arith, goes.is)) within goes.elsewhere
+          ∙ ap (λ (p : ℕ). Some (get_or s.ports p 0)) same;
     }
+
+-- the same of the place in front of that at which a leg goes on
+pub comes_behind : (network : DeclaredNetwork) (sender place from : ℕ) → IsNetwork network
+    → sender < length (senders_of network) → place < length (sender_at network sender).ports
+    → IsFrom (sender_at network sender).branches place from → 1 ≤ from → ComesFrom network sender place (from - 1)
+comes_behind network sender place from is exists within at later =
+    let next : from ≡ from - 1 + 1 = omega (arith, later) in
+    comes_from network sender place (from - 1) is exists within
+    (subst (IsFrom (sender_at network sender).branches place) next at)
+
+-- before the ports that leave the talker there is none
+pub starts_there : (network : DeclaredNetwork) (sender place : ℕ) → IsNetwork network
+    → sender < length (senders_of network) → IsFrom (sender_at network sender).branches place 0
+    → port_behind network sender place ≡ None
+starts_there network sender place is exists (inl begins) =
+    let s : Sender = sender_at network sender in
+    let keeps : IsSender network.topology s = sender_keeps network sender is exists in
+    ap (λ (p : ℕ). port_before s (get_or s.ports p 0)) (sym begins.begins)
+    ∙ before_branch network.topology s begins.branch keeps begins.exists
+    ∙ none_leads s (get_or s.branches begins.branch no_branch) (sym begins.is)
+starts_there network sender place is exists (inr goes) =
+    let s : Sender = sender_at network sender in
+    ap (λ (p : ℕ). port_before s (get_or s.ports p 0)) (sym goes.is)
+    ∙ none_before_first network.topology s (sender_keeps network sender is exists)
 
 -- at a place the ports of some branch begin, or those of none
 begins_or_not : (branches : List Branch) (place : ℕ)
@@ -70,32 +96,47 @@ begins_or_not (b ∷ branches) place = by (cases_eq b.first place) (begins_or_no
           | suc k ↦ λ within. none k (omega arith)
         ])
 
--- so each place but the first has a port before it
+-- from each place a leg goes on
+record HasFrom (branches : List Branch) (place : ℕ) : Type 0 where
+  from : ℕ
+  is : IsFrom branches place from
+
+has_from : (branches : List Branch) (place : ℕ) → HasFrom branches place
+has_from branches place = by (begins_or_not branches place)
+  where
+    by : ((n : ℕ) × (n < length branches) × ((get_or branches n no_branch).first ≡ place))
+        ⊎ ((n : ℕ) → n < length branches → (get_or branches n no_branch).first ≢ place) → HasFrom branches place
+    by (inl begins) = record {
+      from = first_from 0 branches (get_or branches begins.0 no_branch).leg + (get_or branches begins.0 no_branch).hop;
+      is = inl (record { branch = begins.0; exists = begins.1; begins = begins.2; is = refl });
+    }
+    by (inr elsewhere) = record { from = place; is = inr (record { elsewhere = elsewhere; is = refl }) }
+
+-- so each port that leaves a bridge to which the frames come has one before it
 pub record HasBefore (network : DeclaredNetwork) (sender place : ℕ) : Type 0 where
   pub before : ℕ
   pub from : ComesFrom network sender place before
 
 pub has_before : (network : DeclaredNetwork) (sender place : ℕ) → IsNetwork network
     → LeavesBridge network sender place → HasBefore network sender place
-has_before network sender place is at = by (begins_or_not (sender_at network sender).branches place)
+has_before network sender place is at = by there.from there.is
   where
     branches : List Branch
     branches = (sender_at network sender).branches
 
-    by : ((n : ℕ) × (n < length branches) × ((get_or branches n no_branch).first ≡ place))
-        ⊎ ((n : ℕ) → n < length branches → (get_or branches n no_branch).first ≢ place)
-        → HasBefore network sender place
-    by (inl begins) =
-        let b : Branch = get_or branches begins.0 no_branch in
+    there : HasFrom (sender_at network sender).branches place
+    there = has_from branches place
+
+    by : (from : ℕ) → IsFrom (sender_at network sender).branches place from → HasBefore network sender place
+    by zero first = absurd (true≢false (sym at.comes
+        ∙ ap (λ (o : Option ℕ). is_some o) (starts_there network sender place is at.exists first)))
+    by (suc before) behind =
+        let next : suc before ≡ before + 1 = omega arith in
         record {
-          before = first_from 0 branches b.leg + b.hop - 1;
-          from = comes_from network sender place (first_from 0 branches b.leg + b.hop - 1) is at
-              (inl (record { branch = begins.0; exists = begins.1; begins = begins.2; is = refl }));
+          before = before;
+          from = comes_from network sender place before is at.exists at.within
+              (subst (IsFrom branches place) next behind);
         }
-    by (inr elsewhere) = record {
-      before = place - 1;
-      from = comes_from network sender place (place - 1) is at (inr (record { elsewhere = elsewhere; is = refl }));
-    }
 
 streams_few : (streams : List DeclaredStream) → ports_together streams ≤ 65536
     → All (λ (s : Sender). length s.ports ≤ 65536) (map stream_sender streams)

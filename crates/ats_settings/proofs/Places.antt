@@ -1,7 +1,7 @@
 -- What holds of the setting at each place holds of each setting.
-use Rattle.std.proofs.Common.{◌≡◌, ℕ, zero, suc, ◌+◌, ◌-◌, ◌<◌, ◌≤◌, List, [], ◌∷◌, ◌++◌, length, map, ap, ◌∙◌, sym}
-use Rattle.std.proofs.Common.{append_assoc, arith, Option, subst}
-use Rattle.std.specs.Prelude.{unwrap_or}
+use Rattle.std.proofs.Common.{◌≡◌, ℕ, zero, suc, ◌+◌, ◌<◌, ◌≤◌, List, [], ◌∷◌, ◌++◌, length, ap, ◌∙◌, sym, refl}
+use Rattle.std.proofs.Common.{Bool, true, false, cond, append_assoc, arith, Option, None, subst}
+use Rattle.std.specs.Prelude.{is_some, unwrap_or}
 use Rattle.std.specs.List.{All, flat_map, range_with_len}
 use Rattle.std.proofs.lemmas.List.{flat_map_more, map-id}
 use Rattle.std.proofs.lemmas.List.FromFn.{map-range_with_len_more}
@@ -15,18 +15,11 @@ use Rattle.ats_topology.specs.Port.{no_port, port_at}
 use Rattle.ats_topology.specs.Topology.{HasLawfulPorts, IsPort}
 use Rattle.ats_topology.proofs.Rules.{ports_are_lawful}
 use Rattle.ats_settings.specs.Settings.{AreInOrder, AreSettings, IsSettingOf, LeavesBridge, hop_settings}
-use Rattle.ats_settings.specs.Settings.{port_at_place}
-use Rattle.ats_settings.specs.Settings.{scheduler_behind, sender_settings, setting_at}
+use Rattle.ats_settings.specs.Settings.{port_at_place, port_behind}
+use Rattle.ats_settings.specs.Settings.{scheduler_behind, sender_settings, setting_at, settings_at}
 use Rattle.ats_settings.specs.declared.setting.Setting.{Setting}
 use Rattle.ats_settings.specs.declared.setting.Shaping.{Shaping}
 use Rattle.ats_settings.proofs.BeforeLemmas.{ComesFrom, HasBefore, has_before}
-
-all_mapped : (P : Setting → Type 0) (f : ℕ → Setting) (a n : ℕ) → ((k : ℕ) → a ≤ k → k < a + n → P (f k))
-    → All P (map f (range_with_len a n))
-all_mapped P f a zero each = All-nil P
-all_mapped P f a (suc n) each =
-    All-cons P (f a) (map f (range_with_len (a + 1) n)) (each a (omega arith) (omega arith))
-    (all_mapped P f (a + 1) n (λ k least below. each k (omega arith) (omega arith)))
 
 all_along : (P : Setting → Type 0) (f : ℕ → List Setting) (a n : ℕ) → ((k : ℕ) → a ≤ k → k < a + n → All P (f k))
     → All P (flat_map f (range_with_len a n))
@@ -40,9 +33,16 @@ pub each_of_ports : (P : Setting → Type 0) (network : DeclaredNetwork)
     → ((sender place : ℕ) → LeavesBridge network sender place → P (setting_at network sender place))
     → All P (hop_settings network)
 each_of_ports P network each = all_along P (sender_settings network) 0 (length (senders_of network))
-    (λ sender least exists. all_mapped P (setting_at network sender) 1 (length (sender_at network sender).ports - 1)
-    (λ place later within. each sender place
-    (record { exists = omega (arith, exists); later = later; within = omega (arith, within) })))
+    (λ sender least exists. all_along P (settings_at network sender) 0 (length (sender_at network sender).ports)
+    (λ place first within. by sender place (omega (arith, exists)) (omega (arith, within))
+    (is_some (port_behind network sender place)) refl))
+  where
+    by : (sender place : ℕ) → sender < length (senders_of network) → place < length (sender_at network sender).ports
+        → (t : Bool) → is_some (port_behind network sender place) ≡ t
+        → All P (cond t (setting_at network sender place ∷ []) [])
+    by sender place exists within true e = All-cons P (setting_at network sender place) []
+        (each sender place (record { exists = exists; within = within; comes = e })) (All-nil P)
+    by sender place exists within false e = All-nil P
 
 -- and of those in order
 pub each_setting : (P : Setting → Type 0) (network : DeclaredNetwork) (settings : List Setting)
@@ -111,18 +111,6 @@ setting_within network is sender place at =
       sent_to = keeps.ports place 0 at.within;
     })
 
--- the settings of one port more
-pub place_more : (front : List Setting) (f : ℕ → Setting) (hop : ℕ) (x : Setting) (before after : List Setting)
-    → 1 ≤ hop → before ≡ front ++ map f (range_with_len 1 (hop - 1)) → x ≡ f hop → after ≡ before ++ x ∷ []
-    → after ≡ front ++ map f (range_with_len 1 (hop + 1 - 1))
-place_more front f hop x before after later so_far is more =
-    let made : List Setting = map f (range_with_len 1 (hop - 1)) in
-    more ∙ ap (λ (l : List Setting). l ++ x ∷ []) so_far
-    ∙ append_assoc front made (x ∷ [])
-    ∙ ap (λ (y : Setting). front ++ (made ++ y ∷ [])) is
-    ∙ ap (λ (l : List Setting). front ++ l) (sym (map-range_with_len_more f 1 (hop - 1) hop (omega arith)))
-    ∙ ap (λ (n : ℕ). front ++ map f (range_with_len 1 n)) (omega arith)
-
 range_more : (n : ℕ) → range_with_len 0 (n + 1) ≡ range_with_len 0 n ++ n ∷ []
 range_more n = sym (map-id (range_with_len 0 (n + 1))) ∙ map-range_with_len_more (λ (k : ℕ). k) 0 n n (omega arith)
     ∙ ap (λ (l : List ℕ). l ++ n ∷ []) (map-id (range_with_len 0 n))
@@ -133,6 +121,28 @@ pub sender_more : (f : ℕ → List Setting) (n : ℕ) (before after : List Sett
 sender_more f n before after so_far more =
     more ∙ ap (λ (l : List Setting). l ++ f n) so_far ∙ flat_map_more f [] (range_with_len 0 n) n
     ∙ sym (ap (flat_map f) (range_more n))
+
+-- and of one port more, behind those of others
+pub place_more : (front : List Setting) (f : ℕ → List Setting) (n : ℕ) (before after : List Setting)
+    → before ≡ front ++ flat_map f (range_with_len 0 n) → after ≡ before ++ f n
+    → after ≡ front ++ flat_map f (range_with_len 0 (n + 1))
+place_more front f n before after so_far more =
+    more ∙ ap (λ (l : List Setting). l ++ f n) so_far
+    ∙ append_assoc front (flat_map f (range_with_len 0 n)) (f n)
+    ∙ ap (λ (l : List Setting). front ++ l)
+    (sender_more f n (flat_map f (range_with_len 0 n)) (flat_map f (range_with_len 0 n) ++ f n) refl refl)
+
+-- the setting of a place, where there is one
+pub one_there : (network : DeclaredNetwork) (sender place : ℕ) (x : Setting) → x ≡ setting_at network sender place
+    → is_some (port_behind network sender place) ≡ true → x ∷ [] ≡ settings_at network sender place
+one_there network sender place x is comes =
+    ap (λ (y : Setting). y ∷ []) is
+    ∙ sym (ap (λ (t : Bool). cond t (setting_at network sender place ∷ []) []) comes)
+
+pub none_there : (network : DeclaredNetwork) (sender place : ℕ) → port_behind network sender place ≡ None
+    → [] ≡ settings_at network sender place
+none_there network sender place none =
+    sym (ap (λ (o : Option ℕ). cond (is_some o) (setting_at network sender place ∷ []) []) none)
 
 -- the settings that were made and put in order are of the network
 pub each_within : (network : DeclaredNetwork) (n : ℕ) (made settings : List Setting) → IsNetwork network

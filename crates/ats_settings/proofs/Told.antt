@@ -14,6 +14,7 @@ use Rattle.ats_network.proofs.SenderLemmas.{sender_keeps}
 use Rattle.ats_schedulers.specs.Schedulers.{IsHop, leg_ports, member_behind, members_of, scheduler_of}
 use Rattle.ats_schedulers.proofs.LegPlaces.{IsLeg, leg_is}
 use Rattle.ats_schedulers.proofs.Places.{scheduler_there}
+use Rattle.ats_settings.specs.Before.{IsFrom}
 use Rattle.ats_settings.specs.Laws.{SchedulersAreTold, Tells}
 use Rattle.ats_settings.specs.Settings.{port_at_place, shaping_of}
 use Rattle.ats_settings.proofs.BeforeLemmas.{ComesFrom, comes_from, some_port_of}
@@ -47,7 +48,10 @@ pub schedulers_are_told : SchedulersAreTold
 schedulers_are_told network stream leg hop place is on =
     let s : Sender = sender_at network stream in
     let before : ℕ = first_from 0 s.branches leg + hop - 1 in
-    let from : ComesFrom network stream place before = comes_from network stream place before is on.leaves on.behind in
+    let next : first_from 0 s.branches leg + hop ≡ before + 1 = omega (arith, on.judged.later) in
+    let from : ComesFrom network stream place before =
+    comes_from network stream place before is (is_sender network stream leg hop on.judged) on.within
+    (subst (IsFrom s.branches place) next on.from) in
     let there : member_at (members_of network) (scheduler_of network stream leg hop)
     ≡ member_behind s (port_at_place network stream before) =
     scheduler_there network stream leg hop on.judged

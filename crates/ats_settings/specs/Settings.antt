@@ -1,5 +1,5 @@
-use Rattle.std.specs.Prelude.{ℕ, ◌-◌, ◌<◌, ◌≤◌, nat_lt, List, length, map, IsPermutation, Option, Some, None}
-use Rattle.std.specs.Prelude.{if◌then◌else◌, slice_index_or, unwrap_or}
+use Rattle.std.specs.Prelude.{◌≡◌, ℕ, ◌<◌, true, nat_lt, List, [], ◌∷◌, length, IsPermutation, Option, Some, None}
+use Rattle.std.specs.Prelude.{if◌then◌else◌, is_some, slice_index_or, unwrap_or}
 use Rattle.std.specs.List.{flat_map, range_with_len}
 use Rattle.std.specs.List.Sorted.{IsSortedByKey, IsStableByKey}
 use Rattle.std.specs.Ordering.{nat_cmp, ordering_then}
@@ -12,12 +12,6 @@ use Rattle.ats_network.specs.Senders.{sender_at}
 use Rattle.ats_schedulers.specs.Schedulers.{member_behind, residences_of}
 use Rattle.ats_settings.specs.declared.setting.Setting.{Setting}
 use Rattle.ats_settings.specs.declared.setting.Shaping.{Shaping}
-
--- a place of a sender's ports at which is one that leaves a bridge: any but the first, which leaves its station
-pub record LeavesBridge (network : DeclaredNetwork) (sender place : ℕ) : Type 0 where
-  pub exists : sender < length (senders_of network)
-  pub later : 1 ≤ place
-  pub within : place < length (sender_at network sender).ports
 
 -- what is told of the scheduler of a member of the network's groups: what is declared of it there, and the maximum
 -- residence time of its group
@@ -39,13 +33,25 @@ scheduler_behind network sender port =
 abbrev pub port_at_place : DeclaredNetwork → ℕ → ℕ → ℕ
 port_at_place network sender place = slice_index_or (sender_at network sender).ports place 0
 
+-- the port before the one at a place, on the sender's routes: through it the frames come to the bridge that the one at
+-- the place leaves. Before those that leave the talker there is none
+abbrev pub port_behind : DeclaredNetwork → ℕ → ℕ → Option ℕ
+port_behind network sender place = port_before (sender_at network sender) (port_at_place network sender place)
+
+-- a place of a sender's ports at which is one that leaves a bridge to which the sender's frames come: any but one that
+-- leaves its talker
+pub record LeavesBridge (network : DeclaredNetwork) (sender place : ℕ) : Type 0 where
+  pub exists : sender < length (senders_of network)
+  pub within : place < length (sender_at network sender).ports
+  pub comes : is_some (port_behind network sender place) ≡ true
+
 -- what the bridge that a sender's frames leave by the port at a place is told of them: they come through the port
 -- before it on their routes, and go on by it
 abbrev pub setting_at : DeclaredNetwork → ℕ → ℕ → Setting
 setting_at network sender place =
     let s = sender_at network sender in
     let sent_to = port_at_place network sender place in
-    let received_from = unwrap_or (port_before s sent_to) 0 in
+    let received_from = unwrap_or (port_behind network sender place) 0 in
     record {
       bridge = (port_at network.topology.ports received_from).to;
       received_from = received_from;
@@ -57,10 +63,15 @@ setting_at network sender place =
       class_there = class_at s sent_to;
     }
 
--- the settings of a sender, one for each of its ports that leaves a bridge
+-- the setting at a place, where the sender's frames come to the bridge that the port there leaves
+abbrev pub settings_at : DeclaredNetwork → ℕ → ℕ → List Setting
+settings_at network sender place =
+    if is_some (port_behind network sender place) then setting_at network sender place ∷ [] else []
+
+-- the settings of a sender, one for each of its ports that leaves such a bridge
 abbrev pub sender_settings : DeclaredNetwork → ℕ → List Setting
 sender_settings network sender =
-    map (setting_at network sender) (range_with_len 1 (length (sender_at network sender).ports - 1))
+    flat_map (settings_at network sender) (range_with_len 0 (length (sender_at network sender).ports))
 
 -- those of all senders, one sender after the other
 abbrev pub hop_settings : DeclaredNetwork → List Setting

@@ -1,40 +1,54 @@
 //! The port from which a sender's frames come to the bridge that another of its ports leaves.
 
-ghost use Rattle.std.specs.Prelude.{◌≡◌, ◌<◌, ◌≤◌, length, Some, slice_index_or};
-ghost use Rattle.ats_network.specs.Class.{port_before};
+ghost use Rattle.std.specs.Prelude.{◌≡◌, ◌<◌, ◌≤◌, length, IfSome};
+ghost use Rattle.std.specs.Option.{option_map};
+ghost use Rattle.ats_network.specs.Network.{IsNetwork, senders_of};
 ghost use Rattle.ats_network.specs.Senders.{sender_at};
 ghost use Rattle.ats_streams.specs.Branches.{first_from};
-ghost use Rattle.ats_settings.specs.Before.{IsBefore};
-ghost use Rattle.ats_settings.specs.Settings.{LeavesBridge, port_at_place};
+ghost use Rattle.ats_settings.specs.Before.{IsFrom};
+ghost use Rattle.ats_settings.specs.Settings.{port_at_place, port_behind};
 
 use ats_network::{Network, Sender};
 use ats_streams::Stream;
 
-/// The place, among a sender's ports, of the port before the one at this place. It takes no memory.
-pub(crate) fn place_before(network: &Network, sender: u32, place: u32) -> u32
-    requires { LeavesBridge network.now sender place }
-    ensures within { result < length (sender_at network.now sender).ports }
-    ensures before { port_before (sender_at network.now sender) (port_at_place network.now sender place)
-        ≡ Some (port_at_place network.now sender result) }
+/// The place, among a sender's ports, of the port before the one at this place; `None` where that one leaves the
+/// talker. It takes no memory.
+pub(crate) fn place_before(network: &Network, sender: u32, place: u32) -> Option<u32>
+    requires sender { sender < length (senders_of network.now) }
+    requires place { place < length (sender_at network.now sender).ports }
+    ensures within { IfSome result (λ before. before < length (sender_at network.now sender).ports) }
+    ensures before { option_map (port_at_place network.now sender) result ≡ port_behind network.now sender place }
+{
+    let from = place_from(network, sender, place);
+    if from == 0 {
+        return None;
+    }
+    Some((from - 1) as u32)
+}
+
+// The place at which a leg of a sender goes on from the node that the port at this place leaves.
+fn place_from(network: &Network, sender: u32, place: u32) -> usize
+    requires { sender < length (senders_of network.now) }
+    ensures from { IsFrom (sender_at network.now sender).branches place result }
+    ensures rules { IsNetwork network.now }
 {
     match network.sender(sender) {
-        Sender::Stream(stream) => place_in(stream, place) as u32,
-        Sender::Flow(_) => place - 1,
+        Sender::Stream(stream) => place_in(stream, place),
+        Sender::Flow(_) => place as usize,
     }
 }
 
-// The same of a stream: where a branch begins, the place of the port that leads there.
+// The same of a stream: where a branch begins, the place of the hop at which it does.
 fn place_in(stream: &Stream, place: u32) -> usize
-    requires { 1 ≤ place }
-    ensures { IsBefore stream.now.branches place result }
+    ensures { IsFrom stream.now.branches place result }
 {
     for leg in 1..stream.legs() {
         let branch = stream.branch(leg);
         if branch.first == place {
-            return first_place(stream, branch.leg) as usize + branch.hop as usize - 1;
+            return first_place(stream, branch.leg) as usize + branch.hop as usize;
         }
     }
-    place as usize - 1
+    place as usize
 }
 
 // The place of the first port of a leg.

@@ -1,12 +1,11 @@
 //! The settings of all bridges of a network.
 
-ghost use Rattle.std.specs.Prelude.{◌≡◌, ◌++◌, ◌<◌, length, All, IfOk, OnOk, Some, slice_index_or};
-ghost use Rattle.ats_network.specs.Class.{port_before};
+ghost use Rattle.std.specs.Prelude.{◌≡◌, ◌++◌, ◌<◌, length, All, IfOk, OnOk, Some};
 ghost use Rattle.ats_network.specs.Network.{senders_of};
 ghost use Rattle.ats_network.specs.Senders.{sender_at};
 ghost use Rattle.ats_network.specs.SenderView.{sender_of};
-ghost use Rattle.ats_settings.specs.Settings.{AreInOrder, AreSettings, IsSettingOf, LeavesBridge, scheduler_behind};
-ghost use Rattle.ats_settings.specs.Settings.{sender_settings, setting_at};
+ghost use Rattle.ats_settings.specs.Settings.{AreInOrder, AreSettings, IsSettingOf, port_at_place, port_behind};
+ghost use Rattle.ats_settings.specs.Settings.{scheduler_behind, sender_settings, setting_at, settings_at};
 
 use crate::before::place_before;
 use crate::setting::{Setting, Shaping};
@@ -14,10 +13,10 @@ use ats_network::{Network, Sender};
 use std::alloc::{AllocError, Global};
 
 /// What to set in the bridges of a network: one setting for each stream and flow and each port by which its frames
-/// leave a bridge. They come by bridge, then by port of reception, then by class there, then by sender, each by its
-/// number, and those of one sender there in the order of its ports. It takes memory linear in the number of all
-/// senders' ports, and time as sorting these takes; a stream's ports are asked for each of its branches. `AllocError`
-/// where there is no memory for them.
+/// leave a bridge to which they come, so none for the ports that leave its talker. They come by bridge, then by port of
+/// reception, then by class there, then by sender, each by its number, and those of one sender there in the order of
+/// its ports. It takes memory linear in the number of all senders' ports, and time as sorting these takes; a stream's
+/// ports are asked for each of its branches. `AllocError` where there is no memory for them.
 pub fn settings(alloc: Global, network: &Network) -> Result<Vec<Setting>, AllocError>
     ensures value { IfOk result (λ settings. AreSettings network.now settings.items) }
     ensures each { IfOk result (λ settings. All (IsSettingOf network.now) settings.items) }
@@ -34,19 +33,39 @@ fn push_settings(made: &mut Vec<Setting>, network: &Network, sender: u32) -> Res
     requires sender { sender < length (senders_of network.now) }
     ensures { OnOk result (made.new.items ≡ made.old.items ++ sender_settings network.now sender) }
 {
-    for place in 1..network.sender_ports(sender).len() as u32 {
-        made.push(setting(network, sender, place))?;
+    for place in 0..network.sender_ports(sender).len() as u32 {
+        push_setting(made, network, sender, place)?;
     }
     Ok(())
 }
 
-// The setting of a sender at the bridge that the port at a place leaves.
-fn setting(network: &Network, sender: u32, place: u32) -> Setting
-    requires place { LeavesBridge network.now sender place }
+// Appends the setting at a place of a sender's ports, if there is one.
+fn push_setting(
+    made: &mut Vec<Setting>,
+    network: &Network,
+    sender: u32,
+    place: u32,
+) -> Result<(), AllocError>
+    requires sender { sender < length (senders_of network.now) }
+    requires place { place < length (sender_at network.now sender).ports }
+    ensures { OnOk result (made.new.items ≡ made.old.items ++ settings_at network.now sender place) }
+{
+    let Some(before) = place_before(network, sender, place) else {
+        return Ok(());
+    };
+    made.push(setting(network, sender, place, before))?;
+    Ok(())
+}
+
+// The setting of a sender at the bridge that the port at a place leaves, to which the port at another one leads.
+fn setting(network: &Network, sender: u32, place: u32, before: u32) -> Setting
+    requires sender { sender < length (senders_of network.now) }
+    requires place { place < length (sender_at network.now sender).ports }
+    requires before { before < length (sender_at network.now sender).ports }
+    requires behind { port_behind network.now sender place ≡ Some (port_at_place network.now sender before) }
     ensures { result ≡ setting_at network.now sender place }
 {
     let ports = network.sender_ports(sender);
-    let before = place_before(network, sender, place);
     let received_from = ports[before as usize];
     Setting {
         bridge: network.topology().ports()[received_from as usize].to,

@@ -1,8 +1,8 @@
 use Rattle.std.proofs.Common.{◌≡◌, ℕ, zero, suc, ◌+◌, ◌-◌, ◌<◌, ◌≤◌, List, [], ◌∷◌, ◌++◌, length, take, drop, get_or}
-use Rattle.std.proofs.Common.{Bool, true, false, ◌||◌, ltb}
+use Rattle.std.proofs.Common.{Bool, true, false, ◌||◌, ltb, ◌⊎◌, inl, inr}
 use Rattle.std.proofs.Common.{refl, sym, ap, subst, ◌∙◌, arith, length-append, length-drop, length-take}
 use Rattle.std.specs.List.{list_any, slice_range}
-use Rattle.std.proofs.lemmas.Bool.{lt-ltb}
+use Rattle.std.proofs.lemmas.Bool.{cases_lt, lt-ltb}
 use Rattle.std.proofs.lemmas.List.Folds.{list_any_at, list_any_more}
 use Rattle.std.proofs.Math.Seq.{get_or-append_seam}
 use Rattle.std.proofs.lemmas.List.{get_or_append_left, take_all}
@@ -11,7 +11,6 @@ use Rattle.ats_streams.specs.Branches.{lead_to, leads_from}
 use Rattle.ats_streams.specs.Branches.{first_from, leads_of, leg_at, legs_from, legs_of, no_branch, routes_of}
 use Rattle.ats_streams.specs.Stream.{DeclaredStream, IsStream}
 use Rattle.ats_streams.specs.declared.branch.Branch.{Branch}
-use Rattle.ats_streams.specs.declared.path.TheConstants.{MAX_PORTS}
 
 -- a stream has a leg more than branches
 pub legs-length : (at : ℕ) (ports : List ℕ) (branches : List Branch)
@@ -63,6 +62,14 @@ begins_at legs own (b ∷ branches) zero begin within =
 begins_at legs own (b ∷ branches) (suc n) begin within =
     subst (λ (k : ℕ). BeginsEarlier legs k (get_or branches n no_branch)) (omega arith)
     (begins_at legs (own + 1) branches n begin.1 (omega arith))
+
+-- it begins behind a port of its leg, or at the talker
+pub behind_or_talker : (legs : List (List ℕ)) (own : ℕ) (b : Branch) → BeginsEarlier legs own b
+    → (1 ≤ b.hop) ⊎ ((b.leg ≡ 0) × (b.hop ≡ 0))
+behind_or_talker legs own b begins = elim (cases_lt 0 b.hop) as (λ _. (1 ≤ b.hop) ⊎ ((b.leg ≡ 0) × (b.hop ≡ 0))) [
+  | inl later ↦ inl (omega (arith, later))
+  | inr none ↦ (let zero : b.hop ≡ 0 = omega (arith, none) in inr (begins.at_talker zero, zero))
+]
 
 pub leads-length : (legs leads : List (List ℕ)) (branches : List Branch)
     → length (leads_from legs leads branches) ≡ length leads + length branches
@@ -223,9 +230,10 @@ spans_last ports branches are =
     }
 
 -- as many ports as those of a route and some more
-pub bad_when_over : (route : List ℕ) (many : ℕ) → 16 < many → many ≤ length route → true ≡ is_bad_route route
-bad_when_over route many over within =
-    let past : ltb MAX_PORTS (length route) ≡ true = lt-ltb MAX_PORTS (length route) (omega (arith, over, within)) in
+pub bad_when_over : (most : ℕ) (route : List ℕ) (many : ℕ) → most < many → many ≤ length route
+    → true ≡ is_bad_route most route
+bad_when_over most route many over within =
+    let past : ltb most (length route) ≡ true = lt-ltb most (length route) (omega (arith, over, within)) in
     sym (ap (λ (t : Bool). ltb (length route) 1 || t) past ∙ or-true (ltb (length route) 1))
   where
     or-true : (t : Bool) → (t || true) ≡ true
@@ -264,55 +272,55 @@ leg_falls ports branches at are within some =
     begins_at (legs_of ports branches) 1 branches (at - 1) are.begin (omega (arith, some, within)) in
     omega (arith, begins.earlier, some)
 
-pub counted_over : (ports : List ℕ) (branches : List Branch) (leg at many : ℕ) → Counts ports branches leg at many
-    → 16 < many
-    → true ≡ is_bad_route (leg_at (leads_of ports branches) leg ++ leg_at (legs_of ports branches) leg)
-counted_over ports branches leg at many so_far over =
+pub counted_over : (ports : List ℕ) (branches : List Branch) (leg at many most : ℕ) → Counts ports branches leg at many
+    → most < many
+    → true ≡ is_bad_route most (leg_at (leads_of ports branches) leg ++ leg_at (legs_of ports branches) leg)
+counted_over ports branches leg at many most so_far over =
     let lead : List ℕ = leg_at (leads_of ports branches) leg in
     let own : List ℕ = leg_at (legs_of ports branches) leg in
-    bad_when_over (lead ++ own) many over (omega (arith, so_far.many_is, length-append lead own))
+    bad_when_over most (lead ++ own) many over (omega (arith, so_far.many_is, length-append lead own))
 
-pub counted_all : (ports : List ℕ) (branches : List Branch) (leg at many : ℕ) → Counts ports branches leg at many
-    → at ≡ 0 → (ltb many 1 || ltb MAX_PORTS many)
-    ≡ is_bad_route (leg_at (leads_of ports branches) leg ++ leg_at (legs_of ports branches) leg)
-counted_all ports branches leg at many so_far none =
+pub counted_all : (ports : List ℕ) (branches : List Branch) (leg at many most : ℕ) → Counts ports branches leg at many
+    → at ≡ 0 → (ltb many 1 || ltb most many)
+    ≡ is_bad_route most (leg_at (leads_of ports branches) leg ++ leg_at (legs_of ports branches) leg)
+counted_all ports branches leg at many most so_far none =
     let lead : List ℕ = leg_at (leads_of ports branches) leg in
     let own : List ℕ = leg_at (legs_of ports branches) leg in
     let front : length (leg_at (leads_of ports branches) at) ≡ 0 =
     ap (λ (k : ℕ). length (leg_at (leads_of ports branches) k)) none
     ∙ ap (λ (l : List ℕ). length l) (lead_of_trunk ports branches) in
     let all : many ≡ length (lead ++ own) = omega (arith, so_far.many_is, front, length-append lead own) in
-    ap (λ (n : ℕ). ltb n 1 || ltb MAX_PORTS n) all
+    ap (λ (n : ℕ). ltb n 1 || ltb most n) all
 
 -- whether one route more is bad
-pub bad_here : (ports : List ℕ) (branches : List Branch) (leg : ℕ) (bad : Bool) → leg < length branches + 1
-    → bad ≡ is_bad_route (leg_at (leads_of ports branches) leg ++ leg_at (legs_of ports branches) leg)
-    → is_bad_route (get_or (routes_of ports branches) leg []) ≡ bad
-bad_here ports branches leg bad within is =
-    ap is_bad_route (route-at ports branches leg [] (omega (arith, within))) ∙ sym is
+pub bad_here : (ports : List ℕ) (branches : List Branch) (leg most : ℕ) (bad : Bool) → leg < length branches + 1
+    → bad ≡ is_bad_route most (leg_at (leads_of ports branches) leg ++ leg_at (legs_of ports branches) leg)
+    → is_bad_route most (get_or (routes_of ports branches) leg []) ≡ bad
+bad_here ports branches leg most bad within is =
+    ap (is_bad_route most) (route-at ports branches leg [] (omega (arith, within))) ∙ sym is
 
-pub one_is_bad : (ports : List ℕ) (branches : List Branch) (leg : ℕ) (bad : Bool) → leg < length branches + 1
-    → bad ≡ is_bad_route (leg_at (leads_of ports branches) leg ++ leg_at (legs_of ports branches) leg)
-    → bad ≡ true → true ≡ list_any is_bad_route (routes_of ports branches)
-one_is_bad ports branches leg bad within is yes' =
-    sym (list_any_at is_bad_route (routes_of ports branches) leg []
-    (omega (arith, within, routes-length ports branches)) (bad_here ports branches leg bad within is ∙ yes'))
+pub one_is_bad : (ports : List ℕ) (branches : List Branch) (leg most : ℕ) (bad : Bool) → leg < length branches + 1
+    → bad ≡ is_bad_route most (leg_at (leads_of ports branches) leg ++ leg_at (legs_of ports branches) leg)
+    → bad ≡ true → true ≡ list_any (is_bad_route most) (routes_of ports branches)
+one_is_bad ports branches leg most bad within is yes' =
+    sym (list_any_at (is_bad_route most) (routes_of ports branches) leg []
+    (omega (arith, within, routes-length ports branches)) (bad_here ports branches leg most bad within is ∙ yes'))
 
-pub none_more : (ports : List ℕ) (branches : List Branch) (leg : ℕ) (bad : Bool) → leg < length branches + 1
-    → bad ≡ is_bad_route (leg_at (leads_of ports branches) leg ++ leg_at (legs_of ports branches) leg)
-    → bad ≡ false → list_any is_bad_route (take leg (routes_of ports branches)) ≡ false
-    → list_any is_bad_route (take (leg + 1) (routes_of ports branches)) ≡ false
-none_more ports branches leg bad within is no' so_far =
-    list_any_more is_bad_route (routes_of ports branches) leg []
+pub none_more : (ports : List ℕ) (branches : List Branch) (leg most : ℕ) (bad : Bool) → leg < length branches + 1
+    → bad ≡ is_bad_route most (leg_at (leads_of ports branches) leg ++ leg_at (legs_of ports branches) leg)
+    → bad ≡ false → list_any (is_bad_route most) (take leg (routes_of ports branches)) ≡ false
+    → list_any (is_bad_route most) (take (leg + 1) (routes_of ports branches)) ≡ false
+none_more ports branches leg most bad within is no' so_far =
+    list_any_more (is_bad_route most) (routes_of ports branches) leg []
     (omega (arith, within, routes-length ports branches))
-    ∙ ap (λ (t : Bool). t || is_bad_route (get_or (routes_of ports branches) leg [])) so_far
-    ∙ bad_here ports branches leg bad within is ∙ no'
+    ∙ ap (λ (t : Bool). t || is_bad_route most (get_or (routes_of ports branches) leg [])) so_far
+    ∙ bad_here ports branches leg most bad within is ∙ no'
 
-pub none_bad : (ports : List ℕ) (branches : List Branch) (leg : ℕ) → length branches + 1 ≤ leg
-    → list_any is_bad_route (take leg (routes_of ports branches)) ≡ false
-    → false ≡ list_any is_bad_route (routes_of ports branches)
-none_bad ports branches leg past so_far =
-    sym (ap (list_any is_bad_route) (sym (take_all leg (routes_of ports branches)
+pub none_bad : (ports : List ℕ) (branches : List Branch) (leg most : ℕ) → length branches + 1 ≤ leg
+    → list_any (is_bad_route most) (take leg (routes_of ports branches)) ≡ false
+    → false ≡ list_any (is_bad_route most) (routes_of ports branches)
+none_bad ports branches leg most past so_far =
+    sym (ap (list_any (is_bad_route most)) (sym (take_all leg (routes_of ports branches)
     (omega (arith, past, routes-length ports branches)))) ∙ so_far)
 
 pub spans_here : (ports : List ℕ) (branches : List Branch) (leg from : ℕ) → AreBranches ports branches

@@ -3,3 +3,4 @@ pub mod RouteLemmas
 pub mod OneListener
 pub mod WalkedRoutes
 pub mod ClassLemmas
+pub mod Places

@@ -5,6 +5,7 @@ use Rattle.std.specs.List.{All}
 use Rattle.ats_streams.specs.Branches.{AreBranches, BeginsEarlier, leads_of, leg_at, legs_of, no_branch, routes_of}
 use Rattle.ats_streams.specs.Path.{IsPath}
 use Rattle.ats_streams.specs.declared.branch.Branch.{Branch}
+use Rattle.ats_streams.specs.declared.path.TheConstants.{MAX_PORTS}
 use Rattle.ats_streams.proofs.BranchLemmas.{begins_at, lead_of, lead_of_trunk, route-at, routes-length}
 
 -- the ports in front of a leg, and these behind them, are those of a route
@@ -17,7 +18,7 @@ pub behind_first : (ports : List ℕ) (branches : List Branch) (leg : ℕ) → l
     → IsBehind ports branches leg leg (leg_at (legs_of ports branches) leg)
 behind_first ports branches leg within = record { whole = route-at ports branches leg [] within; within = within }
 
--- each route has 1 to 16 ports
+-- each route has 1 to 64 ports
 pub route_path : (ports : List ℕ) (branches : List Branch) (leg : ℕ) → All IsPath (routes_of ports branches)
     → leg ≤ length branches → IsPath (leg_at (routes_of ports branches) leg)
 route_path ports branches leg routes within = routes leg [] (omega (arith, within, routes-length ports branches))
@@ -46,7 +47,7 @@ behind_next ports branches leg at route are so_far some =
 -- and there is room for them
 pub behind_fits : (ports : List ℕ) (branches : List Branch) (leg at : ℕ) (route : List ℕ)
     → All IsPath (routes_of ports branches) → leg ≤ length branches → IsBehind ports branches leg at route
-    → length route ≤ 16
+    → length route ≤ MAX_PORTS
 behind_fits ports branches leg at route routes within so_far =
     omega (
       arith,
@@ -83,7 +84,7 @@ front_next ports branches leg at route before are is so_far some =
 pub front_fits : (ports : List ℕ) (branches : List Branch) (leg at : ℕ) (route before : List ℕ)
     → AreBranches ports branches → before ≡ leg_at (legs_of ports branches) (get_or branches (at - 1) no_branch).leg
     → All IsPath (routes_of ports branches) → leg ≤ length branches → IsBehind ports branches leg at route → 0 < at
-    → length (take (get_or branches (at - 1) no_branch).hop before) + length route ≤ 16
+    → length (take (get_or branches (at - 1) no_branch).hop before) + length route ≤ MAX_PORTS
 front_fits ports branches leg at route before are is routes within so_far some =
     let b : Branch = get_or branches (at - 1) no_branch in
     omega (

@@ -1,9 +1,8 @@
-use Rattle.std.specs.Prelude.{ℕ, zero, suc, ◌+◌, ◌<◌, ◌≤◌, Bool, ◌||◌, nat_lt, List, [], ◌∷◌, ◌++◌, length, take, drop}
-use Rattle.std.specs.Prelude.{slice_index_or}
+use Rattle.std.specs.Prelude.{◌≡◌, ℕ, zero, suc, ◌+◌, ◌<◌, ◌≤◌, Bool, ◌||◌, nat_lt, List, [], ◌∷◌, ◌++◌, length, take}
+use Rattle.std.specs.Prelude.{drop, slice_index_or, All}
 use Rattle.std.specs.List.{slice_range, zip}
 use Rattle.ats_streams.specs.declared.branch.Branch.{Branch}
 use Rattle.ats_streams.specs.declared.branch.TheConstants.{MAX_BRANCHES}
-use Rattle.ats_streams.specs.declared.path.TheConstants.{MAX_PORTS}
 
 -- the ports of legs, leg by leg, of which the first begins at a place: each goes up to where the next begins, and the
 -- last one to the end
@@ -68,10 +67,11 @@ abbrev pub Ascend : ℕ → List Branch → ℕ → Type 0
 Ascend at [] end = Unit {0}
 Ascend at (b ∷ branches) end = (at < b.first) × (b.first < end) × Ascend b.first branches end
 
--- a branch begins at a hop, other than the first, of a leg with a lower number than its own
+-- a branch begins at a hop of a leg with a lower number than its own; where this is the first hop of the leg, the leg
+-- is the trunk, and the branch begins at the talker
 pub record BeginsEarlier (legs : List (List ℕ)) (own : ℕ) (b : Branch) : Type 0 where
   pub earlier : b.leg < own
-  pub later : 1 ≤ b.hop
+  pub at_talker : b.hop ≡ 0 → b.leg ≡ 0
   pub within : b.hop < length (leg_at legs b.leg)
 
 -- so do branches, of which the first has this number among the legs
@@ -79,13 +79,17 @@ abbrev pub BeginEarlier : List (List ℕ) → ℕ → List Branch → Type 0
 BeginEarlier legs own [] = Unit {0}
 BeginEarlier legs own (b ∷ branches) = BeginsEarlier legs own b × BeginEarlier legs (own + 1) branches
 
--- what the branches of a stream keep: each of its legs has a port, and each branch begins at a hop, other than the
--- first, of an earlier leg
+-- what the branches of a stream keep: each of its legs has a port, and each branch begins at a hop of an earlier leg
+-- that is not the first of a branch
 pub record AreBranches (ports : List ℕ) (branches : List Branch) : Type 0 where
   pub places : Ascend 0 branches (length ports)
   pub begin : BeginEarlier (legs_of ports branches) 1 branches
   pub few : length branches ≤ MAX_BRANCHES
 
--- no route has so many ports
-abbrev pub is_bad_route : List ℕ → Bool
-is_bad_route route = nat_lt (length route) 1 || nat_lt MAX_PORTS (length route)
+-- a route has no port, or more than so many
+abbrev pub is_bad_route : ℕ → List ℕ → Bool
+is_bad_route most route = nat_lt (length route) 1 || nat_lt most (length route)
+
+-- each route has at most so many ports
+abbrev pub AreShort : ℕ → List (List ℕ) → Type 0
+AreShort most routes = All (λ (route : List ℕ). length route ≤ most) routes

@@ -6,6 +6,7 @@ use Rattle.ats_streams.specs.Rules.{KeepsRules}
 use Rattle.ats_streams.specs.Fault.{rules_fault}
 use Rattle.ats_streams.specs.Path.{IsPath}
 use Rattle.ats_streams.specs.Branches.{AreBranches, is_bad_route, routes_of}
+use Rattle.ats_streams.specs.declared.path.TheConstants.{MAX_PORTS}
 use Rattle.ats_streams.specs.declared.branch.Branch.{Branch}
 use Rattle.ats_streams.specs.declared.fault.StreamFault.{StreamFault}
 use Rattle.ats_streams.specs.declared.fault.StreamFault.TheVariants.{BadClass, Limit}
@@ -91,10 +92,10 @@ pub record IsStream (stream : DeclaredStream) : Type 0 where
   pub deadline : IsDeadline stream.deadline_ns
   pub identity : MayIdentify stream.identity
 
--- the limits on routes and a deadline: 1 to 16 ports each, 1 ns to 1 s
+-- the limits on routes and a deadline: 1 to 64 ports each, 1 ns to 1 s
 abbrev pub limit_fault : List (List ℕ) → ℕ → Option StreamFault
 limit_fault routes deadline_ns =
-    if list_any is_bad_route routes then Some Limit
+    if list_any (is_bad_route MAX_PORTS) routes then Some Limit
     else if nat_lt deadline_ns 1 || nat_lt MAX_DEADLINE_NS deadline_ns then Some Limit
     else None
 
@@ -114,3 +115,12 @@ stream_fault given stream =
     if are_bad_classes (length stream.ports) given then Some BadClass
     else option_or (rules_fault stream.rate stream.burst_bits stream.min_octets stream.max_octets)
     (limit_fault (routes_of stream.ports stream.branches) stream.deadline_ns)
+
+-- the limit on routes, where each may have so many ports
+abbrev pub route_fault : ℕ → List (List ℕ) → Option StreamFault
+route_fault most routes = if list_any (is_bad_route most) routes then Some Limit else None
+
+-- the first rule that a stream breaks whose routes may have so many ports: those of each stream, then this limit
+abbrev pub stream_fault_within : ℕ → List ℕ → DeclaredStream → Option StreamFault
+stream_fault_within most given stream =
+    option_or (stream_fault given stream) (route_fault most (routes_of stream.ports stream.branches))

@@ -18,7 +18,7 @@ pub enum StreamFault {
     BadSizes,
     /// The burst is below the wire bits of the longest frame.
     BurstBelowFrame,
-    /// A limit is passed: routes of 1 to 16 ports, a burst of at most 1,000,000,000 bits, a deadline of 1 ns to 1 s.
+    /// A limit is passed: routes of 1 to 64 ports, a burst of at most 1,000,000,000 bits, a deadline of 1 ns to 1 s.
     Limit,
 }
 

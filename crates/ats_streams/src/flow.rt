@@ -1,9 +1,11 @@
 //! Declared flows of lowest priority.
 
-ghost use Rattle.std.specs.Prelude.{◌≡◌, IfOk};
+ghost use Rattle.std.specs.Prelude.{◌≡◌, ◌≤◌, length, not, IsTrue, IfOk};
 ghost use Rattle.std.specs.Result.{result_err};
+ghost use Rattle.ats_streams.specs.Branches.{is_bad_route};
 ghost use Rattle.ats_streams.specs.Flow.{IsFlow, declared_flow, flow_fault};
 
+use crate::branch::is_bad_count;
 use crate::fault::StreamFault;
 use crate::path::is_path;
 use crate::rules::is_frame_size;
@@ -35,7 +37,7 @@ impl Flow {
     ///
     /// # Errors
     ///
-    /// `BadSizes` where the octets are not 64 to 2000, and else `Limit` where the path has no port or more than 16.
+    /// `BadSizes` where the octets are not 64 to 2000, and else `Limit` where the path has no port or more than 64.
     pub fn new(name: Name, path: Vec<u32>, max_octets: u64) -> Result<Self, StreamFault>
         ensures fault { result_err result ≡ flow_fault (declared_flow name path.items max_octets) }
         ensures value { IfOk result (λ flow. flow ≡ declared_flow name path.items max_octets) }
@@ -67,6 +69,15 @@ impl Flow {
         ensures rules { IsFlow self.now }
     {
         self.path.as_slice()
+    }
+
+    /// Whether its path has at most so many ports.
+    pub fn has_short_path(&self, most: u32) -> bool
+        ensures value { result ≡ not (is_bad_route most self.now.path) }
+        ensures short { IsTrue result → length self.now.path ≤ most }
+        ensures rules { IsFlow self.now }
+    {
+        !is_bad_count(self.path.len(), most as usize)
     }
 
     /// The most octets of its frames, counted with the frame check sequence.

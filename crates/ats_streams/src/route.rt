@@ -8,7 +8,7 @@ use crate::branch::{Branch, leg_of};
 use crate::path::MAX_PORTS;
 use std::marker::Model;
 
-/// The numbers of the ports from a talker to one listener, 16 at most. It takes no memory, and contracts see the list
+/// The numbers of the ports from a talker to one listener, 64 at most. It takes no memory, and contracts see the list
 /// of them.
 #[derive(Debug, Drop)]
 pub struct Route {
@@ -18,12 +18,13 @@ pub struct Route {
 
 impl Model for Route {
     ghost use Rattle.std.specs.Prelude.{ℕ, ◌≤◌, List, drop};
+    ghost use Rattle.ats_streams.specs.declared.path.TheConstants.{MAX_PORTS};
 
     ghost Value = { List ℕ };
 
     ghost view = { λ r. drop r.start r.numbers };
 
-    ghost invariant = { λ r. r.start ≤ 16 };
+    ghost invariant = { λ r. r.start ≤ MAX_PORTS };
 }
 
 impl Route {

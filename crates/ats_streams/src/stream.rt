@@ -1,13 +1,15 @@
 //! Declared streams.
 
 ghost use Rattle.std.specs.Prelude.{◌≡◌, ◌↔◌, ◌*◌, ◌+◌, ◌-◌, ◌<◌, ◌≤◌, length, IsTrue, IsNone, IfOk, IfErr, OnOk, None};
-ghost use Rattle.std.specs.Prelude.{All, slice_index_or};
+ghost use Rattle.std.specs.Prelude.{All, not, slice_index_or};
+ghost use Rattle.std.specs.List.{list_any};
 ghost use Rattle.ats_num.specs.Failure.{IsDue};
 ghost use Rattle.ats_num.specs.Rate.{IsRate};
 ghost use Rattle.ats_num.specs.declared.time.TheConstants.{PS_PER_NS};
 ghost use Rattle.ats_streams.specs.Rules.{CoversLongest, IsBurst, KeepsRules};
 ghost use Rattle.ats_streams.specs.Path.{IsPath};
-ghost use Rattle.ats_streams.specs.Branches.{AreBranches, leg_at, legs_of, no_branch, routes_of};
+ghost use Rattle.ats_streams.specs.Branches.{AreBranches, AreShort, is_bad_route, leg_at, legs_of, no_branch};
+ghost use Rattle.ats_streams.specs.Branches.{routes_of};
 ghost use Rattle.ats_streams.specs.Stream.{IsDeadline, IsIdentity, MayIdentify, IsStream, branching_stream};
 ghost use Rattle.ats_streams.specs.Stream.{IsClass, classes_for, with_burst, with_class, limit_fault, stream_fault};
 ghost use Rattle.ats_streams.specs.Traffic.{IsRuled, traffic_of};
@@ -15,6 +17,7 @@ ghost use Rattle.ats_streams.specs.Traffic.{IsRuled, traffic_of};
 use crate::branch::{Branch, has_bad_route, leg_of};
 use crate::classes::{are_bad_classes, classes_for};
 use crate::fault::StreamFault;
+use crate::path::MAX_PORTS;
 use crate::route::{Route, route_of};
 use crate::traffic::Declared;
 use ats_num::time::PS_PER_NS;
@@ -70,9 +73,9 @@ impl Stream {
     /// frames, where they are declared. It holds exactly these. Of the classes, a single one stands for each port; else
     /// each port has its own, in the order of the ports.
     ///
-    /// The ports of branches begin at places that ascend, each leg has a port, and each branch begins at a hop, other
-    /// than the first, of an earlier leg. An address that is given has 48 bits, and its VLAN identifier is 1 to 4094;
-    /// `is_identity` tests it.
+    /// The ports of branches begin at places that ascend, each leg has a port, and each branch begins at a hop of an
+    /// earlier leg that is not the first of a branch. An address that is given has 48 bits, and its VLAN identifier is
+    /// 1 to 4094; `is_identity` tests it.
     ///
     /// # Errors
     ///
@@ -80,7 +83,7 @@ impl Stream {
     /// neither one class nor as many as there are ports; `BadRate` where the rate is not 1 to
     /// 100,000,000,000; `BadSizes` where the sizes are not `64 <= min_octets <= max_octets <= 2000`;
     /// `BurstBelowFrame` where the burst is below the wire bits of `max_octets`; `Limit` where the
-    /// route to a listener has no port or more than 16, the burst is over 1,000,000,000, or the deadline is not 1 to
+    /// route to a listener has no port or more than 64, the burst is over 1,000,000,000, or the deadline is not 1 to
     /// 1,000,000,000. `Failure::NoMemory` where memory runs out.
     pub fn new(
         alloc: Global,
@@ -170,6 +173,16 @@ impl Stream {
         ensures rules { IsStream self.now }
     {
         route_of(&self.ports, &self.branches, leg as usize)
+    }
+
+    /// Whether the route to each listener has at most so many ports, of which there are at most 64.
+    pub fn has_short_routes(&self, most: u32) -> bool
+        requires { most ≤ MAX_PORTS }
+        ensures value { result ≡ not (list_any (is_bad_route most) (routes_of self.now.ports self.now.branches)) }
+        ensures short { IsTrue result → AreShort most (routes_of self.now.ports self.now.branches) }
+        ensures rules { IsStream self.now }
+    {
+        !has_bad_route(&self.ports, &self.branches, most as usize)
     }
 
     /// The branch that is a leg, 1 or more.
@@ -279,7 +292,7 @@ fn limit_fault(ports: &[u32], branches: &[Branch], deadline_ns: u64) -> Option<S
     ensures routes { IsNone result → All IsPath (routes_of ports.now branches.now) }
     ensures deadline { IsNone result → IsDeadline deadline_ns }
 {
-    if has_bad_route(ports, branches) {
+    if has_bad_route(ports, branches, MAX_PORTS) {
         return Some(StreamFault::Limit);
     }
     if deadline_ns < 1 || deadline_ns > MAX_DEADLINE_NS {

@@ -1,10 +1,10 @@
-use Rattle.std.proofs.Common.{◌≡◌, ◌∙◌, ℕ, ◌+◌, ◌<◌, ◌≤◌, List, length, get_or, ap, arith}
+use Rattle.std.proofs.Common.{◌≡◌, ◌∙◌, ℕ, ◌+◌, ◌<◌, List, length, get_or, ap, arith}
 use Rattle.ats_network.specs.Sender.{stream_sender}
 use Rattle.ats_streams.specs.Branches.{leg_at, legs_of}
 use Rattle.ats_streams.specs.Stream.{IsStream}
 use Rattle.ats_streams.proofs.BranchLemmas.{some_port}
 use Rattle.ats_schedulers.specs.Schedulers.{member_behind}
-use Rattle.ats_schedulers.proofs.LegPlaces.{IsLeg, leg_is}
+use Rattle.ats_schedulers.proofs.LegPlaces.{leg_is}
 use Rattle.ats_schedulers.proofs.Listing.{port_more}
 use Rattle.ats_schedulers.proofs.lists.push_leg.Goals as goal
 

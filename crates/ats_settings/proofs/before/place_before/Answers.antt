@@ -1,31 +1,32 @@
-use Rattle.std.proofs.Common.{◌-◌, inr, refl, subst, arith}
-use Rattle.ats_network.specs.Sender.{Sender}
-use Rattle.ats_settings.specs.Before.{IsBefore}
-use Rattle.ats_settings.proofs.BeforeLemmas.{ComesFrom, comes_from, few_ports}
+use Rattle.std.proofs.Common.{sym, subst, arith}
+use Rattle.ats_network.specs.Senders.{sender_at}
+use Rattle.ats_settings.specs.Before.{IsFrom}
+use Rattle.ats_settings.proofs.BeforeLemmas.{comes_behind, few_ports, starts_there}
 use Rattle.ats_settings.proofs.before.place_before.Goals as goal
 
--- of a stream
-from_stream : (c : goal.After-place_in) → ComesFrom c.args.network.now c.args.sender c.args.place c.place_in.result
-from_stream c =
-    comes_from c.args.network.now c.args.sender c.args.place c.place_in.result c.sender.ensures.rules c.requires
-    (subst (λ (s : Sender). IsBefore s.branches c.args.place c.place_in.result) c.in-Stream.ensures.value
-    c.place_in.ensures)
+pub returns-then-from-eq0-clause-before : goal.returns-then-from-eq0-clause-before
+returns-then-from-eq0-clause-before c =
+    sym (starts_there c.args.network.now c.args.sender c.args.place c.place_from-from.ensures.rules c.requires.sender
+    (subst (IsFrom (sender_at c.args.network.now c.args.sender).branches c.args.place)
+    (omega (arith, c.if-from-eq0.true)) c.place_from-from.ensures.from))
 
 pub overflow_cast-result : goal.overflow_cast-result
 overflow_cast-result c = omega (
   arith,
-  (from_stream c).within,
-  few_ports c.args.network.now c.args.sender c.sender.ensures.rules c.requires.exists,
+  (comes_behind c.args.network.now c.args.sender c.args.place c.place_from-from.result
+      c.place_from-from.ensures.rules c.requires.sender c.requires.place c.place_from-from.ensures.from
+      (omega (arith, c.if-from-eq0.false))).within,
+  few_ports c.args.network.now c.args.sender c.place_from-from.ensures.rules c.requires.sender,
 )
 
-pub returns-in-Stream-clause-within : goal.returns-in-Stream-clause-within
-returns-in-Stream-clause-within c = (from_stream c).within
+pub returns-clause-within : goal.returns-clause-within
+returns-clause-within c =
+    (comes_behind c.args.network.now c.args.sender c.args.place c.place_from-from.result
+    c.place_from-from.ensures.rules c.requires.sender c.requires.place c.place_from-from.ensures.from
+    (omega (arith, c.if-from-eq0.false))).within
 
-pub returns-in-Stream-clause-before : goal.returns-in-Stream-clause-before
-returns-in-Stream-clause-before c = (from_stream c).is
-
-pub returns-in-Flow-clause-before : goal.returns-in-Flow-clause-before
-returns-in-Flow-clause-before c =
-    (comes_from c.args.network.now c.args.sender c.args.place (c.args.place - 1) c.sender.ensures.rules c.requires
-    (subst (λ (s : Sender). IsBefore s.branches c.args.place (c.args.place - 1)) c.in-Flow.ensures.value
-    (inr (record { elsewhere = λ n within. absurd (omega arith); is = refl })))).is
+pub returns-clause-before : goal.returns-clause-before
+returns-clause-before c =
+    sym (comes_behind c.args.network.now c.args.sender c.args.place c.place_from-from.result
+    c.place_from-from.ensures.rules c.requires.sender c.requires.place c.place_from-from.ensures.from
+    (omega (arith, c.if-from-eq0.false))).is

@@ -14,13 +14,3 @@ first_place-requires c =
       c.loop-leg-test.true,
       c.legs-leg-end.ensures.value,
     )
-
-pub overflow_sub-result : goal.overflow_sub-result
-overflow_sub-result c =
-    let n : ℕ = c.loop-leg.leg - 1 in
-    omega (
-      arith,
-      (begins_of c.args.stream.now n c.branch-branch.ensures.rules
-          (omega (arith, c.loop-leg-test.true, c.legs-leg-end.ensures.value, c.loop-leg.auto.leg))).later,
-      ap (λ (b : Branch). b.hop) c.branch-branch.ensures.value,
-    )

@@ -11,9 +11,9 @@ use Rattle.ats_settings.proofs.listing.setting.Goals as goal
 pub bounds-ports-received_from : goal.bounds-ports-received_from
 bounds-ports-received_from c = omega (
   arith,
-  port_below c.args.network.now c.args.sender c.place_before-before.result c.sender_ports-ports.ensures.rules
-      c.requires.place.exists c.place_before-before.ensures.within,
-  ap (λ (l : List ℕ). get_or l c.place_before-before.result 0) c.sender_ports-ports.ensures.value,
+  port_below c.args.network.now c.args.sender c.args.before c.sender_ports-ports.ensures.rules
+      c.requires.sender c.requires.before,
+  ap (λ (l : List ℕ). get_or l c.args.before 0) c.sender_ports-ports.ensures.value,
   ap (λ (l : List Port). length l) c.ports.ensures.value,
   ap (λ (t : DeclaredTopology). length t.ports) c.topology.ensures.value,
 )
@@ -21,20 +21,20 @@ bounds-ports-received_from c = omega (
 pub scheduler-requires-clause-port : goal.scheduler-requires-clause-port
 scheduler-requires-clause-port c = omega (
   arith,
-  port_below c.args.network.now c.args.sender c.place_before-before.result c.sender_ports-ports.ensures.rules
-      c.requires.place.exists c.place_before-before.ensures.within,
-  ap (λ (l : List ℕ). get_or l c.place_before-before.result 0) c.sender_ports-ports.ensures.value,
+  port_below c.args.network.now c.args.sender c.args.before c.sender_ports-ports.ensures.rules
+      c.requires.sender c.requires.before,
+  ap (λ (l : List ℕ). get_or l c.args.before 0) c.sender_ports-ports.ensures.value,
 )
 
 pub returns : goal.returns
 returns c =
     let path : List ℕ = c.sender_ports-ports.result.now in
-    let before : ℕ = c.place_before-before.result in
+    let before : ℕ = c.args.before in
     let received_from : ℕ = get_or path before 0 in
     let same : received_from ≡ port_at_place c.args.network.now c.args.sender before =
     ap (λ (l : List ℕ). get_or l before 0) c.sender_ports-ports.ensures.value in
     setting_made c.args.network.now c.args.sender c.args.place before
-    (record { within = c.place_before-before.ensures.within; is = c.place_before-before.ensures.before })
+    (record { within = c.requires.before; is = c.requires.behind })
     _ received_from c.sender_class.result c.max_octets.result (get_or path c.args.place 0) c.sender_class-2.result
     c.scheduler.result same
     (ap (λ (l : List Port). (port_at l received_from).to)

@@ -12,4 +12,4 @@ loop-at-preserved c = counts_next c.args.ports.now c.args.branches.now c.args.le
 
 pub returns : goal.returns
 returns c = c.is_bad_count.ensures ∙ counted_all c.args.ports.now c.args.branches.now c.args.leg c.loop-at.at
-    c.loop-at.many c.loop-at.invariant (omega (arith, c.loop-at-test.false))
+    c.loop-at.many c.args.most c.loop-at.invariant (omega (arith, c.loop-at-test.false))

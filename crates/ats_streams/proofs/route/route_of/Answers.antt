@@ -1,6 +1,7 @@
 use Rattle.std.proofs.Common.{◌≤◌, ℕ, ◌-◌, List, length, get_or, refl, sym, subst, arith}
 use Rattle.ats_streams.specs.Branches.{leg_at, legs_of, no_branch}
 use Rattle.ats_streams.specs.Path.{IsPath}
+use Rattle.ats_streams.specs.declared.path.TheConstants.{MAX_PORTS}
 use Rattle.ats_streams.proofs.BranchLemmas.{leg_falls}
 use Rattle.ats_streams.proofs.WalkedRoutes.{IsBehind, behind_all, behind_first, behind_fits, front_fits, front_next}
 use Rattle.ats_streams.proofs.WalkedRoutes.{front_whole, route_path}
@@ -9,7 +10,7 @@ use Rattle.ats_streams.proofs.route.route_of.Goals as goal
 pub of-route-requires : goal.of-route-requires
 of-route-requires c =
     let own : List ℕ = leg_at (legs_of c.args.ports.now c.args.branches.now) c.args.leg in
-    subst (λ (l : List ℕ). length l ≤ 16) (sym c.leg_of.ensures)
+    subst (λ (l : List ℕ). length l ≤ MAX_PORTS) (sym c.leg_of.ensures)
     (behind_fits c.args.ports.now c.args.branches.now c.args.leg c.args.leg own c.requires.routes c.requires.leg
     (behind_first c.args.ports.now c.args.branches.now c.args.leg c.requires.leg))
 

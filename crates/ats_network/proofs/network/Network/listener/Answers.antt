@@ -4,14 +4,14 @@ use Rattle.ats_streams.specs.Branches.{leg_at, routes_of}
 use Rattle.ats_streams.specs.Stream.{DeclaredStream}
 use Rattle.ats_topology.specs.Walks.{ArePorts}
 use Rattle.ats_network.specs.Edits.{no_stream}
-use Rattle.ats_network.specs.Network.{DeclaredNetwork, declared_network}
+use Rattle.ats_network.specs.Network.{DeclaredNetwork, network_within}
 use Rattle.ats_network.proofs.RoutePorts.{route_ports}
 use Rattle.ats_network.proofs.network.Network.listener.Goals as goal
 
 pub station_of-requires-clause-ports : goal.station_of-requires-clause-ports
 station_of-requires-clause-ports c =
     let inside : DeclaredNetwork =
-    declared_network c.self.inside.shape c.self.inside.stream_table c.self.inside.flow_table in
+    network_within c.self.inside.shape c.self.inside.most_ports c.self.inside.stream_table c.self.inside.flow_table in
     let n : ℕ = c.args.stream in
     let same : c.args.self.now ≡ inside = sym c.self.view_is in
     let within : n < length inside.streams =

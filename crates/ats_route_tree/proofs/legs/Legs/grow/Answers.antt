@@ -5,6 +5,7 @@ use Rattle.std.proofs.lemmas.List.{take_all}
 use Rattle.ats_topology.specs.Walks.{ArePorts}
 use Rattle.ats_topology.specs.declared.port.Port.{Port}
 use Rattle.ats_streams.specs.declared.branch.Branch.{Branch}
+use Rattle.ats_streams.proofs.BranchLemmas.{trunk_within}
 use Rattle.ats_network.proofs.TreeLemmas.{tree_ports}
 use Rattle.ats_route_tree.specs.Legs.{DeclaredLegs}
 use Rattle.ats_route_tree.specs.Steps.{branch_behind, goes_off, grown, known_ports, node_after, place_to}
@@ -21,6 +22,34 @@ pub known_ports-count-requires-clause-route : goal.known_ports-count-requires-cl
 known_ports-count-requires-clause-route c =
     ports_are c.args.topology.now.ports c.ports-ports.result.now c.args.route.now c.args.route.now refl
     c.ports-ports.ensures.value (valid_ports c.args.topology.now c.args.route.now c.requires.valid)
+
+pub grow_first-requires-clause-numbers : goal.grow_first-requires-clause-numbers
+grow_first-requires-clause-numbers c =
+    ports_are c.args.topology.now.ports c.ports-ports.result.now c.args.self.now.ports.items
+    c.args.self.now.ports.items refl c.ports-ports.ensures.value (tree_ports c.args.topology.now
+    c.args.self.now.ports.items c.args.self.now.branches.items c.requires.have.are c.requires.have.tree)
+
+pub grow_first-requires-clause-route : goal.grow_first-requires-clause-route
+grow_first-requires-clause-route c =
+    ports_are c.args.topology.now.ports c.ports-ports.result.now c.args.route.now c.args.route.now refl
+    c.ports-ports.ensures.value (valid_ports c.args.topology.now c.args.route.now c.requires.valid)
+
+pub grow_first-requires-clause-some : goal.grow_first-requires-clause-some
+grow_first-requires-clause-some c = (
+  omega (
+    arith,
+    c.requires.have.tree.trunk.some,
+    trunk_within c.args.self.now.ports.items c.args.self.now.branches.items,
+  ),
+  omega (arith, c.requires.valid.some),
+)
+
+pub grow_first-requires-clause-few : goal.grow_first-requires-clause-few
+grow_first-requires-clause-few c =
+    let few : length c.args.self.now.ports.items ≤ 1024 =
+    tree_few c.args.topology.now c.args.self.now.ports.items c.args.self.now.branches.items
+    c.ports-ports.ensures.rules c.requires.have.are c.requires.have.tree in
+    omega (arith, few)
 
 pub bounds-ports-route : goal.bounds-ports-route
 bounds-ports-route c =
@@ -93,5 +122,6 @@ returns c =
     ∙ ap (λ (bs : List Branch). legs_by c.extend_from_slice.new.self.items bs) (sym c.in_ok-push.ensures.items) in
     record {
       value = sym (grown_is c.args.topology.now (legs_by own mine) route count c.in-Some.place b
-          (legs_by c.extend_from_slice.new.self.items c.push.new.self.items) known there branch passes next);
+          (legs_by c.extend_from_slice.new.self.items c.push.new.self.items)
+          (omega (arith, c.if-count-eq0.false)) known there branch passes next);
     }
