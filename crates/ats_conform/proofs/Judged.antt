@@ -17,7 +17,7 @@ use Rattle.ats_conform.specs.Steps.{AreMeters, KeepSoFar, meter_after}
 use Rattle.ats_conform.proofs.Lists.{counted-frames, metered-mine, metered-other}
 use Rattle.ats_conform.proofs.Found.{named-breaks}
 
--- each station keeps its buckets by the releases so far
+-- each node keeps its buckets by the releases so far
 pub all_keep : (network : DeclaredNetwork) (releases : List Release) (n : ℕ) → KeepSoFar network releases n
     → AllKeepBuckets network (take n releases)
 all_keep network releases n keep station = record {

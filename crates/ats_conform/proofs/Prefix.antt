@@ -42,7 +42,7 @@ frames-front i n releases =
     ∙ ap (map frame_of) (filter-append mine (take n releases) (drop n releases))
     ∙ map-append frame_of (filter mine (take n releases)) (filter mine (drop n releases))
 
--- where every station keeps its buckets by all releases it does by the first of them
+-- where every node keeps its buckets by all releases it does by the first of them
 pub keep-front : (network : DeclaredNetwork) (releases : List Release) (n : ℕ) → AllKeepBuckets network releases
     → AllKeepBuckets network (take n releases)
 keep-front network releases n all station = record {

@@ -10,7 +10,7 @@ use Rattle.ats_conform.specs.declared.broken.Broken.TheVariants.{Size, Bucket}
 use Rattle.ats_conform.specs.Metering.{Names}
 use Rattle.ats_conform.specs.Releases.{AllKeepBuckets, release_at, metered_at, metered_from}
 
--- the frame with this number is the first by which some station does not keep its buckets
+-- the frame with this number is the first by which some node does not keep its buckets
 pub record IsFirstBroken (network : DeclaredNetwork) (releases : List Release) (frame : ℕ) : Type 0 where
   pub within : frame < length releases
   pub before : AllKeepBuckets network (take frame releases)
@@ -39,7 +39,7 @@ abbrev pub BreaksOrFails : DeclaredNetwork → List Release → Failure Broken �
 BreaksOrFails network releases NoMemory = Unit {0}
 BreaksOrFails network releases (Fault broken) = Breaks network releases broken
 
--- a call failed: some station does not keep its buckets by these releases, unless memory ran out
+-- a call failed: some node does not keep its buckets by these releases, unless memory ran out
 abbrev pub AreBrokenOrFails : DeclaredNetwork → List Release → Failure Broken → Type 0
 AreBrokenOrFails network releases NoMemory = Unit {0}
 AreBrokenOrFails network releases (Fault broken) = ¬ AllKeepBuckets network releases

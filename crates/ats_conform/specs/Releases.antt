@@ -23,6 +23,6 @@ metered_from i n [] = []
 metered_from i n (r ∷ releases) =
     if r.sender == i then metered_at n r ∷ metered_from i (n + 1) releases else metered_from i (n + 1) releases
 
--- each station keeps its buckets
+-- each node keeps its buckets
 abbrev pub AllKeepBuckets : DeclaredNetwork → List Release → Type 0
-AllKeepBuckets network releases = (station : ℕ) → KeepsBuckets network releases station
+AllKeepBuckets network releases = (node : ℕ) → KeepsBuckets network releases node

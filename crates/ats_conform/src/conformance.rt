@@ -15,7 +15,7 @@ use ats_num::{Failure, wire_bits};
 use ats_trace::Release;
 use std::alloc::Global;
 
-/// Whether each station of a network keeps its buckets by these releases: whether each release of each stream and flow
+/// Whether each node of a network keeps its buckets by these releases: whether each release of each stream and flow
 /// has a declared size, and those of each stream conform to its declared rate and burst. Conditions: there are at most
 /// 200,000 releases, none is earlier than one before it or later than 100,000,000,000,000,000 ps, each is of a sender
 /// of the network, and octets are 64 to 2000. It takes time linear in the numbers of streams and releases, and room for

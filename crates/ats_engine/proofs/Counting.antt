@@ -9,7 +9,7 @@ use Rattle.std.proofs.lemmas.List.{get_or_default, get_or-set_same, get_or-set_o
 use Rattle.std.proofs.lemmas.List.{get_or-take, length-take-le}
 use Rattle.std.proofs.lemmas.List.Elements.{All-get_or}
 use Rattle.std.proofs.lemmas.List.Folds.{list_any_more, list_any_none}
-use Rattle.std.proofs.lemmas.List.Sums.{sum_by-cons}
+use Rattle.std.proofs.lemmas.List.Sums.{sum_by-cons, sum_by_more}
 use Rattle.ats_network.proofs.SenderLemmas.{each_is_sender}
 use Rattle.ats_network.specs.Class.{class_at}
 use Rattle.ats_network.specs.Network.{DeclaredNetwork, IsNetwork, senders_of}
@@ -18,7 +18,7 @@ use Rattle.ats_trace.specs.Journey.{legs_at}
 use Rattle.ats_trace.specs.declared.journey.Release.{Release}
 use Rattle.ats_run_records.specs.Progress.{copies_count}
 use Rattle.ats_run_records.proofs.Counts.{IsCounted, frame-counted, ports_along}
-use Rattle.ats_engine.specs.Rooms.{CountsOver, count_in, goes_over}
+use Rattle.ats_engine.specs.Rooms.{AreCounts, Counts, CountsOver, count_in, goes_over, goes_through}
 
 -- a sender of a network keeps a sender's rules
 pub sender-kept : (network : DeclaredNetwork) (sender : ℕ) → IsNetwork network → sender < length (senders_of network)
@@ -146,7 +146,7 @@ counts-more {network} {sender} {hop} {path} {old} {now} {class} at here fits cou
     }
 
 -- a sender has so few ports that each of their places fits 32 bits
-most-ports : (f : ℕ → ℕ) (at n : ℕ) → ((i : ℕ) → i < at + n → f i ≤ 16) → sum_by f (range_with_len at n) ≤ 16 * n
+most-ports : (f : ℕ → ℕ) (at n : ℕ) → ((i : ℕ) → i < at + n → f i ≤ 64) → sum_by f (range_with_len at n) ≤ 64 * n
 most-ports f at zero each = omega arith
 most-ports f at (suc n) each =
     omega (
@@ -170,3 +170,17 @@ ports-few network sender ports rules within is =
       most-ports (ports_along (legs_at network sender)) 1 (copies_count network r)
           (λ leg h. counted.most leg (omega arith)),
     )
+
+-- the counts of the first releases and of the next are those of one release more
+pub counts-next : (network : DeclaredNetwork) (releases : List Release) (i : ℕ) (d : Release) (old new : List ℕ)
+    → i < length releases → AreCounts network (take i releases) old
+    → Counts network (get_or releases i d).sender old new → AreCounts network (take (i + 1) releases) new
+counts-next network releases i d old new within counted more = record {
+  all = more.all ∙ counted.all;
+  each = λ port class some least.
+      more.each port class some least
+      ∙ ap (λ (n : ℕ). n + cond (goes_through port class (sender_at network (get_or releases i d).sender)) 1 0)
+      (counted.each port class some least)
+      ∙ sym (sum_by_more (λ (r : Release). cond (goes_through port class (sender_at network r.sender)) 1 0)
+      releases i d within);
+}

@@ -14,7 +14,7 @@ pub record IsStart {T : Type 0} (network : DeclaredNetwork) (releases : List Rel
   pub opened : IsOpened network releases course
   pub tied : course.tie ≡ tie
 
--- an agenda with the arrivals of the first so many frames at their own stations, and room for an entry of each leg of a
+-- an agenda with the arrivals of the first so many frames at their talkers, and room for an entry of each leg of a
 -- frame and each port
 pub record AreReleasedTo {O : Type 0} (network : DeclaredNetwork) (releases : List Release) (order : O) (count : ℕ)
     (agenda : Contents O Event) : Type 0 where

@@ -1,5 +1,5 @@
 -- What is projected from the rows of the run so far has the same elements as what is projected from its journeys.
-use Rattle.std.proofs.Common.{◌≡◌, ℕ, ◌+◌, List, [], ◌∷◌, ◌++◌, length, map, take, drop, IsPermutation, refl, sym, ap}
+use Rattle.std.proofs.Common.{◌≡◌, ℕ, List, [], ◌∷◌, ◌++◌, length, map, take, drop, IsPermutation, refl, sym, ap}
 use Rattle.std.proofs.Common.{sum_by, ◌∙◌, subst, arith}
 use Rattle.std.specs.List.{flat_map, zip}
 use Rattle.std.specs.Prelude.{◌==◌, ◌&&◌}

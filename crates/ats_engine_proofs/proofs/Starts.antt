@@ -6,6 +6,7 @@ use Rattle.std.proofs.lemmas.List.Elements.{All-contains}
 use Rattle.std.proofs.lemmas.Option.{slice_get_past}
 use Rattle.ats_num.specs.declared.time.Ps.{Ps}
 use Rattle.ats_streams.specs.Branches.{BeginsEarlier, legs_of, no_branch}
+use Rattle.ats_streams.proofs.BranchLemmas.{behind_or_talker}
 use Rattle.ats_streams.specs.declared.branch.Branch.{Branch}
 use Rattle.ats_streams.proofs.BranchLemmas.{begins_at as earlier_at}
 use Rattle.ats_network.specs.Network.{DeclaredNetwork, senders_of}
@@ -131,14 +132,16 @@ comes-keep {T} {network} {old} {new} {now} {row} step n off =
           ∙ set_each-off (rows_next network old row) staged old.stages n Over off;
     }
 
--- the leg at which a branch begins, in its frame: an earlier one, at a hop other than the first
+-- the leg at which a branch begins, in its frame: an earlier one, at a hop other than the first, or the trunk at its
+-- first hop
 record BeginsBehind {T : Type 0} (network : DeclaredNetwork) (course : Course T) (row copy before hop : ℕ) : Type 0
   where
     at : IsRowFor course (progress_at course.records row).frame before
     release : (progress_at course.records (row_of course.firsts (progress_at course.records row).frame before)).release
         ≡ (progress_at course.records row).release
     earlier : before < suc copy
-    later : 1 ≤ hop
+    later : (1 ≤ hop) ⊎ (((progress_at course.records
+        (row_of course.firsts (progress_at course.records row).frame before)).leg ≡ 0) × (hop ≡ 0))
 
 branch-begins : {T : Type 0} {key : T → ℕ → ℕ → ℕ} {wait : ℕ → ℕ → ℕ} {network : DeclaredNetwork}
     {releases : List Release} {course : Course T} {now : Moment} {event : Event} {entries : List (Moment × Event)}
@@ -166,7 +169,12 @@ branch-begins {T} {key} {wait} {network} {releases} {course} next row copy withi
       at = at;
       release = at.release ∙ one;
       earlier = omega (arith, begins.earlier);
-      later = begins.later;
+      later = elim (behind_or_talker (legs_of s.ports s.branches) (1 + copy) b begins) as
+          (λ _. (1 ≤ b.hop) ⊎ (((progress_at course.records (row_of course.firsts p.frame b.leg)).leg ≡ 0)
+          × (b.hop ≡ 0))) [
+            | inl behind ↦ inl behind
+            | inr first ↦ inr (at.of_leg ∙ first.0, first.1)
+          ];
     }
 
 -- a leg that does not begin where the frame comes begins, after an arrival, by the same record
@@ -226,9 +234,11 @@ start-stays {T} {key} {wait} {network} {releases} {old} {new} {now} {row} next s
                 at_hop = ap (λ (x : Branch). x.hop) branch ∙ same
                     ∙ ap (λ (m : ℕ). length (progress_at old.records m).hops) e;
               }))
-          | inr begins ↦
-              fewer (progress_at old.records r).hops b.hop
-              (begun-apart next.holds row r here begins).is.stands.here.0 behind.later same
+          | inr begins ↦ elim behind.later as (λ _. ⊥) [
+            | inl later ↦ fewer (progress_at old.records r).hops b.hop
+                (begun-apart next.holds row r here begins).is.stands.here.0 later same
+            | inr first ↦ omega (arith, first.0, begins.is)
+          ]
         ]
 
     by : (leg : ℕ) → p.leg ≡ leg → start_by network new.firsts new.records leg p

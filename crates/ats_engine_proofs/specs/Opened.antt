@@ -16,7 +16,7 @@ use Rattle.ats_engine_steps.specs.declared.stage.Stage.{Stage}
 use Rattle.ats_engine_steps.specs.declared.stage.Stage.TheVariants.{Apart, Coming}
 use Rattle.ats_engine_steps.specs.declared.turn.Turn.TheVariants.{Resting}
 
--- the arrivals of frames at their own stations, numbered from this number on: each at its release
+-- the arrivals of frames at their own talkers, numbered from this number on: each at its release
 abbrev pub released_from : ℕ → List Release → List (Moment × Event)
 released_from frame [] = []
 released_from frame (r ∷ releases) = (arrival_moment frame r.at, Arrival frame) ∷ released_from (frame + 1) releases

@@ -64,7 +64,7 @@ abbrev pub scheduler_before : DeclaredNetwork → Progress → ℕ
 scheduler_before network progress =
     scheduler_of network progress.release.sender progress.leg (length progress.hops)
 
--- the verdict on a frame that comes to a node now: at its own station it is eligible; at a bridge a stream's frame is
+-- the verdict on a frame that comes to a node now: at its talker it is eligible; at a bridge a stream's frame is
 -- judged by the group behind the port that it left, and a flow's frame by its size
 abbrev pub judged_by : DeclaredNetwork → GroupsState → ℕ → Progress → ℕ → Verdict
 judged_by network groups class progress now =

@@ -190,7 +190,7 @@ none-over network measured count within =
     subst (λ (p : Sender × Measured). is_over p ≡ false) (sym (same ∙ pair))
     (none-of _ _ is.burst is.sizes)))
 
--- where no sender is over what it declares, every station keeps its buckets
+-- where no sender is over what it declares, every node keeps its buckets
 kept : (network : DeclaredNetwork) (releases : List Release) (measured : List Measured)
     → AreMeasured network releases measured → senders_over network measured ≡ 0 → AllKeepBuckets network releases
 kept network releases measured are none station =

@@ -38,7 +38,7 @@ abbrev pub MeasuredIsOne : Type 0
 MeasuredIsOne = (network : DeclaredNetwork) (releases : List Release) (a b : List Measured)
     → AreMeasured network releases a → AreMeasured network releases b → a ≡ b
 
--- no sender is over what it declares exactly where every station keeps its buckets
+-- no sender is over what it declares exactly where every node keeps its buckets
 abbrev pub NoneOverIsKept : Type 0
 NoneOverIsKept = (network : DeclaredNetwork) (releases : List Release) (measured : List Measured)
     → AreMeasured network releases measured

@@ -33,7 +33,7 @@ pub fn measured_is_one()
     ensures { MeasuredIsOne }
 {}
 
-/// No sender is over what it declares exactly where every station keeps its buckets: where `senders_over` of what `fit`
+/// No sender is over what it declares exactly where every node keeps its buckets: where `senders_over` of what `fit`
 /// gives is 0, `conform` of `ats_conform` answers `Ok`, and nowhere else.
 pub fn none_over_is_kept()
     ensures { NoneOverIsKept }

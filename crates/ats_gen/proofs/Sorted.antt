@@ -72,7 +72,7 @@ times-in_order rs sorted i j d h k =
     let at_j = get_or-map time rs j none d below in
     rw (at_i, at_j) (sorted i j none h below)
 
--- by the made releases every station keeps its buckets
+-- by the made releases every node keeps its buckets
 pub made-keeps : (network : DeclaredNetwork) (seed count : ℕ) (releases : List Release) → AreRuled network
     → 0 < length network.streams → AreMade network seed count releases
     → (station : ℕ) → KeepsBuckets network releases station

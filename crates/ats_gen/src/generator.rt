@@ -20,7 +20,7 @@ use std::alloc::{AllocError, Global};
 pub const MAX_PAUSE_PS: u64 = 2_000_000;
 
 /// The releases of so many frames, at most 200,000, that the stated generator makes from a seed for the streams of a
-/// network, which take turns: by time, and at equal times in the order in which they were made. By them every station
+/// network, which take turns: by time, and at equal times in the order in which they were made. By them every node
 /// keeps its buckets. It takes time linear in the count, but for the sorting.
 ///
 /// # Errors
@@ -39,7 +39,7 @@ pub fn schedule(
     ensures sound { OnOk result (gen_fault network.now seed count ≡ None) }
     ensures releases { IfOk result (λ releases. AreReleases network.now releases.items) }
     ensures few_ports { IfOk result (λ releases. HaveFewPorts network.now releases.items) }
-    ensures keeps { IfOk result (λ releases. (station : ℕ) → KeepsBuckets network.now releases.items station) }
+    ensures keeps { IfOk result (λ releases. (node : ℕ) → KeepsBuckets network.now releases.items node) }
     ensures fault { IfErr result (λ fault. IsDue fault (gen_fault network.now seed count)) }
 {
     let streams = network.streams().len() as u32;

@@ -2,10 +2,11 @@
 
 ghost use Rattle.std.specs.Prelude.{◌*◌, ◌≤◌, ◌<◌, ◌^◌, length};
 
+use ats_streams::path::MAX_PORTS;
 use ats_trace::Run;
 
 // The most hops of a leg that are counted.
-const HOPS_COUNTED: usize = 16;
+const HOPS_COUNTED: usize = MAX_PORTS;
 
 // The bytes of room that are taken for a line.
 const LINE_BYTES: usize = 80;
@@ -22,7 +23,7 @@ pub(crate) fn room_of(run: &Run) -> usize {
 // The lines of a frame.
 fn lines_of(run: &Run, frame: u32) -> usize
     requires { frame < length run.now }
-    ensures { result ≤ 18 * 2 ^ 32 }
+    ensures { result ≤ 66 * 2 ^ 32 }
 {
     let mut lines = 0;
     for leg in 0..run.legs(frame) {

@@ -11,11 +11,12 @@ ghost use Rattle.ats_run_records.specs.Progress.{Progress, copies_of_frame, firs
 use ats_group::Verdict;
 use ats_network::Network;
 use ats_num::Ps;
+use ats_streams::path::MAX_PORTS;
 use ats_trace::{Ending, HopRecord, Journey, Release, Span};
 use std::alloc::{AllocError, Global};
 
 /// The most hop records along a leg: one for each of its ports.
-pub const MAX_ROOM: u32 = 16;
+pub const MAX_ROOM: u32 = MAX_PORTS as u32;
 
 /// Rows, spans and frames of legs, and how many hop records there may be along all of them.
 #[derive(Drop)]

@@ -20,7 +20,7 @@ use Rattle.ats_topology.specs.Walks.{IsWalk}
 use Rattle.ats_topology.specs.declared.port.Port.{Port}
 use Rattle.ats_streams.specs.Branches.{AreBranches, BeginsEarlier, leg_at, legs_of, no_branch}
 use Rattle.ats_streams.specs.declared.branch.Branch.{Branch}
-use Rattle.ats_streams.proofs.BranchLemmas.{begins_at, legs-length}
+use Rattle.ats_streams.proofs.BranchLemmas.{begins_at, behind_or_talker, legs-length}
 use Rattle.ats_network.specs.Network.{DeclaredNetwork, IsNetwork}
 use Rattle.ats_network.specs.Path.{IsBranch, IsTree, node_of_branch, nodes_along}
 use Rattle.ats_network.specs.Sender.{Sender}
@@ -280,6 +280,27 @@ anchor_first topology s j keeps in_legs in_leg =
       judged = ap (judged_at s j) (sym first);
     }
 
+-- and so is the port at the hop where a branch begins
+anchor_start : (topology : DeclaredTopology) (s : Sender) (j : Travel) → IsSender topology s → (n : ℕ) (b : Branch)
+    → BeginsEarlier (legs_of s.ports s.branches) (1 + n) b → b.leg < length (legs_of s.ports s.branches)
+    → Anchor topology s j (get_or (leg_at (legs_of s.ports s.branches) b.leg) b.hop 0)
+anchor_start topology s j keeps n b begins in_legs =
+    by (behind_or_talker (legs_of s.ports s.branches) (1 + n) b begins)
+  where
+    legs : List (List ℕ)
+    legs = legs_of s.ports s.branches
+
+    by : (1 ≤ b.hop) ⊎ ((b.leg ≡ 0) × (b.hop ≡ 0))
+        → Anchor topology s j (get_or (leg_at (legs_of s.ports s.branches) b.leg) b.hop 0)
+    by (inl later) =
+        let hop_is : suc (b.hop - 1) ≡ b.hop = omega (arith, later) in
+        subst (λ (k : ℕ). Anchor topology s j (get_or (leg_at legs b.leg) k 0)) hop_is
+        (anchor_later topology s j keeps b.leg (b.hop - 1) in_legs (omega (arith, hop_is, begins.within)))
+    by (inr at) =
+        subst (λ (k : ℕ). Anchor topology s j (get_or (leg_at legs k) b.hop 0)) (sym at.0)
+        (subst (λ (h : ℕ). Anchor topology s j (get_or (leg_at legs 0) h 0)) (sym at.1)
+        (anchor_first topology s j keeps (omega (arith, in_legs)) keeps.tree.trunk.some))
+
 -- that of the first port of a branch is the port at the hop where the branch begins
 anchor_branch : (topology : DeclaredTopology) (s : Sender) (j : Travel) → IsSender topology s → AreCopies s j → (n : ℕ)
     → suc n < length (legs_of s.ports s.branches) → 0 < length (leg_at (legs_of s.ports s.branches) (suc n))
@@ -293,11 +314,8 @@ anchor_branch topology s j keeps copied n in_legs in_leg =
     let below : n < length s.branches = omega (arith, in_legs, many) in
     let begins : BeginsEarlier legs (1 + n) b = begins_at legs 1 s.branches n keeps.branches.begin below in
     let start : ℕ = get_or (leg_at legs b.leg) b.hop 0 in
-    let hop_is : suc (b.hop - 1) ≡ b.hop = omega (arith, begins.later) in
     let anchor : Anchor topology s j start =
-    subst (λ (k : ℕ). Anchor topology s j (get_or (leg_at legs b.leg) k 0)) hop_is
-    (anchor_later topology s j keeps b.leg (b.hop - 1) (omega (arith, begins.earlier, in_legs))
-    (omega (arith, hop_is, begins.within))) in
+    anchor_start topology s j keeps n b begins (omega (arith, begins.earlier, in_legs)) in
     let own : List ℕ = leg_at legs (suc n) in
     let branch : IsBranch topology legs b (leg_at legs (1 + n)) = keeps.tree.each n below in
     let walk : IsWalk ports (node_of_branch ports legs b) branch.listener own =

@@ -49,7 +49,7 @@ IsWayAt ports due (p ∷ path) (hop ∷ hops) ending =
     (hop.arrival.0 ≡ due)
     × IsSentOrEndsAt (λ at. IsWayAt ports at path hops ending) (port_at ports p) hop.verdict hop.sent hops ending
 
--- the first hop of a journey: a station's own frame is eligible at its release
+-- the first hop of a journey: a node's own frame is eligible at its release
 abbrev pub IsEligibleAtRelease : Release → List HopRecord → Type 0
 IsEligibleAtRelease release [] = ⊥
 IsEligibleAtRelease release (hop ∷ hops) = hop.verdict ≡ Eligible release.at

@@ -53,7 +53,8 @@ IsWay [] (hop ∷ hops) ending = ⊥
 IsWay (p ∷ path) [] ending = ⊥
 IsWay (p ∷ path) (hop ∷ hops) ending = IsSentOrEnds (IsWay path hops ending) hop.verdict hop.sent hops ending
 
--- the first hop of a journey: a station's own frame comes to its port at its release, and is eligible then
+-- the first hop of a journey: a node's own frame comes to its port at its release, and is eligible then, at a bridge
+-- too
 abbrev pub IsReleased : Release → List HopRecord → Type 0
 IsReleased release [] = ⊥
 IsReleased release (hop ∷ hops) = (hop.arrival ≡ release.at) × (hop.verdict ≡ Eligible release.at)

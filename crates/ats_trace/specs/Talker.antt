@@ -16,7 +16,8 @@ abbrev pub start_of : List Port → List ℕ → ℕ
 start_of ports [] = 0
 start_of ports (p ∷ path) = (port_at ports p).from
 
--- the station of a sender: its first port is that of its trunk
+-- the talker of a sender, a station or a bridge: the node at which its routes begin; its first port is that of its
+-- trunk
 abbrev pub talker_of : DeclaredNetwork → ℕ → ℕ
 talker_of network i = start_of network.topology.ports (sender_at network i).ports
 
@@ -32,15 +33,16 @@ frames_of i releases = map frame_of (filter (λ (r : Release). r.sender == i) re
 abbrev pub IsDeclaredSize : DeclaredNetwork → Release → Type 0
 IsDeclaredSize network r = IsTrue (is_declared_size (declared_by network r.sender) r.octets)
 
--- a station keeps a rule: what each stream declares that begins there, and its releases, are as the rule says, and each
--- release of a stream or flow that begins there has a declared size
+-- a node keeps a rule: what each stream declares that begins there, and its releases, are as the rule says, and each
+-- release of a stream or flow that begins there has a declared size. So a node at which no route begins keeps each
+-- rule, whatever is released
 pub record KeepsBucketsBy (rule : Declared → List Frame → Type 0) (network : DeclaredNetwork) (releases : List Release)
-    (station : ℕ) : Type 0 where
-  pub streams : (i : ℕ) → i < length network.streams → talker_of network i ≡ station
+    (node : ℕ) : Type 0 where
+  pub streams : (i : ℕ) → i < length network.streams → talker_of network i ≡ node
       → rule (declared_by network i) (frames_of i releases)
-  pub sizes : All (λ (r : Release). r.sender < length (senders_of network) → talker_of network r.sender ≡ station
+  pub sizes : All (λ (r : Release). r.sender < length (senders_of network) → talker_of network r.sender ≡ node
       → IsDeclaredSize network r) releases
 
--- a station keeps its buckets
+-- a node keeps its buckets
 abbrev pub KeepsBuckets : DeclaredNetwork → List Release → ℕ → Type 0
-KeepsBuckets network releases station = KeepsBucketsBy bucket_rule network releases station
+KeepsBuckets network releases node = KeepsBucketsBy bucket_rule network releases node

@@ -64,7 +64,7 @@ stream_ports-le network port class (suc n) within =
 flow_ports-le : (network : DeclaredNetwork) (port class k : ℕ) → IsNetwork network → 1 ≤ class
     → k ≤ length network.flows → length (senders_of network) ≡ length network.streams + length network.flows
     → ports_of_frames network (by_sender network port class (length network.streams + k))
-    ≤ 40 * ports_together network.streams + 16 * k
+    ≤ 40 * ports_together network.streams + 64 * k
 flow_ports-le network port class zero net some within many =
     let none : length network.streams + 0 ≡ length network.streams = omega arith in
     let first = stream_ports-le network port class (length network.streams) (omega arith) in

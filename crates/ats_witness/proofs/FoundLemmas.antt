@@ -94,12 +94,12 @@ own_journey network stream port run net h on burst =
     (All-filter own (Contains releases) releases (All-contains_itself releases) 0 d some)
     (eqb-true r.sender stream (filter_passes own releases 0 d some))
 
--- each frame of a stream arrives at each listener within the sum of the bounds, in a run by releases by which stations
+-- each frame of a stream arrives at each listener within the sum of the bounds, in a run by releases by which nodes
 -- keep their buckets
 in_time : (network : DeclaredNetwork) (rows : List Row) (run : List Travel) (stream listener : ℕ) (j : Travel)
     → IsNetwork network → Holds network rows → IsLegal network run → stream < length network.streams
     → listener ≤ length (sender_at network stream).branches
-    → ((station : ℕ) → KeepsBuckets network (releases_of run) station) → Contains run j
+    → ((node : ℕ) → KeepsBuckets network (releases_of run) node) → Contains run j
     → j.release.sender ≡ stream
     → ArrivesBy (j.release.at.0 + bound_for rows (get_or network.streams stream no_stream) listener)
     (leg_in j listener).ending
@@ -109,7 +109,7 @@ in_time network rows run stream listener j net holds legal h there keeps in_run 
     (holding_is_in_time network rows net holds run legal j in_run s
     (ap (slice_get network.streams) own ∙ slice_get-get_or network.streams stream no_stream h)
     (keeps (talker_of network j.release.sender)) listener
-    (is_listener (stream_sender s) listener (omega (arith, there, same)))).sum
+    (is_listener (stream_sender s) listener (omega (arith, there, same))) (λ k d w bridge. keeps _)).sum
 
 -- so one arrived
 arrived : (run : List Travel) (stream listener limit : ℕ) (j : Travel) (ending : Ending) → Contains run j

@@ -1,4 +1,4 @@
--- In the burst every station keeps its buckets.
+-- In the burst every node keeps its buckets.
 use Rattle.std.proofs.Common.{◌≡◌, ℕ, ◌+◌, ◌*◌, ◌/◌, ◌%◌, ◌<◌, ◌≤◌, Bool, true, false, cond, List, get_or, map, length}
 use Rattle.std.proofs.Common.{replicate, sym, ap, subst, ◌∙◌, arith}
 use Rattle.std.specs.Prelude.{min, nat_le}

@@ -117,13 +117,13 @@ over-le network octets p net few within =
     omega (arith, slow, bits, lawful.latency)
 
 travel-le : (network : DeclaredNetwork) (port : ℕ) (s : Sender) → IsNetwork network → IsSender network.topology s
-    → travel_to network port s ≤ 57856000000
+    → travel_to network port s ≤ 231424000000
 travel-le network port s net keeps =
     each_in_front Short port (routes_of s.ports s.branches) (omega arith)
     (λ k d h. along (get_or (routes_of s.ports s.branches) k d) (keeps.routes k d h) (ports k d h))
   where
     Short : List ℕ → Type 0
-    Short l = sum_by (time_over network s.max_octets) l ≤ 57856000000
+    Short l = sum_by (time_over network s.max_octets) l ≤ 231424000000
 
     ports : All (All (λ (p : ℕ). p < length network.topology.ports)) (routes_of s.ports s.branches)
     ports = each_on_routes (λ (p : ℕ). p < length network.topology.ports) s.ports s.branches keeps.ports
@@ -133,44 +133,44 @@ travel-le network port s net keeps =
     along route path there =
         let place : ℕ = position_or_len (is_port port) route in
         let before : List ℕ = before_first (is_port port) route in
-        let short : length before ≤ 16 = omega (arith, path.most, length-take place route) in
+        let short : length before ≤ 64 = omega (arith, path.most, length-take place route) in
         let each : All (λ (p : ℕ). time_over network s.max_octets p ≤ 3616000000) before = λ k d h.
         over-le network s.max_octets (get_or before k d) net keeps.sizes.most
         (All-take (λ (p : ℕ). p < length network.topology.ports) place route there k d h) in
         let sum = sum_by-le (time_over network s.max_octets) 3616000000 before each in
         omega (arith, sum, short)
 
-greatest-le : (network : DeclaredNetwork) (port a : ℕ) (senders : List Sender) → a ≤ 57856000000
-    → All (λ (s : Sender). travel_to network port s ≤ 57856000000) senders
-    → fold max a (map (travel_to network port) (filter (uses port) senders)) ≤ 57856000000
+greatest-le : (network : DeclaredNetwork) (port a : ℕ) (senders : List Sender) → a ≤ 231424000000
+    → All (λ (s : Sender). travel_to network port s ≤ 231424000000) senders
+    → fold max a (map (travel_to network port) (filter (uses port) senders)) ≤ 231424000000
 greatest-le network port a [] start all = start
 greatest-le network port a (s ∷ senders) start all =
-    let Short : Sender → Type 0 = λ (x : Sender). travel_to network port x ≤ 57856000000 in
-    let one : travel_to network port s ≤ 57856000000 = All-head Short s senders all in
+    let Short : Sender → Type 0 = λ (x : Sender). travel_to network port x ≤ 231424000000 in
+    let one : travel_to network port s ≤ 231424000000 = All-head Short s senders all in
     let rest = All-tail Short s senders all in
     let more = greatest-le network port (max a (travel_to network port s)) senders (omega (arith, start, one)) rest in
     by (uses port s) more (greatest-le network port a senders start rest)
   where
     by : (b : Bool)
         → fold max (max a (travel_to network port s)) (map (travel_to network port) (filter (uses port) senders))
-        ≤ 57856000000
-        → fold max a (map (travel_to network port) (filter (uses port) senders)) ≤ 57856000000
+        ≤ 231424000000
+        → fold max a (map (travel_to network port) (filter (uses port) senders)) ≤ 231424000000
         → fold max a
         (map (travel_to network port) (cond b (s ∷ filter (uses port) senders) (filter (uses port) senders)))
-        ≤ 57856000000
+        ≤ 231424000000
     by true with_it without = with_it
     by false with_it without = without
 
 time-le : (network : DeclaredNetwork) (port class : ℕ) (s : Sender) → IsNetwork network
-    → time_in_burst network port class s ≤ 57856000001
+    → time_in_burst network port class s ≤ 231424000001
 time-le network port class s net =
     let most = greatest-le network port 0 (senders_of network) (omega arith)
     (λ k d h. travel-le network port (get_or (senders_of network) k d) net (each_is_sender network net k d h)) in
     by (interferes port class s) most
   where
-    by : (b : Bool) → greatest_travel network port ≤ 57856000000
+    by : (b : Bool) → greatest_travel network port ≤ 231424000000
         → cond b (1 + greatest_travel network port - travel_to network port s)
-        (1 + greatest_travel network port - travel_to network port s - 1) ≤ 57856000001
+        (1 + greatest_travel network port - travel_to network port s - 1) ≤ 231424000001
     by true most = omega (arith, most)
     by false most = omega (arith, most)
 

@@ -61,7 +61,7 @@ stream_within network i h =
 pub is_listener : (s : Sender) (listener : ℕ) → listener ≤ length s.branches → listener < listener_count s
 is_listener s listener within = omega (arith, within, routes-length s.ports s.branches)
 
--- the route to each has 1 to 16 ports
+-- the route to each has 1 to 64 ports
 pub route_path : (network : DeclaredNetwork) (i listener : ℕ) → IsNetwork network → i < length network.streams
     → listener ≤ length (sender_at network i).branches → IsPath (route_to (sender_at network i) listener)
 route_path network i listener net h within =

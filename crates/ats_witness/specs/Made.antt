@@ -18,7 +18,7 @@ pub record IsParticipant (network : DeclaredNetwork) (port : ℕ) (s : Sender) (
   pub used : uses port s ≡ true
   pub seen : port_sender p.seen ≡ seen_at port s
   pub travel : p.travel ≡ travel_to network port s
-  pub most : p.travel ≤ 57856000000
+  pub most : p.travel ≤ 231424000000
   pub limits : KeepsLimits p.seen
 
 -- the greatest travel so far with one sender more, where it has the port

@@ -20,7 +20,7 @@ use std::alloc::{AllocError, Global};
 /// longest frames: each stream whose class there is at least this stream's with as many as its burst holds whole, but
 /// at most 40, and each other stream and each flow with one. The first are released so that they come to the port at
 /// one moment if nothing delays them, the others a picosecond earlier. The releases are in the order of times and then
-/// of senders, and by them every station keeps its buckets. It looks at the ports of each sender twice, and takes the
+/// of senders, and by them every node keeps its buckets. It looks at the ports of each sender twice, and takes the
 /// time of sorting the releases. `AllocError` where there is no memory for them, and as much again.
 pub fn releases(
     alloc: Global,
@@ -33,7 +33,7 @@ pub fn releases(
     ensures burst { IfOk result (λ releases. IsBurstFor network.now stream port releases.items) }
     ensures releases { IfOk result (λ releases. AreReleases network.now releases.items) }
     ensures few_ports { IfOk result (λ releases. HaveFewPorts network.now releases.items) }
-    ensures keeps { IfOk result (λ releases. (station : ℕ) → KeepsBuckets network.now releases.items station) }
+    ensures keeps { IfOk result (λ releases. (node : ℕ) → KeepsBuckets network.now releases.items node) }
 {
     let class = class_at(network, stream, port);
     in_order(by_sender(alloc, network, port, class)?)
@@ -74,7 +74,7 @@ fn by_sender(
 // The greatest travel to a port.
 fn greatest_travel(network: &Network, port: u32) -> u64
     ensures value { result ≡ greatest_travel network.now port }
-    ensures most { result ≤ 57856000000 }
+    ensures most { result ≤ 231424000000 }
 {
     let mut greatest = 0;
     for sender in 0..network.senders() {
@@ -86,9 +86,9 @@ fn greatest_travel(network: &Network, port: u32) -> u64
 // The greatest travel so far with one sender more.
 fn with_travel(greatest: u64, network: &Network, sender: u32, port: u32) -> u64
     requires sender { sender < length (senders_of network.now) }
-    requires most { greatest ≤ 57856000000 }
+    requires most { greatest ≤ 231424000000 }
     ensures value { result ≡ with_travel network.now port greatest (sender_at network.now sender) }
-    ensures most { result ≤ 57856000000 }
+    ensures most { result ≤ 231424000000 }
 {
     match taking_part(network, sender, port) {
         Some(participant) => greatest.max(participant.travel),
@@ -107,7 +107,7 @@ fn push_frames(
 ) -> Result<(), AllocError>
     requires sender { sender < length (senders_of network.now) }
     requires greatest { greatest ≡ greatest_travel network.now port }
-    requires most { greatest ≤ 57856000000 }
+    requires most { greatest ≤ 231424000000 }
     ensures { OnOk result
         (releases.new.items ≡ releases.old.items ++ burst_of network.now port class sender) }
 {

@@ -5,6 +5,7 @@ ghost use Rattle.std.specs.Prelude.{nat_le, position, sum_by, MatchOption, IfSom
 ghost use Rattle.ats_num.specs.Wire.{IsFrameSize, bits_of};
 ghost use Rattle.ats_topology.specs.Port.{port_at};
 ghost use Rattle.ats_topology.specs.Walks.{ArePorts};
+ghost use Rattle.ats_streams.specs.declared.path.TheConstants.{MAX_PORTS};
 ghost use Rattle.ats_network.specs.Network.{senders_of};
 ghost use Rattle.ats_network.specs.Senders.{sender_at};
 ghost use Rattle.ats_certificate.specs.PortSums.{uses};
@@ -45,7 +46,7 @@ impl Participant {
     /// When they are released, where no travel to the port is longer than this one.
     pub(crate) fn time(&self, class: u8, greatest: u64) -> u64
         requires travel { self.now.travel ≤ greatest }
-        requires most { greatest ≤ 57856000000 }
+        requires most { greatest ≤ 231424000000 }
         ensures { result ≡ (if nat_le class self.now.seen.class
             then 1 + greatest - self.now.travel else 1 + greatest - self.now.travel - 1) }
     {
@@ -86,7 +87,7 @@ fn travel_to(network: &Network, sender: u32, port: u32, octets: u32) -> u64
     requires sender { sender < length (senders_of network.now) }
     requires octets { IsFrameSize octets }
     ensures value { result ≡ sum_by (time_over network.now octets) (ports_to (sender_at network.now sender) port) }
-    ensures most { result ≤ 57856000000 }
+    ensures most { result ≤ 231424000000 }
 {
     for leg in 0..network.sender_legs(sender) {
         let route = network.sender_route(sender, leg);
@@ -101,9 +102,9 @@ fn travel_to(network: &Network, sender: u32, port: u32, octets: u32) -> u64
 fn time_along(network: &Network, octets: u32, ports: &[u32]) -> u64
     requires octets { IsFrameSize octets }
     requires ports { ArePorts network.now.topology.ports ports.now }
-    requires few { length ports.now ≤ 16 }
+    requires few { length ports.now ≤ MAX_PORTS }
     ensures value { result ≡ sum_by (time_over network.now octets) ports.now }
-    ensures most { result ≤ 57856000000 }
+    ensures most { result ≤ 231424000000 }
 {
     let bits = wire_bits(octets);
     let mut time = 0;

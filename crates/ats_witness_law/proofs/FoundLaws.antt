@@ -60,7 +60,7 @@ happens_within network rows place listener delay stream sound named can =
     let there : listener ≤ length s.branches = listener_of network can.run listener j
     (record { 0 = j.release.at.0 + delay }) can.legal can.there can.took in
     let served = sound.served can.run can.legal j can.there (slice_get_within network.streams i stream own)
-    (can.keeps (talker_of network i)) listener (is_listener s listener there) in
+    (can.keeps (talker_of network i)) listener (is_listener s listener there) (λ k d h bridge. can.keeps _) in
     let by : ArrivesBy (j.release.at.0 + bound_for rows stream listener) (leg_in j listener).ending =
     subst (λ (x : Sender).
     ArrivesBy (j.release.at.0 + sum_by (bounds_of rows x) (route_to x listener)) (leg_in j listener).ending)

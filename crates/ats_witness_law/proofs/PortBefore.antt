@@ -1,5 +1,5 @@
 -- Travels, by the port before.
-use Rattle.std.proofs.Common.{◌≡◌, ℕ, zero, suc, ◌+◌, ◌<◌, ◌≤◌, Bool, true, false, List, [], ◌∷◌, ◌++◌, get_or}
+use Rattle.std.proofs.Common.{◌≡◌, ℕ, zero, suc, ◌+◌, ◌<◌, ◌≤◌, ◌⊎◌, Bool, true, false, List, [], ◌∷◌, ◌++◌, get_or}
 use Rattle.std.proofs.Common.{length, length-append, inl, inr, take, sum_by, Option, None, refl, sym, ap, subst, ◌∙◌}
 use Rattle.std.proofs.Common.{arith, eqb, add-one}
 use Rattle.std.specs.List.{All, before_first, list_any, position_or_len}
@@ -11,18 +11,18 @@ use Rattle.std.proofs.lemmas.List.Elements.{All-head, All-tail}
 use Rattle.std.proofs.lemmas.List.Folds.{list_any_at, list_any_none}
 use Rattle.std.proofs.lemmas.List.Sums.{fails_before_first, passes_at_first, sum_by_more}
 use Rattle.std.proofs.lemmas.Option.{none-some, same_Some}
-use Rattle.ats_streams.specs.Branches.{AreBranches, BeginsEarlier, leads_of, leg_at, legs_of, no_branch, routes_of}
-use Rattle.ats_streams.specs.Path.{IsPath}
+use Rattle.ats_streams.specs.Branches.{BeginsEarlier, leads_of, leg_at, legs_of, no_branch, routes_of}
 use Rattle.ats_streams.specs.declared.branch.Branch.{Branch}
-use Rattle.ats_streams.proofs.BranchLemmas.{begins_at, lead-length, lead_of, lead_of_trunk, legs-length, route-at}
-use Rattle.ats_streams.proofs.BranchLemmas.{routes-length}
+use Rattle.ats_streams.proofs.BranchLemmas.{begins_at, behind_or_talker, lead-length, lead_of, lead_of_trunk}
+use Rattle.ats_streams.proofs.BranchLemmas.{legs-length, route-at, routes-length}
 use Rattle.ats_topology.specs.Topology.{DeclaredTopology}
 use Rattle.ats_network.specs.Class.{port_before}
 use Rattle.ats_network.specs.Sender.{Sender}
 use Rattle.ats_network.specs.Senders.{IsSender}
 use Rattle.ats_trace.specs.Ways.{route_to}
-use Rattle.ats_route_law.specs.Laws.{ports_of_leg}
+use Rattle.ats_route_law.specs.Laws.{before_hop, in_front_of, ports_of_leg}
 use Rattle.ats_route_law.proofs.Before.{before_on_route, port_before_is_one}
+use Rattle.ats_route_law.proofs.Ends.{leg_some}
 use Rattle.ats_soundness_law.proofs.Journeys.{StandsAt, stands_at}
 use Rattle.ats_witness.specs.Burst.{in_front_on, ports_to, time_over, travel_to}
 use Rattle.ats_witness_law.specs.Laws.{OneListenerComesByItsPath, TravelGoesOverThePortBefore}
@@ -34,45 +34,73 @@ is_port port p = eqb p port
 abbrev lead_on : Sender → ℕ → List ℕ
 lead_on s n = leg_at (leads_of s.ports s.branches) n
 
--- all routes begin with the first port of the trunk
-first_port : (s : Sender) → AreBranches s.ports s.branches → (fuel n : ℕ) → n ≤ fuel → n ≤ length s.branches
-    → get_or (route_to s n) 0 0 ≡ get_or (ports_of_leg s 0) 0 0
-first_port s are fuel zero enough within =
-    ap (λ (l : List ℕ). get_or l 0 0)
+-- a route begins with the first port of a leg that begins at the talker, which has none before it
+none_from : (topology : DeclaredTopology) (s : Sender) → IsSender topology s → (fuel n : ℕ) → n ≤ fuel
+    → n ≤ length s.branches → port_before s (get_or (route_to s n) 0 0) ≡ None
+none_from topology s is fuel zero enough within =
+    ap (λ (l : List ℕ). port_before s (get_or l 0 0))
     (route-at s.ports s.branches 0 [] within
     ∙ ap (λ (l : List ℕ). l ++ ports_of_leg s 0) (lead_of_trunk s.ports s.branches))
-first_port s are zero (suc n) enough within = absurd (omega (arith, enough))
-first_port s are (suc fuel) (suc n) enough within =
-    let below : n < length s.branches = omega (arith, within) in
-    let next : suc n ≡ 1 + n = omega arith in
-    let b : Branch = get_or s.branches n no_branch in
-    let begins : BeginsEarlier (legs_of s.ports s.branches) (1 + n) b =
-    begins_at (legs_of s.ports s.branches) 1 s.branches n are.begin below in
-    let lead : List ℕ = lead_on s (1 + n) in
-    let before : List ℕ = lead_on s b.leg in
-    let own : List ℕ = ports_of_leg s b.leg in
-    let some : 0 < length lead = omega (arith, lead-length s.ports s.branches n are below, begins.later) in
-    ap (λ (k : ℕ). get_or (route_to s k) 0 0) next
-    ∙ ap (λ (l : List ℕ). get_or l 0 0) (route-at s.ports s.branches (1 + n) [] (omega (arith, within)))
-    ∙ get_or_append_left lead (ports_of_leg s (1 + n)) 0 0 some
-    ∙ ap (λ (l : List ℕ). get_or l 0 0)
-    (lead_of s.ports s.branches n are below ∙ sym (take-append-add before own b.hop))
-    ∙ get_or-take (length before + b.hop) (before ++ own) 0 0 (omega (arith, begins.later))
-    ∙ ap (λ (l : List ℕ). get_or l 0 0)
-    (sym (route-at s.ports s.branches b.leg [] (omega (arith, begins.earlier, within))))
-    ∙ first_port s are fuel b.leg (omega (arith, begins.earlier, enough)) (omega (arith, begins.earlier, within))
+    ∙ port_before_is_one topology s 0 0 is within (leg_some topology s 0 is within)
+none_from topology s is zero (suc n) enough within = absurd (omega (arith, enough))
+none_from topology s is (suc fuel) (suc n) enough within =
+    ap (λ (k : ℕ). port_before s (get_or (route_to s k) 0 0)) next
+    ∙ by (behind_or_talker (legs_of s.ports s.branches) (1 + n) b begins)
+    (none_from topology s is fuel b.leg (omega (arith, begins.earlier, enough))
+    (omega (arith, begins.earlier, within)))
+  where
+    below : n < length s.branches
+    below = omega (arith, within)
 
--- which has none before it
+    next : suc n ≡ 1 + n
+    next = omega arith
+
+    b : Branch
+    b = get_or s.branches n no_branch
+
+    begins : BeginsEarlier (legs_of s.ports s.branches) (1 + n) (get_or s.branches n no_branch)
+    begins = begins_at (legs_of s.ports s.branches) 1 s.branches n is.branches.begin below
+
+    lead : List ℕ
+    lead = lead_on s (1 + n)
+
+    before : List ℕ
+    before = lead_on s (get_or s.branches n no_branch).leg
+
+    own : List ℕ
+    own = ports_of_leg s (get_or s.branches n no_branch).leg
+
+    lead_is : lead_on s (1 + n) ≡ lead_on s (get_or s.branches n no_branch).leg
+        ++ take (get_or s.branches n no_branch).hop (ports_of_leg s (get_or s.branches n no_branch).leg)
+    lead_is = lead_of s.ports s.branches n is.branches below
+
+    by : (1 ≤ b.hop) ⊎ ((b.leg ≡ 0) × (b.hop ≡ 0)) → port_before s (get_or (route_to s b.leg) 0 0) ≡ None
+        → port_before s (get_or (route_to s (1 + n)) 0 0) ≡ None
+    by (inl later) earlier =
+        let some : 0 < length lead = omega (arith, lead-length s.ports s.branches n is.branches below, later) in
+        ap (λ (l : List ℕ). port_before s (get_or l 0 0))
+        (route-at s.ports s.branches (1 + n) [] (omega (arith, within)))
+        ∙ ap (port_before s) (get_or_append_left lead (ports_of_leg s (1 + n)) 0 0 some
+        ∙ ap (λ (l : List ℕ). get_or l 0 0) (lead_is ∙ sym (take-append-add before own b.hop))
+        ∙ get_or-take (length before + b.hop) (before ++ own) 0 0 (omega (arith, later))
+        ∙ ap (λ (l : List ℕ). get_or l 0 0)
+        (sym (route-at s.ports s.branches b.leg [] (omega (arith, begins.earlier, within)))))
+        ∙ earlier
+    by (inr at) earlier =
+        let none : lead_on s (1 + n) ≡ [] =
+        lead_is ∙ ap (λ (k : ℕ). lead_on s k ++ take b.hop (ports_of_leg s k)) at.0
+        ∙ ap (λ (h : ℕ). lead_on s 0 ++ take h (ports_of_leg s 0)) at.1
+        ∙ ap (λ (l : List ℕ). l ++ []) (lead_of_trunk s.ports s.branches) in
+        let inside : 1 + n ≤ length s.branches = omega (arith, within) in
+        let front : in_front_of s (1 + n) 0 ≡ None =
+        ap (λ (k : ℕ). in_front_of s k 0) (sym next) ∙ ap (before_hop own) at.1 in
+        ap (λ (l : List ℕ). port_before s (get_or l 0 0)) (route-at s.ports s.branches (1 + n) [] inside
+        ∙ ap (λ (l : List ℕ). l ++ ports_of_leg s (1 + n)) none)
+        ∙ port_before_is_one topology s (1 + n) 0 is inside (leg_some topology s (1 + n) is inside) ∙ front
+
 none_before : (topology : DeclaredTopology) (s : Sender) (n : ℕ) → IsSender topology s → n ≤ length s.branches
     → port_before s (get_or (route_to s n) 0 0) ≡ None
-none_before topology s n is within =
-    let path : IsPath (route_to s 0) = is.routes 0 [] (omega (arith, routes-length s.ports s.branches)) in
-    let trunk : route_to s 0 ≡ ports_of_leg s 0 =
-    route-at s.ports s.branches 0 [] (omega arith)
-    ∙ ap (λ (l : List ℕ). l ++ ports_of_leg s 0) (lead_of_trunk s.ports s.branches) in
-    ap (port_before s) (first_port s is.branches n n (omega arith) within)
-    ∙ port_before_is_one topology s 0 0 is (omega arith)
-    (omega (arith, path.least, ap (λ (l : List ℕ). length l) trunk))
+none_before topology s n is within = none_from topology s is n n (omega arith) within
 
 -- routes that have a port come to it in one way
 same_way : (topology : DeclaredTopology) (s : Sender) (n m h g : ℕ) → IsSender topology s → n ≤ length s.branches

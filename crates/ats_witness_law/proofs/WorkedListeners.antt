@@ -9,7 +9,7 @@ use Rattle.ats_witness.specs.Burst.{IsBurst, IsBurstFor, burst_of, releases_by}
 use Rattle.ats_witness.specs.Found.{IsFoundAt, greatest_wait}
 use Rattle.ats_witness.specs.Last.{last_key}
 use Rattle.ats_examples.proofs.LegalProofs.{run_by}
-use Rattle.ats_examples.proofs.NetworkTest.{network_by}
+use Rattle.ats_examples.proofs.NetworkTest.{long_network_by}
 use Rattle.ats_tree_examples.specs.Networks.{split, split_links, split_nodes, tree}
 use Rattle.ats_tree_examples.proofs.TreeProofs.{tree_is}
 use Rattle.ats_witness_law.specs.Worked.{FurtherListenersAreFound, alone_over_tree, alone_to_both, copy_behind_flow}
@@ -18,7 +18,7 @@ use Rattle.ats_witness_law.proofs.WorkedBursts.{TakesAtMost, greatest_to, no_tra
 use Rattle.ats_witness_law.proofs.WorkedBursts.{two_releases}
 
 network_is : IsNetwork split_and_flow_to_second
-network_is = network_by (split_nodes 1000000) split_links split.streams split_and_flow_to_second.flows refl refl
+network_is = long_network_by (split_nodes 1000000) split_links split.streams split_and_flow_to_second.flows refl refl
 
 -- at the trunk's ports the stream is alone
 talker_each : (i : ℕ) → releases_by i (release 1 0 ∷ []) ≡ burst_of split_and_flow_to_second 0 6 i

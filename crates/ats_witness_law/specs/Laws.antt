@@ -44,10 +44,10 @@ abbrev pub BurstIsOne : Type 0
 BurstIsOne = (network : DeclaredNetwork) (port class : ℕ) (one other : List Release)
     → IsBurst network port class one → IsBurst network port class other → one ≡ other
 
--- by a burst every station keeps its buckets
+-- by a burst every node keeps its buckets
 abbrev pub BurstKeepsBuckets : Type 0
-BurstKeepsBuckets = (network : DeclaredNetwork) (port class : ℕ) (releases : List Release) (station : ℕ)
-    → IsNetwork network → IsBurst network port class releases → KeepsBuckets network releases station
+BurstKeepsBuckets = (network : DeclaredNetwork) (port class : ℕ) (releases : List Release) (node : ℕ)
+    → IsNetwork network → IsBurst network port class releases → KeepsBuckets network releases node
 
 -- a frame reaches the listener with a number so long after its release as it takes
 abbrev pub ArrivesExactly : Travel → ℕ → ℕ → Type 0
@@ -60,12 +60,12 @@ DelaysAreExact = (network : DeclaredNetwork) (run : List Travel) (sender listene
     → IsNetwork network → IsLegal network run → ArrivedAfter run sender listener took journey
     → ArrivesExactly journey listener took
 
--- a delay of a stream for a listener can happen: there is a legal run in which every station keeps its buckets, and a
+-- a delay of a stream for a listener can happen: there is a legal run in which every node keeps its buckets, and a
 -- frame of the stream in it that takes just so long to this listener
 pub record CanHappen (network : DeclaredNetwork) (stream listener delay : ℕ) : Type 0 where
   pub run : List Travel
   pub legal : IsLegal network run
-  pub keeps : (station : ℕ) → KeepsBuckets network (releases_of run) station
+  pub keeps : (node : ℕ) → KeepsBuckets network (releases_of run) node
   pub journey : Travel
   pub there : Contains run journey
   pub sent : journey.release.sender ≡ stream
@@ -75,11 +75,11 @@ abbrev pub FoundDelaysHappen : Type 0
 FoundDelaysHappen = (network : DeclaredNetwork) (stream listener port delay : ℕ) → IsNetwork network
     → IsFoundAt network stream listener port delay → CanHappen network stream listener delay
 
--- it does so in a legal run in which every station keeps its buckets. Refuses runs of which less is asked than that
+-- it does so in a legal run in which every node keeps its buckets. Refuses runs of which less is asked than that
 abbrev pub HappensLawfully : Type 0
 HappensLawfully = (network : DeclaredNetwork) (stream listener delay : ℕ)
     → (can : CanHappen network stream listener delay)
-    → IsLegal network can.run × ((station : ℕ) → KeepsBuckets network (releases_of can.run) station)
+    → IsLegal network can.run × ((node : ℕ) → KeepsBuckets network (releases_of can.run) node)
 
 -- bounds that are sound give a stream along the route to a listener together at least each delay for it that can
 -- happen

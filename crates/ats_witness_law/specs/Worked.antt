@@ -1,5 +1,5 @@
 use Rattle.std.specs.Prelude.{◌≡◌, ℕ, List, [], ◌∷◌}
-use Rattle.ats_network.specs.Network.{DeclaredNetwork, IsNetwork, declared_network}
+use Rattle.ats_network.specs.Network.{DeclaredNetwork, IsNetwork, long_network}
 use Rattle.ats_bound.specs.Least.{least_certificate}
 use Rattle.ats_trace.specs.Journey.{Travel}
 use Rattle.ats_trace.specs.Run.{IsRunBy}
@@ -78,7 +78,7 @@ pub record EachListenerIsFound : Type 0 where
 
 -- the split with a flow from s2 to s3, which has number 1: it is in the way at the port to the second listener alone
 abbrev pub split_and_flow_to_second : DeclaredNetwork
-split_and_flow_to_second = declared_network split_topology split.streams (flow (codes "f") (3 ∷ 4 ∷ []) ∷ [])
+split_and_flow_to_second = long_network split_topology split.streams (flow (codes "f") (3 ∷ 4 ∷ []) ∷ [])
 
 -- a frame of this flow, for which the copy to the second listener waits, and the frame to the first does not
 abbrev pub copy_behind_flow : List Travel

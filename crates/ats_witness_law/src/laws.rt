@@ -26,7 +26,7 @@ pub fn burst_is_one()
     ensures { BurstIsOne }
 {}
 
-/// By the burst every station keeps its buckets.
+/// By the burst every node keeps its buckets.
 pub fn burst_keeps_buckets()
     ensures { BurstKeepsBuckets }
 {}
@@ -36,13 +36,13 @@ pub fn delays_are_exact()
     ensures { DelaysAreExact }
 {}
 
-/// What is found can happen: in a legal run in which every station keeps its buckets, a frame of the stream takes just
+/// What is found can happen: in a legal run in which every node keeps its buckets, a frame of the stream takes just
 /// so long to the listener.
 pub fn found_delays_happen()
     ensures { FoundDelaysHappen }
 {}
 
-/// The run of a delay that can happen is legal, and in it every station keeps its buckets.
+/// The run of a delay that can happen is legal, and in it every node keeps its buckets.
 pub fn happens_lawfully()
     ensures { HappensLawfully }
 {}

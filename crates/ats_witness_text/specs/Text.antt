@@ -21,7 +21,7 @@ release_line network r =
     codes "release " ++ decimal r.at.0 ++ codes " " ++ (sender_at network r.sender).name ++ codes " "
     ++ decimal r.octets ++ codes "\n"
 
--- the name by which a stream's listener is told from the first, by their numbers: that of its station
+-- the name by which a stream's listener is told from the first, by their numbers: that of its node
 abbrev pub station_at : DeclaredNetwork → ℕ → ℕ → Option (List ℕ)
 station_at network stream listener =
     if listener == 0 then None

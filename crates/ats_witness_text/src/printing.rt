@@ -21,9 +21,9 @@ use itoa::{Buffer, Integer};
 use std::alloc::AllocError;
 
 /// Appends what is found of a stream for one of its listeners, that of a leg counted from 0: of another listener than
-/// the first a line with the stream's name and its station's, then a line for each port of the route to it with the
+/// the first a line with the stream's name and its node's, then a line for each port of the route to it with the
 /// delay found there, a line for each release of the burst at the port of the first hop with a greatest delay, and a
-/// last one with the stream's name, for another listener than the first its station's, this delay, a bound, and by how
+/// last one with the stream's name, for another listener than the first its node's, this delay, a bound, and by how
 /// much the bound is above the delay: 0 where it is not. All times are in picoseconds. It takes time linear in the
 /// number of lines. `AllocError` where there is no memory for them.
 #[tactic(auto, unfolding(crate::specs::Text::found_text))]
@@ -51,7 +51,7 @@ pub fn write_found(
     write_witness(out, &name, &station, found.greatest(), bound)
 }
 
-// The name of the station of another listener than the first.
+// The name of the node of another listener than the first.
 fn station_at(network: &Network, stream: u32, listener: u32) -> Option<Name>
     requires stream { stream < length network.now.streams }
     requires listener { listener ≤ length (sender_at network.now stream).branches }
@@ -64,7 +64,7 @@ fn station_at(network: &Network, stream: u32, listener: u32) -> Option<Name>
     Some(station_of(network.topology(), route.as_slice()))
 }
 
-// The line in front of what is found for a listener at this station.
+// The line in front of what is found for a listener at this node.
 #[tactic(auto, unfolding(crate::specs::Text::title_line))]
 fn write_title(out: &mut Vec<u8>, stream: &Name, station: &Option<Name>) -> Result<(), AllocError>
     ensures { OnOk result (out.new.items ≡ out.old.items ++ title_line stream.now station.now) }
@@ -78,7 +78,7 @@ fn write_title(out: &mut Vec<u8>, stream: &Name, station: &Option<Name>) -> Resu
     Ok(())
 }
 
-// The name of a stream, and behind it that of the station of a further listener.
+// The name of a stream, and behind it that of the node of a further listener.
 fn write_listener(
     out: &mut Vec<u8>,
     stream: &Name,

@@ -1,4 +1,4 @@
-use Rattle.std.proofs.Common.{List, ◌+◌, ◌≡◌, ◌-◌, ◌<◌, ℕ, Some, length, arith, ap, sym, subst, ◌∙◌}
+use Rattle.std.proofs.Common.{List, ◌+◌, ◌≡◌, ◌-◌, ◌<◌, ◌≤◌, ℕ, Some, length, arith, ap, sym, subst, ◌∙◌}
 use Rattle.ats_trace.specs.Stored.{row_of}
 use Rattle.ats_run_records.specs.Progress.{Progress, progress_at}
 use Rattle.ats_engine_steps.specs.Course.{sender_of}
@@ -75,8 +75,9 @@ pub returns : goal.returns
 returns g c =
     let p : Progress = progress_at c.args.records.now.legs c.args.row in
     let legs = legs-counted c.args.net.now p _ _ c.sender_legs-copy-end.ensures.value c.release-sender.ensures in
+    let end : c.loop-copy.copy ≤ c.sender_legs-copy-end.result = c.loop-copy.auto.copy-end (omega (arith, legs)) in
     let all : c.loop-copy.copy - 1 ≡ length (sender_of c.args.net.now p).branches =
-    omega (arith, legs, c.loop-copy-test.false) in
+    omega (arith, legs, end, c.loop-copy-test.false) in
     subst (λ (n : ℕ). Enters (agenda_told c.args.agenda.now) (agenda_told c.loop-copy.agenda)
     (due_entries (Some c.args.at) (rows_to c.args.net.now c.args.records.now.firsts c.args.row p c.args.hop n))) all
     c.loop-copy.invariant

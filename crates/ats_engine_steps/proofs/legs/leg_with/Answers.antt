@@ -1,4 +1,4 @@
-use Rattle.std.proofs.Common.{◌≡◌, ap, arith, length, subst, sym}
+use Rattle.std.proofs.Common.{ap, arith, length, subst, sym}
 use Rattle.std.specs.Prelude.{Contains}
 use Rattle.ats_streams.specs.Branches.{leg_at, legs_of}
 use Rattle.ats_network.specs.Sender.{Sender}

@@ -7,4 +7,4 @@ use Rattle.ats_witness.proofs.burst.greatest_travel.Given as goal
 abbrev pub invariant-loop-sender : goal.invariant-loop-sender
 invariant-loop-sender l =
     (l.greatest ≡ greatest_among l.network l.port (take l.sender (senders_of l.network)))
-    × (l.greatest ≤ 57856000000)
+    × (l.greatest ≤ 231424000000)
